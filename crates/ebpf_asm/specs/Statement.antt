@@ -12,6 +12,7 @@ use Rattle.ebpf_asm.specs.Fault.{read_both}
 use Rattle.ebpf_asm.specs.Mnemonic.{mnemonic_named}
 use Rattle.ebpf_asm.specs.Operand.{register_of, source_of, immediate_of, wide_of, memory_of, distance_of, label_of, short_of, long_of}
 use Rattle.text_lines.specs.Cut.{is_blank_byte, trimmed}
+use Rattle.text_lines.specs.Texts as lists
 
 -- the operands: what stands between commas, without the blanks around
 unfoldable pub operands_of : List ℕ → List (List ℕ)
@@ -24,13 +25,11 @@ none_of _ = Err Operand
 
 -- the operand of a mnemonic that takes one
 unfoldable pub one_of : List (List ℕ) → Result (List ℕ) FaultKind
-one_of (first ∷ []) = Ok first
-one_of _ = Err Operand
+one_of texts = ok_or (lists.one_of texts) Operand
 
 -- the operands of a mnemonic that takes two
 unfoldable pub two_of : List (List ℕ) → Result (List ℕ × List ℕ) FaultKind
-two_of (first ∷ second ∷ []) = Ok (first, second)
-two_of _ = Err Operand
+two_of texts = ok_or (lists.two_of texts) Operand
 
 -- the operands of a mnemonic that takes three
 unfoldable pub three_of : List (List ℕ) → Result (List ℕ × List ℕ × List ℕ) FaultKind

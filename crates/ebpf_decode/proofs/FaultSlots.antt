@@ -13,12 +13,6 @@ use Rattle.std.specs.List.{slice_get}
 use Rattle.ebpf_decode.proofs.Programs.{few_slots}
 use Rattle.ebpf_decode.proofs.Slots.{length-slots}
 
-abbrev pub told_at : ℕ → FaultKind → Result (List (Option Instruction)) Fault
-told_at slot kind = Err (record { slot = slot; kind = kind })
-
-pub same_slot : (slot : ℕ) (kind : FaultKind) (fault : Fault) → told_at slot kind ≡ Err fault → fault.slot ≡ slot
-same_slot slot kind fault e = IfErr-at_err (λ f. f.slot ≡ slot) e refl
-
 pub fault_behind : (front : List (Option Instruction)) (read : Result (List (Option Instruction)) Fault) (fault : Fault) → with_front front read ≡ Err fault → read ≡ Err fault
 fault_behind front (Ok slots) fault e = absurd cc
 fault_behind front (Err other) fault e = e
@@ -27,7 +21,7 @@ fault_behind front (Err other) fault e = e
 fault_from : (s count : ℕ) (fault : Fault) (after : Bool → Result (List (Option Instruction)) Fault)
     → ((wide : Bool) → after wide ≡ Err fault → fault.slot < s + 1 + count)
     → (found : Result (Option Instruction) FaultKind) → then_read found s after ≡ Err fault → fault.slot < s + suc count
-fault_from s count fault after later (Err kind) e = let at : fault.slot ≡ s = same_slot s kind fault e in omega arith
+fault_from s count fault after later (Err kind) e = let at : fault.slot ≡ s = IfErr-at_err (λ f. f.slot ≡ s) e refl in omega arith
 fault_from s count fault after later (Ok found) e =
     let behind : fault.slot < s + 1 + count = later (begins_wide found) (fault_behind (found ∷ []) (after (begins_wide found)) fault e) in
     omega arith
@@ -41,7 +35,7 @@ fault_within second s (f ∷ rest) fault e =
 
 by_length : (bytes : List ℕ) (fault : Fault) (found : Option FaultKind) → length_fault (length bytes) ≡ found
     → unless_fault (option_map at_first_slot found) (read_slots false 0 (slots_at (length bytes / 8) bytes)) ≡ Err fault → fault.slot < MOST_SLOTS
-by_length bytes fault (Some kind) is e = let at : fault.slot ≡ 0 = same_slot 0 kind fault e in omega arith
+by_length bytes fault (Some kind) is e = let at : fault.slot ≡ 0 = IfErr-at_err (λ f. f.slot ≡ 0) e refl in omega arith
 by_length bytes fault None is e =
     let within : fault.slot < 0 + length (slots_at (length bytes / 8) bytes) = fault_within false 0 (slots_at (length bytes / 8) bytes) fault e in
     let few : length bytes / 8 ≤ MOST_SLOTS = few_slots bytes is in

@@ -20,7 +20,7 @@ use Rattle.ebpf_decode.specs.Opcodes.{opcode_named}
 use Rattle.ebpf_decode.specs.Reading.{at_first_slot, checks, first_failed, instruction_with, length_checks, length_fault, read, read_named, read_slots, slots_at, then_read}
 use Rattle.ebpf_decode.proofs.SpelledAreRead.{read-again}
 use Rattle.ebpf_decode.proofs.Bytes.{slots-fields}
-use Rattle.ebpf_decode.proofs.FaultSlots.{fault_behind, same_slot, told_at}
+use Rattle.ebpf_decode.proofs.FaultSlots.{fault_behind}
 use Rattle.ebpf_decode.proofs.NoFault.{none-fails}
 use Rattle.ebpf_decode.proofs.Programs.{are-fields-in}
 use Rattle.ebpf_decode.proofs.ReadAreSpelled.{AreFields, AreFieldsIn, IsTaken, read-takes}
@@ -126,21 +126,18 @@ behind f fs s fault i true is taken b = record {
       ∙ b.after.failed;
 }
 
-same_kind : (slot : ℕ) (kind : FaultKind) (fault : Fault) → told_at slot kind ≡ Err fault → kind ≡ fault.kind
-same_kind slot kind fault e = IfErr-at_err (λ f. kind ≡ f.kind) e refl
-
 at-first : (f : Fields) (fs : List Fields) (s : ℕ) (fault : Fault) (found : Result Instruction FaultKind) → read f (slice_get fs 0) ≡ found
     → then_read (result_map_both Some (λ kind. kind) found) s (λ wide. read_slots wide (s + 1) fs) ≡ Err fault → AreFields f → AreFieldsIn (slice_get fs 0)
     → ((wide : Bool) → read_slots wide (s + 1) fs ≡ Err fault → BeforeFrom wide (s + 1) fs fault) → Before s (f ∷ fs) fault
 at-first f fs s fault (Err kind) is e fit fits later = record {
   place = 0;
-  at = let slot : fault.slot ≡ s = same_slot s kind fault e in omega arith;
+  at = let slot : fault.slot ≡ s = IfErr-at_err (λ f. f.slot ≡ s) e refl in omega arith;
   instructions = [];
   fits = tt;
   spelled = refl;
   fields = f;
   here = refl;
-  failed = is ∙ ap (λ k. Err k) (same_kind s kind fault e);
+  failed = is ∙ ap (λ k. Err k) (IfErr-at_err (λ f. kind ≡ f.kind) e refl);
 }
 at-first f fs s fault (Ok i) is e fit fits later =
     let taken = read-takes f (slice_get fs 0) i fit fits is in
@@ -178,8 +175,8 @@ by-length : (bytes : List ℕ) (fault : Fault) (found : Option FaultKind) → Ar
     → unless_fault (option_map at_first_slot found) (read_slots false 0 (slots_at (length bytes / 8) bytes)) ≡ Err fault → IsFirstFault bytes fault
 by-length bytes fault (Some kind) fits is e =
     inl (record {
-      slot = same_slot 0 kind fault e;
-      told = fails-first (length_checks (length bytes)) fault.kind (is ∙ ap (λ k. Some k) (same_kind 0 kind fault e));
+      slot = IfErr-at_err (λ f. f.slot ≡ 0) e refl;
+      told = fails-first (length_checks (length bytes)) fault.kind (is ∙ ap (λ k. Some k) (IfErr-at_err (λ f. kind ≡ f.kind) e refl));
     })
 by-length bytes fault None fits is e =
     inr (none-fails (length_checks (length bytes)) is, of-slot (slots_at (length bytes / 8) bytes) fault (slots-fields (length bytes / 8) bytes fits) e)

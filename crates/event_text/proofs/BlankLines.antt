@@ -7,11 +7,10 @@ use Rattle.std.proofs.lemmas.Bool.Decides.{leb_tells, nat_tests}
 use Rattle.std.proofs.lemmas.List.Elements.{All-append, All-cons, All-from_recursion, All-head, All-nil, All-tail, All-take, All-weaker}
 use Rattle.std.proofs.lemmas.List.Sums.{list_all-from_AllPass}
 use Rattle.text_lines.specs.Cut.{is_blank_byte, uncommented}
-use Rattle.text_lines.proofs.Proved.{ascii_behind, blank_is_ascii, blank_is_code, uncommented-comment}
+use Rattle.text_lines.proofs.Proved.{ascii_behind, blank_is_ascii, blank_is_code, uncommented-comment, uncommented-same}
 use Rattle.event_text.specs.CommandFile.{line_told, words_told}
 use Rattle.event_text.specs.Laws.{BlankLinesMakeNoEvent, CommentsDontCount, IsComment}
 use Rattle.event_text.specs.Words.{words_of}
-use Rattle.event_text.proofs.PlainLines.{uncommented-same}
 use Rattle.event_text.proofs.SingleLines.{told_alone}
 use Rattle.event_text.proofs.WordLemmas.{words_of-blank}
 

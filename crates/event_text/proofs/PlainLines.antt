@@ -1,21 +1,22 @@
 -- Lines of printable ASCII without a comment, and the words in them.
-use Rattle.std.proofs.Common.{◌≡◌, ◌≢◌, ℕ, ◌^◌, ◌<◌, ◌==◌, nat_lt, not, Bool, true, false, ◌&&◌, cond, List, [], ◌∷◌, length, take, Some, None, ap, ◌∙◌, arith}
+use Rattle.std.proofs.Common.{◌≡◌, ◌≢◌, ℕ, ◌^◌, ◌<◌, ◌==◌, nat_lt, not, Bool, true, false, ◌&&◌, cond, List, [], ◌∷◌, ◌++◌, length, Some, None, ap, ◌∙◌, arith}
 use Rattle.std.specs.Fmt.{decimal}
-use Rattle.std.specs.List.{All, AllPass, list_all, position_or_len}
+use Rattle.std.specs.List.{All, AllPass, list_all}
 use Rattle.std.specs.Char.{is_ascii, is_ascii_digit}
 use Rattle.std.specs.Option.{option_and_then}
 use Rattle.std.specs.Str.Parse.{AllDigits, digits_value}
 use Rattle.std.proofs.lemmas.Bool.{lt-ltb}
 use Rattle.std.proofs.lemmas.Bool.Decides.{nat_tests}
-use Rattle.std.proofs.lemmas.Fmt.{decimal_is_IsNumeral}
-use Rattle.std.proofs.lemmas.List.{take_all}
+use Rattle.std.proofs.lemmas.Fmt.{decimal_is_IsNumeral, decimal_nonempty}
 use Rattle.std.proofs.lemmas.List.Elements.{All-cons, All-nil, All-weaker}
-use Rattle.std.proofs.lemmas.List.Sums.{AllPass-from_list_all, list_all-from_AllPass, position_or_len_is}
+use Rattle.std.proofs.lemmas.List.Sums.{AllPass-from_list_all, list_all-from_AllPass}
 use Rattle.std.proofs.lemmas.Str.Parse.{digit_from_value}
 use Rattle.text_lines.specs.Cut.{is_blank_byte, uncommented}
 use Rattle.text_lines.specs.Number.{decimal_of}
 use Rattle.event_text.specs.CommandFile.{ToldEvent, below, line_told, words_told}
 use Rattle.event_text.specs.Words.{words_of}
+use Rattle.event_text.proofs.WordLemmas.{word_first, word_last}
+use Rattle.text_lines.proofs.Proved.{uncommented-same}
 
 -- a byte of a word: no blank, no control, no `;`
 abbrev pub InWord : ℕ → Type 0
@@ -64,11 +65,6 @@ spelled_in_word word e = All-weaker (λ b. is_word_byte b ≡ true) InWord word_
 
 -- ---- the line's words are what it tells
 
-pub uncommented-same : (line : List ℕ) → All (λ b. (b == 59) ≡ false) line → uncommented line ≡ line
-uncommented-same line h =
-    let at_end : position_or_len (λ (b : ℕ). b == 59) line ≡ length line = position_or_len_is (λ (b : ℕ). b == 59) line (length line) 0 (omega arith) (λ k lt. h k 0 lt) (λ lt. absurd (omega arith)) in
-    ap (λ (n : ℕ). take n line) at_end ∙ take_all (length line) line (omega arith)
-
 pub line_told-words : (line : List ℕ) → All InLine line → line_told line ≡ words_told (words_of line)
 line_told-words line h =
     ap (λ (b : Bool). cond b (words_told (words_of (uncommented line))) None) (list_all-from_AllPass is_ascii line (All-weaker InLine (λ b. is_ascii b ≡ true) ascii line h))
@@ -92,6 +88,12 @@ digits_in_word (c ∷ cs) h =
 
 pub decimal_in_word : (n : ℕ) → n < 2 ^ 64 → All InWord (decimal n)
 decimal_in_word n small = digits_in_word (decimal n) (decimal_is_IsNumeral n small).0.1
+
+-- the words of a line with a name and a number
+pub words_of-numbered : (name : List ℕ) (n : ℕ) → 0 < length name → list_all is_word_byte name ≡ true → n < 2 ^ 64 → words_of (name ++ 32 ∷ decimal n) ≡ name ∷ decimal n ∷ []
+words_of-numbered name n some plain small =
+    word_first name (decimal n) some (unblank name (spelled_in_word name plain))
+    ∙ ap (λ (ws : List (List ℕ)). name ∷ ws) (word_last (decimal n) (decimal_nonempty n small) (unblank (decimal n) (decimal_in_word n small)))
 
 ascii_digits : (ds : List ℕ) → AllDigits 10 ds → AllPass is_ascii_digit ds
 ascii_digits [] h = All-nil (λ c. is_ascii_digit c ≡ true)

@@ -1,5 +1,5 @@
 -- The words of a reply's line tell the reply and its data.
-use Rattle.std.proofs.Common.{◌≡◌, ℕ, ◌^◌, ◌<◌, if◌then◌else◌, List, [], ◌∷◌, ◌++◌, length, Option, Some, None, Ok, refl, ap, sym, ◌∙◌, codes, append_assoc, arith}
+use Rattle.std.proofs.Common.{◌≡◌, ℕ, if◌then◌else◌, List, [], ◌∷◌, ◌++◌, length, Option, Some, None, Ok, refl, ap, sym, ◌∙◌, codes, append_assoc, arith}
 use Rattle.std.proofs.lemmas.Option.{same_Some}
 use Rattle.std.specs.Fmt.{decimal}
 use Rattle.std.specs.Option.{option_and_then, option_map}
@@ -14,10 +14,11 @@ use Rattle.device_events.specs.declared.reply.Reply.TheVariants.{Complete, Pendi
 use Rattle.text_lines.specs.Number.{decimal_of}
 use Rattle.event_text.specs.Laws.{IsReply, LinesTellReplies}
 use Rattle.event_text.specs.Lines.{data_text, reply_text}
-use Rattle.event_text.specs.Words.{one_of, two_or_three_of, words_of}
-use Rattle.event_text.proofs.PlainLines.{decimal_again, decimal_in_word, spelled_in_word, unblank}
+use Rattle.text_lines.specs.Texts.{one_of}
+use Rattle.event_text.specs.Words.{two_or_three_of, words_of}
+use Rattle.event_text.proofs.PlainLines.{decimal_again, decimal_in_word, spelled_in_word, unblank, words_of-numbered}
 use Rattle.event_text.proofs.SubmissionLemmas.{data_words, hex_in_word, not_empty, spaced, words_of-spaced}
-use Rattle.event_text.proofs.WordLemmas.{word_first, word_last}
+use Rattle.event_text.proofs.WordLemmas.{word_last}
 
 -- ---- what words tell
 
@@ -58,11 +59,6 @@ words_again number digits entry [] queue size is_queue is_entry small is_size = 
 words_again number digits entry (b ∷ rest) queue size is_queue is_entry small is_size =
     complete_again number digits (encode_lower (b ∷ rest)) entry (b ∷ rest) queue size is_queue is_entry (decode_of-encode_lower (b ∷ rest) small) is_size
 
-words_of-pending : (run : ℕ) → run < 2 ^ 64 → words_of (codes "pending " ++ decimal run) ≡ codes "pending" ∷ decimal run ∷ []
-words_of-pending run small =
-    word_first (codes "pending") (decimal run) (omega arith) (unblank (codes "pending") (spelled_in_word (codes "pending") refl))
-    ∙ ap (λ (ws : List (List ℕ)). codes "pending" ∷ ws) (word_last (decimal run) (decimal_nonempty run small) (unblank (decimal run) (decimal_in_word run small)))
-
 -- no data goes with such a reply
 alone : (reply : Reply) (bytes : List ℕ) → 0 ≡ length bytes → without_data reply ≡ record { reply = reply; bytes = bytes }
 alone reply [] e = refl
@@ -84,7 +80,7 @@ told_again (Complete queue entry size) bytes is =
     ∙ words_again (decimal queue) (encode_lower entry) entry bytes queue size (decimal_again queue (omega (arith, numbers.0))) (decode_of-encode_lower entry numbers.2) is.are_bytes is.told
 told_again (Pending run) bytes is =
     let small = is.numbers in
-    ap told_by (words_of-pending run (omega (arith, small)))
+    ap told_by (words_of-numbered (codes "pending") run (omega arith) refl (omega (arith, small)))
     ∙ ap (λ (number : Option ℕ). option_map (λ n. without_data (Pending n)) number) (decimal_again run (omega (arith, small)))
     ∙ ap Some (alone (Pending run) bytes is.told)
 told_again Idle bytes is = ap told_by (word_last (codes "idle") (omega arith) (unblank (codes "idle") (spelled_in_word (codes "idle") refl))) ∙ ap Some (alone Idle bytes is.told)

@@ -11,7 +11,7 @@ use Rattle.zone_state.specs.declared.state.FaultState.TheVariants.{ReadOnly, Off
 use Rattle.event_text.specs.CommandFile.{Turned, Faulted, fault_told, line_told, state_named, words_told}
 use Rattle.event_text.specs.Laws.{FaultsReadBack, SubmissionsReadBack, TurnsReadBack, fault_text, turn_text}
 use Rattle.event_text.specs.Words.{words_of}
-use Rattle.event_text.proofs.PlainLines.{InLine, InWord, IsSpelled, as_line, decimal_again, decimal_below, decimal_in_word, line_told-words, space_before, spelled_in_word, unblank}
+use Rattle.event_text.proofs.PlainLines.{InLine, InWord, IsSpelled, as_line, decimal_again, decimal_below, decimal_in_word, line_told-words, space_before, spelled_in_word, unblank, words_of-numbered}
 use Rattle.event_text.proofs.SingleLines.{spelled_reads_back}
 use Rattle.event_text.proofs.SubmissionLemmas.{submission_spelled}
 use Rattle.event_text.proofs.WordLemmas.{word_first, word_last}
@@ -22,11 +22,6 @@ submissions_read_back queue entry input small size entry_bytes input_bytes =
 
 -- ---- turns
 
-words_of-turn : (run : ℕ) → run < 2 ^ 64 → words_of (turn_text run) ≡ codes "turn" ∷ decimal run ∷ []
-words_of-turn run small =
-    word_first (codes "turn") (decimal run) (omega arith) (unblank (codes "turn") (spelled_in_word (codes "turn") refl))
-    ∙ ap (λ (ws : List (List ℕ)). codes "turn" ∷ ws) (word_last (decimal run) (decimal_nonempty run small) (unblank (decimal run) (decimal_in_word run small)))
-
 turn_spelled : (run : ℕ) → run < 2 ^ 8 → IsSpelled (turn_text run) (Turned run)
 turn_spelled run small =
     let in_a_line : All InLine (turn_text run) =
@@ -35,7 +30,7 @@ turn_spelled run small =
       plain = in_a_line;
       told =
           line_told-words (turn_text run) in_a_line
-          ∙ ap words_told (words_of-turn run (omega arith))
+          ∙ ap words_told (words_of-numbered (codes "turn") run (omega arith) refl (omega arith))
           ∙ ap (λ (number : Option ℕ). option_map Some (option_map Turned number)) (decimal_below (2 ^ 8) run small (omega arith));
     }
 

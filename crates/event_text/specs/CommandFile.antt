@@ -15,7 +15,8 @@ use Rattle.device_events.specs.declared.event.Event.{Event}
 use Rattle.device_events.specs.declared.event.Event.TheVariants as event
 use Rattle.event_text.specs.declared.command_file.ParseFault.{ParseFault}
 use Rattle.event_text.specs.declared.command_file.ParseFault.TheVariants.{Line, Memory}
-use Rattle.event_text.specs.Words.{words_of, one_of, two_of, two_or_three_of}
+use Rattle.text_lines.specs.Texts.{one_of, two_of}
+use Rattle.event_text.specs.Words.{words_of, two_or_three_of}
 
 -- an event as a line tells it
 pub data ToldEvent : Type 0 where

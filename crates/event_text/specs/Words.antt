@@ -7,16 +7,6 @@ use Rattle.text_lines.specs.Cut.{is_blank_byte}
 abbrev pub words_of : List ℕ → List (List ℕ)
 words_of text = filter (λ word. nat_lt 0 (length word)) (slice_split is_blank_byte text)
 
--- just one word
-abbrev pub one_of : List (List ℕ) → Option (List ℕ)
-one_of (first ∷ []) = Some first
-one_of _ = None
-
--- just two words
-abbrev pub two_of : List (List ℕ) → Option (List ℕ × List ℕ)
-two_of (first ∷ second ∷ []) = Some (first, second)
-two_of _ = None
-
 -- two words, or three; the third is empty where it is missing
 abbrev pub two_or_three_of : List (List ℕ) → Option (List ℕ × List ℕ × List ℕ)
 two_or_three_of (first ∷ second ∷ []) = Some (first, second, [])

@@ -1,7 +1,8 @@
 //! The words of a line.
 
 ghost use Rattle.std.specs.Prelude.{◌≡◌, [], ◌∷◌, MatchOption, option_copied, option_map};
-ghost use Rattle.event_text.specs.Words.{words_of, one_of, two_of, two_or_three_of};
+ghost use Rattle.text_lines.specs.Texts.{one_of, two_of};
+ghost use Rattle.event_text.specs.Words.{words_of, two_or_three_of};
 
 use text_lines::{Excerpt, trim, trim_start, word};
 

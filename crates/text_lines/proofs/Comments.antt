@@ -1,6 +1,8 @@
 -- What stands before the first comment of a line.
-use Rattle.std.proofs.Common.{◌≡◌, ℕ, ◌+◌, ◌==◌, suc, not, Bool, true, false, cond, List, [], ◌∷◌, ◌++◌, take, refl, sym, ap, ◌∙◌, arith}
-use Rattle.std.specs.List.{position_or_len}
+use Rattle.std.proofs.Common.{◌≡◌, ℕ, ◌+◌, ◌==◌, suc, not, Bool, true, false, cond, List, [], ◌∷◌, ◌++◌, length, take, refl, sym, ap, ◌∙◌, arith}
+use Rattle.std.specs.List.{All, position_or_len}
+use Rattle.std.proofs.lemmas.List.{take_all}
+use Rattle.std.proofs.lemmas.List.Sums.{position_or_len_is}
 use Rattle.text_lines.specs.Cut.{uncommented}
 
 abbrev code_length : List ℕ → ℕ
@@ -13,6 +15,12 @@ take_one n b line = ap (λ (k : ℕ). take k (b ∷ line)) (let e : 1 + n ≡ su
 pub uncommented-cons : (b : ℕ) (line : List ℕ) (test : Bool) → (b == 59) ≡ test → uncommented (b ∷ line) ≡ cond test [] (b ∷ uncommented line)
 uncommented-cons b line true e = ap (λ (t : Bool). take (cond (not t) (1 + code_length line) 0) (b ∷ line)) e
 uncommented-cons b line false e = ap (λ (t : Bool). take (cond (not t) (1 + code_length line) 0) (b ∷ line)) e ∙ take_one (code_length line) b line
+
+-- a line without a `;` stays as it is
+pub uncommented-same : (line : List ℕ) → All (λ b. (b == 59) ≡ false) line → uncommented line ≡ line
+uncommented-same line none =
+    let at_end : code_length line ≡ length line = position_or_len_is (λ (b : ℕ). b == 59) line (length line) 0 (omega arith) (λ k inside. none k 0 inside) (λ inside. absurd (omega arith)) in
+    ap (λ (n : ℕ). take n line) at_end ∙ take_all (length line) line (omega arith)
 
 -- what stands before the first `;` stays what it is where another one stands behind the line
 pub uncommented-comment : (line rest : List ℕ) → uncommented (line ++ 59 ∷ rest) ≡ uncommented line

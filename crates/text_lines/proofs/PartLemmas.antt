@@ -1,27 +1,14 @@
 -- A text in parts, cut at each byte of one kind.
-use Rattle.std.proofs.Common.{◌≡◌, ℕ, ◌+◌, ◌≤◌, suc, not, Bool, true, false, cond, ltb, eqb, List, [], ◌∷◌, length, Some, None, refl, ap, ◌∙◌, arith}
+use Rattle.std.proofs.Common.{◌≡◌, ℕ, Bool, true, false, cond, ltb, eqb, List, [], ◌∷◌, length, Some, None, refl, ap, ◌∙◌, arith}
 use Rattle.std.specs.List.{slice_split, onto_first, before_first, after_first, position_or_len}
 use Rattle.std.proofs.lemmas.Bool.{ltb-true, ltb-false}
-use Rattle.std.proofs.lemmas.List.Splits.{slice_split_first, slice_split-cons_yes, slice_split-cons_no}
+use Rattle.std.proofs.lemmas.List.Splits.{slice_split_first, slice_split_none, slice_split-cons_yes, slice_split-cons_no}
+use Rattle.std.proofs.lemmas.List.Sums.{fails_before_first}
+use Rattle.std.proofs.lemmas.Option.{cond_some}
 use Rattle.text_lines.specs.Laws.{HasFirst, SomePartIsThere, UncutIsOnePart, CutIsAfterFirstPart}
 
 abbrev is_at : ℕ → ℕ → Bool
 is_at byte b = eqb b byte
-
--- a text in which no byte passes is one part
-module _ (test : ℕ → Bool) where
-  whole_if : (x : ℕ) (xs : List ℕ) (b : Bool) → (length xs ≤ position_or_len test xs → slice_split test xs ≡ xs ∷ []) → test x ≡ b
-      → suc (length xs) ≤ cond (not b) (1 + position_or_len test xs) 0 → slice_split test (x ∷ xs) ≡ (x ∷ xs) ∷ []
-  whole_if x xs true more e h = absurd (omega arith)
-  whole_if x xs false more e h = slice_split-cons_no test x xs e ∙ ap (onto_first x) (more (omega arith))
-
-  whole : (xs : List ℕ) → length xs ≤ position_or_len test xs → slice_split test xs ≡ xs ∷ []
-  whole [] h = refl
-  whole (x ∷ xs) h = whole_if x xs (test x) (whole xs) refl h
-
-some_if : {X : Type 0} (b : Bool) (x y : X) → cond b (Some x) None ≡ Some y → (b ≡ true) × (x ≡ y)
-some_if true x y e = (refl, cc)
-some_if false x y e = absurd cc
 
 none_if : {X : Type 0} (b : Bool) (x : X) → cond b (Some x) None ≡ None → b ≡ false
 none_if true x e = absurd cc
@@ -30,12 +17,13 @@ none_if false x e = refl
 -- a text without such a byte is one part
 pub split_whole : UncutIsOnePart
 split_whole byte text e =
-    whole (is_at byte) text (ltb-false _ _ (none_if (ltb (position_or_len (is_at byte) text) (length text)) (before_first (is_at byte) text, after_first (is_at byte) text) e))
+    let uncut = ltb-false _ _ (none_if (ltb (position_or_len (is_at byte) text) (length text)) (before_first (is_at byte) text, after_first (is_at byte) text) e) in
+    slice_split_none (is_at byte) text (λ k d inside. fails_before_first (is_at byte) text k d (omega (arith, uncut, inside)))
 
 -- else its first part stands before the first such byte
 pub split_more : CutIsAfterFirstPart
 split_more byte text front rest e =
-    let found = some_if (ltb (position_or_len (is_at byte) text) (length text)) (before_first (is_at byte) text, after_first (is_at byte) text) (front, rest) e in
+    let found = cond_some (ltb (position_or_len (is_at byte) text) (length text)) (before_first (is_at byte) text, after_first (is_at byte) text) (front, rest) e in
     slice_split_first (is_at byte) text 0 (ltb-true _ _ found.0) ∙ ap (λ (p : List ℕ × List ℕ). p.0 ∷ slice_split (is_at byte) p.1) found.1
 
 split_some_if : (byte x : ℕ) (xs : List ℕ) (b : Bool) → HasFirst (slice_split (is_at byte) xs) → is_at byte x ≡ b → HasFirst (slice_split (is_at byte) (x ∷ xs))

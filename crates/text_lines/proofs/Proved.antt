@@ -1,7 +1,7 @@
 -- The laws of this crate, proved, and lemmas: all that the proofs of other crates cite of it.
 use Rattle.text_lines.specs.Laws.{CutIsAfterFirstPart, LinesAreCut, SomePartIsThere, UncutIsOnePart}
 pub use Rattle.text_lines.proofs.Blanks.{ascii_behind, blank_is_ascii, blank_is_code, end_stays}
-pub use Rattle.text_lines.proofs.Comments.{uncommented-comment, uncommented-cons}
+pub use Rattle.text_lines.proofs.Comments.{uncommented-comment, uncommented-cons, uncommented-same}
 use Rattle.text_lines.proofs.LineLemmas.{cut_line}
 use Rattle.text_lines.proofs.PartLemmas.{split_more, split_some, split_whole}
 pub use Rattle.text_lines.proofs.Trimming.{back_goes, first_is_kept, front_goes, kept_first}

@@ -1,8 +1,7 @@
 -- That the trimmed text is what stands between blanks, and nothing else is.
 use Rattle.std.proofs.Common.{◌≡◌, ℕ, Bool, true, false, ◌&&◌, eqb, cond, List, [], ◌∷◌, ◌++◌, length, refl, sym, ap, subst, ◌∙◌, arith}
-use Rattle.std.proofs.Math.Dec.{eqb-suc-zero}
-use Rattle.std.proofs.lemmas.List.{append-nil}
-use Rattle.std.proofs.lemmas.Bool.{and_parts}
+use Rattle.std.proofs.lemmas.List.{append-nil, nil_from_length}
+use Rattle.std.proofs.lemmas.Bool.{and_parts, eqb-true}
 use Rattle.text_lines.specs.Cut.{is_blank_byte, trimmed, without_end_blanks, without_first_blanks}
 use Rattle.text_lines.specs.Laws.{AreBlanks, IsBetweenBlanks, TrimmedTextsAreBetweenBlanks}
 use Rattle.text_lines.proofs.Blanks.{end_stays}
@@ -48,11 +47,6 @@ record BlanksBehind (text rest : List ℕ) : Type 0 where
   is : text ≡ rest ++ back
   blanks : AreBlanks back
 
-none_there : (xs : List ℕ) → eqb (length xs) 0 ≡ true → xs ≡ []
-none_there [] is = refl
-none_there (x ∷ xs) is =
-    let some : eqb (length (x ∷ xs)) 0 ≡ false = eqb-suc-zero (length xs) in cc
-
 not_both : (a b : Bool) → (a && b) ≡ false → b ≡ true → a ≡ false
 not_both true b e is = cc
 not_both false b e is = refl
@@ -61,7 +55,8 @@ one_more_behind : (byte : ℕ) (text : List ℕ) (end : Bool) → (is_blank_byte
     → BlanksBehind text (without_end_blanks text) → BlanksBehind (byte ∷ text) (cond end [] (byte ∷ without_end_blanks text))
 one_more_behind byte text true is more =
     let two = and_parts (is_blank_byte byte) (eqb (length (without_end_blanks text)) 0) is in
-    let all : text ≡ more.back = more.is ∙ ap (λ (bytes : List ℕ). bytes ++ more.back) (none_there (without_end_blanks text) two.1) in
+    let none_left = nil_from_length (without_end_blanks text) (eqb-true _ _ two.1) in
+    let all : text ≡ more.back = more.is ∙ ap (λ (bytes : List ℕ). bytes ++ more.back) none_left in
     record { back = byte ∷ text; is = refl; blanks = (two.0, subst AreBlanks (sym all) more.blanks) }
 one_more_behind byte text false is more = record { back = more.back; is = ap (λ (bytes : List ℕ). byte ∷ bytes) more.is; blanks = more.blanks }
 
