@@ -1,2 +1,2 @@
 -- Lemmas that the proofs of other crates cite.
-pub use Rattle.program_interface.proofs.ByteParts.{both_fit, bytes_from, bytes_to, front_fit, rest_fit, spliced_fit}
+pub use Rattle.program_interface.proofs.ByteParts.{both_fit, bytes_from, bytes_to, front_fit, length-spliced, low_first, rest_fit, spliced_fit}
