@@ -1,5 +1,6 @@
 -- What is known at a slot is made of facts.
 use Rattle.std.proofs.Common.{ℕ, zero, suc, ◌≡◌, ◌<◌, ◌%◌, ℤ, ◌^◌, Bool, true, false, List, [], ◌∷◌, drop, get_or, replicate, Option, Some, None, IfSome, inl, inr, refl, arith, lit<, subst}
+use Rattle.std.proofs.lemmas.Bool.{cond_both}
 use Rattle.std.proofs.Math.Nat.{mod-lt}
 use Rattle.std.specs.List.{AllByRecursion}
 use Rattle.std.specs.Prelude.{◌==◌, ◌&&◌, nat_le, unwrap_or, if◌then◌else◌}
@@ -52,18 +53,13 @@ module _ {D : Type 0} (IsFact : D → Type 0) where
   pub no_cell_facts : AreCellFacts no_cells
   no_cell_facts j d e = absurd (none_known CELLS j d e)
 
-  cells_chosen : (is : Bool) (cells others : List (Option D)) → AreCellFacts cells → AreCellFacts others
-      → AreCellFacts (if is then cells else others)
-  cells_chosen true cells others first second = first
-  cells_chosen false cells others first second = second
-
   overwritten_facts : (told : Option Offsets) (offset : ℤ) (size : ℕ) (cells : List (Option D)) → AreCellFacts cells
       → AreCellFacts (overwritten told offset size cells)
   overwritten_facts None offset size cells are = no_cell_facts
   overwritten_facts (Some told) offset size cells are =
-      cells_chosen (is_stack told.area) _ no_cells
-      (λ j d e. are j d (left_known _ _ j cells d e).1)
-      no_cell_facts
+      cond_both (is_stack told.area) _ no_cells AreCellFacts
+      (λ _ j d e. are j d (left_known _ _ j cells d e).1)
+      (λ _. no_cell_facts)
 
   filled_facts : (cell : Option ℕ) (word : Option D) (cells others : List (Option D))
       → ((d : D) → word ≡ Some d → IsFact d) → AreCellFacts cells → AreCellFacts others
@@ -82,15 +78,6 @@ module _ {D : Type 0} (IsFact : D → Type 0) where
   or_fact : (o : Option D) (d : D) → ((x : D) → o ≡ Some x → IsFact x) → IsFact d → IsFact (unwrap_or o d)
   or_fact (Some x) d first second = first x refl
   or_fact None d first second = second
-
-  facts_chosen : (is : Bool) (facts others : Facts D) → AreFacts facts → AreFacts others
-      → AreFacts (if is then facts else others)
-  facts_chosen true facts others first second = first
-  facts_chosen false facts others first second = second
-
-  chosen : (is : Bool) (facts : Option (Facts D)) → SomeAreFacts facts → SomeAreFacts (if is then facts else None)
-  chosen true facts are = are
-  chosen false facts are = tt
 
 module _ {D : Type 0} {IsFact : D → Type 0} {operations : Operations D} (give : GiveFacts IsFact operations) where
   pub fact_is : (facts : Facts D) (r : ℕ) → AreFacts IsFact facts → IsFact (fact operations facts r)
@@ -140,13 +127,13 @@ module _ {D : Type 0} {IsFact : D → Type 0} {operations : Operations D} (give 
       → ((d : D) → word ≡ Some d → IsFact d) → AreFacts IsFact (after_store operations block facts size dst offset word)
   stored_facts block facts size dst offset word are is =
       let told = operations.offsets (fact operations facts dst) in
-      facts_chosen IsFact (enters_stack (area_of operations block facts dst offset (size_of size))) _ facts
-      (record {
+      cond_both (enters_stack (area_of operations block facts dst offset (size_of size))) _ facts (AreFacts IsFact)
+      (λ _. record {
         registers = are.registers;
         cells = filled_facts IsFact (cell_of told offset) word facts.cells _ is are.cells
             (overwritten_facts IsFact told offset (size_of size) facts.cells are.cells);
       })
-      are
+      (λ _. are)
 
   loaded_is : (facts : Facts D) (size : Size) (src : ℕ) (offset : ℤ) → AreFacts IsFact facts
       → IsFact (loaded_fact operations facts size src offset)
@@ -216,12 +203,12 @@ module _ {D : Type 0} {IsFact : D → Type 0} {operations : Operations D} (give 
     pub behind_given : (i : Instruction) (slot : ℕ) (facts : Facts D) (other : ℕ) → AreFacts IsFact facts
         → SomeAreFacts IsFact (if slot_behind slot i == other then facts_behind operations block i facts else None)
     behind_given i slot facts other are =
-        chosen IsFact (slot_behind slot i == other) (facts_behind operations block i facts) (behind_facts i facts are)
+        cond_both (slot_behind slot i == other) (facts_behind operations block i facts) None (SomeAreFacts IsFact) (λ _. behind_facts i facts are) (λ _. tt)
 
     pub ahead_given : (i : Instruction) (slot : ℕ) (facts : Facts D) (other : ℕ) → AreFacts IsFact facts
         → SomeAreFacts IsFact (if leads slot (distance_of i) other then facts_at_target operations block i facts else None)
     ahead_given i slot facts other are =
-        chosen IsFact (leads slot (distance_of i) other) (facts_at_target operations block i facts) (target_facts i facts are)
+        cond_both (leads slot (distance_of i) other) (facts_at_target operations block i facts) None (SomeAreFacts IsFact) (λ _. target_facts i facts are) (λ _. tt)
 
   -- ---- joins
   join_facts_are : (ds es : List D) → AllByRecursion IsFact ds → AllByRecursion IsFact es
@@ -269,7 +256,7 @@ module _ {D : Type 0} {IsFact : D → Type 0} {operations : Operations D} (give 
 
   pub given_facts : (block : ℕ) (program : List (Option Instruction)) (slot other : ℕ)
       → SomeAreFacts IsFact (given_below operations block program slot other)
-  given_facts block program zero other = chosen IsFact (other == 0) (Some (facts_at_start operations)) start_are
+  given_facts block program zero other = cond_both (other == 0) (Some (facts_at_start operations)) None (SomeAreFacts IsFact) (λ _. start_are) (λ _. tt)
   given_facts block program (suc slot) other =
       gives_facts block (instruction_at program slot) slot (given_below operations block program slot slot) other
       (given_below operations block program slot other) (given_facts block program slot slot)

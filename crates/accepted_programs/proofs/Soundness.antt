@@ -5,7 +5,7 @@ use Rattle.std.proofs.lemmas.Bool.{cases_lt}
 use Rattle.instruction_set.proofs.Proved.{begins_inside}
 use Rattle.instruction_set.specs.Program.{instruction_at, instruction_count}
 use Rattle.instruction_set.specs.declared.instruction.Instruction.{Instruction}
-use Rattle.program_meaning.proofs.Proved.{begins_at_instruction, keeps_group_limit, keeps_read_only, keeps_state, leads_to_instruction}
+use Rattle.program_meaning.proofs.Proved.{begins_at_instruction, decided_goes, keeps_group_limit, keeps_read_only, keeps_state, leads_to_instruction}
 use Rattle.program_meaning.specs.Cause.{is_exit, least_cause}
 use Rattle.program_meaning.specs.Effect.{register}
 use Rattle.program_meaning.specs.BlockRun.{BlockRun, block_run_of, continued, ran}
@@ -38,11 +38,6 @@ use Rattle.accepted_programs.specs.declared.facts.Facts.{Facts}
 use Rattle.accepted_programs.specs.declared.facts.TheConstants.{CELLS}
 
 -- ---- a step that nothing hinders
-decided_goes : (s : State) (i : Instruction) (least : Option Cause) → least ≡ None → is_exit i ≡ false
-    → decided s i least ≡ Goes (after s i)
-decided_goes s i None e runs_on = rw runs_on refl
-decided_goes s i (Some cause) e runs_on = cc
-
 decided_ends : (s : State) (i : Instruction) (least : Option Cause) → least ≡ None → is_exit i ≡ true
     → decided s i least ≡ Ends (register s 0) s
 decided_ends s i None e exits = rw exits refl

@@ -1,6 +1,6 @@
 -- What is known of the stack is met after a store, and met by what a load of a cell gives.
 use Rattle.std.proofs.Common.{ℕ, ℤ, pos, negsuc, ◌≡◌, ◌+◌, ◌*◌, ◌-◌, ◌/◌, ◌%◌, ◌<◌, ◌≤◌, ◌^◌, ◌+ℤ◌, ◌-ℤ◌, ◌⊎◌, inl, inr, Bool, true, false, List, length, set, Option, Some, None, FitsSigned, refl, sym, ap, ◌∙◌, arith, subst}
-use Rattle.std.proofs.lemmas.Bool.{and_from, and_parts, cases_lt, false≢true, leb-true}
+use Rattle.std.proofs.lemmas.Bool.{and_from, and_parts, cases_lt, cond_both, false≢true, leb-true}
 use Rattle.std.proofs.lemmas.Bool.Decides.{nat_tests}
 use Rattle.std.proofs.lemmas.Int.{ints}
 use Rattle.std.specs.Int.{w16, w64, cast_unsigned}
@@ -166,19 +166,15 @@ module _ {D : Type 0} (contains : D → ℕ → Type 0) (stack bytes : List ℕ)
   none_belong : BelongThen no_cells
   none_belong j d e = absurd (none_known CELLS j d e)
 
-  chosen_belong : (test : Bool) (others : List (Option D)) → (test ≡ true → BelongThen others)
-      → BelongThen (if test then others else no_cells)
-  chosen_belong true others first = first refl
-  chosen_belong false others first = none_belong
-
   overwritten_by : (o : Option Offsets) → told ≡ o → BelongThen (overwritten o offset (length bytes) cells)
   overwritten_by None same = none_belong
   overwritten_by (Some offsets) same =
-      chosen_belong (is_stack offsets.area) _
+      cond_both (is_stack offsets.area) _ no_cells BelongThen
       (λ into j d e.
       let left = left_known _ _ j cells d e in
       let apart = cell_apart offsets.low offsets.high offset at (length bytes) j (near offsets same into) some left.0 in
       rw (word_kept stack bytes at j (omega (arith, whole, fits)) apart) (belong j d left.1))
+      (λ _. none_belong)
 
   -- a store that fills no cell
   pub overwritten_belong : BelongThen (overwritten told offset (length bytes) cells)

@@ -4,35 +4,20 @@ use Rattle.std.specs.Int.{w16, w32, cast_signed, cast_unsigned}
 use Rattle.std.specs.List.{AllByRecursion, flat_map}
 use Rattle.std.proofs.lemmas.Int.{ints, of_z-to_z, to_z-of_z}
 use Rattle.std.proofs.lemmas.List.{get_or-drop}
+use Rattle.std.proofs.lemmas.Nat.{le_bytes_2, le_bytes_4}
 use Rattle.byteorder.specs.Endian.{little_bytes, little_number}
 use Rattle.instruction_set.specs.declared.fields.Fields.{Fields}
 use Rattle.program_interface.specs.Bytes.{AreBytes}
+use Rattle.program_interface.proofs.Proved.{front_fit, rest_fit}
 use Rattle.ebpf_decode.specs.Reading.{fields_at, slots_at}
 use Rattle.instruction_set.specs.Spelling.{slot_bytes}
 use Rattle.ebpf_decode.proofs.ReadAreSpelled.{AreFields, below-32}
-
-two-bytes : (n a b : ℕ) → a < 256 → b < 256 → n ≡ a + 256 * b → little_bytes 2 n ≡ a ∷ b ∷ []
-two-bytes n a b ha hb is =
-    let p : n % 256 ≡ a = omega arith in
-    let q : n / 256 % 256 ≡ b = omega arith in
-    rw (p, q) refl
-
-four-bytes : (n a b c d : ℕ) → a < 256 → b < 256 → c < 256 → d < 256 → n ≡ a + 256 * (b + 256 * (c + 256 * d)) → little_bytes 4 n ≡ a ∷ b ∷ c ∷ d ∷ []
-four-bytes n a b c d ha hb hc hd is =
-    let p : n % 256 ≡ a = omega arith in
-    let q : n / 256 % 256 ≡ b = omega arith in
-    let r : n / 65536 % 256 ≡ c = omega arith in
-    let s : n / 16777216 % 256 ≡ d = omega arith in
-    rw (p, q, r, s) refl
 
 fits-16 : (n : ℕ) → n < 2 ^ 16 → FitsSigned w16 (cast_signed w16 n)
 fits-16 n h = omega (arith, ints)
 
 pub fits-32 : (n : ℕ) → n < 2 ^ 32 → FitsSigned w32 (cast_signed w32 n)
 fits-32 n h = omega (arith, ints)
-
-AreBytes-drop : (a b c d e f g h : ℕ) (bytes : List ℕ) → AreBytes (a ∷ b ∷ c ∷ d ∷ e ∷ f ∷ g ∷ h ∷ bytes) → AreBytes bytes
-AreBytes-drop a b c d e f g h bytes fits i = fits (suc (suc (suc (suc (suc (suc (suc (suc i))))))))
 
 -- the slots of bytes are spelled by them
 pub slots-bytes : (count : ℕ) (bytes : List ℕ) → AreBytes bytes → length bytes ≡ 8 * count → flat_map slot_bytes (slots_at count bytes) ≡ bytes
@@ -42,16 +27,19 @@ slots-bytes (suc count) (a ∷ b ∷ c ∷ d ∷ e ∷ f ∷ g ∷ h ∷ bytes) 
     let registers : b % 16 + 16 * (b / 16) ≡ b = omega arith in
     let m = little_number 2 (c ∷ d ∷ []) in
     let n = little_number 4 (e ∷ f ∷ g ∷ h ∷ []) in
+    let behind = rest_fit (a ∷ b ∷ []) (c ∷ d ∷ e ∷ f ∷ g ∷ h ∷ bytes) fits in
+    let two = front_fit (c ∷ d ∷ []) (e ∷ f ∷ g ∷ h ∷ bytes) behind in
+    let four = front_fit (e ∷ f ∷ g ∷ h ∷ []) bytes (rest_fit (c ∷ d ∷ []) (e ∷ f ∷ g ∷ h ∷ bytes) behind) in
     let offset : little_bytes 2 (cast_unsigned w16 (cast_signed w16 m)) ≡ c ∷ d ∷ [] =
-    ap (little_bytes 2) (of_z-to_z w16 m (omega (arith, fits 2, fits 3))) ∙ two-bytes m c d (fits 2) (fits 3) (omega arith) in
+    ap (little_bytes 2) (of_z-to_z w16 m (omega (arith, fits 2, fits 3))) ∙ le_bytes_2 (c ∷ d ∷ []) m refl two (omega arith) in
     let immediate : little_bytes 4 (cast_unsigned w32 (cast_signed w32 n)) ≡ e ∷ f ∷ g ∷ h ∷ [] =
-    ap (little_bytes 4) (of_z-to_z w32 n (omega (arith, fits 4, fits 5, fits 6, fits 7))) ∙ four-bytes n e f g h (fits 4) (fits 5) (fits 6) (fits 7) (omega arith) in
+    ap (little_bytes 4) (of_z-to_z w32 n (omega (arith, fits 4, fits 5, fits 6, fits 7))) ∙ le_bytes_4 (e ∷ f ∷ g ∷ h ∷ []) n refl four (omega arith) in
     let slot : slot_bytes (fields_at (a ∷ b ∷ c ∷ d ∷ e ∷ f ∷ g ∷ h ∷ bytes)) ≡ a ∷ b ∷ c ∷ d ∷ e ∷ f ∷ g ∷ h ∷ [] =
     ap (λ k. a ∷ k ∷ (little_bytes 2 (cast_unsigned w16 (cast_signed w16 m)) ++ little_bytes 4 (cast_unsigned w32 (cast_signed w32 n)))) registers
     ∙ ap (λ xs. a ∷ b ∷ (xs ++ little_bytes 4 (cast_unsigned w32 (cast_signed w32 n)))) offset
     ∙ ap (λ xs. a ∷ b ∷ c ∷ d ∷ xs) immediate in
     ap (λ xs. xs ++ flat_map slot_bytes (slots_at count bytes)) slot
-    ∙ ap (λ xs. a ∷ b ∷ c ∷ d ∷ e ∷ f ∷ g ∷ h ∷ xs) (slots-bytes count bytes (AreBytes-drop a b c d e f g h bytes fits) (omega arith))
+    ∙ ap (λ xs. a ∷ b ∷ c ∷ d ∷ e ∷ f ∷ g ∷ h ∷ xs) (slots-bytes count bytes (rest_fit (a ∷ b ∷ c ∷ d ∷ e ∷ f ∷ g ∷ h ∷ []) bytes fits) (omega arith))
 slots-bytes (suc count) bytes fits len = absurd (omega arith)
 
 -- numbers below 256 make fields

@@ -3,7 +3,7 @@ use instruction_set::{Instruction, Operation, Register, Size, Source, Width};
 use std::alloc::Global;
 use std::process::Abort;
 use std::test::Fail;
-use test_inputs::slots::{FILTER, bytes_of};
+use test_inputs::slots::{EXIT, FILTER, bytes_of};
 
 /// The bytes' fault; `None` where they decode.
 fn fault_of(alloc: Global, bytes: &[u8]) -> Result<Option<Fault>, Fail> {
@@ -20,17 +20,17 @@ fn at_first(kind: FaultKind) -> Option<Fault> {
 }
 
 const FAULTS: [([u8; 8], FaultKind); 11] = [
-    ([0x07, 0x0b, 0, 0, 0, 0, 0, 0], FaultKind::Register),
-    ([0x0f, 0x21, 1, 0, 0, 0, 0, 0], FaultKind::UnusedField),
-    ([0x3f, 0x21, 2, 0, 0, 0, 0, 0], FaultKind::Value),
-    ([0xdc, 0x01, 0, 0, 8, 0, 0, 0], FaultKind::Value),
-    ([0xbc, 0x21, 0x20, 0, 0, 0, 0, 0], FaultKind::Value),
-    ([0x99, 0, 0, 0, 0, 0, 0, 0], FaultKind::Opcode),
-    ([0x8c, 0, 0, 0, 0, 0, 0, 0], FaultKind::Opcode),
-    ([0xdf, 0, 0, 0, 0, 0, 0, 0], FaultKind::Opcode),
-    ([0xc3, 0, 0, 0, 0, 0, 0, 0], FaultKind::NotInProfile),
-    ([0x18, 0x11, 0, 0, 0, 0, 0, 0], FaultKind::NotInProfile),
-    ([0x18, 0x01, 0, 0, 0, 0, 0, 0], FaultKind::CutWide),
+    ([0x07, 0x0b, 0, 0, 0, 0, 0, 0], FaultKind::Register), // add r11, 0
+    ([0x0f, 0x21, 1, 0, 0, 0, 0, 0], FaultKind::UnusedField), // add r1, r2, with an offset
+    ([0x3f, 0x21, 2, 0, 0, 0, 0, 0], FaultKind::Value), // div r1, r2, with an offset of 2
+    ([0xdc, 0x01, 0, 0, 8, 0, 0, 0], FaultKind::Value), // be8 r1
+    ([0xbc, 0x21, 0x20, 0, 0, 0, 0, 0], FaultKind::Value), // movw r1, r2, with an offset of 32
+    ([0x99, 0, 0, 0, 0, 0, 0, 0], FaultKind::Opcode), // ldxsdw r0, [r0+0]
+    ([0x8c, 0, 0, 0, 0, 0, 0, 0], FaultKind::Opcode), // negw r0, with a register
+    ([0xdf, 0, 0, 0, 0, 0, 0, 0], FaultKind::Opcode), // a swap of no bits, with a register
+    ([0xc3, 0, 0, 0, 0, 0, 0, 0], FaultKind::NotInProfile), // an atomic operation on 4 bytes
+    ([0x18, 0x11, 0, 0, 0, 0, 0, 0], FaultKind::NotInProfile), // lddw r1, of a map
+    ([0x18, 0x01, 0, 0, 0, 0, 0, 0], FaultKind::CutWide), // lddw r1, 0, without its second slot
 ];
 
 #[test]
@@ -112,7 +112,7 @@ const MASKED: [u64; 6] = [
     0x0f62_0000_0000_0000, // add r2, r6
     0x7120_0000_0000_0000, // ldxb r0, [r2+0]
     0xb700_0000_0000_0000, // mov r0, 0
-    0x9500_0000_0000_0000, // exit
+    EXIT,
 ];
 
 /// Sums the first bytes of blocks, up to the third.
@@ -125,13 +125,13 @@ const SUM: [u64; 9] = [
     0xb700_0000_0000_0000, // mov r0, 0
     0x5506_0100_0200_0000, // jne r6, 2, +1
     0xb700_0000_0100_0000, // mov r0, 1
-    0x9500_0000_0000_0000, // exit
+    EXIT,
 ];
 
 /// Emits nothing.
 const NOTHING: [u64; 2] = [
     0xb700_0000_0000_0000, // mov r0, 0
-    0x9500_0000_0000_0000, // exit
+    EXIT,
 ];
 
 /// A jump over a wide instruction to its second slot: decoding takes no offence.
@@ -139,7 +139,7 @@ const INTO_WIDE: [u64; 4] = [
     0x0500_0100_0000_0000, // ja +1
     0x1801_0000_0000_0000, // lddw r1, 0
     0x0000_0000_0000_0000, // its second slot
-    0x9500_0000_0000_0000, // exit
+    EXIT,
 ];
 
 #[test]
@@ -151,8 +151,6 @@ fn programs_and_their_bytes(rt: HostRuntime) -> Result<(), Fail> {
     assert_eq!(rt; again(rt.alloc(), &INTO_WIDE)?, (3, true));
     Ok(())
 }
-
-const EXIT: u64 = 0x9500_0000_0000_0000;
 
 /// Asks that a program of two slots begins with an instruction, and that this is spelled by its first bytes.
 fn check_first(

@@ -63,10 +63,6 @@ bytes-middle b i n w xs h =
     ∙ (ap (λ (yss : List (List ℕ)). concat (take n yss)) (drop-blocks b i (n + (w - i - n)) xs)
     ∙ (ap concat (take-blocks b n (w - i - n) (drop (i * b) xs)) ∙ bytes-blocks b n (drop (i * b) xs)))
 
-pub length-spliced : (at : ℕ) (new xs : List ℕ) → at + length new ≤ length xs → length (spliced at new xs) ≡ length xs
-length-spliced at new xs h =
-    omega (arith, length-append (take at xs) (new ++ drop (at + length new) xs), length-append new (drop (at + length new) xs), length-take at xs, length-drop (at + length new) xs)
-
 -- what stands before the place stays
 pub take-spliced : (k at : ℕ) (new xs : List ℕ) → k ≤ at → at ≤ length xs → take k (spliced at new xs) ≡ take k xs
 take-spliced k at new xs low in_list =

@@ -12,12 +12,10 @@ use program_meaning::{Cause, End};
 use std::alloc::Global;
 use std::process::Abort;
 use std::test::Fail;
-use test_inputs::slots::{FILTER, bytes_of};
+use test_inputs::slots::{EXIT, FILTER, bytes_of};
 use vectors::{IMMEDIATE_STORES, LOADS, STORES};
 
 const MOVE_TO_R10: u64 = 0xb70a_0000_0100_0000;
-
-const EXIT: u64 = 0x9500_0000_0000_0000;
 
 /// The program of these slots.
 fn program(alloc: Global, slots: &[u64]) -> Result<Program, Fail> {

@@ -16,7 +16,7 @@ use Rattle.instruction_set.specs.declared.operation.SwapSize.{SwapSize}
 use Rattle.instruction_set.specs.declared.operation.SwapSize.TheVariants as kept
 use Rattle.instruction_set.specs.declared.operation.Width.{Width}
 use Rattle.instruction_set.specs.declared.operation.Width.TheVariants.{Bits32, Bits64}
-use Rattle.program_meaning.proofs.Proved.{words_are_computed}
+use Rattle.program_meaning.proofs.Proved.{low_fits, words_are_computed}
 use Rattle.instruction_set.specs.Spelling.{extension_width}
 use Rattle.program_meaning.specs.Word.{bits, computed, extended, low_bits, reordered, reversed}
 use Rattle.program_meaning.specs.declared.word.Arithmetic.{Arithmetic}
@@ -44,10 +44,6 @@ cut_law b x within =
 operand_law : (w : Width) (f : Fact) (x : ℕ) → ContainsWord f x → IsWithin (operand_of w f) (low_bits w x)
 operand_law Bits32 f x is = cut_law (bounds_of f) x (bounds_law f x is)
 operand_law Bits64 f x is = bounds_law f x is
-
-low_fits : (w : Width) (x : ℕ) → x < 2 ^ 64 → low_bits w x < number_count w
-low_fits Bits32 x h = omega arith
-low_fits Bits64 x h = h
 
 -- ---- two operands
 

@@ -1,6 +1,7 @@
--- Parts of bytes are bytes, and so is what is put together of them.
-use Rattle.std.proofs.Common.{ℕ, ◌+◌, ◌<◌, zero, suc, List, [], ◌∷◌, ◌++◌, length, take, drop, sym, subst, arith}
-use Rattle.std.proofs.lemmas.List.{take-append-drop, get_or-drop}
+-- Parts of bytes are bytes, and so are what is put together of them and the bytes of a number.
+use Rattle.std.proofs.Common.{◌≡◌, ℕ, ◌+◌, ◌/◌, ◌^◌, ◌<◌, ◌≤◌, zero, suc, List, [], ◌∷◌, ◌++◌, length, take, drop, sym, subst, arith, lit<, length-append, length-drop, mod-lt}
+use Rattle.std.specs.Int.{bytes_low_first}
+use Rattle.std.proofs.lemmas.List.{take-append-drop, get_or-drop, length-take}
 use Rattle.program_interface.specs.Bytes.{AreBytes, spliced}
 
 pub front_fit : (xs ys : List ℕ) → AreBytes (xs ++ ys) → AreBytes xs
@@ -27,3 +28,13 @@ pub spliced_fit : (at : ℕ) (new xs : List ℕ) → AreBytes new → AreBytes x
 spliced_fit at new xs brought fit =
     both_fit (take at xs) (new ++ drop (at + length new) xs) (bytes_to at xs fit)
     (both_fit new (drop (at + length new) xs) brought (bytes_from (at + length new) xs fit))
+
+pub length-spliced : (at : ℕ) (new xs : List ℕ) → at + length new ≤ length xs → length (spliced at new xs) ≡ length xs
+length-spliced at new xs inside =
+    omega (arith, length-append (take at xs) (new ++ drop (at + length new) xs), length-append new (drop (at + length new) xs), length-take at xs, length-drop (at + length new) xs)
+
+pub low_first : (i n x : ℕ) → AreBytes (bytes_low_first i n x)
+low_first i zero x k = lit< tt
+low_first zero (suc n) x zero = mod-lt x (lit< tt)
+low_first (suc i) (suc n) x zero = mod-lt (x / 256 ^ suc i) (lit< tt)
+low_first i (suc n) x (suc k) = low_first (suc i) n x k

@@ -1,19 +1,13 @@
 -- Lists of bytes, and of whole blocks of bytes.
-use Rattle.std.proofs.Common.{◌≡◌, ℕ, zero, suc, ◌/◌, ◌^◌, ◌<◌, List, [], ◌∷◌, length, get_or, arith, lit<, mod-lt}
+use Rattle.std.proofs.Common.{◌≡◌, ℕ, zero, suc, ◌<◌, List, [], ◌∷◌, length, get_or, arith}
 use Rattle.std.specs.List.{AllByRecursion}
-use Rattle.std.specs.Int.{bytes_low_first}
 use Rattle.byteorder.specs.Endian.{little_bytes}
 use Rattle.emit_append.specs.OutputBlocks.{AreAllBytes, AreWhole}
 use Rattle.emit_append.proofs.Proved.{AllBytes, by_recursion}
+use Rattle.program_interface.proofs.Proved.{low_first}
 use Rattle.program_interface.specs.Bytes.{AreBytes}
 
 -- ---- bytes
-
-low_first : (i n x : ℕ) → AreBytes (bytes_low_first i n x)
-low_first i zero x k = lit< tt
-low_first zero (suc n) x zero = mod-lt x (lit< tt)
-low_first (suc i) (suc n) x zero = mod-lt (x / 256 ^ suc i) (lit< tt)
-low_first i (suc n) x (suc k) = low_first (suc i) n x k
 
 pub little_are : (n x : ℕ) → AllBytes (little_bytes n x)
 little_are n x = by_recursion (little_bytes n x) (low_first 0 n x)

@@ -2,6 +2,9 @@
 
 use std::alloc::{AllocError, Global};
 
+/// EXIT.
+pub const EXIT: u64 = 0x9500_0000_0000_0000;
+
 /// Emits the first 8 bytes of a block whose first byte is 7.
 pub const FILTER: [u64; 7] = [
     0x7126_0000_0000_0000, // ldxb r6, [r2+0]
@@ -10,7 +13,7 @@ pub const FILTER: [u64; 7] = [
     0xb702_0000_0800_0000, // mov r2, 8
     0x8500_0000_0100_0000, // call 1
     0xb700_0000_0000_0000, // mov r0, 0
-    0x9500_0000_0000_0000, // exit
+    EXIT,
 ];
 
 /// The bytes of slots.

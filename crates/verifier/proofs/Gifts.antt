@@ -3,7 +3,7 @@ use Rattle.std.proofs.Common.{◌≡◌, ◌≢◌, ℕ, ℤ, zero, suc, ◌<◌
 use Rattle.std.proofs.lemmas.Bool.{eqb-false, eqb-true}
 use Rattle.std.proofs.lemmas.Bool.Decides.{nat_tests}
 use Rattle.std.proofs.lemmas.Grind.{get_or-set_at}
-use Rattle.std.proofs.lemmas.List.{get_or-set_other}
+use Rattle.std.proofs.lemmas.List.{get_or-set_other, set-set}
 use Rattle.std.specs.Ordering.{int_eq}
 use Rattle.std.specs.Prelude.{Box}
 use Rattle.instruction_set.specs.Instruction.{distance_of, target}
@@ -24,16 +24,11 @@ empty_more (row ∷ rows) empty zero = empty zero
 empty_more (row ∷ rows) empty (suc s) = empty_more rows (λ k. empty (suc k)) s
 
 -- ---- registers that are set twice
-set_twice : {A : Type 0} (l : List A) (i : ℕ) (a b : A) → set (set l i a) i b ≡ set l i b
-set_twice [] i a b = refl
-set_twice (x ∷ l) zero a b = refl
-set_twice (x ∷ l) (suc i) a b = ap (λ t. x ∷ t) (set_twice l i a b)
-
 both_twice : {A : Type 0} (l : List A) (i j : ℕ) (a b c d : A) → set (set (set (set l i a) j b) i c) j d ≡ set (set l i c) j d
 both_twice [] i j a b c d = refl
 both_twice (x ∷ l) zero zero a b c d = refl
-both_twice (x ∷ l) zero (suc j) a b c d = ap (λ t. c ∷ t) (set_twice l j b d)
-both_twice (x ∷ l) (suc i) zero a b c d = ap (λ t. d ∷ t) (set_twice l i a c)
+both_twice (x ∷ l) zero (suc j) a b c d = ap (λ t. c ∷ t) (set-set l j b d)
+both_twice (x ∷ l) (suc i) zero a b c d = ap (λ t. d ∷ t) (set-set l i a c)
 both_twice (x ∷ l) (suc i) (suc j) a b c d = ap (λ t. x ∷ t) (both_twice l i j a b c d)
 
 module _ {D : Type 0} (operations : Operations D) where
@@ -44,7 +39,7 @@ module _ {D : Type 0} (operations : Operations D) where
   edge_replaced facts dst (Register r) one other =
       ap (λ registers. record facts { registers = registers }) (both_twice facts.registers dst r one.0 one.1 other.0 other.1)
   edge_replaced facts dst (Immediate z) one other =
-      ap (λ registers. record facts { registers = registers }) (set_twice facts.registers dst one.0 other.0)
+      ap (λ registers. record facts { registers = registers }) (set-set facts.registers dst one.0 other.0)
 
   merge_none : (o : Option (Facts D)) → merge operations o None ≡ o
   merge_none (Some a) = refl
