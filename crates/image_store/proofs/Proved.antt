@@ -1,5 +1,5 @@
 -- What the proofs of other crates cite of this one: laws, and lemmas of zones and blocks.
-use Rattle.std.proofs.Common.{ℕ, ◌≡◌, ◌*◌, ◌<◌, ◌≤◌, List, [], length, get_or, take, drop, Ok}
+use Rattle.std.proofs.Common.{ℕ, ◌≡◌, ◌*◌, ◌<◌, ◌≤◌, List, [], length, get_or, take, Ok}
 use Rattle.std.specs.List.{concat}
 use Rattle.zone_state.specs.Zone.{CountedZone, IsZone, write_check, after_write}
 use Rattle.zone_state.specs.declared.state.ZoneState.{ZoneState}
@@ -14,8 +14,7 @@ use Rattle.image_store.proofs.ByteParts.{blocks_fit}
 use Rattle.image_store.proofs.ImageFields.{within_capacity}
 use Rattle.image_store.proofs.LoadedNamespaces as loaded
 use Rattle.image_store.proofs.BlocksOfBytes.{bytes-blocks, length-blocks}
-use Rattle.image_store.proofs.SoundImages.{block-at, zone_with_blocks}
-pub use Rattle.image_store.proofs.SoundImages.{block_whole}
+use Rattle.image_store.proofs.SoundImages.{block_whole, zone_with_blocks}
 use Rattle.image_store.proofs.ReplacedZones.{after_write_zone}
 pub use Rattle.image_store.proofs.ReplacedZones.{each_set}
 use Rattle.image_store.proofs.Shapes as shapes
@@ -42,10 +41,9 @@ zone_room_is_bounded = shapes.zone_room_is_bounded
 pub blocks_are_counted : (block count : ℕ) (bytes : List ℕ) → length (pieces block count bytes) ≡ count
 blocks_are_counted = length-blocks
 
--- each of which is the part of the bytes at its place,
-pub block_is_a_part : (block count i : ℕ) (bytes : List ℕ) → i < count
-    → get_or (pieces block count bytes) i [] ≡ take block (drop (i * block) bytes)
-block_is_a_part = block-at
+-- each of which is whole, where there are bytes for all of them,
+pub blocks_are_whole : (block count i : ℕ) (bytes : List ℕ) → i < count → count * block ≤ length bytes → length (get_or (pieces block count bytes) i []) ≡ block
+blocks_are_whole = block_whole
 
 -- and is bytes;
 pub blocks_are_bytes : (block count : ℕ) (bytes : List ℕ) → AreBytes bytes → (i : ℕ) → AreBytes (get_or (pieces block count bytes) i [])

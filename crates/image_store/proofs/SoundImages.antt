@@ -15,7 +15,7 @@ use Rattle.image_store.proofs.ZonesInMemory.{length-zones, zone-at}
 use Rattle.image_store.proofs.ImageFields.{room_end, within, shape_seen}
 
 -- a block is the part of the bytes at its place,
-pub block-at : (b n i : ℕ) (xs : List ℕ) → i < n → get_or (pieces b n xs) i [] ≡ take b (drop (i * b) xs)
+block-at : (b n i : ℕ) (xs : List ℕ) → i < n → get_or (pieces b n xs) i [] ≡ take b (drop (i * b) xs)
 block-at b zero i xs h = absurd (omega arith)
 block-at b (suc n) zero xs h = let start : zero * b ≡ 0 = omega arith in ap (λ (m : ℕ). take b (drop m xs)) (sym start)
 block-at b (suc n) (suc i) xs h =

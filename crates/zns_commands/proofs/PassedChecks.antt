@@ -35,7 +35,7 @@ pub roomed : (room : Result (Option ℕ) Status) → why_not room ≡ None → r
 roomed (Ok gives) none = refl
 roomed (Err status) none = cc
 
-pub allowed : (r : Result Unit Status) → why_not r ≡ None → r ≡ Ok tt
+allowed : (r : Result Unit Status) → why_not r ≡ None → r ≡ Ok tt
 allowed (Ok done) none = refl
 allowed (Err status) none = cc
 
@@ -100,12 +100,6 @@ write_writes ns holds lba blocks input sound some none =
 abbrev Fails : Option Status → Type 0
 Fails check = (status : Status) → check ≡ Some status → 1 ≤ status.code
 
-demand_fails : (test : Bool) (status : Status) → 1 ≤ status.code → Fails (demand test status)
-demand_fails true status some = λ other e. cc
-demand_fails false status some = λ other e.
-    let same : status ≡ other = cc in
-    subst (λ (s : Status). 1 ≤ s.code) same some
-
 first_fails : (check rest : Option Status) → Fails check → Fails rest → Fails (or_else check rest)
 first_fails None rest one others = others
 first_fails (Some status) rest one others = one
@@ -113,14 +107,18 @@ first_fails (Some status) rest one others = one
 none_fails : Fails None
 none_fails = λ other e. cc
 
-some_fails : (checks : List (Option Status)) → AllByRecursion Fails checks → Fails (first_failed checks)
-some_fails [] all = none_fails
-some_fails (check ∷ checks) all = first_fails check (first_failed checks) all.0 (some_fails checks all.1)
-
 err_fails : (status : Status) → 1 ≤ status.code → Fails (Some status)
 err_fails status some = λ other e.
     let same : status ≡ other = cc in
     subst (λ (s : Status). 1 ≤ s.code) same some
+
+demand_fails : (test : Bool) (status : Status) → 1 ≤ status.code → Fails (demand test status)
+demand_fails true status some = none_fails
+demand_fails false status some = err_fails status some
+
+some_fails : (checks : List (Option Status)) → AllByRecursion Fails checks → Fails (first_failed checks)
+some_fails [] all = none_fails
+some_fails (check ∷ checks) all = first_fails check (first_failed checks) all.0 (some_fails checks all.1)
 
 cond_fails : {X : Type 0} (test : Bool) (x y : Result X Status) → Fails (why_not x) → Fails (why_not y) → Fails (why_not (cond test x y))
 cond_fails true x y left right = left

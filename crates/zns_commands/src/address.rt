@@ -49,11 +49,8 @@ pub fn first_block(image: &Image, lba: u64, blocks: BlockCount) -> Result<ZoneBl
     ensures value { result ≡ unless_failed (range_check image.now lba blocks) (zone_block_in image.now lba) }
     ensures block { IfOk result (IsZoneBlock image.now lba) }
 {
-    let geometry = image.geometry();
-    let Some(block) = geometry.zone_block(lba) else {
-        return Err(Status::LBA_OUT_OF_RANGE);
-    };
-    if u64::from(blocks.get()) > geometry.blocks() - lba {
+    let block = zone_block(image, lba)?;
+    if u64::from(blocks.get()) > image.geometry().blocks() - lba {
         return Err(Status::LBA_OUT_OF_RANGE);
     }
     Ok(block)

@@ -2,7 +2,6 @@
 
 ghost use Rattle.std.specs.Prelude.{◌≡◌, ◌≤◌, length};
 
-use nvme_entry::Completion;
 use std::alloc::Global;
 use std::process::Abort;
 use std::test::Fail;
@@ -59,8 +58,8 @@ pub enum Step {
     Report(u64, u32, ZoneFilter, bool, Status),
     /// A zone fault, and whether it is taken.
     Fault(u32, FaultState, bool),
-    /// The completion of the last command on queue 1, under this identifier, byte by byte.
-    Completes(u16, u128),
+    /// The number that the first two dwords of the last command's completion tell.
+    Answers(u64),
     /// The data of the last command: from one of the blocks of a write on, so many of them, and
     /// then so many blocks of zeros.
     Gives(u16, u16, u16),
@@ -195,12 +194,9 @@ impl Stage {
                 let answer = self.namespace.fault(zone, state, &self.holds);
                 assert_eq!(rt; answer.is_ok(), taken, "step {number}");
             }
-            Step::Completes(cid, bytes) => {
-                assert_eq!(rt;
-                    completion(self.last, cid),
-                    bytes.to_be_bytes(),
-                    "step {number}"
-                );
+            Step::Answers(told) => {
+                let (low, high) = (u64::from(self.last.dw0), u64::from(self.last.dw1));
+                assert_eq!(rt; (high << 32) | low, told, "step {number}");
             }
             Step::Gives(from, written, zeros) => self.assert_given(rt, from, written, zeros),
             Step::Lists(length, number, zones) => self.assert_list(rt, length, number, zones),
@@ -292,18 +288,6 @@ fn report(
         filter,
         partial,
     })
-}
-
-/// The completion of an answer on queue 1.
-fn completion(answer: Answer, cid: u16) -> [u8; 16] {
-    let completion = Completion {
-        dw0: answer.dw0,
-        dw1: answer.dw1,
-        queue: 1,
-        cid,
-        status: answer.status,
-    };
-    completion.encode()
 }
 
 /// The word of 8 bytes of a report with this index.

@@ -10,11 +10,11 @@ fn appends_are_answered_and_read(rt: HostRuntime) -> Result<(), Fail> {
         // An append that fills a zone.
         Step::Begin,
         append(16, 6, OK),
-        Step::Completes(1, 0x10000000_00000000_00000100_01000000),
+        Step::Answers(16),
         Step::Leaves([EMPTY, EMPTY, FULL, EMPTY]),
         Step::Uses(0, 0),
         append(16, 1, Status::ZONE_IS_FULL),
-        Step::Completes(4, 0x00000000_00000000_00000100_04007203),
+        Step::Answers(0),
         read(16, 6, OK),
         Step::Gives(0, 6, 0),
         read(22, 2, OK),
@@ -25,7 +25,7 @@ fn appends_are_answered_and_read(rt: HostRuntime) -> Result<(), Fail> {
         // An append to a block that is not its zone's lowest.
         Step::Begin,
         append(9, 1, Status::INVALID_FIELD_IN_COMMAND),
-        Step::Completes(6, 0x00000000_00000000_00000100_06000400),
+        Step::Answers(0),
         // An append past the capacity.
         Step::Begin,
         append(0, 5, OK),
@@ -33,7 +33,7 @@ fn appends_are_answered_and_read(rt: HostRuntime) -> Result<(), Fail> {
         read(0, 8, OK),
         Step::Gives(0, 5, 3),
         append(0, 1, OK),
-        Step::Completes(3, 0x05000000_00000000_00000100_03000000),
+        Step::Answers(5),
         Step::Leaves([FULL, EMPTY, EMPTY, EMPTY]),
     ];
     play(&rt, rt.alloc(), &steps)
@@ -46,7 +46,7 @@ fn writes_are_checked_in_order(rt: HostRuntime) -> Result<(), Fail> {
         Step::Begin,
         append(8, 1, OK),
         write(10, 1, Status::ZONE_INVALID_WRITE),
-        Step::Completes(3, 0x00000000_00000000_00000100_03007803),
+        Step::Answers(0),
         write(9, 1, OK),
         Step::Leaves([EMPTY, IMPLICIT, EMPTY, EMPTY]),
         // Past the capacity of an empty zone and of a full one.
