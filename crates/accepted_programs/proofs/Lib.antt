@@ -1,6 +1,5 @@
 mod CellLaws
 mod Edges
-mod FirstPassed
 mod FirstRefusals
 mod Fitting
 mod Flow

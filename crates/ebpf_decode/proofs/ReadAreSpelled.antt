@@ -1,11 +1,12 @@
 -- What is read from a slot is spelled by it.
-use Rattle.std.proofs.Common.{◌≡◌, FitsSigned, ℕ, ℤ, pos, ◌+◌, ◌*◌, ◌%◌, ◌/◌, ◌^◌, ◌<◌, Bool, true, false, not, ◌&&◌, cond, eqb, leb, List, [], ◌∷◌, Option, Some, None, Ok, is_none, find, option_map, refl, sym, ap, subst, ◌∙◌, arith}
+use Rattle.std.proofs.Common.{◌≡◌, FitsSigned, ℕ, ℤ, pos, ◌+◌, ◌*◌, ◌%◌, ◌/◌, ◌^◌, ◌<◌, Bool, true, false, not, ◌&&◌, cond, eqb, leb, [], ◌∷◌, Option, Some, None, Ok, is_none, option_map, refl, sym, ap, subst, ◌∙◌, arith}
 use Rattle.std.specs.Ordering.{int_eq}
 use Rattle.std.specs.Int.{w16, w32, cast_signed, cast_unsigned}
 use Rattle.std.specs.Option.{ok_or, option_or}
 use Rattle.std.proofs.lemmas.Bool.{agree_below_at, and_parts, eqb-true, leb-false, not-false, or_parts}
 use Rattle.std.proofs.lemmas.Bool.Decides.{Decides-int_eq}
 use Rattle.std.proofs.lemmas.Int.{ints, to_z-of_z}
+use Rattle.program_interface.proofs.Proved.{found_passes}
 use Rattle.ebpf_decode.specs.declared.fault.FaultKind.{FaultKind}
 use Rattle.ebpf_decode.specs.declared.fault.FaultKind.TheVariants as kinds
 use Rattle.program_interface.specs.Readings.{unless_fault}
@@ -125,14 +126,6 @@ IsSpelled f next i = (first_slot i ≡ f) × (second_slot i ≡ cond (is_wide i)
 moved : (f : Fields) (next : Option Fields) (x i : Instruction) → Some x ≡ Some i → IsSpelled f next x → IsSpelled f next i
 moved f next x i e spelled = let same : x ≡ i = cc in subst (IsSpelled f next) same spelled
 
-find-then : {X : Type 0} (test : X → Bool) (x y : X) (b : Bool) (rest : Option X) → test x ≡ b → (rest ≡ Some y → test y ≡ true) → cond b (Some x) rest ≡ Some y → test y ≡ true
-find-then test x y true rest is later e = let same : x ≡ y = cc in subst (λ z. test z ≡ true) same is
-find-then test x y false rest is later e = later e
-
-find-some : {X : Type 0} (test : X → Bool) (xs : List X) (x : X) → find test xs ≡ Some x → test x ≡ true
-find-some test [] x e = absurd cc
-find-some test (y ∷ ys) x e = find-then test y x (test y) (find test ys) refl (find-some test ys x) e
-
 map-some : {X Y : Type 0} (f : X → Y) (m : Option X) (y : Y) → option_map f m ≡ Some y → (x : X) × (m ≡ Some x) × (Some (f x) ≡ Some y)
 map-some f None y e = absurd cc
 map-some f (Some x) y e = (x, refl, e)
@@ -166,7 +159,7 @@ module _ (width : Width) (operation : Operation) (f : Fields) (next : Option Fie
       → IsUsed (uses (Arithmetic width operation operand)) f → variant_with operation f.offset ≡ Some v
       → Some (instructions.Arithmetic width v f.dst (source_of operand f)) ≡ Some i → IsSpelled f next i
   with-variant operand v named used found e =
-      let test = and_parts _ _ (find-some (λ variant. eqb (operation_code variant) (operation_code operation) && int_eq (operation_offset variant) f.offset) (SignedDivide ∷ SignedModulo ∷ plain_operations) v found) in
+      let test = and_parts _ _ (found_passes (λ variant. eqb (operation_code variant) (operation_code operation) && int_eq (operation_offset variant) f.offset) (SignedDivide ∷ SignedModulo ∷ plain_operations) v found) in
       let code : operation_code v ≡ operation_code operation = eqb-true _ _ test.0 in
       let offset : operation_offset v ≡ f.offset = (Decides-int_eq _ _).0 test.1 in
       with-operand operand code offset named used e
@@ -188,7 +181,7 @@ module _ (width : Width) (operation : Operation) (f : Fields) (next : Option Fie
   with-extension operands.Register named used e =
       let found = map-some (λ extension. instructions.MoveSigned extension f.dst f.src) (extension_with width operation f.offset) i e in
       let extension = found.0 in
-      let test = and_parts _ _ (find-some (λ extension. width_eq (extension_width extension) width && eqb (operation_code operation) MOV && int_eq (extension_offset extension) f.offset) (Bits8To32 ∷ Bits16To32 ∷ Bits8To64 ∷ Bits16To64 ∷ Bits32To64 ∷ []) extension found.1) in
+      let test = and_parts _ _ (found_passes (λ extension. width_eq (extension_width extension) width && eqb (operation_code operation) MOV && int_eq (extension_offset extension) f.offset) (Bits8To32 ∷ Bits16To32 ∷ Bits8To64 ∷ Bits16To64 ∷ Bits32To64 ∷ []) extension found.1) in
       let front = and_parts _ _ test.0 in
       let class : arithmetic_class (extension_width extension) ≡ arithmetic_class width = eqb-true _ _ front.0 in
       let code : operation_code operation ≡ MOV = eqb-true _ _ front.1 in
@@ -240,7 +233,7 @@ row (Negate width) f next i named used here more fits others e =
     (slot-is f _ _ _ _ _ (eqb-true _ _ named) refl (sym (used.src refl)) (sym (used.offset refl)) (sym (used.immediate refl)), refl, tt)
 row (SwapBytes swap) f next i named used here more fits others e =
     let found = map-some (λ size. instructions.SwapBytes swap size f.dst) (swap_size_with f.immediate) i e in
-    let bits = (Decides-int_eq _ _).0 (find-some (λ size. int_eq (kept_bits size) f.immediate) (kept.Bits16 ∷ kept.Bits32 ∷ kept.Bits64 ∷ []) found.0 found.1) in
+    let bits = (Decides-int_eq _ _).0 (found_passes (λ size. int_eq (kept_bits size) f.immediate) (kept.Bits16 ∷ kept.Bits32 ∷ kept.Bits64 ∷ []) found.0 found.1) in
     moved f next (instructions.SwapBytes swap found.0 f.dst) i found.2
     (slot-is f _ _ _ _ _ (eqb-true _ _ named) refl (sym (used.src refl)) (sym (used.offset refl)) bits, refl, tt)
 row Jump f next i named used here more fits others e =

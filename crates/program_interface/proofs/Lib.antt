@@ -1,5 +1,6 @@
 mod AllOf
 mod ByteParts
 mod ContextFields
+mod FirstPassed
 pub mod Proved
 mod SameFronts
