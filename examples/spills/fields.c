@@ -1,5 +1,5 @@
-/* Fields of the record that the block names: emits those whose bit the argument has, and leaves their number and the sum of
-   all four in scratch.
+/* Fields of the record that the block names: emits those whose bit the argument has, and adds their number and the sum of
+   all four to scratch.
 
    Record:   64 bytes, 8 in a block: fields of 8 bytes at bytes 8, 16, 24 and 32; the record's number (its low 3 bits) is the
              block's byte 0

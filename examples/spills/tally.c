@@ -1,5 +1,6 @@
 /* A tally on the stack: counts four bytes by their low 2 bits in an array, emits the array, the record that the block
-   names, and the block's first bytes where the argument asks for them, and leaves two sums in scratch.
+   names, and the block's first bytes where the argument asks for them, and adds to a sum in scratch and to an exclusive OR
+   of the blocks' first words.
 
    Record:   32 bytes at the block's start, whose bytes 0, 8, 16 and 24 are counted; 4 records of 8 bytes at byte 64, of
              which the low 2 bits of byte 63 name one
