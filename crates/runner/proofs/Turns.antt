@@ -1,7 +1,7 @@
 -- A turn of a run, as the code takes it.
 use Rattle.std.proofs.Common.{◌≡◌, ◌≢◌, ℕ, zero, suc, ◌+◌, ◌-◌, ◌<◌, ◌≤◌, ◌%◌, Bool, true, false, List, [], ◌∷◌, ◌++◌, length, take, drop, get_or, Option, Some, None, refl, sym, ap, subst, ◌∙◌, arith, inl, inr, append-nil, length-append, append_assoc}
 use Rattle.std.specs.Prelude.{◌⊎◌, ◌==◌}
-use Rattle.std.proofs.lemmas.Bool.Decides.{eqb_tells, leb_tells}
+use Rattle.std.proofs.lemmas.Bool.{cases_lt, ne_eqb}
 use Rattle.std.proofs.lemmas.List.{length-take-le, length-drop}
 use Rattle.zone_state.specs.declared.status.TheConstants.Status.{SUCCESS}
 use Rattle.instruction_set.specs.declared.instruction.Instruction.{Instruction}
@@ -28,18 +28,6 @@ use Rattle.runner.specs.steps.Ran.{HasRun}
 use Rattle.runner.specs.steps.Turning.{FitsOn, TurnGoesOn, HasEnded, HasRoom, next_block, next_block_run, with_packer, with_scratch}
 use Rattle.runner.specs.declared.active_run.ActiveRun.{ActiveRun}
 use Rattle.runner.proofs.Appends.{added_both}
-
-lt_or_le : (a b : ℕ) → (a < b) ⊎ (b ≤ a)
-lt_or_le a b = elim (leb_tells b a) [
-  | inl is ↦ inr is.1
-  | inr not_so ↦ inl not_so.1
-]
-
-not_zero : (n : ℕ) → n ≢ 0 → (n == 0) ≡ false
-not_zero n other = elim (eqb_tells n 0) [
-  | inl is ↦ absurd (other is.1)
-  | inr differs ↦ differs.0
-]
 
 cut_first : (n at : ℕ) (xs : List (List ℕ)) → at < length xs → take (suc n) (drop at xs) ≡ get_or xs at [] ∷ take n (drop (suc at) xs)
 cut_first n at [] less = absurd (omega (arith, less))
@@ -259,7 +247,7 @@ module _ (ns : ZonedNamespace) (program : List (Option Instruction)) (limit : �
   first_by false on r0 exit more = room_first ns a.destination ending [] h.some sent closing (end_room r0 exit (inl on))
 
   first_room : (r0 : ℕ) → ran.end ≡ end.Exit r0 → HasRoom ns a.destination sent
-  first_room r0 exit = first_by (goes_on ran.end) refl r0 exit (lt_or_le (a.index + 1) a.command.blocks)
+  first_room r0 exit = first_by (goes_on ran.end) refl r0 exit (cases_lt (a.index + 1) a.command.blocks)
 
   last_room : (r0 : ℕ) → ran.end ≡ end.Exit r0 → Over → HasRoom (added ns a.destination sent) a.destination closing
   last_room r0 exit over = room_second ns a.destination ending [] h.some sent closing (end_room r0 exit over)
@@ -309,7 +297,7 @@ module _ (ns : ZonedNamespace) (program : List (Option Instruction)) (limit : �
           rw (written, put_is, same, sym run.group, sym run.frames) (goes_is on (omega (arith, index_is, blocks_are, more)))
 
       is_over : (r0 ≢ 0) ⊎ (counted.command.blocks ≤ counted.index) → Over
-      is_over (inl other) = inl (ap goes_on run.exit ∙ not_zero r0 other)
+      is_over (inl other) = inl (ap goes_on run.exit ∙ ne_eqb r0 0 other)
       is_over (inr last) = inr (omega (arith, index_is, blocks_are, last))
 
       pub room_for_finish : (r0 ≢ 0) ⊎ (counted.command.blocks ≤ counted.index) → HasRoom then counted.destination (given_by_finish counted.packer)
