@@ -69,7 +69,7 @@ pub(crate) fn copy_groups(bytes: &[u8], length: usize, target: &mut [u8]) -> usi
     copied
 }
 
-/// Copies all of the bytes at once, and answers how many they are.
+/// Copies all of the bytes at once, and gives how many they are.
 pub(crate) fn copy_all(bytes: &[u8], target: &mut [u8]) -> usize
     requires { length bytes.now ≤ length target.old }
     ensures { target.new ≡ bytes.now ++ drop (length bytes.now) target.old }

@@ -1,6 +1,6 @@
 -- The outcome of a run whose block runs all end by EXIT.
 use Rattle.std.proofs.Common.{◌≡◌, ℕ, ◌+◌, ◌≤◌, List, [], ◌∷◌, ◌++◌, length, Option, Some, refl, ap, sym, ◌∙◌, arith, append_assoc}
-use Rattle.std.proofs.lemmas.List.{append-nil}
+use Rattle.std.proofs.lemmas.List.{append-nil, drop_at}
 use Rattle.std.specs.List.{AllByRecursion}
 use Rattle.zone_state.specs.declared.status.TheConstants.Status.{SUCCESS}
 use Rattle.program_meaning.specs.BlockRun.{BlockRun}
@@ -96,8 +96,7 @@ AllExit block_runs = AllByRecursion (λ run. IsExit run.end) block_runs
 
 -- what stood in front, and then what comes to it
 in_whole : (first more : List (List ℕ)) → first ++ behind first (first ++ more) ≡ first ++ more
-in_whole [] more = refl
-in_whole (x ∷ first) more = ap (λ xs. x ∷ xs) (in_whole first more)
+in_whole first more = ap (λ xs. first ++ xs) (drop_at first more (length first) refl)
 
 whole_again : (first rest whole : List (List ℕ)) → whole ≡ first ++ rest → first ++ behind first whole ≡ whole
 whole_again first rest whole is = ap (λ xs. first ++ behind first xs) is ∙ in_whole first rest ∙ sym is

@@ -26,9 +26,6 @@ pub record AreApart (places : List (Option Place)) : Type 0 where
   pub apart : (j k : ℕ) (p q : Place) → get_or places j None ≡ Some p → get_or places k None ≡ Some q
       → p.destination ≡ q.destination → j ≡ k
 
-pub new_none : (ns : ZonedNamespace) (j : ℕ) (p : Place) → place_at (new_state ns) j ≡ Some p → ⊥
-new_none ns j p at = none_known RUNS j p at
-
 pub new_apart : (ns : ZonedNamespace) → AreApart (new_state ns).places
 new_apart ns = record { apart = λ j k p q at_j at_k same. absurd (none_known RUNS j p at_j) }
 

@@ -23,7 +23,7 @@ use Rattle.pushdown.specs.View.{place_of, seen, to_come, turns_of}
 use Rattle.device_events.specs.declared.event.Event.TheVariants as event
 use Rattle.device_events.specs.declared.reply.Reply.{Reply}
 use Rattle.device_events.specs.declared.reply.Reply.TheVariants as reply
-use Rattle.pushdown.proofs.Proved.{events_keep_for_runs}
+use Rattle.pushdown.proofs.Proved.{events_keep_for_runs, turned_is}
 use Rattle.runner.specs.steps.Answered.{complete_reply}
 use Rattle.runner.specs.DeviceState.{active_of, loaded_slot, loaded_of, running, device_state}
 use Rattle.runner.specs.Ready.{Fits, IsForBlocks, IsReady, IsRunning}
@@ -91,9 +91,7 @@ module _ (ns : ZonedNamespace) (slots : List (Option LoadedProgram)) (runs : Lis
     slots' = set slots a.command.slot (Some q)
 
     comes : turned s k ≡ take_turn s k place (turn ∷ later)
-    comes =
-        ap (λ (p : Option Place). turned_at s k p) here
-        ∙ ap (λ (turns : List Turn). take_turn s k place turns) (turns_are ∙ first)
+    comes = turned_is s k place turn later here (turns_are ∙ first)
 
     written_there : added ns place.destination turn.blocks ≡ new
     written_there = ap (λ (z : ℕ). added ns z turn.blocks) (sym fits.destination) ∙ sym written
