@@ -1,4 +1,4 @@
--- Operands (profile): registers, numbers, memory operands and the targets of jumps. Each reading answers a value or the fault.
+-- Operands (profile): registers, numbers, memory operands and the targets of jumps. Each reading gives a value or the fault.
 use Rattle.std.specs.Prelude.{ℕ, ℤ, pos, negsuc, neg_ℤ, int_le, ◌-◌, ◌^◌, Bool, ◌&&◌, ◌||◌, ◌==◌, nat_lt, if◌then◌else◌, List, length, take, drop, slice_index, Option, Some, None, Result, Ok, Err, codes}
 use Rattle.std.specs.List.{list_all, before_first, position_or_len}
 use Rattle.std.specs.Int.{w32, w64, cast_signed, cast_unsigned}

@@ -190,7 +190,7 @@ abbrev pub decoded_program : List ℕ → Result (List (Option Instruction)) Fau
 decoded_program bytes =
     unless_fault (option_map at_first_slot (length_fault (length bytes))) (read_slots false 0 (slots_at (length bytes / 8) bytes))
 
--- ---- what a function answers
+-- ---- what a function gives
 
 -- the fault that an error tells; want of memory tells none
 abbrev pub fault_in : DecodeFault → Option Fault
