@@ -34,7 +34,7 @@ pub fn texts_have_one_length()
 {}
 
 /// A text is tested from its front: what stands behind the fault that it is refused with, unless that is one of its
-/// end, changes nothing of that.
+/// end, changes nothing of that in a text that is no shorter.
 pub fn faults_are_by_prefix()
     ensures { FaultsAreByPrefix }
 {}
