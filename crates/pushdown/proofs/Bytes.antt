@@ -1,5 +1,5 @@
 -- Lists of bytes, and of whole blocks of bytes.
-use Rattle.std.proofs.Common.{◌≡◌, ℕ, suc, ◌<◌, List, [], ◌∷◌, length, get_or, arith}
+use Rattle.std.proofs.Common.{◌≡◌, ℕ, zero, suc, ◌<◌, List, [], ◌∷◌, length, get_or, arith}
 use Rattle.std.specs.List.{AllByRecursion}
 use Rattle.byteorder.specs.Endian.{little_bytes}
 use Rattle.emit_append.specs.OutputBlocks.{AreAllBytes, AreWhole}
@@ -32,3 +32,8 @@ pub blocks_by_place : (block : ℕ) (blocks : List (List ℕ)) → ((i : ℕ) �
 blocks_by_place block [] whole are = tt
 blocks_by_place block (b ∷ bs) whole are =
     (record { whole = whole 0 (omega arith); are = are 0 }, blocks_by_place block bs (λ i less. whole (suc i) (omega (arith, less))) (λ i. are (suc i)))
+
+pub whole_at : (block : ℕ) (blocks : List (List ℕ)) → AreBlocks block blocks → (i : ℕ) → i < length blocks → length (get_or blocks i []) ≡ block
+whole_at block [] h i less = absurd (omega (arith, less))
+whole_at block (b ∷ bs) h zero less = h.0.whole
+whole_at block (b ∷ bs) h (suc i) less = whole_at block bs h.1 i (omega (arith, less))
