@@ -2,7 +2,6 @@
 use Rattle.std.proofs.Common.{◌≡◌, ℕ, ◌+◌, ◌≤◌, List, [], ◌∷◌, ◌++◌, length, Option, Some, refl, ap, sym, ◌∙◌, arith, append_assoc}
 use Rattle.std.proofs.lemmas.List.{append-nil, drop_at}
 use Rattle.std.specs.List.{AllByRecursion}
-use Rattle.zone_state.specs.declared.status.TheConstants.Status.{SUCCESS}
 use Rattle.program_meaning.specs.BlockRun.{BlockRun}
 use Rattle.program_meaning.specs.TrapFree.{IsExit}
 use Rattle.program_meaning.specs.declared.end.End.{End}
@@ -13,7 +12,7 @@ use Rattle.emit_append.specs.Packing.{packed, pending_of, released}
 use Rattle.emit_append.proofs.Proved.{output_blocks_are_bytes, output_blocks_are_whole, packing_goes_on}
 use Rattle.pushdown.specs.BlockRuns.{Task, block_runs_of, frames_of, groups_of, last_scratch, scratch_after}
 use Rattle.pushdown.specs.Laws.{OutcomeIsPacked}
-use Rattle.pushdown.specs.Outcome.{Ending, Emitted, Turn, appended_by, behind, ending_of, last_turn_by, middle_turn, nothing_emitted, turns_after, with_group}
+use Rattle.pushdown.specs.Outcome.{Ending, Emitted, Turn, appended_by, behind, ending_of, last_turn_by, middle_turn, nothing_emitted, success, turns_after, with_group}
 use Rattle.pushdown.specs.Pushdown.{EndsWithLast, Succeeds, success_of}
 use Rattle.pushdown.proofs.BlockRuns.{IsDone}
 use Rattle.program_interface.proofs.Proved.{all_append, all_drop}
@@ -150,7 +149,7 @@ module _ (block : ℕ) where
   -- ---- how the last turn ends
 
   abbrev told : ℕ → ℕ → List ℕ → Option Ending
-  told frames blocks scratch = Some (record { status = SUCCESS; dw0 = frames; dw1 = blocks; result = Some scratch })
+  told frames blocks scratch = Some (success frames blocks scratch)
 
   last_told : (e : End) (emitted : Emitted) (run : BlockRun) → IsExit e
       → (last_turn_by e block emitted run).ending

@@ -149,7 +149,7 @@ take_next (turn ∷ turns) (suc k) less =
 
 -- ---- the slot of a run's program
 
-left_other : (s : State) (place : Place) (ending : Option Ending) (slot : ℕ) → slot ≢ place.slot → get_or (slots_left s place ending) slot None ≡ program_at s slot
+pub left_other : (s : State) (place : Place) (ending : Option Ending) (slot : ℕ) → slot ≢ place.slot → get_or (slots_left s place ending) slot None ≡ program_at s slot
 left_other s place None slot differs = refl
 left_other s place (Some ending) slot differs =
     get_or-set_other s.slots place.slot slot (keeping (program_at s place.slot) ending.result) None differs
