@@ -8,7 +8,7 @@ use Rattle.image_store.specs.Namespace.{ZonedNamespace, zone_at}
 use Rattle.zns_commands.specs.Address.{zone_number}
 use Rattle.pushdown.specs.Admission.{task_of}
 use Rattle.device_events.specs.Replies.{Joins, ReplyWithData}
-use Rattle.pushdown.specs.Draining.{AreLowest, HasDrained, StopsDraining, lowest_run, replies_to_turns, state_after_turns, turns_left}
+use Rattle.pushdown.specs.Draining.{AreLowest, StopsDraining, lowest_run, replies_to_turns, state_after_turns, turns_left}
 use Rattle.pushdown.specs.Happenings.{turned}
 use Rattle.pushdown.specs.State.{State}
 use Rattle.pushdown.specs.View.{seen, to_come}
