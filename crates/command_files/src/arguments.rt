@@ -49,9 +49,9 @@ pub fn emit_option<'a>(alloc: Global) -> Arg<'a> {
 
 /// The option that gives a run's argument, 0 where it isn't given.
 pub fn argument_option<'a>(alloc: Global) -> Arg<'a> {
-    option(alloc, ARGUMENT, "A")
-        .default_value("0")
-        .help("The argument of the run, a number that the program is told")
+    option(alloc, ARGUMENT, "A").default_value("0").help(
+        "The argument of the run, a number that the program is told",
+    )
 }
 
 /// The argument that names the file of a program, which is required.
