@@ -8,7 +8,7 @@ use emit_append::{BlockSize, Packer};
 pub(crate) const BLOCK: u32 = 4096;
 
 /// Packs the whole groups of this length in the bytes, puts each block into the target behind the
-/// one before, and answers how many bytes of the target the blocks fill.
+/// one before, and gives how many bytes of the target the blocks fill.
 pub(crate) fn pack_groups(bytes: &[u8], length: usize, target: &mut [u8]) -> usize
     requires some { 0 < length }
     requires fits { length ≤ BLOCK }
@@ -57,7 +57,7 @@ fn keep(block: &[u8], target: &mut [u8], filled: usize) -> usize
     filled + block.len()
 }
 
-/// Copies the same groups, one after another, and answers how many bytes they are.
+/// Copies the same groups, one after another, and gives how many bytes they are.
 pub(crate) fn copy_groups(bytes: &[u8], length: usize, target: &mut [u8]) -> usize
     requires { 0 < length }
 {
@@ -69,7 +69,7 @@ pub(crate) fn copy_groups(bytes: &[u8], length: usize, target: &mut [u8]) -> usi
     copied
 }
 
-/// Copies all of the bytes at once, and answers how many they are.
+/// Copies all of the bytes at once, and gives how many they are.
 pub(crate) fn copy_all(bytes: &[u8], target: &mut [u8]) -> usize
     requires { length bytes.now ≤ length target.old }
     ensures { target.new ≡ bytes.now ++ drop (length bytes.now) target.old }

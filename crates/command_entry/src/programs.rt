@@ -10,7 +10,8 @@ use clap::{Arg, ArgAction, ArgMatches, Command};
 use command_failure::Failure;
 use command_files::Files;
 use command_files::arguments::{
-    EMIT, PROGRAM, and_argument, emit_option, number, option, program_argument, required,
+    ARGUMENT, EMIT, PROGRAM, and_argument, argument_option, emit_option, number, option,
+    program_argument, required,
 };
 use nvme_entry::{LoadCommand, RunCommand};
 use std::alloc::{AllocError, Global};
@@ -29,8 +30,6 @@ const PROGRAM_OPTION: &str = "program";
 const FROM: &str = "from";
 
 const TO: &str = "to";
-
-const ARGUMENT: &str = "argument";
 
 /// How `load` stands on the command line.
 pub(crate) fn load_command<'a>(alloc: Global) -> Result<Command<'a>, AllocError> {
@@ -56,9 +55,6 @@ pub(crate) fn run_command<'a>(alloc: Global) -> Result<Command<'a>, AllocError> 
     let to = option(alloc, TO, "LBA").required(true).help(
         "The lowest logical block address of the zone that is appended to",
     );
-    let argument = option(alloc, ARGUMENT, "A")
-        .default_value("0")
-        .help("A number that the program is told");
     let command = Command::new(alloc, RUN)
         .about("Starts a run of a slot's program")
         .after_help(
@@ -68,7 +64,7 @@ pub(crate) fn run_command<'a>(alloc: Global) -> Result<Command<'a>, AllocError> 
     let command = and_argument(command, from);
     let command = and_argument(command, blocks);
     let command = and_argument(command, to);
-    let command = and_argument(command, argument);
+    let command = and_argument(command, argument_option(alloc));
     and_identifiers(alloc, command)
 }
 

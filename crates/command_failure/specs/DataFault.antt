@@ -3,7 +3,7 @@ use Rattle.std.specs.Prelude.{ℕ}
 use Rattle.command_failure.specs.declared.data_fault.DataFault.{DataFault}
 use Rattle.command_failure.specs.declared.data_fault.DataFault.TheVariants.{Empty, TooLong, NotWholeBlocks, NotABlock}
 
--- the number of a fault, by which a program is told of it (profile)
+-- the number of a fault, by which a user is told of it (profile)
 abbrev pub data_number : DataFault → ℕ
 data_number Empty = 1
 data_number (TooLong bytes) = 2

@@ -13,15 +13,15 @@ use Rattle.std.proofs.lemmas.Str.Parse.{without_leading_plus_none}
 use Rattle.command_files.specs.Number.{numeral_of, spelled}
 
 -- digits, told by a test
-all_told : (base : ℕ) (ds : List ℕ) → AllDigits base ds → list_all (λ byte. is_digit byte base) ds ≡ true
-all_told base [] all = refl
-all_told base (d ∷ ds) all = rw (lt-ltb (digit_value d) base all.0) (all_told base ds all.1)
+all_told : (radix : ℕ) (ds : List ℕ) → AllDigits radix ds → list_all (λ byte. is_digit byte radix) ds ≡ true
+all_told radix [] all = refl
+all_told radix (d ∷ ds) all = rw (lt-ltb (digit_value d) radix all.0) (all_told radix ds all.1)
 
-told_all : (base : ℕ) (ds : List ℕ) → list_all (λ byte. is_digit byte base) ds ≡ true → AllDigits base ds
-told_all base [] told = tt
-told_all base (d ∷ ds) told =
-    let parts = and_parts (ltb (digit_value d) base) (list_all (λ byte. is_digit byte base) ds) told in
-    (ltb-true (digit_value d) base parts.0, told_all base ds parts.1)
+told_all : (radix : ℕ) (ds : List ℕ) → list_all (λ byte. is_digit byte radix) ds ≡ true → AllDigits radix ds
+told_all radix [] told = tt
+told_all radix (d ∷ ds) told =
+    let parts = and_parts (ltb (digit_value d) radix) (list_all (λ byte. is_digit byte radix) ds) told in
+    (ltb-true (digit_value d) radix parts.0, told_all radix ds parts.1)
 
 none_unless : (a b c : Bool) (n : ℕ) → (a ≡ true → b ≡ true → c ≡ true → ⊥) → None ≡ cond (a && (b && c)) (Some n) None
 none_unless true true true n h = absurd (h refl refl refl)
@@ -29,16 +29,16 @@ none_unless true true false n h = refl
 none_unless true false c n h = refl
 none_unless false b c n h = refl
 
-numeral_if : {E : Type 0} (base : ℕ) (ds : List ℕ) (r : Result ℕ E) → OkIff r (IsNumeral base ds × (digits_value base ds < 2 ^ 64)) (digits_value base ds) → result_ok r ≡ numeral_of base ds
-numeral_if base ds (Ok n) h =
-    rw (all_told base ds h.0.0.1, lt-ltb 0 (length ds) h.0.0.0, lt-ltb (digits_value base ds) (2 ^ 64) h.0.1) (ap Some h.1)
-numeral_if base ds (Err e) h =
-    none_unless (list_all (λ byte. is_digit byte base) ds) (ltb 0 (length ds)) (ltb (digits_value base ds) (2 ^ 64)) (digits_value base ds)
-    (λ all some small. h ((ltb-true _ _ some, told_all base ds all), ltb-true _ _ small))
+numeral_if : {E : Type 0} (radix : ℕ) (ds : List ℕ) (r : Result ℕ E) → OkIff r (IsNumeral radix ds × (digits_value radix ds < 2 ^ 64)) (digits_value radix ds) → result_ok r ≡ numeral_of radix ds
+numeral_if radix ds (Ok n) h =
+    rw (all_told radix ds h.0.0.1, lt-ltb 0 (length ds) h.0.0.0, lt-ltb (digits_value radix ds) (2 ^ 64) h.0.1) (ap Some h.1)
+numeral_if radix ds (Err e) h =
+    none_unless (list_all (λ byte. is_digit byte radix) ds) (ltb 0 (length ds)) (ltb (digits_value radix ds) (2 ^ 64)) (digits_value radix ds)
+    (λ all some small. h ((ltb-true _ _ some, told_all radix ds all), ltb-true _ _ small))
 
 -- what the library reads of a text that doesn't begin with `+`
-pub numeral_read : {E : Type 0} (base : ℕ) (ds : List ℕ) (r : Result ℕ E) → get_or ds 0 0 ≢ 43 → ParsesUnsigned 64 base ds r → result_ok r ≡ numeral_of base ds
-numeral_read base ds r none h = numeral_if base ds r (rw (without_leading_plus_none ds none) at h)
+pub numeral_read : {E : Type 0} (radix : ℕ) (ds : List ℕ) (r : Result ℕ E) → get_or ds 0 0 ≢ 43 → ParsesUnsigned 64 radix ds r → result_ok r ≡ numeral_of radix ds
+numeral_read radix ds r none h = numeral_if radix ds r (rw (without_leading_plus_none ds none) at h)
 
 -- a word behind `0x`, and any other
 pub behind_prefix : (word digits : List ℕ) → StripsPrefix (FindsTextPrefix (codes "0x")) word digits → spelled word ≡ numeral_of 16 digits

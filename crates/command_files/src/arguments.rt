@@ -19,6 +19,9 @@ pub const BLOCK: &str = "block";
 /// The option that [`emit_option`] describes.
 pub const EMIT: &str = "emit";
 
+/// The option that [`argument_option`] describes.
+pub const ARGUMENT: &str = "argument";
+
 /// The argument that [`program_argument`] describes.
 pub const PROGRAM: &str = "PROGRAM";
 
@@ -41,6 +44,13 @@ pub fn block_option<'a>(alloc: Global) -> Arg<'a> {
 pub fn emit_option<'a>(alloc: Global) -> Arg<'a> {
     option(alloc, EMIT, "E").required(true).help(
         "The most bytes that may be emitted for a block, two for each record counted: at most a block's",
+    )
+}
+
+/// The option that gives a run's argument, 0 where it isn't given.
+pub fn argument_option<'a>(alloc: Global) -> Arg<'a> {
+    option(alloc, ARGUMENT, "A").default_value("0").help(
+        "The argument of the run, a number that the program is told",
     )
 }
 

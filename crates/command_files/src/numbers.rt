@@ -13,14 +13,14 @@ pub(crate) fn spelled(word: &str) -> Option<u64>
     }
 }
 
-/// The number that digits of a base spell, and nothing else, if it is below 2^64.
-fn numeral(digits: &str, base: u32) -> Option<u64>
-    requires least { 2 ≤ base }
-    requires most { base ≤ 36 }
-    ensures { result ≡ numeral_of base digits.now }
+/// The number that digits of a radix spell, and nothing else, if it is below 2^64.
+fn numeral(digits: &str, radix: u32) -> Option<u64>
+    requires least { 2 ≤ radix }
+    requires most { radix ≤ 36 }
+    ensures { result ≡ numeral_of radix digits.now }
 {
     if digits.starts_with('+') {
         return None;
     }
-    u64::from_str_radix(digits, base).ok()
+    u64::from_str_radix(digits, radix).ok()
 }

@@ -11,7 +11,8 @@ use crate::step_lines::{Emitting, print_cause, print_changes};
 use clap::{Arg, ArgAction, ArgMatches, Command};
 use command_failure::{Failure, printed};
 use command_files::arguments::{
-    PROGRAM, and_argument, emit_option, number, option, program_argument, required,
+    ARGUMENT, PROGRAM, and_argument, argument_option, emit_option, number, option,
+    program_argument, required,
 };
 use command_files::{Files, read, size_as_block};
 use instruction_set::Program;
@@ -27,8 +28,6 @@ use std::io::{self, Write};
 pub const NAME: &str = "trace";
 
 const BLOCK: &str = "BLOCK";
-
-const ARGUMENT: &str = "argument";
 
 const FUEL: &str = "fuel";
 
@@ -78,9 +77,6 @@ Example: the program of `asm --help`, on a block that begins with a 7.
 /// Want of memory.
 pub fn subcommand<'a>(alloc: Global) -> Result<Command<'a>, AllocError> {
     let block = Arg::new(alloc, BLOCK).required(true).help("The block");
-    let argument = option(alloc, ARGUMENT, "A")
-        .default_value("0")
-        .help("The argument of the run");
     let fuel = option(alloc, FUEL, "F")
         .default_value("65536")
         .help("The most steps");
@@ -95,7 +91,7 @@ pub fn subcommand<'a>(alloc: Global) -> Result<Command<'a>, AllocError> {
     let command = and_argument(Ok(command), program_argument(alloc));
     let command = and_argument(command, block);
     let command = and_argument(command, emit_option(alloc).required(false));
-    let command = and_argument(command, argument);
+    let command = and_argument(command, argument_option(alloc));
     let command = and_argument(command, fuel);
     and_argument(command, registers)
 }

@@ -6,7 +6,7 @@ mod examples;
 mod refused;
 mod spills;
 
-use program_interface::{BlockSize, RunSizes};
+use program_interface::RunSizes;
 use std::test::Fail;
 
 /// The bytes of a block.
@@ -16,11 +16,5 @@ const BLOCK: usize = 512;
 fn sizes(limit: u32) -> Result<RunSizes, Fail>
     ensures { IfOk result (λ sizes. (sizes.limit ≡ limit) × (sizes.block ≡ BLOCK)) }
 {
-    let Some(block) = BlockSize::new(512) else {
-        return Err(Fail::from("no block size"));
-    };
-    let Some(sizes) = RunSizes::new(block, limit) else {
-        return Err(Fail::from("a group that fits no block"));
-    };
-    Ok(sizes)
+    test_inputs::sizes::sizes(limit, 512)
 }

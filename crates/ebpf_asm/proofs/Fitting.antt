@@ -1,9 +1,9 @@
 -- What a line is read as fits the fields of an instruction.
-use Rattle.std.proofs.Common.{◌≡◌, ℕ, ℤ, pos, negsuc, ◌-ℤ◌, ◌+◌, ◌-◌, ◌%◌, ◌<◌, ◌^◌, Bool, true, false, ◌&&◌, cond, eqb, leb, List, [], ◌∷◌, length, get_or, drop, map, Option, Some, None, Result, Ok, Err, refl, arith}
-use Rattle.std.specs.Prelude.{FitsSigned, IfOk, IfSome, ok_or, codes}
+use Rattle.std.proofs.Common.{◌≡◌, ℕ, ℤ, pos, negsuc, ◌-ℤ◌, ◌+◌, ◌-◌, ◌%◌, ◌<◌, ◌^◌, Bool, true, false, ◌&&◌, cond, eqb, leb, List, length, get_or, drop, map, Option, Some, None, Result, Ok, Err, refl, arith}
+use Rattle.std.specs.Prelude.{FitsSigned, IfOk, ok_or, codes}
 use Rattle.std.specs.Int.{w16, w32, w64, cast_signed, cast_unsigned}
-use Rattle.std.specs.List.{AllByRecursion, list_all, before_first, position_or_len}
-use Rattle.std.specs.Char.{is_ascii, is_ascii_digit}
+use Rattle.std.specs.List.{AllByRecursion, before_first, position_or_len}
+use Rattle.std.specs.Char.{is_ascii_digit}
 use Rattle.std.specs.Str.{bytes_eq}
 use Rattle.std.proofs.lemmas.Bool.{and_parts, leb-true}
 use Rattle.std.proofs.lemmas.Int.{ints}
@@ -26,11 +26,11 @@ use Rattle.ebpf_asm.specs.declared.fault.FaultKind.TheVariants.{UnknownMnemonic,
 use Rattle.program_interface.specs.Readings.{◌>>=◌}
 use Rattle.ebpf_asm.specs.Fault.{read_both}
 use Rattle.ebpf_asm.specs.Mnemonic.{mnemonic_named}
-use Rattle.ebpf_asm.specs.Operand.{register_of, literal_of, in_range, short_of, long_of, immediate_of, wide_of, source_of, inside_brackets, offset_of, memory_of, distance_of, signed_of, is_label_name, is_sign_byte}
+use Rattle.ebpf_asm.specs.Operand.{register_of, literal_of, in_range, short_of, long_of, immediate_told, wide_of, source_told, inside_brackets, offset_of, memory_told, distance_told, signed_of, is_label_name, is_sign_byte}
 use Rattle.ebpf_asm.specs.Statement.{Statement, statement_of, statement_with, operands_of, one_of, two_of, three_of, none_of}
-use Rattle.ebpf_asm.specs.Line.{Line, line_of, line_in, labelled, split_label, with_statement}
+use Rattle.ebpf_asm.specs.Line.{Line, line_of}
 use Rattle.ebpf_asm.specs.Assembly.{LabelMap, fitting, jump_by, jump_to, resolved}
-use Rattle.text_lines.specs.Cut.{is_blank_byte, cut_at, trimmed, uncommented}
+use Rattle.text_lines.specs.Cut.{is_blank_byte}
 use Rattle.ebpf_decode.proofs.Proved.{fits-32}
 use Rattle.ebpf_asm.proofs.EachLine.{LineHas, lines_have}
 use Rattle.ebpf_asm.proofs.RoundOperands.{IsSource}
@@ -110,8 +110,8 @@ word_in_range (negsuc n) = by_test (leb n 2147483647) refl
     by_test true is = let low = leb-true n 2147483647 is in omega (arith, ints)
     by_test false is = tt
 
-immediate_fits : (text : List ℕ) → IfOk (immediate_of text) (FitsSigned w32)
-unfolding immediate_of
+immediate_fits : (text : List ℕ) → IfOk (immediate_told text) (FitsSigned w32)
+unfolding immediate_told
 immediate_fits text =
     then_fits (literal_of text) _ (λ _. Unit {0}) (FitsSigned w32) (any (literal_of text)) (λ number known.
     then_fits (in_range (negsuc 2147483647) (pos 4294967295) number) _ (λ x. cast_unsigned w32 x < 2 ^ 32) (FitsSigned w32) (word_in_range number) (λ x small.
@@ -139,13 +139,13 @@ register_fits text = by_tests (bytes_eq text (codes "r10")) (eqb (length text) 2
     by_tests false true false digit d is = tt
     by_tests false false first digit d is = tt
 
-source_fits : (text : List ℕ) → IfOk (source_of text) IsSource
-unfolding source_of
+source_fits : (text : List ℕ) → IfOk (source_told text) IsSource
+unfolding source_told
 source_fits text = by_first (eqb (get_or text 0 0) 114)
   where
-    by_first : (b : Bool) → IfOk (cond b (register_of text >>= λ register. Ok (sources.Register register)) (immediate_of text >>= λ value. Ok (sources.Immediate value))) IsSource
+    by_first : (b : Bool) → IfOk (cond b (register_of text >>= λ register. Ok (sources.Register register)) (immediate_told text >>= λ value. Ok (sources.Immediate value))) IsSource
     by_first true = then_fits (register_of text) _ (λ n. n < 11) IsSource (register_fits text) (λ n h. h)
-    by_first false = then_fits (immediate_of text) _ (FitsSigned w32) IsSource (immediate_fits text) (λ z h. h)
+    by_first false = then_fits (immediate_told text) _ (FitsSigned w32) IsSource (immediate_fits text) (λ z h. h)
 
 offset_fits : (text : List ℕ) → IfOk (offset_of text) (FitsSigned w16)
 unfolding offset_of
@@ -159,15 +159,15 @@ offset_fits text = by_length (eqb (length text) 0)
 abbrev IsPlace : ℕ × ℤ → Type 0
 IsPlace place = (place.0 < 11) × FitsSigned w16 place.1
 
-memory_fits : (text : List ℕ) → IfOk (memory_of text) IsPlace
-unfolding memory_of
+memory_fits : (text : List ℕ) → IfOk (memory_told text) IsPlace
+unfolding memory_told
 memory_fits text =
     then_fits (inside_brackets text) _ (λ _. Unit {0}) IsPlace (any (inside_brackets text)) (λ inside known.
     both_fit (register_of (before_first is_sign_byte inside)) (offset_of (drop (position_or_len is_sign_byte inside) inside)) (λ n. n < 11) (FitsSigned w16)
     (register_fits (before_first is_sign_byte inside)) (offset_fits (drop (position_or_len is_sign_byte inside) inside)))
 
-distance_fits : (in_field : ℤ → Result ℤ FaultKind) (P : ℤ → Type 0) → P (pos 0) → ((z : ℤ) → IfOk (in_field z) P) → (text : List ℕ) → IfOk (distance_of in_field text) P
-unfolding distance_of
+distance_fits : (in_field : ℤ → Result ℤ FaultKind) (P : ℤ → Type 0) → P (pos 0) → ((z : ℤ) → IfOk (in_field z) P) → (text : List ℕ) → IfOk (distance_told in_field text) P
+unfolding distance_told
 distance_fits in_field P none fit text = by_tests (is_sign_byte (get_or text 0 0)) (is_label_name text)
   where
     by_tests : (sign name : Bool) → IfOk (cond sign (signed_of text >>= in_field) (cond name (Ok (pos 0)) (Err Operand))) P
@@ -226,28 +226,28 @@ statement_with_fits LoadImmediate texts =
     (λ x h. record { dst = h.0; src = no_register; offset = no_offset; immediate = low_half x.1; value = h.1 }))
 statement_with_fits (Load size) texts =
     then_fits (two_of texts) _ (λ _. Unit {0}) StatementFits (any (two_of texts)) (λ t known.
-    then_fits (read_both (register_of t.0) (memory_of t.1)) _ (λ x. (x.0 < 11) × IsPlace x.1) StatementFits
-    (both_fit (register_of t.0) (memory_of t.1) (λ n. n < 11) IsPlace (register_fits t.0) (memory_fits t.1))
+    then_fits (read_both (register_of t.0) (memory_told t.1)) _ (λ x. (x.0 < 11) × IsPlace x.1) StatementFits
+    (both_fit (register_of t.0) (memory_told t.1) (λ n. n < 11) IsPlace (register_fits t.0) (memory_fits t.1))
     (λ x h. record { dst = h.0; src = h.1.0; offset = h.1.1; immediate = no_immediate; value = tt }))
 statement_with_fits (LoadSigned size) texts =
     then_fits (two_of texts) _ (λ _. Unit {0}) StatementFits (any (two_of texts)) (λ t known.
-    then_fits (read_both (register_of t.0) (memory_of t.1)) _ (λ x. (x.0 < 11) × IsPlace x.1) StatementFits
-    (both_fit (register_of t.0) (memory_of t.1) (λ n. n < 11) IsPlace (register_fits t.0) (memory_fits t.1))
+    then_fits (read_both (register_of t.0) (memory_told t.1)) _ (λ x. (x.0 < 11) × IsPlace x.1) StatementFits
+    (both_fit (register_of t.0) (memory_told t.1) (λ n. n < 11) IsPlace (register_fits t.0) (memory_fits t.1))
     (λ x h. record { dst = h.0; src = h.1.0; offset = h.1.1; immediate = no_immediate; value = tt }))
 statement_with_fits (StoreImmediate size) texts =
     then_fits (two_of texts) _ (λ _. Unit {0}) StatementFits (any (two_of texts)) (λ t known.
-    then_fits (read_both (memory_of t.0) (immediate_of t.1)) _ (λ x. IsPlace x.0 × FitsSigned w32 x.1) StatementFits
-    (both_fit (memory_of t.0) (immediate_of t.1) IsPlace (FitsSigned w32) (memory_fits t.0) (immediate_fits t.1))
+    then_fits (read_both (memory_told t.0) (immediate_told t.1)) _ (λ x. IsPlace x.0 × FitsSigned w32 x.1) StatementFits
+    (both_fit (memory_told t.0) (immediate_told t.1) IsPlace (FitsSigned w32) (memory_fits t.0) (immediate_fits t.1))
     (λ x h. record { dst = h.0.0; src = no_register; offset = h.0.1; immediate = h.1; value = tt }))
 statement_with_fits (StoreRegister size) texts =
     then_fits (two_of texts) _ (λ _. Unit {0}) StatementFits (any (two_of texts)) (λ t known.
-    then_fits (read_both (memory_of t.0) (register_of t.1)) _ (λ x. IsPlace x.0 × (x.1 < 11)) StatementFits
-    (both_fit (memory_of t.0) (register_of t.1) IsPlace (λ n. n < 11) (memory_fits t.0) (register_fits t.1))
+    then_fits (read_both (memory_told t.0) (register_of t.1)) _ (λ x. IsPlace x.0 × (x.1 < 11)) StatementFits
+    (both_fit (memory_told t.0) (register_of t.1) IsPlace (λ n. n < 11) (memory_fits t.0) (register_fits t.1))
     (λ x h. record { dst = h.0.0; src = h.1; offset = h.0.1; immediate = no_immediate; value = tt }))
 statement_with_fits (Arithmetic width operation) texts =
     then_fits (two_of texts) _ (λ _. Unit {0}) StatementFits (any (two_of texts)) (λ t known.
-    then_fits (read_both (register_of t.0) (source_of t.1)) _ (λ x. (x.0 < 11) × IsSource x.1) StatementFits
-    (both_fit (register_of t.0) (source_of t.1) (λ n. n < 11) IsSource (register_fits t.0) (source_fits t.1))
+    then_fits (read_both (register_of t.0) (source_told t.1)) _ (λ x. (x.0 < 11) × IsSource x.1) StatementFits
+    (both_fit (register_of t.0) (source_told t.1) (λ n. n < 11) IsSource (register_fits t.0) (source_fits t.1))
     (λ x h. record { dst = h.0; src = source_low x.1 h.1; offset = operation_fits operation; immediate = source_number x.1 h.1; value = tt }))
 statement_with_fits (Negate width) texts =
     then_fits (one_of texts) _ (λ _. Unit {0}) StatementFits (any (one_of texts)) (λ t known.
@@ -264,22 +264,22 @@ statement_with_fits (SwapBytes swap size) texts =
     (λ x h. record { dst = h; src = no_register; offset = no_offset; immediate = kept_fits size; value = tt }))
 statement_with_fits Jump texts =
     then_fits (one_of texts) _ (λ _. Unit {0}) StatementFits (any (one_of texts)) (λ t known.
-    then_fits (distance_of short_of t) _ (FitsSigned w16) StatementFits (distance_fits short_of (FitsSigned w16) no_offset short_fits t)
+    then_fits (distance_told short_of t) _ (FitsSigned w16) StatementFits (distance_fits short_of (FitsSigned w16) no_offset short_fits t)
     (λ z h. record { dst = no_register; src = no_register; offset = h; immediate = no_immediate; value = tt }))
 statement_with_fits JumpLong texts =
     then_fits (one_of texts) _ (λ _. Unit {0}) StatementFits (any (one_of texts)) (λ t known.
-    then_fits (distance_of long_of t) _ (FitsSigned w32) StatementFits (distance_fits long_of (FitsSigned w32) no_immediate long_fits t)
+    then_fits (distance_told long_of t) _ (FitsSigned w32) StatementFits (distance_fits long_of (FitsSigned w32) no_immediate long_fits t)
     (λ z h. record { dst = no_register; src = no_register; offset = no_offset; immediate = h; value = tt }))
 statement_with_fits (Branch width relation) texts =
     then_fits (three_of texts) _ (λ _. Unit {0}) StatementFits (any (three_of texts)) (λ t known.
-    then_fits (read_both (read_both (register_of t.0) (source_of t.1)) (distance_of short_of t.2)) _ (λ x. ((x.0.0 < 11) × IsSource x.0.1) × FitsSigned w16 x.1) StatementFits
-    (both_fit (read_both (register_of t.0) (source_of t.1)) (distance_of short_of t.2) (λ y. (y.0 < 11) × IsSource y.1) (FitsSigned w16)
-    (both_fit (register_of t.0) (source_of t.1) (λ n. n < 11) IsSource (register_fits t.0) (source_fits t.1))
+    then_fits (read_both (read_both (register_of t.0) (source_told t.1)) (distance_told short_of t.2)) _ (λ x. ((x.0.0 < 11) × IsSource x.0.1) × FitsSigned w16 x.1) StatementFits
+    (both_fit (read_both (register_of t.0) (source_told t.1)) (distance_told short_of t.2) (λ y. (y.0 < 11) × IsSource y.1) (FitsSigned w16)
+    (both_fit (register_of t.0) (source_told t.1) (λ n. n < 11) IsSource (register_fits t.0) (source_fits t.1))
     (distance_fits short_of (FitsSigned w16) no_offset short_fits t.2))
     (λ x h. record { dst = h.0.0; src = source_low x.0.1 h.0.1; offset = h.1; immediate = source_number x.0.1 h.0.1; value = tt }))
 statement_with_fits Call texts =
     then_fits (one_of texts) _ (λ _. Unit {0}) StatementFits (any (one_of texts)) (λ t known.
-    then_fits (immediate_of t) _ (FitsSigned w32) StatementFits (immediate_fits t)
+    then_fits (immediate_told t) _ (FitsSigned w32) StatementFits (immediate_fits t)
     (λ z h. record { dst = no_register; src = no_register; offset = no_offset; immediate = h; value = tt }))
 statement_with_fits Exit texts =
     then_fits (none_of texts) _ (λ _. Unit {0}) StatementFits (any (none_of texts))

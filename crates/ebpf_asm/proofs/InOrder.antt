@@ -17,9 +17,9 @@ use Rattle.instruction_set.specs.Spelling.{Fits, spelling}
 use Rattle.ebpf_asm.specs.declared.fault.Fault.{Fault}
 use Rattle.ebpf_asm.specs.declared.fault.FaultKind.{FaultKind}
 use Rattle.ebpf_asm.specs.Line.{Line, slots_in, slots_of_instruction}
-use Rattle.ebpf_asm.specs.Assembly.{LabelMap, before_later, bytes_from, bytes_in_front, first_fault, is_twice, jump_to, label_at, label_map, labels_from, line_fault, lines_of, resolved, slot_count, slot_named}
+use Rattle.ebpf_asm.specs.Assembly.{LabelMap, before_later, bytes_from, bytes_in_front, fault_behind, first_fault, is_twice, jump_to, label_at, label_map, labels_from, line_fault, lines_of, resolved, slot_count, slot_named, slot_of_line}
 use Rattle.ebpf_asm.specs.LowestFault.{HaveNone, own_fault}
-use Rattle.ebpf_asm.specs.Assembled.{IsInPlace, IsMadeOf, LeadsToLabel, label_of_line, slot_of_line}
+use Rattle.ebpf_asm.specs.Assembled.{IsInPlace, IsMadeOf, LeadsToLabel, label_of_line}
 use Rattle.ebpf_asm.specs.Laws.{LinesAreInOrder}
 use Rattle.ebpf_asm.proofs.Fitting.{Fills, LineFits, lines_fit, resolved_fits}
 use Rattle.ebpf_asm.proofs.Jumps.{Jumps, LineJumps, lines_jump}
@@ -178,7 +178,7 @@ label_before (line ∷ all) (suc count) zero lt = refl
 label_before (line ∷ all) (suc count) (suc at) lt = label_before all count at (omega arith)
 
 twice_told : (before : List Line) (name : List ℕ) (line : Option Line) → is_some (label_map before name) ≡ true → option_and_then (λ (l : Line). l.label) line ≡ Some name
-    → option_and_then (λ (l : Line). line_fault (is_twice before l) (slot_count before) l.instruction) line ≡ None → ⊥
+    → option_and_then (fault_behind before) line ≡ None → ⊥
 twice_told before name None known labelled e = absurd cc
 twice_told before name (Some line) known labelled e =
     let twice : is_twice before line ≡ true = ap (λ (label : Option (List ℕ)). is_some (option_and_then (label_map before) label)) labelled ∙ known in

@@ -1,24 +1,23 @@
 -- A line that names a label jumps.
-use Rattle.std.proofs.Common.{◌≡◌, ℕ, ℤ, pos, negsuc, ◌&&◌, Bool, true, false, cond, eqb, List, [], ◌∷◌, length, drop, map, Option, Some, None, Result, Ok, Err, refl, ap, ◌∙◌}
+use Rattle.std.proofs.Common.{◌≡◌, ℕ, ℤ, pos, negsuc, ◌&&◌, Bool, true, false, cond, List, drop, map, Option, Some, None, Result, Ok, Err, refl, ap, ◌∙◌}
 use Rattle.std.specs.Prelude.{IfOk, IfSome, int_le, ok_or}
-use Rattle.std.specs.List.{AllByRecursion, list_all, before_first, position_or_len}
-use Rattle.std.specs.Char.{is_ascii}
+use Rattle.std.specs.List.{AllByRecursion, before_first, position_or_len}
 use Rattle.instruction_set.specs.declared.instruction.Instruction.{Instruction}
 use Rattle.instruction_set.specs.declared.instruction.Instruction.TheVariants as instructions
 use Rattle.ebpf_asm.specs.declared.mnemonic.Mnemonic.{Mnemonic}
 use Rattle.ebpf_asm.specs.declared.mnemonic.Mnemonic.TheVariants.{LoadImmediate, Load, LoadSigned, StoreImmediate, StoreRegister, Arithmetic, Negate, MoveSigned, SwapBytes, Jump, JumpLong, Branch, Call, Exit}
 use Rattle.ebpf_asm.specs.declared.fault.FaultKind.{FaultKind}
-use Rattle.ebpf_asm.specs.declared.fault.FaultKind.TheVariants.{UnknownMnemonic, OutOfRange, NotAscii}
+use Rattle.ebpf_asm.specs.declared.fault.FaultKind.TheVariants.{UnknownMnemonic, OutOfRange}
 use Rattle.program_interface.specs.Readings.{◌>>=◌}
 use Rattle.ebpf_asm.specs.Fault.{read_both}
 use Rattle.ebpf_asm.specs.Mnemonic.{mnemonic_named}
-use Rattle.ebpf_asm.specs.Operand.{distance_of, immediate_of, in_range, label_of, long_of, memory_of, register_of, short_of, source_of, wide_of}
+use Rattle.ebpf_asm.specs.Operand.{distance_told, immediate_told, in_range, label_of, long_of, memory_told, register_of, short_of, source_told, wide_of}
 use Rattle.ebpf_asm.specs.Statement.{Statement, none_of, one_of, operands_of, statement_of, statement_with, three_of, two_of}
-use Rattle.ebpf_asm.specs.Line.{Line, labelled, line_in, line_of, split_label, with_statement}
+use Rattle.ebpf_asm.specs.Line.{Line, line_of}
 use Rattle.ebpf_asm.specs.Assembly.{fitting, jump_by}
 use Rattle.ebpf_asm.specs.Assembled.{with_distance}
 use Rattle.ebpf_asm.proofs.EachLine.{LineHas, lines_have}
-use Rattle.text_lines.specs.Cut.{cut_at, is_blank_byte, trimmed, uncommented}
+use Rattle.text_lines.specs.Cut.{is_blank_byte}
 
 -- ---- jumps
 
@@ -61,22 +60,22 @@ to_label instruction (Some label) jumps = jumps
 statement_with_jumps : (mnemonic : Mnemonic) (texts : List (List ℕ)) → IfOk (statement_with mnemonic texts) StatementJumps
 unfolding statement_with
 statement_with_jumps LoadImmediate texts = after (two_of texts) _ (λ t. after (read_both (register_of t.0) (wide_of t.1)) _ (λ x. tt))
-statement_with_jumps (Load size) texts = after (two_of texts) _ (λ t. after (read_both (register_of t.0) (memory_of t.1)) _ (λ x. tt))
-statement_with_jumps (LoadSigned size) texts = after (two_of texts) _ (λ t. after (read_both (register_of t.0) (memory_of t.1)) _ (λ x. tt))
-statement_with_jumps (StoreImmediate size) texts = after (two_of texts) _ (λ t. after (read_both (memory_of t.0) (immediate_of t.1)) _ (λ x. tt))
-statement_with_jumps (StoreRegister size) texts = after (two_of texts) _ (λ t. after (read_both (memory_of t.0) (register_of t.1)) _ (λ x. tt))
-statement_with_jumps (Arithmetic width operation) texts = after (two_of texts) _ (λ t. after (read_both (register_of t.0) (source_of t.1)) _ (λ x. tt))
+statement_with_jumps (Load size) texts = after (two_of texts) _ (λ t. after (read_both (register_of t.0) (memory_told t.1)) _ (λ x. tt))
+statement_with_jumps (LoadSigned size) texts = after (two_of texts) _ (λ t. after (read_both (register_of t.0) (memory_told t.1)) _ (λ x. tt))
+statement_with_jumps (StoreImmediate size) texts = after (two_of texts) _ (λ t. after (read_both (memory_told t.0) (immediate_told t.1)) _ (λ x. tt))
+statement_with_jumps (StoreRegister size) texts = after (two_of texts) _ (λ t. after (read_both (memory_told t.0) (register_of t.1)) _ (λ x. tt))
+statement_with_jumps (Arithmetic width operation) texts = after (two_of texts) _ (λ t. after (read_both (register_of t.0) (source_told t.1)) _ (λ x. tt))
 statement_with_jumps (Negate width) texts = after (one_of texts) _ (λ t. after (register_of t) _ (λ dst. tt))
 statement_with_jumps (MoveSigned extension) texts = after (two_of texts) _ (λ t. after (read_both (register_of t.0) (register_of t.1)) _ (λ x. tt))
 statement_with_jumps (SwapBytes swap size) texts = after (one_of texts) _ (λ t. after (register_of t) _ (λ dst. tt))
 statement_with_jumps Jump texts =
-    after (one_of texts) _ (λ t. after (distance_of short_of t) _ (λ z. to_label (instructions.Jump z) (label_of t) (short_made instructions.Jump)))
+    after (one_of texts) _ (λ t. after (distance_told short_of t) _ (λ z. to_label (instructions.Jump z) (label_of t) (short_made instructions.Jump)))
 statement_with_jumps JumpLong texts =
-    after (one_of texts) _ (λ t. after (distance_of long_of t) _ (λ z. to_label (instructions.JumpLong z) (label_of t) (long_made instructions.JumpLong)))
+    after (one_of texts) _ (λ t. after (distance_told long_of t) _ (λ z. to_label (instructions.JumpLong z) (label_of t) (long_made instructions.JumpLong)))
 statement_with_jumps (Branch width relation) texts =
-    after (three_of texts) _ (λ t. after (read_both (read_both (register_of t.0) (source_of t.1)) (distance_of short_of t.2)) _
+    after (three_of texts) _ (λ t. after (read_both (read_both (register_of t.0) (source_told t.1)) (distance_told short_of t.2)) _
     (λ x. to_label (instructions.Branch width relation x.0.0 x.0.1 x.1) (label_of t.2) (short_made (instructions.Branch width relation x.0.0 x.0.1))))
-statement_with_jumps Call texts = after (one_of texts) _ (λ t. after (immediate_of t) _ (λ helper. tt))
+statement_with_jumps Call texts = after (one_of texts) _ (λ t. after (immediate_told t) _ (λ helper. tt))
 statement_with_jumps Exit texts = after (none_of texts) _ (λ none. tt)
 
 statement_jumps : (text : List ℕ) → IfOk (statement_of text) StatementJumps

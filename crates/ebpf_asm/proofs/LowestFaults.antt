@@ -1,9 +1,11 @@
 -- The fault that is told is that of the lowest line.
-use Rattle.std.proofs.Common.{◌≡◌, ℕ, zero, suc, ◌+◌, ◌<◌, ◌≤◌, Bool, true, false, ltb, List, [], ◌∷◌, ◌++◌, length, take, Option, Some, None, Result, Ok, Err, refl, sym, ap, ◌∙◌, append_assoc, subst, arith, inl, inr}
-use Rattle.std.proofs.lemmas.Option.{same_Some}
+use Rattle.std.proofs.Common.{◌≡◌, ℕ, ◌+◌, ◌<◌, ◌≤◌, Bool, true, false, ltb, List, [], ◌∷◌, ◌++◌, length, take, Option, Some, None, Result, Ok, Err, refl, sym, ap, ◌∙◌, append_assoc, subst, arith, inl, inr}
+use Rattle.std.proofs.lemmas.Option.{same_Some, slice_get_past}
 use Rattle.std.specs.List.{slice_get}
 use Rattle.std.specs.Option.{option_and_then}
 use Rattle.std.specs.Result.{result_err}
+use Rattle.std.proofs.Math.Seq.{take-append_seam}
+use Rattle.std.proofs.lemmas.Result.{IfErr-at_err}
 use Rattle.std.proofs.lemmas.Bool.{ltb-true, ltb-false}
 use Rattle.std.proofs.lemmas.List.{append-nil, length-append}
 use Rattle.instruction_set.specs.declared.instruction.Instruction.{Instruction}
@@ -11,32 +13,17 @@ use Rattle.program_interface.specs.Readings.{unless_fault}
 use Rattle.ebpf_asm.specs.declared.fault.Fault.{Fault}
 use Rattle.ebpf_asm.specs.declared.fault.FaultKind.{FaultKind}
 use Rattle.ebpf_asm.specs.Line.{Line, slots_in}
-use Rattle.ebpf_asm.specs.Assembly.{before_later, bytes_from, bytes_in_front, first_fault, is_twice, label_map, line_fault, lines_of, resolved, slot_count, told_first}
+use Rattle.ebpf_asm.specs.Assembly.{before_later, bytes_from, bytes_in_front, fault_behind, first_fault, label_map, lines_of, resolved, slot_count, told_first}
 use Rattle.ebpf_asm.specs.LowestFault.{HaveNone, IsLowest, IsLowestFault, jump_fault, jump_fault_of, own_fault}
 use Rattle.ebpf_asm.specs.Laws.{FaultIsLowest}
 use Rattle.ebpf_asm.proofs.Passes.{slot_count-push}
 use Rattle.ebpf_asm.proofs.Programs.{none_told}
 
-abbrev Refused : Fault → Result (List ℕ) Fault
-Refused fault = Err fault
-
-told_is : (x y : Fault) → Refused x ≡ Refused y → x ≡ y
-told_is x y e = cc
-
 -- ---- the line behind some lines
-
-take_before : (before rest : List Line) → take (length before) (before ++ rest) ≡ before
-take_before [] rest = refl
-take_before (b ∷ before) rest = ap (λ ls. b ∷ ls) (take_before before rest)
 
 get_behind : (before rest : List Line) (line : Line) → slice_get (before ++ line ∷ rest) (length before) ≡ Some line
 get_behind [] rest line = refl
 get_behind (b ∷ before) rest line = get_behind before rest line
-
-get_none : (lines : List Line) (k : ℕ) → length lines ≤ k → slice_get lines k ≡ None
-get_none [] k h = refl
-get_none (line ∷ lines) zero h = absurd (omega arith)
-get_none (line ∷ lines) (suc k) h = get_none lines k (omega arith)
 
 -- what a reading of each line, with the lines before it, makes of the line behind some lines
 at_behind : {X : Type 0} (f : List Line → Line → Option X) (before rest all : List Line) (line : Line) → all ≡ before ++ line ∷ rest
@@ -44,7 +31,7 @@ at_behind : {X : Type 0} (f : List Line → Line → Option X) (before rest all 
 at_behind f before rest all line are =
     ap (λ ls. option_and_then (λ l. f (take (length before) ls) l) (slice_get ls (length before))) are
     ∙ ap (λ o. option_and_then (λ l. f (take (length before) (before ++ line ∷ rest)) l) o) (get_behind before rest line)
-    ∙ ap (λ ls. f ls line) (take_before before (line ∷ rest))
+    ∙ ap (λ ls. f ls line) (take-append_seam before (line ∷ rest))
 
 -- what holds below and of the next holds below that
 below_more : (fault_at : ℕ → Option FaultKind) (n : ℕ) → ((k : ℕ) → k < n → fault_at k ≡ None) → fault_at n ≡ None → (k : ℕ) → k < n + 1 → fault_at k ≡ None
@@ -62,9 +49,6 @@ pushed : (before rest all : List Line) (line : Line) → all ≡ before ++ line 
 pushed before rest all line are = are ∙ sym (append_assoc before (line ∷ []) rest)
 
 -- ---- the first pass
-
-abbrev own : List Line → Line → Option FaultKind
-own before line = line_fault (is_twice before line) (slot_count before) line.instruction
 
 module _ (all : List Line) where
   abbrev OwnBelow : List Line → Type 0
@@ -86,7 +70,7 @@ module _ (all : List Line) where
   own_lowest : (before rest : List Line) (fault : Fault) → all ≡ before ++ rest → OwnBelow before → first_fault before rest ≡ Some fault → IsLowest (own_fault all) fault
   own_lowest before [] fault are below e = absurd cc
   own_lowest before (line ∷ rest) fault are below e =
-      own_told before rest line fault (own before line) (first_fault (before ++ line ∷ []) rest) are below (at_behind own before rest all line are) e
+      own_told before rest line fault (fault_behind before line) (first_fault (before ++ line ∷ []) rest) are below (at_behind fault_behind before rest all line are) e
       (λ here later. own_lowest (before ++ line ∷ []) rest fault (pushed before rest all line are) (below_pushed (own_fault all) before line below here) later)
 
   pub own_none : (before rest : List Line) → all ≡ before ++ rest → OwnBelow before → first_fault before rest ≡ None → HaveNone (own_fault all)
@@ -99,10 +83,10 @@ module _ (all : List Line) where
       by_test true is = below k (ltb-true k (length before) is)
       by_test false is =
           let behind : length all ≤ k = omega (arith, ltb-false k (length before) is, ap length whole) in
-          ap (option_and_then (λ l. own (take k all) l)) (get_none all k behind)
+          ap (option_and_then (λ l. fault_behind (take k all) l)) (slice_get_past all k behind)
   own_none before (line ∷ rest) are below e k =
-      let none = none_told (length before + 1) (own before line) (first_fault (before ++ line ∷ []) rest) e in
-      own_none (before ++ line ∷ []) rest (pushed before rest all line are) (below_pushed (own_fault all) before line below (at_behind own before rest all line are ∙ none.0)) none.1 k
+      let none = none_told (length before + 1) (fault_behind before line) (first_fault (before ++ line ∷ []) rest) e in
+      own_none (before ++ line ∷ []) rest (pushed before rest all line are) (below_pushed (own_fault all) before line below (at_behind fault_behind before rest all line are ∙ none.0)) none.1 k
 
   -- ---- the second pass
 
@@ -116,7 +100,7 @@ module _ (all : List Line) where
       → jump_fault all (length before) ≡ result_err read → before_later (length before + 1) read later ≡ Err fault
       → (jump_fault all (length before) ≡ None → later ≡ Err fault → IsLowest (jump_fault all) fault) → IsLowest (jump_fault all) fault
   jump_read before fault (Err kind) later below here e more =
-      let told : record { line = length before + 1; kind = kind } ≡ fault = told_is _ _ e in
+      let told : record { line = length before + 1; kind = kind } ≡ fault = IfErr-at_err (λ (f : Fault). record { line = length before + 1; kind = kind } ≡ f) e refl in
       record {
         index = length before;
         number = sym (ap (λ (f : Fault). f.line) told);
@@ -149,7 +133,7 @@ module _ (all : List Line) where
 
   lowest : (first : Option Fault) (fault : Fault) → first_fault [] all ≡ first → unless_fault first (bytes_from (label_map all) 1 0 all) ≡ Err fault → IsLowestFault all fault
   lowest (Some told) fault is e =
-      let same : told ≡ fault = told_is _ _ e in
+      let same : told ≡ fault = IfErr-at_err (λ f. told ≡ f) e refl in
       inl (own_lowest [] all fault refl (λ k h. absurd (omega (arith, h))) (is ∙ ap (λ (f : Fault). Some f) same))
   lowest None fault is e =
       inr (own_none [] all refl (λ k h. absurd (omega (arith, h))) is, jump_lowest [] all 1 0 fault refl refl refl (λ k h. absurd (omega (arith, h))) e)

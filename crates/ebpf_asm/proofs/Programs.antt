@@ -10,7 +10,7 @@ use Rattle.program_interface.specs.Readings.{unless_fault}
 use Rattle.ebpf_asm.specs.declared.fault.Fault.{Fault}
 use Rattle.ebpf_asm.specs.declared.fault.FaultKind.{FaultKind}
 use Rattle.ebpf_asm.specs.Line.{Line, slots_in, slots_of_instruction}
-use Rattle.ebpf_asm.specs.Assembly.{LabelMap, before_later, bytes_from, bytes_in_front, first_fault, is_twice, label_map, line_fault, lines_of, resolved, slot_count, told_first}
+use Rattle.ebpf_asm.specs.Assembly.{LabelMap, before_later, bytes_from, bytes_in_front, fault_behind, first_fault, is_twice, label_map, lines_of, resolved, slot_count, told_first}
 use Rattle.ebpf_asm.specs.Laws.{AssembledIsProgram}
 use Rattle.ebpf_asm.proofs.Fitting.{Fills, LineFits, lines_fit, resolved_fits}
 use Rattle.ebpf_asm.proofs.Passes.{fits_if, slot_count-push}
@@ -25,7 +25,7 @@ none_told number (Some kind) later e = absurd cc
 room : (before rest : List Line) → slot_count before ≤ 4096 → first_fault before rest ≡ None → slot_count before + slot_count rest ≤ 4096
 room before [] h e = omega (arith, h)
 room before (line ∷ rest) h e =
-    let none = none_told (length before + 1) (line_fault (is_twice before line) (slot_count before) line.instruction) (first_fault (before ++ line ∷ []) rest) e in
+    let none = none_told (length before + 1) (fault_behind before line) (first_fault (before ++ line ∷ []) rest) e in
     let fits = fits_if (slot_count before) (slots_in line) line.instruction (is_twice before line) none.0 refl in
     let more = room (before ++ line ∷ []) rest (omega (arith, fits.1, slot_count-push before line)) none.1 in
     omega (arith, more, slot_count-push before line)
@@ -39,7 +39,7 @@ record Spells (bytes : List ℕ) (slots : ℕ) : Type 0 where
   pub spelled : bytes ≡ flat_map spelling instructions
   pub counted : length (slots_of instructions) ≡ slots
 
-counted_more : (instruction : Instruction) (instructions : List Instruction) → length (slots_of (instruction ∷ instructions)) ≡ slots_taken instruction + length (slots_of instructions)
+pub counted_more : (instruction : Instruction) (instructions : List Instruction) → length (slots_of (instruction ∷ instructions)) ≡ slots_taken instruction + length (slots_of instructions)
 counted_more instruction instructions = by_wide (is_wide instruction)
   where
     by_wide : (b : Bool) → length (cond b (Some instruction ∷ None ∷ slots_of instructions) (Some instruction ∷ slots_of instructions)) ≡ cond b 2 1 + length (slots_of instructions)

@@ -1,5 +1,5 @@
 -- What is listed is read again.
-use Rattle.std.proofs.Common.{◌≡◌, ℕ, ℤ, pos, negsuc, neg_ℤ, zero, suc, ◌+◌, ◌-◌, ◌<◌, ◌^◌, Bool, true, false, ◌&&◌, cond, ltb, eqb, List, [], ◌∷◌, ◌++◌, length, get_or, drop, replicate, Ok, Err, refl, ap, ◌∙◌, arith}
+use Rattle.std.proofs.Common.{◌≡◌, ℕ, ℤ, pos, negsuc, neg_ℤ, zero, suc, ◌+◌, ◌-◌, ◌<◌, ◌^◌, true, false, ◌&&◌, cond, ltb, eqb, List, [], ◌∷◌, ◌++◌, length, get_or, drop, replicate, Ok, Err, refl, ap, ◌∙◌, arith}
 use lib.Signed.{mag}
 use Rattle.std.specs.Prelude.{FitsSigned}
 use Rattle.std.specs.Int.{w32, cast_signed, cast_unsigned}
@@ -10,27 +10,23 @@ use Rattle.std.specs.List.{list_all}
 use Rattle.std.specs.Char.{is_digit, digit_value}
 use Rattle.std.specs.Str.Parse.{AllDigits, IsNumeral, digits_value}
 use Rattle.std.specs.Fmt.{decimal, signed_decimal, digits}
-use Rattle.std.proofs.Math.Dec.{eqb-suc-zero}
-use Rattle.std.proofs.lemmas.Bool.{lt-ltb, le-leb}
+use Rattle.std.proofs.Math.Bool.{and-false}
+use Rattle.std.proofs.lemmas.Bool.{lt-ltb, le-leb, ne_eqb}
 use Rattle.std.proofs.lemmas.Fmt.{decimal_is_IsNumeral, digits_is_IsNumeral, decimal_digit, decimal_step}
 use Rattle.std.proofs.lemmas.Str.Parse.{digit_from_value}
 use Rattle.ebpf_asm.specs.declared.fault.FaultKind.TheVariants.{Operand, OutOfRange}
 use Rattle.program_interface.specs.Readings.{◌>>=◌}
-use Rattle.ebpf_asm.specs.Operand.{numeral_of, magnitude_of, literal_of, immediate_of, wide_of, in_range, register_of}
+use Rattle.ebpf_asm.specs.Operand.{numeral_of, magnitude_of, literal_of, immediate_told, wide_of, in_range, register_of}
 use Rattle.ebpf_asm.specs.Listing.{register_text, wide_text}
 
 all_digits : (radix : ℕ) (ds : List ℕ) → AllDigits radix ds → list_all (λ byte. is_digit byte radix) ds ≡ true
 all_digits radix [] h = refl
 all_digits radix (d ∷ ds) h = rw (lt-ltb _ _ h.0, all_digits radix ds h.1) refl
 
-not_nothing : (n : ℕ) → 0 < n → eqb n 0 ≡ false
-not_nothing zero h = absurd (omega arith)
-not_nothing (suc n) h = eqb-suc-zero n
-
 -- digits are read as the number that they write
 pub numeral_again : (radix : ℕ) (ds : List ℕ) (n : ℕ) → IsNumeral radix ds → digits_value radix ds ≡ n → n < 2 ^ 64 → numeral_of radix ds ≡ Ok n
 numeral_again radix ds n numeral value small =
-    ap (λ b. cond b (Err Operand) (cond (list_all (λ byte. is_digit byte radix) ds) (cond (ltb (digits_value radix ds) (2 ^ 64)) (Ok (digits_value radix ds)) (Err OutOfRange)) (Err Operand))) (not_nothing (length ds) numeral.0)
+    ap (λ b. cond b (Err Operand) (cond (list_all (λ byte. is_digit byte radix) ds) (cond (ltb (digits_value radix ds) (2 ^ 64)) (Ok (digits_value radix ds)) (Err OutOfRange)) (Err Operand))) (ne_eqb (length ds) 0 (omega (arith, numeral.0)))
     ∙ rw (all_digits radix ds numeral.1, value, lt-ltb n (2 ^ 64) small) refl
 
 -- ---- registers
@@ -51,10 +47,6 @@ register_again (suc (suc (suc (suc (suc (suc (suc (suc (suc (suc (suc n)))))))))
 
 -- ---- decimal numbers
 
-and_false : (b : Bool) → (b && false) ≡ false
-and_false true = refl
-and_false false = refl
-
 no_digit : (d c : ℕ) → digit_value d < 10 → 57 < c → eqb d c ≡ false
 no_digit d c h over = let range = digit_from_value d h in grind (arith, nat_tests)
 
@@ -74,7 +66,7 @@ pub magnitude_again : (n : ℕ) → n < 2 ^ 64 → magnitude_of (decimal n) ≡ 
 unfolding magnitude_of
 magnitude_again n small =
     let d = decimal_is_IsNumeral n small in
-    ap (λ b. cond b (numeral_of 16 (drop 2 (decimal n))) (numeral_of 10 (decimal n))) (ap (λ b. eqb (get_or (decimal n) 0 0) 48 && b) (no_x_second (decimal n) d.0.1) ∙ and_false (eqb (get_or (decimal n) 0 0) 48))
+    ap (λ b. cond b (numeral_of 16 (drop 2 (decimal n))) (numeral_of 10 (decimal n))) (ap (λ b. eqb (get_or (decimal n) 0 0) 48 && b) (no_x_second (decimal n) d.0.1) ∙ and-false (eqb (get_or (decimal n) 0 0) 48))
     ∙ numeral_again 10 (decimal n) n d.0 d.1 small
 
 pub number_again : (z : ℤ) → mag z + 1 < 2 ^ 64 → literal_of (signed_decimal z) ≡ Ok z
@@ -91,8 +83,8 @@ in_32_bits : (z : ℤ) → mag z < 2 ^ 31 → in_range (negsuc 2147483647) (pos 
 in_32_bits (pos n) small = rw (le-leb n 4294967295 (omega arith)) refl
 in_32_bits (negsuc n) small = rw (le-leb n 2147483647 (omega arith)) refl
 
-pub immediate_again : (z : ℤ) → FitsSigned w32 z → immediate_of (signed_decimal z) ≡ Ok z
-unfolding immediate_of
+pub immediate_again : (z : ℤ) → FitsSigned w32 z → immediate_told (signed_decimal z) ≡ Ok z
+unfolding immediate_told
 immediate_again z fits =
     ap (λ r. r >>= (λ n. in_range (negsuc 2147483647) (pos 4294967295) n >>= λ i. Ok (cast_signed w32 (cast_unsigned w32 i)))) (number_again z (omega (arith, fits.sfits)))
     ∙ ap (λ r. r >>= λ i. Ok (cast_signed w32 (cast_unsigned w32 i))) (in_32_bits z (omega (arith, fits.sfits)))

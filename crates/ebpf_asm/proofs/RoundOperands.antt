@@ -18,7 +18,7 @@ use Rattle.ebpf_asm.specs.declared.fault.FaultKind.{FaultKind}
 use Rattle.ebpf_asm.specs.declared.fault.FaultKind.TheVariants.{Operand}
 use Rattle.program_interface.specs.Readings.{◌>>=◌}
 use Rattle.ebpf_asm.specs.Fault.{read_both}
-use Rattle.ebpf_asm.specs.Operand.{register_of, immediate_of, source_of, signed_of, short_of, long_of, offset_of, memory_of, distance_of, label_of, is_label_name, is_sign_byte, inside_brackets}
+use Rattle.ebpf_asm.specs.Operand.{register_of, immediate_told, source_told, signed_of, short_of, long_of, offset_of, memory_told, distance_told, label_of, is_label_name, is_sign_byte, inside_brackets}
 use Rattle.ebpf_asm.specs.Laws.{LongDistancesReadBack, ShortDistancesReadBack}
 use Rattle.ebpf_asm.specs.Listing.{register_text, signed_text, source_text, memory_text}
 use Rattle.ebpf_asm.proofs.Round.{register_again, magnitude_again, immediate_again}
@@ -73,8 +73,8 @@ sign_is_no_label (negsuc n) rest = refl
 pub no_label : (z : ℤ) → label_of (signed_text z) ≡ None
 no_label z = ap label_of (signed_text-parts z) ∙ ap (λ b. cond b (Some (sign_of z ∷ decimal (magnitude z))) None) (sign_is_no_label z (decimal (magnitude z)))
 
-pub distance_again : (in_field : ℤ → Result ℤ FaultKind) (z : ℤ) → mag z + 1 < 2 ^ 64 → in_field z ≡ Ok z → distance_of in_field (signed_text z) ≡ Ok z
-unfolding distance_of
+pub distance_again : (in_field : ℤ → Result ℤ FaultKind) (z : ℤ) → mag z + 1 < 2 ^ 64 → in_field z ≡ Ok z → distance_told in_field (signed_text z) ≡ Ok z
+unfolding distance_told
 distance_again in_field z small fits =
     ap (λ b. cond b (signed_of (signed_text z) >>= in_field) (cond (is_label_name (signed_text z)) (Ok (pos 0)) (Err Operand))) (ap (λ t. is_sign_byte (get_or t 0 0)) (signed_text-parts z) ∙ sign_is_sign z)
     ∙ ap (λ r. r >>= in_field) (signed_again z small) ∙ fits
@@ -110,14 +110,14 @@ no_r_signed : (z : ℤ) → mag z + 1 < 2 ^ 64 → eqb (get_or (signed_decimal z
 no_r_signed (pos n) small = no_r_first (decimal n) (decimal_is_IsNumeral n (omega arith)).0.1
 no_r_signed (negsuc n) small = refl
 
-pub immediate_source_again : (z : ℤ) → FitsSigned w32 z → source_of (source_text (sources.Immediate z)) ≡ Ok (sources.Immediate z)
-unfolding source_of
+pub immediate_source_again : (z : ℤ) → FitsSigned w32 z → source_told (source_text (sources.Immediate z)) ≡ Ok (sources.Immediate z)
+unfolding source_told
 immediate_source_again z fits =
-    ap (λ b. cond b (register_of (signed_decimal z) >>= λ r. Ok (sources.Register r)) (immediate_of (signed_decimal z) >>= λ v. Ok (sources.Immediate v))) (no_r_signed z (omega (arith, fits.sfits)))
+    ap (λ b. cond b (register_of (signed_decimal z) >>= λ r. Ok (sources.Register r)) (immediate_told (signed_decimal z) >>= λ v. Ok (sources.Immediate v))) (no_r_signed z (omega (arith, fits.sfits)))
     ∙ ap (λ r. r >>= λ v. Ok (sources.Immediate v)) (immediate_again z fits)
 
-pub register_source_again : (n : ℕ) → n < 11 → source_of (source_text (sources.Register n)) ≡ Ok (sources.Register n)
-unfolding source_of
+pub register_source_again : (n : ℕ) → n < 11 → source_told (source_text (sources.Register n)) ≡ Ok (sources.Register n)
+unfolding source_told
 register_source_again n lt = ap (λ r. r >>= λ v. Ok (sources.Register v)) (register_again n lt)
 
 -- ---- memory operands
@@ -130,8 +130,8 @@ inside_again inside =
     let front : take (length text - 2) (inside ++ 93 ∷ []) ≡ inside = take_at inside (93 ∷ []) (length text - 2) (omega (arith, long)) in
     ap (λ b. cond (eqb b 93) (Ok (take (length text - 2) (inside ++ 93 ∷ []))) (Err Operand)) last ∙ ap (λ (t : List ℕ). Ok t) front
 
-pub memory_again : (base : ℕ) (z : ℤ) → base < 11 → FitsSigned w16 z → memory_of (memory_text base z) ≡ Ok (base, z)
-unfolding memory_of
+pub memory_again : (base : ℕ) (z : ℤ) → base < 11 → FitsSigned w16 z → memory_told (memory_text base z) ≡ Ok (base, z)
+unfolding memory_told
 memory_again base z lt fits =
     let d = decimal_is_IsNumeral base (omega arith) in
     let no_sign : list_all (λ b. not (is_sign_byte b)) (register_text base) ≡ true = no_sign_in (decimal base) d.0.1 in

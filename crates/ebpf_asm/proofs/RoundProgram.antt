@@ -1,37 +1,38 @@
 -- A listing assembles to its program's bytes.
-use Rattle.std.proofs.Common.{◌≡◌, ℕ, ℤ, zero, suc, ◌+◌, ◌-◌, ◌<◌, ◌≤◌, Bool, true, false, not, cond, eqb, List, [], ◌∷◌, ◌++◌, length, get_or, drop, take, map, Option, Some, None, Result, Ok, Err, refl, sym, ap, ◌∙◌, subst, append_assoc, arith}
+use Rattle.std.proofs.Common.{◌≡◌, ℕ, ℤ, zero, suc, ◌+◌, ◌-◌, ◌<◌, ◌≤◌, true, false, not, cond, eqb, List, [], ◌∷◌, ◌++◌, length, get_or, drop, take, map, Option, Some, None, Result, Ok, Err, refl, sym, ap, ◌∙◌, subst, append_assoc, arith}
 use Rattle.std.specs.Prelude.{ok_or}
 use Rattle.std.specs.List.{list_all, before_first, position_or_len, flat_map, AllByRecursion}
 use Rattle.std.specs.Char.{is_ascii}
 use Rattle.std.specs.Str.Lines.{lines, strip_carriage_return}
-use Rattle.std.proofs.Math.Dec.{eqb-suc-zero}
-use Rattle.std.proofs.lemmas.Bool.{and_parts, le-ltb, not-true}
-use Rattle.std.proofs.lemmas.List.{take_all, take_at, drop_at, append-nil, length-append}
+use Rattle.std.proofs.lemmas.Bool.{and_parts, le-ltb, ne_eqb, not-true}
+use Rattle.std.proofs.lemmas.List.{take_at, drop_at, append-nil, length-append}
 use Rattle.std.proofs.lemmas.List.Folds.{list_all-append}
+use Rattle.std.proofs.lemmas.List.Sums.{AllPass-from_list_all}
 use Rattle.instruction_set.specs.declared.instruction.Instruction.{Instruction}
 use Rattle.instruction_set.specs.declared.instruction.Instruction.TheVariants.{LoadImmediate, Load, LoadSigned, StoreImmediate, StoreRegister, Arithmetic, Negate, MoveSigned, SwapBytes, Jump, JumpLong, Branch, Call, Exit}
 use Rattle.instruction_set.specs.declared.instruction.Source.{Source}
 use Rattle.instruction_set.specs.declared.instruction.Source.TheVariants as sources
-use Rattle.instruction_set.specs.Program.{IsProgram, is_wide, slots_of}
+use Rattle.instruction_set.specs.Program.{IsProgram, slots_of}
 use Rattle.instruction_set.specs.Spelling.{Fits, spelling, instructions_of, program_bytes}
 use Rattle.ebpf_asm.specs.declared.mnemonic.Mnemonic.{Mnemonic}
 use Rattle.ebpf_asm.specs.declared.fault.FaultKind.{FaultKind}
 use Rattle.ebpf_asm.specs.declared.fault.FaultKind.TheVariants.{UnknownMnemonic, NotAscii, TooLong}
 use Rattle.program_interface.specs.Readings.{◌>>=◌, unless_fault}
 use Rattle.ebpf_asm.specs.Mnemonic.{mnemonic_text, mnemonic_named}
-use Rattle.ebpf_asm.specs.Operand.{source_of, short_of, long_of}
+use Rattle.ebpf_asm.specs.Operand.{source_told, short_of, long_of}
 use Rattle.text_lines.specs.Cut.{is_blank_byte, trimmed, uncommented, without_end_blanks}
 use Rattle.ebpf_asm.specs.Statement.{Statement, statement_of, statement_with, operands_of, one_of, two_of, three_of, none_of}
 use Rattle.ebpf_asm.specs.Line.{Line, line_of, line_in, labelled, behind_label, split_label, with_statement, slots_in}
 use Rattle.ebpf_asm.specs.Assembly.{LabelMap, lines_of, slot_count, first_fault, bytes_from, label_map, before_later, told_first, assembled, assembled_lines}
 use Rattle.ebpf_asm.specs.Listing.{mnemonic_of, operand_texts, operands_text, further_texts, text_of_instruction, line_text, listing, source_text}
-use Rattle.text_lines.proofs.Proved.{end_stays, lines_are_cut}
+use Rattle.text_lines.proofs.Proved.{end_stays, lines_are_cut, uncommented-same}
 use Rattle.ebpf_decode.proofs.Proved.{instructions_of-slots_of}
 use Rattle.ebpf_asm.proofs.Passes.{slot_count-push}
+use Rattle.ebpf_asm.proofs.Programs.{counted_more}
 use Rattle.ebpf_asm.proofs.Names.{mnemonic_again, mnemonic_plain}
 use Rattle.ebpf_asm.proofs.Round.{register_again, immediate_again, wide_again}
 use Rattle.ebpf_asm.proofs.RoundOperands.{IsSource, place_behind, immediate_source_again, register_source_again, memory_again, distance_again, short_again, long_again, no_label}
-use Rattle.ebpf_asm.proofs.RoundLines.{IsPlain, IsText, AreTexts, plain, inline, weaker, plain_inline, plain_no_blank, inline_ascii, inline_no_semicolon, inline_no_colon, inline_no_newline, inline_no_return, place_none, cut_none, cut_some, first_text, end_plain, operands_again, register_is_text, signed_decimal_is_text, signed_text_is_text, memory_is_text, wide_is_text}
+use Rattle.ebpf_asm.proofs.RoundLines.{IsPlain, IsText, AreTexts, plain, inline, weaker, plain_inline, plain_no_blank, inline_ascii, inline_no_semicolon, inline_no_colon, inline_no_newline, inline_no_return, cut_none, cut_some, first_text, end_plain, operands_again, register_is_text, signed_decimal_is_text, signed_text_is_text, memory_is_text, wide_is_text}
 
 -- ---- an instruction's text
 
@@ -49,7 +50,7 @@ source_is_text : (source : Source) → IsSource source → IsText (source_text s
 source_is_text (sources.Immediate z) fits = signed_decimal_is_text z (omega (arith, fits.sfits))
 source_is_text (sources.Register n) lt = register_is_text n lt
 
-source_again : (source : Source) → IsSource source → source_of (source_text source) ≡ Ok source
+source_again : (source : Source) → IsSource source → source_told (source_text source) ≡ Ok source
 source_again (sources.Immediate z) fits = immediate_source_again z fits
 source_again (sources.Register n) lt = register_source_again n lt
 
@@ -112,10 +113,6 @@ listed (Call helper) fits = record {
 listed Exit fits = record { texts = tt; again = refl }
 
 -- ---- a line
-
-nothing_else : (n : ℕ) (x y : Line) → 0 < n → cond (eqb n 0) x y ≡ y
-nothing_else zero x y some = absurd (omega arith)
-nothing_else (suc n) x y some = ap (λ c. cond c x y) (eqb-suc-zero n)
 
 text_is_some : (m : Mnemonic) → IsText (mnemonic_text m)
 text_is_some m = record { bytes = mnemonic_plain m; some = some (mnemonic_text m) (mnemonic_again m) }
@@ -184,11 +181,13 @@ statement_again m first others h =
 line_again : (text : List ℕ) → list_all inline text ≡ true → trimmed text ≡ text → 0 < length text → line_of text ≡ with_statement None (statement_of text)
 unfolding line_of
 line_again text h ends some =
-    let clean : uncommented text ≡ text = ap (λ n. take n text) (place_none (λ b. eqb b 59) text (weaker inline (λ b. not (eqb b 59)) inline_no_semicolon text h)) ∙ take_all (length text) text (omega arith) in
+    let empty : Line = record { label = None; instruction = Ok None; target = None } in
+    let no_semicolon = AllPass-from_list_all (λ b. not (eqb b 59)) text (weaker inline (λ b. not (eqb b 59)) inline_no_semicolon text h) in
+    let clean : uncommented text ≡ text = uncommented-same text (λ k d inside. not-true _ (no_semicolon k d inside)) in
     ap (λ b. cond b (line_in (trimmed (uncommented text))) (record { label = None; instruction = Err NotAscii; target = None })) (weaker inline is_ascii inline_ascii text h)
     ∙ ap (λ t. line_in (trimmed t)) clean ∙ ap line_in ends
     ∙ ap (λ c. behind_label (split_label text c)) (cut_none 58 text (weaker inline (λ b. not (eqb b 58)) inline_no_colon text h))
-    ∙ ap (labelled None) ends ∙ nothing_else (length text) (record { label = None; instruction = Ok None; target = None }) (with_statement None (statement_of text)) some
+    ∙ ap (labelled None) ends ∙ ap (λ c. cond c empty (with_statement None (statement_of text))) (ne_eqb (length text) 0 (omega (arith, some)))
 
 abbrev pub line_with : Instruction → Line
 line_with instruction = record { label = None; instruction = Ok (Some instruction); target = None }
@@ -247,11 +246,7 @@ bytes_again labels number slot (instruction ∷ instructions) = ap (before_later
 
 slots_counted : (instructions : List Instruction) → slot_count (map line_with instructions) ≡ length (slots_of instructions)
 slots_counted [] = refl
-slots_counted (instruction ∷ instructions) = one (is_wide instruction) (slots_counted instructions)
-  where
-    one : (b : Bool) → slot_count (map line_with instructions) ≡ length (slots_of instructions) → cond b 2 1 + slot_count (map line_with instructions) ≡ length (cond b (Some instruction ∷ None ∷ slots_of instructions) (Some instruction ∷ slots_of instructions))
-    one true e = omega (arith, e)
-    one false e = omega (arith, e)
+slots_counted (instruction ∷ instructions) = omega (arith, slots_counted instructions, counted_more instruction instructions)
 
 all_listed : (instructions : List Instruction) → AllByRecursion Fits instructions → AllByRecursion IsListed instructions
 all_listed [] h = tt

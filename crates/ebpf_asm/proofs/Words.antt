@@ -1,10 +1,7 @@
 -- Words and their parts.
-use Rattle.std.proofs.Common.{◌≡◌, ℕ, Bool, true, false, eqb, ◌&&◌, List, [], ◌∷◌, ◌++◌, length, take, drop, refl, sym, ap, ◌∙◌}
+use Rattle.std.proofs.Common.{◌≡◌, ℕ, eqb, ◌&&◌, List, [], ◌∷◌, ◌++◌, length, take, drop, refl, sym, ap, ◌∙◌}
+use Rattle.std.proofs.Math.Bool.{and_assoc}
 use Rattle.std.specs.Str.{bytes_eq}
-
-and_assoc : (a b c : Bool) → (a && b) && c ≡ a && (b && c)
-and_assoc true b c = refl
-and_assoc false b c = refl
 
 -- a word is two parts where its front is the first and what is left the second
 pub bytes_eq-append : (word front back : List ℕ) → bytes_eq word (front ++ back) ≡ bytes_eq (take (length front) word) front && bytes_eq (drop (length front) word) back

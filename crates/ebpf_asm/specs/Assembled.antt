@@ -5,12 +5,8 @@ use Rattle.instruction_set.specs.declared.instruction.Instruction.TheVariants.{J
 use Rattle.instruction_set.specs.Instruction.{target}
 use Rattle.instruction_set.specs.Spelling.{Fits, spelling}
 use Rattle.ebpf_asm.specs.Line.{Line, slots_in}
-use Rattle.ebpf_asm.specs.Assembly.{slot_count}
+use Rattle.ebpf_asm.specs.Assembly.{slot_count, slot_of_line}
 use Rattle.ebpf_asm.specs.LowestFault.{HaveNone, own_fault}
-
--- the slot of the line at an index: as many as the lines before it take
-abbrev pub slot_of_line : List Line → ℕ → ℕ
-slot_of_line lines index = slot_count (take index lines)
 
 -- the label of the line at an index, if there is such a line and it has one
 abbrev pub label_of_line : List Line → ℕ → Option (List ℕ)

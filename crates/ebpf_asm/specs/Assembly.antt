@@ -1,5 +1,5 @@
 -- The assembly of a text (profile): labels, faults and bytes.
-use Rattle.std.specs.Prelude.{ℕ, ℤ, pos, ◌-ℤ◌, ◌+◌, nat_lt, if◌then◌else◌, Bool, List, [], ◌∷◌, ◌++◌, length, map, Option, Some, None, is_some, option_and_then, Result, Ok, Err}
+use Rattle.std.specs.Prelude.{ℕ, ℤ, pos, ◌-ℤ◌, ◌+◌, nat_lt, if◌then◌else◌, Bool, List, [], ◌∷◌, ◌++◌, length, take, map, Option, Some, None, is_some, option_and_then, Result, Ok, Err}
 use Rattle.std.specs.Map.{lookup}
 use Rattle.std.specs.Str.{bytes_eq}
 use Rattle.std.specs.Str.Lines.{lines}
@@ -20,6 +20,10 @@ use Rattle.ebpf_asm.specs.Line.{Line, line_of, slots_in, slots_of_instruction}
 abbrev pub slot_count : List Line → ℕ
 slot_count [] = 0
 slot_count (line ∷ rest) = slots_in line + slot_count rest
+
+-- the slot of the line at an index: as many as the lines before it take
+abbrev pub slot_of_line : List Line → ℕ → ℕ
+slot_of_line all index = slot_count (take index all)
 
 -- a label, if there is one, with the slot of the next instruction
 abbrev pub label_at : ℕ → Option (List ℕ) → List (List ℕ × ℕ)
@@ -57,6 +61,10 @@ line_fault twice slots instruction = if twice then Some LabelTwice else instruct
 abbrev pub is_twice : List Line → Line → Bool
 is_twice before line = is_some (option_and_then (label_map before) line.label)
 
+-- what is wrong with a line by itself, behind the lines before it
+abbrev pub fault_behind : List Line → Line → Option FaultKind
+fault_behind before line = line_fault (is_twice before line) (slot_count before) line.instruction
+
 -- the fault of this line, if it has one, and else the one of later lines
 abbrev pub told_first : ℕ → Option FaultKind → Option Fault → Option Fault
 told_first number (Some kind) later = Some (record { line = number; kind = kind })
@@ -66,7 +74,7 @@ told_first number None later = later
 abbrev pub first_fault : List Line → List Line → Option Fault
 first_fault before [] = None
 first_fault before (line ∷ rest) =
-    told_first (length before + 1) (line_fault (is_twice before line) (slot_count before) line.instruction) (first_fault (before ++ line ∷ []) rest)
+    told_first (length before + 1) (fault_behind before line) (first_fault (before ++ line ∷ []) rest)
 
 -- the instruction with this distance, where its field takes it
 abbrev pub fitting : (ℤ → Instruction) → Result ℤ FaultKind → Result Instruction FaultKind

@@ -15,7 +15,7 @@ use Rattle.ebpf_asm.specs.Assembly.{assembled, lines_of, slot_count}
 use Rattle.ebpf_asm.specs.Line.{line_of}
 use Rattle.ebpf_asm.specs.LowestFault.{IsLowestFault}
 use Rattle.ebpf_asm.specs.Mnemonic.{mnemonic_text, mnemonic_named}
-use Rattle.ebpf_asm.specs.Operand.{register_of, immediate_of, wide_of, memory_of, distance_of, short_of, long_of}
+use Rattle.ebpf_asm.specs.Operand.{register_of, immediate_told, wide_of, memory_told, distance_told, short_of, long_of}
 use Rattle.ebpf_asm.specs.Listing.{register_text, signed_text, wide_text, memory_text, line_text, listing, listing_with_slots, slot_text}
 
 -- the text of each mnemonic is that mnemonic's and no other's
@@ -28,7 +28,7 @@ RegistersReadBack = (number : ℕ) → number < 11 → register_of (register_tex
 
 -- each immediate is read as it is listed
 abbrev pub ImmediatesReadBack : Type 0
-ImmediatesReadBack = (value : ℤ) → FitsSigned w32 value → immediate_of (signed_decimal value) ≡ Ok value
+ImmediatesReadBack = (value : ℤ) → FitsSigned w32 value → immediate_told (signed_decimal value) ≡ Ok value
 
 -- each wide value is read as it is listed
 abbrev pub WideValuesReadBack : Type 0
@@ -36,15 +36,15 @@ WideValuesReadBack = (value : ℕ) → value < 2 ^ 64 → wide_of (wide_text val
 
 -- each memory operand is read as it is listed
 abbrev pub MemoryOperandsReadBack : Type 0
-MemoryOperandsReadBack = (base : ℕ) (offset : ℤ) → base < 11 → FitsSigned w16 offset → memory_of (memory_text base offset) ≡ Ok (base, offset)
+MemoryOperandsReadBack = (base : ℕ) (offset : ℤ) → base < 11 → FitsSigned w16 offset → memory_told (memory_text base offset) ≡ Ok (base, offset)
 
 -- each distance of 16 bits is read as it is listed
 abbrev pub ShortDistancesReadBack : Type 0
-ShortDistancesReadBack = (distance : ℤ) → FitsSigned w16 distance → distance_of short_of (signed_text distance) ≡ Ok distance
+ShortDistancesReadBack = (distance : ℤ) → FitsSigned w16 distance → distance_told short_of (signed_text distance) ≡ Ok distance
 
 -- and each of 32 bits
 abbrev pub LongDistancesReadBack : Type 0
-LongDistancesReadBack = (distance : ℤ) → FitsSigned w32 distance → distance_of long_of (signed_text distance) ≡ Ok distance
+LongDistancesReadBack = (distance : ℤ) → FitsSigned w32 distance → distance_told long_of (signed_text distance) ≡ Ok distance
 
 -- the listing of a program assembles to its bytes
 abbrev pub ListingsAssemble : Type 0

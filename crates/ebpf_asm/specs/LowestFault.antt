@@ -5,12 +5,11 @@ use Rattle.instruction_set.specs.declared.instruction.Instruction.{Instruction}
 use Rattle.ebpf_asm.specs.declared.fault.Fault.{Fault}
 use Rattle.ebpf_asm.specs.declared.fault.FaultKind.{FaultKind}
 use Rattle.ebpf_asm.specs.Line.{Line}
-use Rattle.ebpf_asm.specs.Assembly.{LabelMap, is_twice, label_map, line_fault, resolved, slot_count}
+use Rattle.ebpf_asm.specs.Assembly.{LabelMap, fault_behind, label_map, resolved, slot_of_line}
 
 -- what is wrong with the line at an index by itself, behind the lines before it
 abbrev pub own_fault : List Line → ℕ → Option FaultKind
-own_fault lines index =
-    option_and_then (λ line. line_fault (is_twice (take index lines) line) (slot_count (take index lines)) line.instruction) (slice_get lines index)
+own_fault lines index = option_and_then (λ line. fault_behind (take index lines) line) (slice_get lines index)
 
 -- what is wrong with where the instruction at a slot leads
 abbrev pub jump_fault_of : LabelMap → ℕ → Result (Option Instruction) FaultKind → Option (List ℕ) → Option FaultKind
@@ -20,7 +19,7 @@ jump_fault_of labels slot _ target = None
 -- what is wrong with where the line at an index jumps, by the labels of all lines
 abbrev pub jump_fault : List Line → ℕ → Option FaultKind
 jump_fault lines index =
-    option_and_then (λ line. jump_fault_of (label_map lines) (slot_count (take index lines)) line.instruction line.target) (slice_get lines index)
+    option_and_then (λ line. jump_fault_of (label_map lines) (slot_of_line lines index) line.instruction line.target) (slice_get lines index)
 
 -- this fault is that of the lowest line that has one; lines count from 1
 pub record IsLowest (fault_at : ℕ → Option FaultKind) (fault : Fault) : Type 0 where

@@ -1,4 +1,4 @@
--- Operands (profile): registers, numbers, memory operands and the targets of jumps. Each reading answers a value or the fault.
+-- Operands (profile): registers, numbers, memory operands and the targets of jumps. Each reading gives a value or the fault.
 use Rattle.std.specs.Prelude.{ℕ, ℤ, pos, negsuc, neg_ℤ, int_le, ◌-◌, ◌^◌, Bool, ◌&&◌, ◌||◌, ◌==◌, nat_lt, if◌then◌else◌, List, length, take, drop, slice_index, Option, Some, None, Result, Ok, Err, codes}
 use Rattle.std.specs.List.{list_all, before_first, position_or_len}
 use Rattle.std.specs.Int.{w32, w64, cast_signed, cast_unsigned}
@@ -60,8 +60,8 @@ abbrev pub long_of : ℤ → Result ℤ FaultKind
 long_of z = in_range (negsuc 2147483647) (pos 2147483647) z
 
 -- an immediate: the low 32 bits of a number from -2 ^ 31 to 2 ^ 32 - 1
-unfoldable pub immediate_of : List ℕ → Result ℤ FaultKind
-immediate_of text = do
+unfoldable pub immediate_told : List ℕ → Result ℤ FaultKind
+immediate_told text = do
   number ← literal_of text
   immediate ← in_range (negsuc 2147483647) (pos 4294967295) number
   Ok (cast_signed w32 (cast_unsigned w32 immediate))
@@ -74,10 +74,10 @@ wide_of text = do
   Ok (cast_unsigned w64 value)
 
 -- a register or an immediate
-unfoldable pub source_of : List ℕ → Result Source FaultKind
-source_of text =
+unfoldable pub source_told : List ℕ → Result Source FaultKind
+source_told text =
     if slice_index text 0 == 114 then (register_of text >>= λ register. Ok (sources.Register register))
-    else (immediate_of text >>= λ value. Ok (sources.Immediate value))
+    else (immediate_told text >>= λ value. Ok (sources.Immediate value))
 
 -- what stands between brackets
 abbrev pub inside_brackets : List ℕ → Result (List ℕ) FaultKind
@@ -89,8 +89,8 @@ unfoldable pub offset_of : List ℕ → Result ℤ FaultKind
 offset_of text = if length text == 0 then Ok (pos 0) else (signed_of text >>= short_of)
 
 -- a memory operand: in brackets a register and the offset behind it
-unfoldable pub memory_of : List ℕ → Result (ℕ × ℤ) FaultKind
-memory_of text = do
+unfoldable pub memory_told : List ℕ → Result (ℕ × ℤ) FaultKind
+memory_told text = do
   inside ← inside_brackets text
   read_both (register_of (before_first is_sign_byte inside)) (offset_of (drop (position_or_len is_sign_byte inside) inside))
 
@@ -107,8 +107,8 @@ abbrev pub is_label_name : List ℕ → Bool
 is_label_name text = begins_label (slice_index text 0) && list_all is_label_byte text
 
 -- the distance of a jump, which is 0 where a label stands in its place
-unfoldable pub distance_of : (ℤ → Result ℤ FaultKind) → List ℕ → Result ℤ FaultKind
-distance_of in_field text =
+unfoldable pub distance_told : (ℤ → Result ℤ FaultKind) → List ℕ → Result ℤ FaultKind
+distance_told in_field text =
     if is_sign_byte (slice_index text 0) then (signed_of text >>= in_field)
     else (if is_label_name text then Ok (pos 0) else Err Operand)
 

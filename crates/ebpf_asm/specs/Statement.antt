@@ -10,7 +10,7 @@ use Rattle.ebpf_asm.specs.declared.fault.FaultKind.TheVariants.{UnknownMnemonic,
 use Rattle.program_interface.specs.Readings.{◌>>=◌}
 use Rattle.ebpf_asm.specs.Fault.{read_both}
 use Rattle.ebpf_asm.specs.Mnemonic.{mnemonic_named}
-use Rattle.ebpf_asm.specs.Operand.{register_of, source_of, immediate_of, wide_of, memory_of, distance_of, label_of, short_of, long_of}
+use Rattle.ebpf_asm.specs.Operand.{register_of, source_told, immediate_told, wide_of, memory_told, distance_told, label_of, short_of, long_of}
 use Rattle.text_lines.specs.Cut.{is_blank_byte, trimmed}
 use Rattle.text_lines.specs.Texts as lists
 
@@ -52,23 +52,23 @@ statement_with LoadImmediate texts = do
   plain (instructions.LoadImmediate x.0 x.1)
 statement_with (Load size) texts = do
   t ← two_of texts
-  x ← read_both (register_of t.0) (memory_of t.1)
+  x ← read_both (register_of t.0) (memory_told t.1)
   plain (instructions.Load size x.0 x.1.0 x.1.1)
 statement_with (LoadSigned size) texts = do
   t ← two_of texts
-  x ← read_both (register_of t.0) (memory_of t.1)
+  x ← read_both (register_of t.0) (memory_told t.1)
   plain (instructions.LoadSigned size x.0 x.1.0 x.1.1)
 statement_with (StoreImmediate size) texts = do
   t ← two_of texts
-  x ← read_both (memory_of t.0) (immediate_of t.1)
+  x ← read_both (memory_told t.0) (immediate_told t.1)
   plain (instructions.StoreImmediate size x.0.0 x.0.1 x.1)
 statement_with (StoreRegister size) texts = do
   t ← two_of texts
-  x ← read_both (memory_of t.0) (register_of t.1)
+  x ← read_both (memory_told t.0) (register_of t.1)
   plain (instructions.StoreRegister size x.0.0 x.1 x.0.1)
 statement_with (Arithmetic width operation) texts = do
   t ← two_of texts
-  x ← read_both (register_of t.0) (source_of t.1)
+  x ← read_both (register_of t.0) (source_told t.1)
   plain (instructions.Arithmetic width operation x.0 x.1)
 statement_with (Negate width) texts = do
   t ← one_of texts
@@ -84,19 +84,19 @@ statement_with (SwapBytes swap size) texts = do
   plain (instructions.SwapBytes swap size dst)
 statement_with Jump texts = do
   t ← one_of texts
-  distance ← distance_of short_of t
+  distance ← distance_told short_of t
   Ok (instructions.Jump distance, label_of t)
 statement_with JumpLong texts = do
   t ← one_of texts
-  distance ← distance_of long_of t
+  distance ← distance_told long_of t
   Ok (instructions.JumpLong distance, label_of t)
 statement_with (Branch width relation) texts = do
   t ← three_of texts
-  x ← read_both (read_both (register_of t.0) (source_of t.1)) (distance_of short_of t.2)
+  x ← read_both (read_both (register_of t.0) (source_told t.1)) (distance_told short_of t.2)
   Ok (instructions.Branch width relation x.0.0 x.0.1 x.1, label_of t.2)
 statement_with Call texts = do
   t ← one_of texts
-  helper ← immediate_of t
+  helper ← immediate_told t
   plain (instructions.Call helper)
 statement_with Exit texts = do
   none ← none_of texts

@@ -58,7 +58,7 @@ pub fn distances_read_back()
     ensures long { LongDistancesReadBack }
 {}
 
-/// Blanks around a line, and a comment behind it, change nothing of what the line has.
+/// Blanks around a line, and a comment of ASCII behind it, change nothing of what the line has.
 pub fn blanks_and_comments_dont_count()
     ensures blanks { BlanksDontCount }
     ensures comments { CommentsDontCount }

@@ -1,15 +1,15 @@
 //! Numbers.
 
 ghost use Rattle.std.specs.Prelude.{◌≡◌, ◌+◌, ◌*◌, ◌^◌, ◌<◌, ◌≤◌, ℕ};
-ghost use Rattle.ebpf_asm.specs.Operand.{numeral_of, magnitude_of, literal_of, signed_of, short_of, long_of, immediate_of, wide_of};
+ghost use Rattle.ebpf_asm.specs.Operand.{numeral_of, magnitude_of, literal_of, signed_of, short_of, long_of, immediate_told, wide_of};
 ghost use Rattle.ebpf_asm.specs.steps.Number.{below_2_64};
 
 use crate::fault::FaultKind;
 
 /// An immediate: the low 32 bits of a number from -2^31 to 2^32 - 1.
-#[tactic(auto, unfolding(crate::specs::Operand::immediate_of))]
+#[tactic(auto, unfolding(crate::specs::Operand::immediate_told))]
 pub(crate) fn immediate(text: &[u8]) -> Result<i32, FaultKind>
-    ensures { result ≡ immediate_of text.now }
+    ensures { result ≡ immediate_told text.now }
 {
     let number = number(text)?;
     if number < -0x8000_0000 || number > 0xffff_ffff {

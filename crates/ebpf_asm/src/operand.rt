@@ -4,7 +4,7 @@ ghost use Rattle.std.specs.Prelude.{◌≡◌, ◌<◌, length, drop, position, 
 ghost use Rattle.std.specs.List.{position_or_len, before_first, list_all};
 ghost use Rattle.std.specs.Result.{result_map_both};
 ghost use Rattle.ebpf_asm.specs.Fault.{read_both};
-ghost use Rattle.ebpf_asm.specs.Operand.{inside_brackets, register_of, source_of, offset_of, memory_of, is_sign_byte, is_label_name, is_label_byte, begins_label, distance_of, label_of, short_of, long_of};
+ghost use Rattle.ebpf_asm.specs.Operand.{inside_brackets, register_of, source_told, offset_of, memory_told, is_sign_byte, is_label_name, is_label_byte, begins_label, distance_told, label_of, short_of, long_of};
 
 use crate::fault::FaultKind;
 use crate::number::{immediate, long, short, signed};
@@ -39,9 +39,9 @@ pub(crate) fn register(text: &[u8]) -> Result<Register, FaultKind>
 }
 
 /// A register or an immediate.
-#[tactic(auto, unfolding(crate::specs::Operand::source_of))]
+#[tactic(auto, unfolding(crate::specs::Operand::source_told))]
 pub(crate) fn source(text: &[u8]) -> Result<Source, FaultKind>
-    ensures { result ≡ source_of text.now }
+    ensures { result ≡ source_told text.now }
 {
     match text {
         [b'r', ..] => Ok(Source::Register(register(text)?)),
@@ -50,9 +50,9 @@ pub(crate) fn source(text: &[u8]) -> Result<Source, FaultKind>
 }
 
 /// A memory operand: in brackets a register, and behind it an offset, where there is one.
-#[tactic(auto, unfolding(crate::specs::Operand::memory_of))]
+#[tactic(auto, unfolding(crate::specs::Operand::memory_told))]
 pub(crate) fn memory(text: &[u8]) -> Result<(Register, i16), FaultKind>
-    ensures { result ≡ memory_of text.now }
+    ensures { result ≡ memory_told text.now }
 {
     let (base, behind) = split_at_sign(bracketed(text)?);
     both(register(base), offset(behind))
@@ -101,9 +101,9 @@ fn is_sign(byte: u8) -> bool
 }
 
 /// The distance of a jump in 16 bits, so many slots on from the next one; 0 where the text is a label.
-#[tactic(auto, unfolding(crate::specs::Operand::distance_of))]
+#[tactic(auto, unfolding(crate::specs::Operand::distance_told))]
 pub(crate) fn short_distance(text: &[u8]) -> Result<i16, FaultKind>
-    ensures { result ≡ distance_of short_of text.now }
+    ensures { result ≡ distance_told short_of text.now }
 {
     match text {
         [b'+' | b'-', ..] => short(signed(text)?),
@@ -113,9 +113,9 @@ pub(crate) fn short_distance(text: &[u8]) -> Result<i16, FaultKind>
 }
 
 /// The distance of a jump in 32 bits, as in `short_distance`.
-#[tactic(auto, unfolding(crate::specs::Operand::distance_of))]
+#[tactic(auto, unfolding(crate::specs::Operand::distance_told))]
 pub(crate) fn long_distance(text: &[u8]) -> Result<i32, FaultKind>
-    ensures { result ≡ distance_of long_of text.now }
+    ensures { result ≡ distance_told long_of text.now }
 {
     match text {
         [b'+' | b'-', ..] => long(signed(text)?),

@@ -17,7 +17,7 @@ pub struct AssemblyRefusal {
 }
 
 impl AssemblyRefusal {
-    /// What stands in this text where [`assemble`](crate::assemble) finds this fault.
+    /// The refusal that tells this fault of a text.
     pub fn of(fault: Fault, text: &[u8]) -> AssemblyRefusal
         ensures { result.fault ≡ fault }
     {

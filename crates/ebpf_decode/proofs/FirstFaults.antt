@@ -23,7 +23,7 @@ use Rattle.ebpf_decode.proofs.Bytes.{slots-fields}
 use Rattle.ebpf_decode.proofs.FaultSlots.{fault_behind}
 use Rattle.ebpf_decode.proofs.NoFault.{none-fails}
 use Rattle.ebpf_decode.proofs.Programs.{are-fields-in}
-use Rattle.ebpf_decode.proofs.ReadAreSpelled.{AreFields, AreFieldsIn, IsTaken, read-takes}
+use Rattle.ebpf_decode.proofs.ReadAreSpelled.{AreFields, AreFieldsIn, read-takes}
 
 -- ---- the first of some checks
 
@@ -98,13 +98,13 @@ one-more : (f : Fields) (fs : List Fields) (place : ℕ) → slice_get (f ∷ fs
 one-more f fs place = let places : suc place + 1 ≡ suc (place + 1) = omega arith in ap (slice_get (f ∷ fs)) places
 
 behind : (f : Fields) (fs : List Fields) (s : ℕ) (fault : Fault) (i : Instruction) (wide : Bool) → is_wide i ≡ wide
-    → IsTaken f (slice_get fs 0) i → BeforeFrom wide (s + 1) fs fault → Before s (f ∷ fs) fault
+    → Begins f (slice_get fs 0) i → BeforeFrom wide (s + 1) fs fault → Before s (f ∷ fs) fault
 behind f fs s fault i false is taken b = record {
   place = suc b.place;
   at = omega (arith, b.at);
   instructions = i ∷ b.instructions;
-  fits = (taken.1, b.fits);
-  spelled = rw (taken.0.0, taken.0.1, is) (ap (λ xs. f ∷ xs) b.spelled);
+  fits = (taken.fits, b.fits);
+  spelled = rw (taken.first, taken.second, is) (ap (λ xs. f ∷ xs) b.spelled);
   fields = b.fields;
   here = b.here;
   failed = ap (read b.fields) (one-more f fs b.place) ∙ b.failed;
@@ -113,10 +113,10 @@ behind f fs s fault i true is taken b = record {
   place = suc (suc b.after.place);
   at = omega (arith, b.after.at);
   instructions = i ∷ b.after.instructions;
-  fits = (taken.1, b.after.fits);
+  fits = (taken.fits, b.after.fits);
   spelled =
       let next : slice_get fs 0 ≡ Some b.second = ap (λ xs. slice_get xs 0) b.are in
-      rw (taken.0.0, taken.0.1, is, next) (ap (λ xs. f ∷ xs) (ap (take (suc b.after.place)) b.are ∙ ap (λ xs. b.second ∷ xs) b.after.spelled));
+      rw (taken.first, taken.second, is, next) (ap (λ xs. f ∷ xs) (ap (take (suc b.after.place)) b.are ∙ ap (λ xs. b.second ∷ xs) b.after.spelled));
   fields = b.after.fields;
   here = ap (λ xs. slice_get xs (suc b.after.place)) b.are ∙ b.after.here;
   failed =

@@ -9,6 +9,7 @@ use Rattle.instruction_set.specs.declared.fields.Fields.{Fields}
 use Rattle.instruction_set.specs.declared.instruction.Instruction.{Instruction}
 use Rattle.instruction_set.specs.declared.instruction.Instruction.TheVariants.{LoadImmediate}
 use Rattle.instruction_set.specs.Program.{IsProgram, is_wide, slots_of}
+use Rattle.ebpf_decode.specs.FirstFault.{Begins}
 use Rattle.ebpf_decode.specs.Reading.{at_first_slot, decoded_program, length_checks, length_fault, read, read_slots, slots_at, then_read, with_front}
 use Rattle.instruction_set.specs.Spelling.{Fits, first_slot, instructions_of, program_bytes, second_slot, slot_bytes, slots_spelled, spelling}
 use Rattle.program_interface.specs.declared.TheConstants.{MOST_SLOTS}
@@ -21,7 +22,7 @@ use Rattle.program_interface.specs.Bytes.{AreBytes}
 use Rattle.ebpf_decode.proofs.Bytes.{FitSlot, fits-32, length-slots_bytes, slots-again, slots-bytes, slots-fields}
 use Rattle.ebpf_decode.proofs.NoFault.{none-fails}
 use Rattle.ebpf_decode.proofs.Slots.{length-slots}
-use Rattle.ebpf_decode.proofs.ReadAreSpelled.{AreFields, AreFieldsIn, IsTaken, read-takes}
+use Rattle.ebpf_decode.proofs.ReadAreSpelled.{AreFields, AreFieldsIn, read-takes}
 
 -- instructions whose slots they are
 pub record Spelled (fs : List Fields) (slots : List (Option Instruction)) : Type 0 where
@@ -63,20 +64,20 @@ are-fields-in [] all = tt
 are-fields-in (f ∷ fs) all = all.0
 
 joined : (f : Fields) (fs : List Fields) (slots rest : List (Option Instruction)) (i : Instruction) (wide : Bool) → is_wide i ≡ wide
-    → IsTaken f (slice_get fs 0) i → Some i ∷ rest ≡ slots → SpelledFrom wide fs rest → Spelled (f ∷ fs) slots
+    → Begins f (slice_get fs 0) i → Some i ∷ rest ≡ slots → SpelledFrom wide fs rest → Spelled (f ∷ fs) slots
 joined f fs slots rest i false is taken e after = record {
   instructions = i ∷ after.instructions;
   layout = rw is (sym e ∙ ap (λ xs. Some i ∷ xs) after.layout);
-  spelled = rw (taken.0.0, taken.0.1, is) (ap (λ xs. f ∷ xs) after.spelled);
-  fits = (taken.1, after.fits);
+  spelled = rw (taken.first, taken.second, is) (ap (λ xs. f ∷ xs) after.spelled);
+  fits = (taken.fits, after.fits);
 }
 joined f fs slots rest i true is taken e after = record {
   instructions = i ∷ after.after.instructions;
   layout = rw is (sym e ∙ ap (λ xs. Some i ∷ xs) (after.slots_are ∙ ap (λ xs. None ∷ xs) after.after.layout));
   spelled =
       let next : slice_get fs 0 ≡ Some after.second = ap (λ xs. slice_get xs 0) after.are in
-      rw (taken.0.0, taken.0.1, is, next) (ap (λ xs. f ∷ xs) (after.are ∙ ap (λ xs. after.second ∷ xs) after.after.spelled));
-  fits = (taken.1, after.after.fits);
+      rw (taken.first, taken.second, is, next) (ap (λ xs. f ∷ xs) (after.are ∙ ap (λ xs. after.second ∷ xs) after.after.spelled));
+  fits = (taken.fits, after.after.fits);
 }
 
 takes : (fs : List Fields) (second : Bool) (s : ℕ) (slots : List (Option Instruction)) → AllByRecursion AreFields fs → (second ≡ true → IsSome (slice_get fs 0))
@@ -91,7 +92,7 @@ takes (f ∷ fs) false s slots all some e =
     let w = front-ok (Some r.0 ∷ []) (read_slots (is_wide r.0) (s + 1) fs) slots r.2 in
     let taken = read-takes f (slice_get fs 0) r.0 all.0 (are-fields-in fs all.1) r.1 in
     joined f fs slots w.0 r.0 (is_wide r.0) refl taken w.2
-    (takes fs (is_wide r.0) (s + 1) w.0 all.1 (λ wide. wide-has-second r.0 (slice_get fs 0) wide taken.0.1) w.1)
+    (takes fs (is_wide r.0) (s + 1) w.0 all.1 (λ wide. wide-has-second r.0 (slice_get fs 0) wide taken.second) w.1)
 
 -- what is read from slots is spelled by them
 pub slots-take : (fs : List Fields) (slots : List (Option Instruction)) → AllByRecursion AreFields fs → read_slots false 0 fs ≡ Ok slots → Spelled fs slots

@@ -27,10 +27,11 @@ use Rattle.instruction_set.specs.declared.operation.SwapSize.TheVariants as kept
 use Rattle.instruction_set.specs.declared.operation.Width.{Width}
 use Rattle.instruction_set.specs.declared.operation.Width.TheVariants as widths
 use Rattle.instruction_set.specs.Codes.{extension_with, plain_operations, swap_size_with, variant_with, width_eq}
+use Rattle.ebpf_decode.specs.FirstFault.{Begins}
 use Rattle.ebpf_decode.specs.Opcodes.{opcode_named, uses}
 use Rattle.instruction_set.specs.Program.{is_wide}
 use Rattle.ebpf_decode.specs.Reading.{checks, first_fault, has_more, has_no_register, has_unused, instruction_with, is_load_immediate, read, read_named, signed_move, source_of}
-use Rattle.instruction_set.specs.Spelling.{CALL, EXIT, Fits, HasValue, IMM, JA, LD, LDX, MEM, MEMSX, MOV, NEG, ST, STX, access_opcode, arithmetic_class, extension_offset, extension_width, first_slot, jump_class, kept_bits, operation_code, operation_offset, operation_opcode, relation_code, second_slot, signed_size_code, size_code, slot, swap_opcode}
+use Rattle.instruction_set.specs.Spelling.{CALL, EXIT, HasValue, IMM, JA, LD, LDX, MEM, MEMSX, MOV, NEG, ST, STX, access_opcode, arithmetic_class, extension_offset, extension_width, first_slot, jump_class, kept_bits, operation_code, operation_offset, operation_opcode, relation_code, second_slot, signed_size_code, size_code, slot, swap_opcode}
 use Rattle.ebpf_decode.proofs.NoFault.{none-fails}
 
 -- ---- opcodes
@@ -256,11 +257,8 @@ row Exit f next i named used here more fits others e =
     (slot-is f _ _ _ _ _ (eqb-true _ _ named) (sym (used.dst refl)) (sym (used.src refl)) (sym (used.offset refl)) (sym (used.immediate refl)), refl, tt)
 row (LeftOut which) f next i named used here more fits others e = absurd cc
 
-abbrev pub IsTaken : Fields → Option Fields → Instruction → Type 0
-IsTaken f next i = IsSpelled f next i × Fits i
-
 read-named : (f : Fields) (next : Option Fields) (i : Instruction) (named : Option Opcode) → opcode_named f.opcode ≡ named
-    → AreFields f → AreFieldsIn next → read_named named f next ≡ Ok i → IsTaken f next i
+    → AreFields f → AreFieldsIn next → read_named named f next ≡ Ok i → Begins f next i
 read-named f next i None is fits others e = absurd cc
 read-named f next i (Some opcode) is fits others e =
     let u = found_without_fault (first_fault opcode f next) (instruction_with opcode f next) i e in
@@ -268,17 +266,19 @@ read-named f next i (Some opcode) is fits others e =
     let w = or_parts (has_unused (uses opcode) f) (is_load_immediate opcode && has_more next) v.1.1.1.0 in
     let used = is_used (uses opcode) f v.1.1.0 w.0 in
     let named : is_of (Some opcode) f.opcode ≡ true = ap (λ m. is_of m f.opcode) (sym is) ∙ named-is f.opcode fits.opcode in
-    let spelled = row opcode f next i named used v.1.0 w.1 fits others u.1 in (
-      spelled,
-      record {
+    let spelled = row opcode f next i named used v.1.0 w.1 fits others u.1 in
+    record {
+      fits = record {
         dst = subst (λ (s : Fields). s.dst < 11) (sym spelled.0) used.low_dst;
         src = subst (λ (s : Fields). s.src < 11) (sym spelled.0) used.low_src;
         offset = subst (λ (s : Fields). FitsSigned w16 s.offset) (sym spelled.0) fits.offset;
         immediate = subst (λ (s : Fields). FitsSigned w32 s.immediate) (sym spelled.0) fits.immediate;
         value = spelled.2;
-      },
-    )
+      };
+      first = spelled.0;
+      second = spelled.1;
+    }
 
 -- what is read from a slot is spelled by it
-pub read-takes : (f : Fields) (next : Option Fields) (i : Instruction) → AreFields f → AreFieldsIn next → read f next ≡ Ok i → IsTaken f next i
+pub read-takes : (f : Fields) (next : Option Fields) (i : Instruction) → AreFields f → AreFieldsIn next → read f next ≡ Ok i → Begins f next i
 read-takes f next i fits others e = read-named f next i (opcode_named f.opcode) refl fits others e

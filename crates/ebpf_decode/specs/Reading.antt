@@ -46,7 +46,7 @@ slots_at (suc count) bytes = fields_at bytes ∷ slots_at count (drop 8 bytes)
 
 -- ---- the first fault of an instruction
 
--- is it an instruction that RFC 9669 has and this profile has not?
+-- is it an instruction that this profile leaves out, though RFC 9669 has its opcode?
 abbrev pub is_left_out : Opcode → Fields → Bool
 is_left_out (LeftOut which) f = true
 is_left_out LoadImmediate f = not (f.src == 0)
@@ -190,7 +190,7 @@ abbrev pub decoded_program : List ℕ → Result (List (Option Instruction)) Fau
 decoded_program bytes =
     unless_fault (option_map at_first_slot (length_fault (length bytes))) (read_slots false 0 (slots_at (length bytes / 8) bytes))
 
--- ---- what a function answers
+-- ---- what a function gives
 
 -- the fault that an error tells; want of memory tells none
 abbrev pub fault_in : DecodeFault → Option Fault

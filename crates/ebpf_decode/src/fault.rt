@@ -35,7 +35,7 @@ pub enum FaultKind {
     /// The offset or the immediate, of which a part of the opcode is made, makes none.
     #[error("a field has a value that the instruction cannot have")]
     Value = 27,
-    /// RFC 9669 has the instruction, and this profile doesn't.
+    /// RFC 9669 has the opcode, and this profile leaves the instruction out.
     #[error("the instruction is left out here")]
     NotInProfile = 28,
 }

@@ -3,7 +3,7 @@ use instruction_set::{Instruction, Operation, Register, Size, Source, Width};
 use std::alloc::Global;
 use std::process::Abort;
 use std::test::Fail;
-use test_inputs::slots::{EXIT, FILTER, bytes_of};
+use test_inputs::slots::{EXIT, MATCHING, bytes_of};
 
 /// The bytes' fault; `None` where they decode.
 fn fault_of(alloc: Global, bytes: &[u8]) -> Result<Option<Fault>, Fail> {
@@ -116,7 +116,7 @@ const MASKED: [u64; 6] = [
 ];
 
 /// Sums the first bytes of blocks, up to the third.
-const SUM: [u64; 9] = [
+const ADDING_THREE: [u64; 9] = [
     0x7124_0000_0000_0000, // ldxb r4, [r2+0]
     0x7935_0000_0000_0000, // ldxdw r5, [r3+0]
     0x0f45_0000_0000_0000, // add r5, r4
@@ -129,7 +129,7 @@ const SUM: [u64; 9] = [
 ];
 
 /// Emits nothing.
-const NOTHING: [u64; 2] = [
+const RETURNING: [u64; 2] = [
     0xb700_0000_0000_0000, // mov r0, 0
     EXIT,
 ];
@@ -144,10 +144,10 @@ const INTO_WIDE: [u64; 4] = [
 
 #[test]
 fn programs_and_their_bytes(rt: HostRuntime) -> Result<(), Fail> {
-    assert_eq!(rt; again(rt.alloc(), &NOTHING)?, (2, true));
-    assert_eq!(rt; again(rt.alloc(), &FILTER)?, (7, true));
+    assert_eq!(rt; again(rt.alloc(), &RETURNING)?, (2, true));
+    assert_eq!(rt; again(rt.alloc(), &MATCHING)?, (7, true));
     assert_eq!(rt; again(rt.alloc(), &MASKED)?, (6, true));
-    assert_eq!(rt; again(rt.alloc(), &SUM)?, (9, true));
+    assert_eq!(rt; again(rt.alloc(), &ADDING_THREE)?, (9, true));
     assert_eq!(rt; again(rt.alloc(), &INTO_WIDE)?, (3, true));
     Ok(())
 }

@@ -5,11 +5,11 @@ use Rattle.std.proofs.Math.Nat.{div-add-mod', mul-div_cancel, suc-mul}
 use Rattle.std.proofs.Math.Seq.{take-add}
 use Rattle.std.proofs.lemmas.Bool.{cases_lt}
 use Rattle.std.proofs.lemmas.List.{append-nil, drop-take, length-take, length-take-le, take-append-le, take-take, take_all, take_at}
-use Rattle.program_interface.proofs.Proved.{agree_before, agree_behind}
-use Rattle.emit_append.proofs.ByteLists.{AllBytes, by_recursion}
+use Rattle.program_interface.proofs.Proved.{agree_before, agree_behind, all_drop, all_take}
+use Rattle.emit_append.proofs.ByteLists.{AllBytes, FitsByte, by_recursion}
 use Rattle.program_interface.specs.Readings.{◌>>=◌}
 use Rattle.emit_append.specs.Unpacking.{AreFrames, CanBegin, Reading, RefusedIsLowest, frames_at, output_block_at, output_blocks_at, then_read}
-use Rattle.emit_append.proofs.UnpackedFrames.{block_before, bytes_from, bytes_up_to, frames-read, no_blocks, only-frames}
+use Rattle.emit_append.proofs.UnpackedFrames.{block_before, frames-read, no_blocks, only-frames}
 use Rattle.emit_append.proofs.ReadBack.{length-blocks}
 use Rattle.emit_append.proofs.RefusedBlocks.{IsRefused, behind_err, cut_off, cut_twice, is_refused, length_cut_off, zeros_of}
 
@@ -53,7 +53,7 @@ module _ (count block place : ℕ) (bytes : List ℕ) (at : ℕ) (positive : 0 <
   refused_here is =
       let all = suc-mul count block in
       let size = length-take-le block bytes (omega (arith, long, all)) in
-      let d = is_refused (length (take block bytes)) place (take block bytes) at (omega arith) (bytes_up_to block bytes are) is in
+      let d = is_refused (length (take block bytes)) place (take block bytes) at (omega arith) (all_take FitsByte block bytes are) is in
       let cut = cut_off d.offset (take block bytes) in
       let zeros = zeros_of (length (take block bytes) - d.offset) in
       let front : cut ++ [] ≡ take d.offset bytes ++ zeros =
@@ -99,7 +99,7 @@ module _ (count block place : ℕ) (bytes : List ℕ) (at : ℕ) (positive : 0 <
       let all = suc-mul count block in
       let size = length-take-le block bytes (omega (arith, long, all)) in
       let left = length-drop block bytes in
-      let first = only-frames (length (take block bytes)) place (take block bytes) front (omega arith) (bytes_up_to block bytes are) read in
+      let first = only-frames (length (take block bytes)) place (take block bytes) front (omega arith) (all_take FitsByte block bytes are) read in
       let cut = take next.offset (drop block bytes) in
       let joined : take block bytes ++ (cut ++ next.before.behind) ≡ take (block + next.offset) bytes ++ next.before.behind =
       sym (append_assoc (take block bytes) cut next.before.behind) ∙ ap (λ bs. bs ++ next.before.behind) (sym (take-add block next.offset bytes)) in
@@ -140,7 +140,7 @@ refused_among zero block place (x ∷ xs) at positive long are is =
 refused_among (suc count) block place bytes at positive long are is =
     let all = suc-mul count block in
     by_block count block place bytes at positive long are (output_block_at place (take block bytes)) refl is
-    (λ later. refused_among count block (place + block) (drop block bytes) at positive (omega (arith, long, all, length-drop block bytes)) (bytes_from block bytes are) later)
+    (λ later. refused_among count block (place + block) (drop block bytes) at positive (omega (arith, long, all, length-drop block bytes)) (all_drop FitsByte block bytes are) later)
 
 -- ---- the law
 

@@ -9,6 +9,7 @@ use Rattle.std.proofs.lemmas.Nat.{le-div}
 use Rattle.std.proofs.lemmas.Bool.Decides.{nat_tests}
 use Rattle.std.proofs.lemmas.Grind.{div_ceil_times}
 use Rattle.program_interface.specs.Bytes.{padded}
+use Rattle.program_interface.proofs.Proved.{all_same}
 use Rattle.emit_append.specs.Packing.{laid_out, block_fillings, packed}
 use Rattle.emit_append.specs.Need.{NeedGrows, NeedIsEnough, NeedIsMet, ReachNeed, need}
 use Rattle.emit_append.proofs.Layouts.{laid-behind, laid-beginning, laid-empty}
@@ -123,10 +124,6 @@ filled-many block (suc d) count group some long most =
     quotient_above (length (block_fillings block (replicate count group))) count d
     (omega (arith, blocks-many block d 0 0 count group most (omega (arith, suc-mul 0 (length group)))))
 
-all-alike : (P : List ℕ → Type 0) (count : ℕ) (group : List ℕ) → P group → AllByRecursion P (replicate count group)
-all-alike P zero group is = tt
-all-alike P (suc count) group is = (is, all-alike P count group is)
-
 as_many : (block limit count : ℕ) → limit ≤ block
     → need count (record { block = block; limit = limit }) ≤ length (packed block (replicate count (replicate limit 0)))
 as_many block zero count within = omega arith
@@ -150,7 +147,7 @@ met block limit count within =
     let group : List ℕ = replicate limit 0 in
     let groups = replicate count group in
     let number : length groups ≡ count = length-replicate {A = List ℕ} count group in
-    let all = all-alike (λ (one : List ℕ). length one ≤ limit) count group (omega (arith, length-replicate {A = ℕ} limit 0)) in
+    let all = all_same (λ (one : List ℕ). length one ≤ limit) count group (omega (arith, length-replicate {A = ℕ} limit 0)) in
     let most = enough block limit groups within all in
     let same = ap (λ (n : ℕ). need n (record { block = block; limit = limit })) number in
     record { number = number; within = all; blocks = no_fewer _ _ _ most same (as_many block limit count within) }

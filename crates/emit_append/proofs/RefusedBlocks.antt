@@ -7,11 +7,11 @@ use Rattle.std.proofs.lemmas.Bool.Decides.{eqb_tells}
 use Rattle.std.proofs.lemmas.List.{length-replicate, length-take-le, replicate-append-replicate}
 use Rattle.byteorder.specs.Endian.{little_number}
 use Rattle.program_interface.specs.Frame.{frame}
-use Rattle.program_interface.proofs.Proved.{agree_before, agree_behind}
-use Rattle.emit_append.proofs.ByteLists.{AllBytes}
+use Rattle.program_interface.proofs.Proved.{agree_before, agree_behind, all_drop}
+use Rattle.emit_append.proofs.ByteLists.{AllBytes, FitsByte}
 use Rattle.emit_append.specs.Unpacking.{Reading, after_frame, frame_length, frame_record, frames_at, then_read, zeros_at}
 use Rattle.emit_append.proofs.FramesRead.{step-frame, step-short, step-zeros}
-use Rattle.emit_append.proofs.UnpackedFrames.{IsFrames, bytes_from, frame_before, framed, no_frames, record_length}
+use Rattle.emit_append.proofs.UnpackedFrames.{IsFrames, frame_before, framed, no_frames, record_length}
 use Rattle.emit_append.proofs.ReadBack.{front_two}
 
 -- ---- lists
@@ -206,7 +206,7 @@ is_refused (suc steps) place rest at few are is =
     let left = length-drop (2 + frame_length rest) rest in
     let behind = behind_err (frame_record rest ∷ []) _ at (sym (step-frame steps place rest some long) ∙ is) in
     refused_behind steps place rest at are some long
-    (is_refused steps (place + (2 + frame_length rest)) (after_frame rest) at (omega (arith, few, long, left)) (bytes_from (2 + frame_length rest) rest are) behind))
+    (is_refused steps (place + (2 + frame_length rest)) (after_frame rest) at (omega (arith, few, long, left)) (all_drop FitsByte (2 + frame_length rest) rest are) behind))
     (cases_lt (length rest) (2 + frame_length rest)))
     (λ none. let zero_length : frame_length rest ≡ 0 = omega arith in refused_byte steps place rest at zero_length (sym (step-zeros steps place rest zero_length) ∙ is))
     (cases_lt 0 (frame_length rest))

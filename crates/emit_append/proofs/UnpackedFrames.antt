@@ -9,21 +9,12 @@ use Rattle.byteorder.specs.Endian.{little_bytes, little_number}
 use Rattle.program_interface.specs.Frame.{frame, frames}
 use Rattle.program_interface.specs.Readings.{◌>>=◌}
 use Rattle.program_interface.specs.Bytes.{padded}
-use Rattle.emit_append.proofs.ByteLists.{AllBytes, by_recursion}
+use Rattle.program_interface.proofs.Proved.{all_drop, all_take}
+use Rattle.emit_append.proofs.ByteLists.{AllBytes, FitsByte, by_recursion}
 use Rattle.emit_append.specs.Unpacking.{AreFrames, Reading, UnpackedIsFrames, after_frame, frame_length, frame_record, frames_at, output_blocks_at, then_read, unpacked, zeros_at}
 use Rattle.emit_append.proofs.FramesRead.{step-frame, step-short, step-zeros}
 use Rattle.emit_append.proofs.GroupsOfBlocks.{parts_fit}
 use Rattle.emit_append.proofs.ReadBack.{all_bounded, blocks-read, front_two, length-blocks}
-
-pub bytes_up_to : (n : ℕ) (xs : List ℕ) → AllBytes xs → AllBytes (take n xs)
-bytes_up_to zero xs are = tt
-bytes_up_to (suc n) [] are = tt
-bytes_up_to (suc n) (x ∷ xs) are = (are.0, bytes_up_to n xs are.1)
-
-pub bytes_from : (n : ℕ) (xs : List ℕ) → AllBytes xs → AllBytes (drop n xs)
-bytes_from zero xs are = are
-bytes_from (suc n) [] are = tt
-bytes_from (suc n) (x ∷ xs) are = bytes_from n xs are.1
 
 -- records that none is without bytes, whose frames stand in front of zeros
 pub record IsFrames (rest : List ℕ) (records : List (List ℕ)) : Type 0 where
@@ -126,7 +117,7 @@ only-frames (suc steps) at rest records few are is =
     (λ long.
     let left = length-drop (2 + frame_length rest) rest in
     after-frame rest records _ are some long (sym (step-frame steps at rest some long) ∙ is)
-    (λ more. only-frames steps (at + (2 + frame_length rest)) (after_frame rest) more (omega (arith, few, long, left)) (bytes_from (2 + frame_length rest) rest are)))
+    (λ more. only-frames steps (at + (2 + frame_length rest)) (after_frame rest) more (omega (arith, few, long, left)) (all_drop FitsByte (2 + frame_length rest) rest are)))
     (cases_lt (length rest) (2 + frame_length rest)))
     (λ none. only-zeros at rest records (sym (step-zeros steps at rest (omega arith)) ∙ is))
     (cases_lt 0 (frame_length rest))
@@ -151,8 +142,8 @@ only-blocks zero block at (x ∷ xs) records long are is = absurd cc
 only-blocks (suc count) block at bytes records long are is =
     let blocks = suc-mul count block in
     after-block block bytes records _ _ (omega (arith, long, blocks)) is
-    (λ front. only-frames (length (take block bytes)) at (take block bytes) front (omega arith) (bytes_up_to block bytes are))
-    (λ more. only-blocks count block (at + block) (drop block bytes) more (omega (arith, long, blocks, length-drop block bytes)) (bytes_from block bytes are))
+    (λ front. only-frames (length (take block bytes)) at (take block bytes) front (omega arith) (all_take FitsByte block bytes are))
+    (λ more. only-blocks count block (at + block) (drop block bytes) more (omega (arith, long, blocks, length-drop block bytes)) (all_drop FitsByte block bytes are))
 
 -- blocks of frames and zeros read as the records
 pub frames-read : (block : ℕ) (bytes : List ℕ) (records : List (List ℕ)) → 0 < block → block < 2 ^ 16 → AreFrames block records bytes → unpacked block bytes ≡ Ok records

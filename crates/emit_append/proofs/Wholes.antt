@@ -1,9 +1,9 @@
 -- Output blocks are whole, and hold bytes.
-use Rattle.std.proofs.Common.{◌≡◌, ℕ, zero, suc, ◌-◌, ◌≤◌, List, [], ◌∷◌, length, map, replicate, arith, lit<, ⊎_elim}
+use Rattle.std.proofs.Common.{◌≡◌, ℕ, ◌-◌, ◌≤◌, List, [], ◌∷◌, length, map, replicate, arith, lit<, ⊎_elim}
 use Rattle.std.specs.List.{AllByRecursion}
 use Rattle.std.proofs.lemmas.Bool.{cases_lt}
 use Rattle.program_interface.specs.Bytes.{AreBytes, padded}
-use Rattle.program_interface.proofs.Proved.{all_append}
+use Rattle.program_interface.proofs.Proved.{all_append, all_same}
 use Rattle.emit_append.specs.OutputBlocks.{AreWhole, OutputBlocksAreBytes, OutputBlocksAreWhole}
 use Rattle.emit_append.specs.PackedLaw.{FitBlock}
 use Rattle.emit_append.specs.Packing.{all_but_last, block_fillings, laid_out, last_or_empty}
@@ -38,14 +38,10 @@ output_blocks_are_whole block groups fit =
       pending = of_last (λ bytes. length bytes ≤ block) (block_fillings block groups) (omega arith) fits;
     }
 
-zeros-bytes : (count : ℕ) → AllBytes (replicate count 0)
-zeros-bytes zero = tt
-zeros-bytes (suc count) = (lit< tt, zeros-bytes count)
-
 padded-bytes : (block : ℕ) (blocks : List (List ℕ)) → AllByRecursion AllBytes blocks → AllByRecursion AllBytes (map (padded block) blocks)
 padded-bytes block [] are = tt
 padded-bytes block (bytes ∷ blocks) are =
-    (all_append FitsByte bytes (replicate (block - length bytes) 0) are.0 (zeros-bytes (block - length bytes)), padded-bytes block blocks are.1)
+    (all_append FitsByte bytes (replicate (block - length bytes) 0) are.0 (all_same FitsByte (block - length bytes) 0 (lit< tt)), padded-bytes block blocks are.1)
 
 -- a layout's bytes are those of its groups
 laid-bytes : (block room : ℕ) (groups : List (List ℕ)) → AllByRecursion AllBytes groups → AllBytes (laid_out block room groups).begun × AllByRecursion AllBytes (laid_out block room groups).later

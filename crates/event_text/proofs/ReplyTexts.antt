@@ -1,5 +1,5 @@
 -- The words of a reply's line tell the reply and its data.
-use Rattle.std.proofs.Common.{◌≡◌, ℕ, if◌then◌else◌, List, [], ◌∷◌, ◌++◌, length, Option, Some, None, Ok, refl, ap, sym, ◌∙◌, codes, append_assoc, arith}
+use Rattle.std.proofs.Common.{◌≡◌, ℕ, if◌then◌else◌, List, [], ◌∷◌, ◌++◌, length, Option, Some, None, Ok, refl, ap, sym, ◌∙◌, codes, arith}
 use Rattle.std.proofs.lemmas.Option.{same_Some}
 use Rattle.std.specs.Fmt.{decimal}
 use Rattle.std.specs.Option.{option_and_then, option_map}
@@ -17,7 +17,7 @@ use Rattle.event_text.specs.Lines.{data_text, reply_text}
 use Rattle.text_lines.specs.Texts.{one_of}
 use Rattle.event_text.specs.Words.{two_or_three_of, words_of}
 use Rattle.event_text.proofs.PlainLines.{decimal_again, decimal_in_word, spelled_in_word, unblank, words_of-numbered}
-use Rattle.event_text.proofs.SubmissionLemmas.{data_words, hex_in_word, not_empty, spaced, words_of-spaced}
+use Rattle.event_text.proofs.SubmissionLemmas.{data_words, hex_in_word, not_empty, number_spaced, spaced, words_of-spaced}
 use Rattle.event_text.proofs.WordLemmas.{word_last}
 
 -- ---- what words tell
@@ -43,10 +43,7 @@ told_by (name ∷ words) = reply_named name words
 -- ---- the words of each line
 
 complete_spaced : (queue size : ℕ) (entry bytes : List ℕ) → reply_text (Complete queue entry size) bytes ≡ spaced (codes "cpl") (decimal queue) (encode_lower entry) (data_text bytes)
-complete_spaced queue size entry bytes =
-    let number = decimal queue in
-    let digits = encode_lower entry in
-    ap (λ (ys : List ℕ). codes "cpl " ++ ys) (append_assoc (number ++ codes " ") digits (data_text bytes) ∙ append_assoc number (codes " ") (digits ++ data_text bytes))
+complete_spaced queue size entry bytes = ap (λ (ys : List ℕ). codes "cpl " ++ ys) (number_spaced (decimal queue) (encode_lower entry) (data_text bytes))
 
 complete_again : (number digits behind entry bytes : List ℕ) (queue size : ℕ) → decimal_of number ≡ Some queue → decode_of digits ≡ Ok entry → decode_of behind ≡ Ok bytes → size ≡ length bytes
     → completed (decimal_of number) (result_ok (decode_of digits)) (result_ok (decode_of behind)) ≡ Some (record { reply = Complete queue entry size; bytes = bytes })

@@ -59,11 +59,12 @@ words_of-data word (b ∷ rest) some h small =
 abbrev pub spaced : List ℕ → List ℕ → List ℕ → List ℕ → List ℕ
 spaced name number digits behind = name ++ 32 ∷ (number ++ 32 ∷ (digits ++ behind))
 
+-- what stands behind the name, as the text has it
+pub number_spaced : (number digits behind : List ℕ) → number ++ codes " " ++ digits ++ behind ≡ number ++ 32 ∷ (digits ++ behind)
+number_spaced number digits behind = append_assoc (number ++ codes " ") digits behind ∙ append_assoc number (codes " ") (digits ++ behind)
+
 submission_text-spaced : (queue : ℕ) (entry input : List ℕ) → submission_text queue entry input ≡ spaced (codes "submit") (decimal queue) (encode_lower entry) (data_text input)
-submission_text-spaced queue entry input =
-    let number = decimal queue in
-    let digits = encode_lower entry in
-    ap (λ (ys : List ℕ). codes "submit " ++ ys) (append_assoc (number ++ codes " ") digits (data_text input) ∙ append_assoc number (codes " ") (digits ++ data_text input))
+submission_text-spaced queue entry input = ap (λ (ys : List ℕ). codes "submit " ++ ys) (number_spaced (decimal queue) (encode_lower entry) (data_text input))
 
 pub words_of-spaced : (name number digits input : List ℕ) → 0 < length name → All InWord name → 0 < length number → All InWord number → 0 < length digits → All InWord digits → IsBytes input
     → words_of (spaced name number digits (data_text input)) ≡ name ∷ number ∷ digits ∷ data_words input

@@ -1,10 +1,10 @@
 -- The words of a line, one after the other.
-use Rattle.std.proofs.Common.{◌≡◌, ℕ, ◌+◌, ◌<◌, ◌≤◌, zero, suc, not, Bool, true, false, cond, ltb, List, [], ◌∷◌, ◌++◌, length, take, drop, get_or, filter, refl, sym, ap, ◌∙◌, subst, ◌⊎◌, inl, inr, arith}
+use Rattle.std.proofs.Common.{◌≡◌, ℕ, ◌+◌, ◌<◌, ◌≤◌, zero, suc, Bool, true, false, cond, ltb, List, [], ◌∷◌, ◌++◌, length, take, drop, get_or, filter, refl, sym, ap, ◌∙◌, subst, ◌⊎◌, inl, inr, arith}
 use Rattle.std.specs.List.{All, slice_split, position_or_len, before_first}
 use Rattle.std.proofs.lemmas.Bool.{lt-ltb, cases_lt}
 use Rattle.std.proofs.lemmas.List.{drop_more, length-take-le, take_all, drop_all}
 use Rattle.std.proofs.lemmas.List.Splits.{slice_split_at, slice_split_first, slice_split_none, slice_split-cons_yes}
-use Rattle.std.proofs.lemmas.List.Sums.{fails_before_first, passes_at_first, prefix_len-le-length}
+use Rattle.std.proofs.lemmas.List.Sums.{fails_before_first, passes_at_first}
 use Rattle.text_lines.specs.Cut.{is_blank_byte, without_first_blanks}
 use Rattle.event_text.specs.Words.{words_of}
 
@@ -18,9 +18,13 @@ words_of-blank b text e = ap (filter is_word) (slice_split-cons_yes is_blank_byt
 kept : (word : List ℕ) (parts : List (List ℕ)) → 0 < length word → filter is_word (word ∷ parts) ≡ word ∷ filter is_word parts
 kept word parts h = ap (λ c. cond c (word ∷ filter is_word parts) (filter is_word parts)) (lt-ltb 0 (length word) h)
 
--- a text of one word
-only_word : (text : List ℕ) → 0 < length text → position_or_len is_blank_byte text ≡ length text → words_of text ≡ text ∷ []
-only_word text some e = ap (filter is_word) (slice_split_none is_blank_byte text (λ k d inside. fails_before_first is_blank_byte text k d (omega (arith, e, inside)))) ∙ kept text [] some
+-- a word with no blank in it, at the end of a text
+pub word_last : (word : List ℕ) → 0 < length word → All (λ b. is_blank_byte b ≡ false) word → words_of word ≡ word ∷ []
+word_last word some plain = ap (filter is_word) (slice_split_none is_blank_byte word plain) ∙ kept word [] some
+
+-- and in front of a space
+pub word_first : (word behind : List ℕ) → 0 < length word → All (λ b. is_blank_byte b ≡ false) word → words_of (word ++ 32 ∷ behind) ≡ word ∷ words_of behind
+word_first word behind some plain = ap (filter is_word) (slice_split_at is_blank_byte word 32 behind plain refl) ∙ kept word (slice_split is_blank_byte behind) some
 
 -- a word ends at the first blank behind it
 word_before : (text : List ℕ) (k : ℕ) → 0 < k → k < length text → position_or_len is_blank_byte text ≡ k → is_blank_byte (get_or text k 0) ≡ true → words_of text ≡ take k text ∷ words_of (drop k text)
@@ -41,7 +45,7 @@ first_at text k some starts e (inl h) =
     let blank : is_blank_byte (get_or text k 0) ≡ true = subst (λ (n : ℕ). is_blank_byte (get_or text n 0) ≡ true) e (passes_at_first is_blank_byte text 0 (omega (arith, e, h))) in
     word_before text k (behind_zero text k starts blank) h e blank
 first_at text k some starts e (inr h) =
-    rw (take_all k text h, drop_all k text h) (only_word text some (omega (arith, e, h, prefix_len-le-length (λ b. not (is_blank_byte b)) text)))
+    rw (take_all k text h, drop_all k text h) (word_last text some (λ n d inside. fails_before_first is_blank_byte text n d (omega (arith, e, h, inside))))
 
 -- no blank is left in front
 starts_if : (b : ℕ) (text : List ℕ) (blank : Bool) → is_blank_byte b ≡ blank → (0 < length (without_first_blanks text) → is_blank_byte (get_or (without_first_blanks text) 0 0) ≡ false)
@@ -75,10 +79,3 @@ next_word line text word behind e some front rest =
     let k = position_or_len is_blank_byte text in
     let begins : is_blank_byte (get_or text 0 0) ≡ false = rw e (starts line (omega (arith, some, ap length e))) in
     sym (words_of-trimmed line) ∙ sym (ap words_of e) ∙ first_at text k some begins refl (cases_lt k (length text)) ∙ rw (front, rest) refl
-
--- a word with no blank in it, at the end of a text and in front of a space
-pub word_last : (word : List ℕ) → 0 < length word → All (λ b. is_blank_byte b ≡ false) word → words_of word ≡ word ∷ []
-word_last word some plain = ap (filter is_word) (slice_split_none is_blank_byte word plain) ∙ kept word [] some
-
-pub word_first : (word behind : List ℕ) → 0 < length word → All (λ b. is_blank_byte b ≡ false) word → words_of (word ++ 32 ∷ behind) ≡ word ∷ words_of behind
-word_first word behind some plain = ap (filter is_word) (slice_split_at is_blank_byte word 32 behind plain refl) ∙ kept word (slice_split is_blank_byte behind) some

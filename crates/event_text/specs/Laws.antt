@@ -43,7 +43,7 @@ end_text EndOfFile = []
 end_text Newline = 10 ∷ []
 end_text ReturnNewline = 13 ∷ 10 ∷ []
 
--- a comment, or none: `;` and whatever ASCII bytes stand behind it on the line
+-- a comment of ASCII, or none: `;` and whatever ASCII bytes stand behind it on the line
 abbrev pub IsComment : List ℕ → Type 0
 IsComment [] = Unit {0}
 IsComment (first ∷ rest) = (first ≡ 59) × AllPass is_ascii rest × AllPass (λ byte. not (byte == 10)) rest

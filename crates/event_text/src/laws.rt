@@ -8,12 +8,12 @@ pub fn events_are_by_line()
     ensures { EventsAreByLine }
 {}
 
-/// A line of blanks and a comment, of which either may be missing, makes no event.
+/// A line of blanks and a comment of ASCII, of which either may be missing, makes no event.
 pub fn blank_lines_make_no_event()
     ensures { BlankLinesMakeNoEvent }
 {}
 
-/// A comment behind a line changes nothing of what the line tells.
+/// A comment of ASCII behind a line changes nothing of what the line tells.
 pub fn comments_dont_count()
     ensures { CommentsDontCount }
 {}

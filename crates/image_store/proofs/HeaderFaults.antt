@@ -15,12 +15,13 @@ use Rattle.image_store.specs.declared.header.Header.{Header}
 use Rattle.image_store.specs.declared.version.Version.{Version}
 use Rattle.image_store.specs.declared.version.Version.TheVariants.{One, Two}
 use Rattle.program_interface.specs.Readings.{◌>>=◌}
+use Rattle.program_interface.proofs.Proved.{found_where_ok}
 use Rattle.image_store.specs.FirstFault.{Begins, HasHeader, IsFirstFault}
 use Rattle.image_store.specs.Geometry.{Shape, IsShape, shape_checks}
 use Rattle.image_store.specs.Reading.{are_zeros, numbers_fault, numbers_in, numbers_tested, shape_in, version_in, version_kept, zeros_kept, total_told, header_of, header_told}
 use Rattle.image_store.specs.Version.{HasText, has_block, numbers_of_version}
 use Rattle.image_store.proofs.FaultPlaces.{unknown}
-use Rattle.image_store.proofs.HeaderParts.{begins, header_parts, numbers_passed, some_version, version_begins, version_has}
+use Rattle.image_store.proofs.HeaderParts.{begins, header_parts, numbers_passed, version_begins, version_has}
 use Rattle.image_store.proofs.ReadingCalls.{bind_fails, is_this, wrong}
 
 -- ---- the magic
@@ -92,7 +93,7 @@ header_first bytes fault there e =
     bind_fails (IsFirstFault bytes) (ok_or (version_in (take 64 bytes)) Magic) (header_of (take 64 bytes)) fault e
     (λ first none. let p = unknown (version_in (take 64 bytes)) first none in subst (IsFirstFault bytes) p.1 (there, no_magic bytes p.0))
     (λ version told later.
-    header_wrong bytes version (begun_by bytes version there (version_begins (take 64 bytes) version (some_version (version_in (take 64 bytes)) version told))) fault later)
+    header_wrong bytes version (begun_by bytes version there (version_begins (take 64 bytes) version (found_where_ok (version_in (take 64 bytes)) Magic version told))) fault later)
 
 -- a header that is read
 pub record IsRead (bytes : List ℕ) (h : Header) : Type 0 where

@@ -1,5 +1,5 @@
 -- What each header that is read has passed.
-use Rattle.std.proofs.Common.{◌≡◌, ℕ, Bool, true, false, cond, List, drop, Option, Some, None, Result, Ok, refl, ap, subst}
+use Rattle.std.proofs.Common.{◌≡◌, ℕ, Bool, true, List, [], ◌∷◌, drop, Option, Some, None, Result, Ok, refl, ap, subst}
 use Rattle.std.proofs.lemmas.Bool.{leb-true}
 use Rattle.std.specs.List.{starts_with}
 use Rattle.std.specs.Option.{ok_or}
@@ -15,6 +15,7 @@ use Rattle.zone_state.specs.Checks.{first_failed, unless_failed}
 use Rattle.zone_state.proofs.Proved.{demanded, none_failed, passed}
 use Rattle.image_store.specs.Geometry.{Shape, IsShape, shape_checks}
 use Rattle.program_interface.specs.Readings.{◌>>=◌}
+use Rattle.program_interface.proofs.Proved.{found_passes, found_where_ok}
 use Rattle.image_store.specs.Reading.{are_zeros, numbers_in, numbers_tested, shape_told, version_in, version_checks, version_kept, zeros_kept, total_told, header_of, header_told}
 use Rattle.image_store.specs.Version.{HasText, has_block, numbers_of_version}
 use Rattle.image_store.proofs.ReadingCalls.{bind_ok, ok_is, chosen}
@@ -24,19 +25,8 @@ use Rattle.image_store.proofs.Shapes.{shape_is}
 abbrev pub begins : List ℕ → Version → Bool
 begins bytes version = starts_with (λ a b. a == b) bytes (numbers_of_version version).magic
 
-either : (test : Version → Bool) (version : Version) (a b : Bool) → test One ≡ a → test Two ≡ b → cond a (Some One) (cond b (Some Two) None) ≡ Some version → test version ≡ true
-either test One true b first second e = first
-either test Two true b first second e = absurd cc
-either test One false true first second e = absurd cc
-either test Two false true first second e = second
-either test version false false first second e = absurd cc
-
 pub version_begins : (bytes : List ℕ) (version : Version) → version_in bytes ≡ Some version → begins bytes version ≡ true
-version_begins bytes version e = either (begins bytes) version (begins bytes One) (begins bytes Two) refl refl e
-
-pub some_version : (told : Option Version) (version : Version) → ok_or told fault.Magic ≡ Ok version → told ≡ Some version
-some_version None version e = absurd cc
-some_version (Some found) version e = ap (λ (v : Version). Some v) (ok_is found version e)
+version_begins bytes version e = found_passes (begins bytes) (One ∷ Two ∷ []) version e
 
 -- numbers that pass the tests of a geometry are those of its shape
 pub record ArePassed (told s : Shape) : Type 0 where
@@ -84,7 +74,7 @@ header_parts bytes header e =
     let pass = numbers_passed (shape_told bytes) s.0 s.1 in
     subst (IsHeader bytes) (ok_is (made s.0) header z.2) (record {
       version = version;
-      begins = version_begins bytes version (some_version (version_in bytes) version v.1);
+      begins = version_begins bytes version (found_where_ok (version_in bytes) fault.Magic version v.1);
       same = pass.same;
       known = subst IsShape pass.same pass.known;
       has = version_has version s.0 k.0 k.1;

@@ -15,6 +15,7 @@ use Rattle.program_interface.specs.Bytes.{pieces, spliced}
 use Rattle.image_store.specs.Geometry.{Shape}
 use Rattle.image_store.specs.Namespace.{ZoneBlocks, ZonedNamespace, zone_at, counted, grown, appended, namespace_with, all_empty, shape}
 use Rattle.image_store.proofs.BlocksOfBytes.{length-blocks, bytes-middle}
+use Rattle.image_store.proofs.Shapes.{resized}
 use Rattle.image_store.proofs.ZonesInMemory.{HasRoom, length-zones, zone-at, zones-append, write_end}
 
 -- a zone's written blocks fit its capacity
@@ -150,4 +151,4 @@ written_seen s zs xs z most ns seen inside h =
 pub shape_seen : (s : Shape) (zs : List CountedZone) (xs : List ℕ) (ns : ZonedNamespace) → namespace_of s zs xs ≡ ns → IsFlat s zs xs → s ≡ shape ns
 shape_seen s zs xs ns seen flat =
     let zones : s.zones ≡ length (zones_of s.block s.capacity zs xs) = sym flat.count ∙ sym (length-zones s.block s.capacity zs xs) in
-    ap (λ (n : ℕ). let other : Shape = record { block = s.block; zones = n; size = s.size; capacity = s.capacity; limits = s.limits } in other) zones ∙ ap shape seen
+    ap (resized s) zones ∙ ap shape seen

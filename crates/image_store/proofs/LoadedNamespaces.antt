@@ -14,15 +14,16 @@ use Rattle.image_store.specs.Geometry.{Shape, IsShape}
 use Rattle.image_store.specs.Laws.{LoadedTextsAreNamespaces}
 use Rattle.image_store.specs.Namespace.{ZoneBlocks, no_zone, counted, IsNamespace, namespace_with}
 use Rattle.program_interface.specs.Readings.{◌>>=◌}
-use Rattle.image_store.specs.Reading.{bytes_in, zone_rows_in, zones_in, limits_kept, blocks_in}
+use Rattle.image_store.specs.Reading.{bytes_in, limits_kept, blocks_in}
 use Rattle.image_store.proofs.TextsReadBack.{at-counted}
 use Rattle.image_store.proofs.ReadingCalls.{bind_ok, ok_is, chosen}
 use Rattle.program_interface.proofs.Proved.{front_fit, rest_fit}
 use Rattle.image_store.proofs.ByteParts.{blocks_fit}
 use Rattle.image_store.proofs.FilledBuffers.{bytes_parts, bytes_size}
-use Rattle.image_store.proofs.LoadStages.{zones_fit}
-use Rattle.image_store.proofs.OnlyTextsLoad.{text_parts}
+use Rattle.image_store.proofs.LoadStages.{HaveFit}
+use Rattle.image_store.proofs.OnlyTextsLoad.{size_read, text_parts}
 use Rattle.image_store.proofs.BlocksOfBytes.{length-blocks}
+use Rattle.image_store.proofs.Shapes.{resized}
 use Rattle.image_store.proofs.SoundImages.{block_whole}
 
 -- zones of whole blocks
@@ -74,38 +75,21 @@ zone_allowed c zs zones same each z h =
     let read = ap (λ (all : List CountedZone). get_or all z no_counted_zone) (sym same) ∙ at-counted c zones z h in
     subst (λ (r : CountedZone). IsZone r.state r.written c) read (each z there)
 
--- the rows that are read
-record AreAllowed (s : Shape) (zs : List CountedZone) : Type 0 where
-  pub count : length zs ≡ s.zones
-  pub each : (k : ℕ) → k < length zs → IsZone (get_or zs k no_counted_zone).state (get_or zs k no_counted_zone).written s.capacity
-
-rows_allowed : (s : Shape) (bytes : List ℕ) (got : List CountedZone × List ℕ) → IsShape s → zone_rows_in s bytes ≡ Ok got → AreAllowed s got.0
-rows_allowed s bytes got known e =
-    let r = bind_ok (bytes_in (s.zones * 8) bytes) (λ front. zones_in 0 s.capacity s.zones front.0 >>= λ all. Ok (all, front.1)) got e in
-    let q = bind_ok (zones_in 0 s.capacity s.zones r.0.0) (λ all. Ok (all, r.0.1)) got r.2 in
-    let fit = zones_fit 0 s.capacity s.zones r.0.0 q.0 known.capacity_some q.1 in
-    subst (λ (x : List CountedZone × List ℕ). AreAllowed s x.0) (ok_is (q.0, r.0.1) got q.2) (record {
-      count = fit.count;
-      each = λ k h. (fit.each k h).1;
-    })
-
 -- the parts of a text make a namespace
-parts_are : (s : Shape) (zs : List CountedZone) (zones : List ZoneBlocks) → IsShape s → AreAllowed s zs → IsWithin zs s.limits → map (counted s.capacity) zones ≡ zs → AreWhole s.block zones
+parts_are : (s : Shape) (zs : List CountedZone) (zones : List ZoneBlocks) → IsShape s → HaveFit s.capacity s.zones zs → IsWithin zs s.limits → map (counted s.capacity) zones ≡ zs → AreWhole s.block zones
     → IsNamespace (namespace_with s zones)
-parts_are s zs zones known allowed within same whole =
-    let count : s.zones ≡ length zones = omega (arith, allowed.count, ap length same, length-map zones (counted s.capacity)) in
-    record {
-      shape = subst (λ (n : ℕ). IsShape (record { block = s.block; zones = n; size = s.size; capacity = s.capacity; limits = s.limits })) count known;
-      fits = zone_allowed s.capacity zs zones same allowed.each;
-      within = subst (λ (all : List CountedZone). IsWithin all s.limits) (sym same) within;
-      whole = whole.whole;
-      bytes = whole.bytes;
-    }
+parts_are s zs zones known fit within same whole = record {
+  shape = subst (λ (n : ℕ). IsShape (resized s n)) (size_read s zs zones fit.count same) known;
+  fits = zone_allowed s.capacity zs zones same (λ k less. (fit.each k less).1);
+  within = subst (λ (all : List CountedZone). IsWithin all s.limits) (sym same) within;
+  whole = whole.whole;
+  bytes = whole.bytes;
+}
 
 pub loaded_texts_are_namespaces : LoadedTextsAreNamespaces
 loaded_texts_are_namespaces bytes ns fit e =
     let p = text_parts bytes ns fit e in
     let s = p.told.geometry in
     subst IsNamespace p.is
-    (parts_are s p.zones p.blocks p.headed.known (rows_allowed s p.rest (p.zones, p.later) p.headed.known p.rows_read) (kept_within s.limits p.zones p.limited.0 p.limited.1) p.written.counted
+    (parts_are s p.zones p.blocks p.headed.known p.rows.fit (kept_within s.limits p.zones p.limited.0 p.limited.1) p.written.counted
     (blocks_whole s.block p.zones p.later (p.blocks, p.last) p.later_fit p.blocks_read))

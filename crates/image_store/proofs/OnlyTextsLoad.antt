@@ -28,8 +28,9 @@ use Rattle.image_store.proofs.FilledBuffers.{bytes_parts, bytes_size}
 use Rattle.image_store.proofs.HeaderParts.{header_parts}
 use Rattle.image_store.proofs.Headers.{total_in}
 use Rattle.image_store.proofs.ImageFields.{counted_seen}
-use Rattle.image_store.proofs.LoadStages.{after_header, after_rows, after_total, after_limits, after_blocks}
+use Rattle.image_store.proofs.LoadStages.{HaveFit, after_header, after_rows, after_total, after_limits, after_blocks, zones_fit}
 use Rattle.image_store.proofs.BlocksOfBytes.{bytes-blocks}
+use Rattle.image_store.proofs.Shapes.{resized}
 use Rattle.image_store.proofs.SpelledParts.{four_bytes_spelled, zeros_spelled, header_spelled, total_or_none}
 use Rattle.image_store.proofs.ToldRows.{row_right}
 
@@ -73,8 +74,8 @@ header_counted One s total zs done e = refl
 header_counted Two s total zs done e =
     ap (header Two s) (eqb-true total (written_blocks zs) (chosen (total == written_blocks zs) tt done (fault.Total total (written_blocks zs)) e).0)
 
--- a row that is read is spelled so
-row_only : (zone capacity : ℕ) (xs : List ℕ) (z : CountedZone) → length xs ≡ 8 → AreBytes xs → zone_in zone capacity xs ≡ Ok z → (zone_row z ≡ xs) × (z.capacity ≡ capacity)
+-- a row that is read is spelled so,
+row_only : (zone capacity : ℕ) (xs : List ℕ) (z : CountedZone) → length xs ≡ 8 → AreBytes xs → zone_in zone capacity xs ≡ Ok z → zone_row z ≡ xs
 row_only zone capacity [] z size fit e = absurd (omega arith)
 row_only zone capacity (a ∷ []) z size fit e = absurd (omega arith)
 row_only zone capacity (a ∷ p ∷ []) z size fit e = absurd (omega arith)
@@ -87,30 +88,18 @@ row_only zone capacity (a ∷ p ∷ q ∷ r ∷ xs) z size fit e =
     let none : drop 4 xs ≡ [] = drop_all 4 xs (omega arith) in
     let spelled : little_bytes 4 (little_number 4 xs) ≡ xs =
     sym (append-nil (little_bytes 4 (little_number 4 xs))) ∙ (ap (λ (rest : List ℕ). little_bytes 4 (little_number 4 xs) ++ rest) (sym none)
-    ∙ four_bytes_spelled xs (omega arith) (rest_fit (a ∷ p ∷ q ∷ r ∷ []) xs fit)) in (
-      ap (λ (first : ℕ). first ∷ 0 ∷ 0 ∷ 0 ∷ little_bytes 4 z.written) code
-          ∙ (ap (λ (n : ℕ). a ∷ 0 ∷ 0 ∷ 0 ∷ little_bytes 4 n) (sym told.written)
-          ∙ (ap (λ (rest : List ℕ). a ∷ 0 ∷ 0 ∷ 0 ∷ rest) spelled
-          ∙ ap (λ (front : List ℕ). a ∷ (front ++ xs)) zeros)),
-      sym told.most,
-    )
+    ∙ four_bytes_spelled xs (omega arith) (rest_fit (a ∷ p ∷ q ∷ r ∷ []) xs fit)) in
+    ap (λ (first : ℕ). first ∷ 0 ∷ 0 ∷ 0 ∷ little_bytes 4 z.written) code
+    ∙ (ap (λ (n : ℕ). a ∷ 0 ∷ 0 ∷ 0 ∷ little_bytes 4 n) (sym told.written)
+    ∙ (ap (λ (rest : List ℕ). a ∷ 0 ∷ 0 ∷ 0 ∷ rest) spelled
+    ∙ ap (λ (front : List ℕ). a ∷ (front ++ xs)) zeros))
 
--- rows that are read are spelled so, and there are as many as were wanted
-record AreSpelled (capacity n : ℕ) (xs : List ℕ) (zs : List CountedZone) : Type 0 where
-  pub spelled : zone_rows zs ≡ xs
-  pub count : length zs ≡ n
-  pub same : (k : ℕ) → k < length zs → (get_or zs k no_counted_zone).capacity ≡ capacity
-
-same_more : (capacity : ℕ) (z : CountedZone) (zs : List CountedZone) → z.capacity ≡ capacity → ((k : ℕ) → k < length zs → (get_or zs k no_counted_zone).capacity ≡ capacity)
-    → (k : ℕ) → k < suc (length zs) → (get_or (z ∷ zs) k no_counted_zone).capacity ≡ capacity
-same_more capacity z zs first more zero h = first
-same_more capacity z zs first more (suc k) h = more k (omega arith)
-
-zones_only : (zone capacity n : ℕ) (xs : List ℕ) (zs : List CountedZone) → length xs ≡ n * 8 → AreBytes xs → zones_in zone capacity n xs ≡ Ok zs → AreSpelled capacity n xs zs
+-- and so are rows
+zones_only : (zone capacity n : ℕ) (xs : List ℕ) (zs : List CountedZone) → length xs ≡ n * 8 → AreBytes xs → zones_in zone capacity n xs ≡ Ok zs → zone_rows zs ≡ xs
 zones_only zone capacity zero xs zs size fit e =
     let none : xs ≡ [] = nil_from_length xs (omega arith) in
     let same : [] ≡ zs = ok_is [] zs e in
-    subst (AreSpelled capacity 0 xs) same (record { spelled = sym none; count = refl; same = λ k h. absurd (omega arith) })
+    subst (λ (read : List CountedZone). zone_rows read ≡ xs) same (sym none)
 zones_only zone capacity (suc n) xs zs size fit e =
     let a = bind_ok (zone_in zone capacity (take 8 xs)) (λ z. zones_in (zone + 1) capacity n (drop 8 xs) >>= λ more. Ok (z ∷ more)) zs e in
     let b = bind_ok (zones_in (zone + 1) capacity n (drop 8 xs)) (λ more. Ok (a.0 ∷ more)) zs a.2 in
@@ -120,11 +109,8 @@ zones_only zone capacity (suc n) xs zs size fit e =
     let first = row_only zone capacity (take 8 xs) a.0 (length-take-le 8 xs long) (front_fit (take 8 xs) (drop 8 xs) all) a.1 in
     let more = zones_only (zone + 1) capacity n (drop 8 xs) b.0 (omega (arith, length-drop 8 xs, suc-mul n 8)) (rest_fit (take 8 xs) (drop 8 xs) all) b.1 in
     let same : a.0 ∷ b.0 ≡ zs = ok_is (a.0 ∷ b.0) zs b.2 in
-    subst (AreSpelled capacity (suc n) xs) same (record {
-      spelled = ap (λ (front : List ℕ). front ++ zone_rows b.0) first.0 ∙ (ap (λ (rest : List ℕ). take 8 xs ++ rest) more.spelled ∙ parts);
-      count = ap suc more.count;
-      same = same_more capacity a.0 b.0 first.1 more.same;
-    })
+    subst (λ (read : List CountedZone). zone_rows read ≡ xs) same
+    (ap (λ (front : List ℕ). front ++ zone_rows b.0) first ∙ (ap (λ (rest : List ℕ). take 8 xs ++ rest) more ∙ parts))
 
 -- blocks that are read are spelled so
 pub record AreWritten (capacity : ℕ) (zs : List CountedZone) (xs : List ℕ) (got : List ZoneBlocks × List ℕ) : Type 0 where
@@ -148,23 +134,21 @@ blocks_only b capacity (z ∷ zs) xs got same e =
       counted = ap (λ (first : CountedZone). first ∷ map (counted capacity) c.0.0) (counted_seen b capacity z a.0.0 (same 0 (omega arith))) ∙ ap (λ (more : List CountedZone). z ∷ more) rest.counted;
     })
 
--- rows that are read stand in front, as many as were told
+-- rows that are read stand in front, and there are as many zones as were told, which fit the shape
 pub record AreZoneRows (s : Shape) (bytes : List ℕ) (zs : List CountedZone) (rest : List ℕ) : Type 0 where
   pub spelled : zone_rows zs ++ rest ≡ bytes
-  pub count : length zs ≡ s.zones
-  pub same : (k : ℕ) → k < length zs → (get_or zs k no_counted_zone).capacity ≡ s.capacity
+  pub fit : HaveFit s.capacity s.zones zs
 
-pub rows_only : (s : Shape) (bytes : List ℕ) (got : List CountedZone × List ℕ) → AreBytes bytes → zone_rows_in s bytes ≡ Ok got → AreZoneRows s bytes got.0 got.1
-rows_only s bytes got fit e =
+pub rows_only : (s : Shape) (bytes : List ℕ) (got : List CountedZone × List ℕ) → IsShape s → AreBytes bytes → zone_rows_in s bytes ≡ Ok got → AreZoneRows s bytes got.0 got.1
+rows_only s bytes got known fit e =
     let r = bind_ok (bytes_in (s.zones * 8) bytes) (λ front. zones_in 0 s.capacity s.zones front.0 >>= λ all. Ok (all, front.1)) got e in
     let q = bind_ok (zones_in 0 s.capacity s.zones r.0.0) (λ all. Ok (all, r.0.1)) got r.2 in
     let parts = bytes_parts (s.zones * 8) bytes r.0 r.1 in
     let front = front_fit r.0.0 r.0.1 (subst AreBytes (sym parts) fit) in
     let rows = zones_only 0 s.capacity s.zones r.0.0 q.0 (bytes_size (s.zones * 8) bytes r.0 r.1) front q.1 in
     subst (λ (x : List CountedZone × List ℕ). AreZoneRows s bytes x.0 x.1) (ok_is (q.0, r.0.1) got q.2) (record {
-      spelled = ap (λ (xs : List ℕ). xs ++ r.0.1) rows.spelled ∙ parts;
-      count = rows.count;
-      same = rows.same;
+      spelled = ap (λ (xs : List ℕ). xs ++ r.0.1) rows ∙ parts;
+      fit = zones_fit 0 s.capacity s.zones r.0.0 q.0 known.capacity_some q.1;
     })
 
 -- header, rows and blocks, one behind another
@@ -176,12 +160,9 @@ joined front zs zones bytes rest later last start rows blocks ended =
     ∙ (ap (λ (xs : List ℕ). front ++ xs) (sym rows)
     ∙ ap (λ (xs : List ℕ). front ++ (zone_rows zs ++ xs)) written)
 
-size_read : (s : Shape) (zs : List CountedZone) (zones : List ZoneBlocks) → length zs ≡ s.zones → map (counted s.capacity) zones ≡ zs → s.zones ≡ length zones
+-- there are as many zones as the shape says
+pub size_read : (s : Shape) (zs : List CountedZone) (zones : List ZoneBlocks) → length zs ≡ s.zones → map (counted s.capacity) zones ≡ zs → s.zones ≡ length zones
 size_read s zs zones count same = sym (sym (length-map zones (counted s.capacity)) ∙ (ap length same ∙ count))
-
--- the shape with another number of zones
-abbrev resized : Shape → ℕ → Shape
-resized s n = record { block = s.block; zones = n; size = s.size; capacity = s.capacity; limits = s.limits }
 
 -- the text of the namespace that is read
 text_with : (version : Version) (s : Shape) (zs : List CountedZone) (zones : List ZoneBlocks) → s.zones ≡ length zones → map (counted s.capacity) zones ≡ zs
@@ -198,7 +179,6 @@ pub record TextParts (bytes : List ℕ) (ns : ZonedNamespace) : Type 0 where
   pub headed : IsHeaded bytes told rest
   pub zones : List CountedZone
   pub later : List ℕ
-  pub rows_read : zone_rows_in told.geometry rest ≡ Ok (zones, later)
   pub rows : AreZoneRows told.geometry rest zones later
   pub counted : (done : Unit {0}) × (total_kept told.total zones ≡ Ok done)
   pub limited : (done : Unit {0}) × (limits_kept told.geometry.limits zones ≡ Ok done)
@@ -223,14 +203,13 @@ text_parts bytes ns fit e =
     let f = bind_ok (end_in d.0.1) (λ end. Ok (namespace_with s d.0.0)) ns d.2 in
     let headed = header_only bytes h a.0.1 fit a.1 in
     let rest_bytes = rest_fit (header headed.version s headed.total) a.0.1 (subst AreBytes (sym headed.spelled) fit) in
-    let rows = rows_only s a.0.1 b.0 rest_bytes b.1 in
+    let rows = rows_only s a.0.1 b.0 headed.known rest_bytes b.1 in
     record {
       told = h;
       rest = a.0.1;
       headed = headed;
       zones = b.0.0;
       later = b.0.1;
-      rows_read = b.1;
       rows = rows;
       counted = (t.0, t.1);
       limited = (c.0, c.1);
@@ -238,7 +217,7 @@ text_parts bytes ns fit e =
       blocks = d.0.0;
       last = d.0.1;
       blocks_read = d.1;
-      written = blocks_only s.block s.capacity b.0.0 b.0.1 d.0 rows.same d.1;
+      written = blocks_only s.block s.capacity b.0.0 b.0.1 d.0 (λ k less. (rows.fit.each k less).0) d.1;
       ended = nil_from_length d.0.1 (eqb-true (length d.0.1) 0 (chosen (length d.0.1 == 0) tt f.0 fault.Trailing f.1).0);
       is = ok_is (namespace_with s d.0.0) ns f.2;
     }
@@ -251,7 +230,7 @@ text_only bytes ns fit e =
     let version = p.headed.version in
     let total = p.headed.total in
     let counts = header_counted version s total p.zones p.counted.0 (ap (λ (n : Option ℕ). total_kept n p.zones) (sym p.headed.same) ∙ p.counted.1) in
-    let size = size_read s p.zones p.blocks p.rows.count p.written.counted in (
+    let size = size_read s p.zones p.blocks p.rows.fit.count p.written.counted in (
       version,
       subst (λ (x : ZonedNamespace). HasText version (shape x)) p.is (subst (λ (n : ℕ). HasText version (resized s n)) size p.headed.has),
       joined (header version s total) p.zones p.blocks bytes p.rest p.later p.last p.headed.spelled p.rows.spelled p.written.spelled p.ended

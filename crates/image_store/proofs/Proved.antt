@@ -9,7 +9,7 @@ use Rattle.image_store.specs.declared.geometry.TheConstants.{MOST_BYTES}
 use Rattle.image_store.specs.Geometry.{Shape, IsShape}
 use Rattle.image_store.specs.Namespace.{ZoneBlocks, no_zone}
 use Rattle.image_store.specs.Laws.{LoadedTextsAreNamespaces, SavedTextsLoad}
-use Rattle.image_store.proofs.TextsReadBack.{saved_again}
+use Rattle.image_store.proofs.TextsReadBack.{blocks_again, length-bytes, saved_again}
 use Rattle.image_store.proofs.ByteParts.{blocks_fit}
 use Rattle.image_store.proofs.ImageFields.{within_capacity}
 use Rattle.image_store.proofs.LoadedNamespaces as loaded
@@ -18,6 +18,7 @@ use Rattle.image_store.proofs.SoundImages.{block_whole, zone_with_blocks}
 use Rattle.image_store.proofs.ReplacedZones.{after_write_zone}
 pub use Rattle.image_store.proofs.ReplacedZones.{each_set}
 use Rattle.image_store.proofs.Shapes as shapes
+pub use Rattle.image_store.proofs.Shapes.{resized}
 
 pub saved_texts_load : SavedTextsLoad
 saved_texts_load = saved_again
@@ -52,6 +53,14 @@ blocks_are_bytes = blocks_fit
 -- the bytes of the blocks are those that they were cut from
 pub blocks_keep_bytes : (block count : ℕ) (bytes : List ℕ) → concat (pieces block count bytes) ≡ take (count * block) bytes
 blocks_keep_bytes = bytes-blocks
+
+-- whole blocks have so many bytes in all,
+pub blocks_have_bytes : (block : ℕ) (blocks : List (List ℕ)) → ((i : ℕ) → i < length blocks → length (get_or blocks i []) ≡ block) → length (concat blocks) ≡ length blocks * block
+blocks_have_bytes = length-bytes
+
+-- and are cut from these again
+pub blocks_are_cut_again : (block : ℕ) (blocks : List (List ℕ)) → ((i : ℕ) → i < length blocks → length (get_or blocks i []) ≡ block) → pieces block (length blocks) (concat blocks) ≡ blocks
+blocks_are_cut_again = blocks_again
 
 -- a zone's written blocks are within its capacity,
 pub written_is_within : (state : ZoneState) (written capacity : ℕ) → IsZone state written capacity → written ≤ capacity

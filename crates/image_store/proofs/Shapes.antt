@@ -15,6 +15,10 @@ use Rattle.image_store.specs.Laws.{VersionsAreKnown}
 use Rattle.image_store.specs.Version.{has_block}
 use Rattle.image_store.specs.Geometry.{Shape, IsShape, is_counted, are_limits, shape_checks, tested}
 
+-- the shape with another number of zones
+abbrev pub resized : Shape → ℕ → Shape
+resized s n = record { block = s.block; zones = n; size = s.size; capacity = s.capacity; limits = s.limits }
+
 block_range : (bytes : ℕ) → IsBlockSize bytes → (512 ≤ bytes) × (bytes ≤ LARGEST_BLOCK)
 block_range bytes is = grind (arith, nat_tests)
 

@@ -69,7 +69,7 @@ pub limits_read : (limits : Limits) (zs : List CountedZone) → IsWithin zs limi
 limits_read limits zs within = rw (le-leb (open_count zs) limits.open_limit within.opened, le-leb (active_count zs) limits.active_limit within.active) refl
 
 -- blocks that are whole are cut from their bytes again
-blocks_again : (b : ℕ) (blocks : List (List ℕ)) → ((i : ℕ) → i < length blocks → length (get_or blocks i []) ≡ b) → pieces b (length blocks) (concat blocks) ≡ blocks
+pub blocks_again : (b : ℕ) (blocks : List (List ℕ)) → ((i : ℕ) → i < length blocks → length (get_or blocks i []) ≡ b) → pieces b (length blocks) (concat blocks) ≡ blocks
 blocks_again b [] whole = refl
 blocks_again b (x ∷ blocks) whole =
     let size = whole 0 (omega arith) in

@@ -1,4 +1,4 @@
--- What a call answers that reads from a source, over what reading the source's bytes gives.
+-- What a call gives that reads from a source, over what reading the source's bytes gives.
 use Rattle.std.specs.Prelude.{ℕ, ◌≡◌, ◌<◌, Result, Ok, Err}
 use Rattle.image_store.specs.declared.fault.LoadFault.{LoadFault}
 use Rattle.image_store.specs.declared.fault.LoadFault.TheVariants.{Stream, Memory}
@@ -10,7 +10,7 @@ LoadFails wanted Stream reading = Unit {0}
 LoadFails wanted Memory reading = wanted
 LoadFails wanted fault reading = reading ≡ Err fault
 
--- A call whose answer is seen by view gives what reading gives, unless the stream failed or memory was
+-- A call whose result is seen by view gives what reading gives, unless the stream failed or memory was
 -- wanted, which is only where this holds.
 abbrev pub LoadGives : {X Y : Type 0} → Type 0 → (X → Y) → Result X LoadFault → Result Y LoadFault → Type 0
 LoadGives wanted view (Ok x) reading = reading ≡ Ok (view x)

@@ -1,4 +1,4 @@
-//! Laws of the texts of an image. Each function does nothing: what it ensures is the law.
+//! Laws of the texts of a namespace, of the tests of a shape, and of the versions. Each function does nothing: what it ensures is the law.
 
 ghost use Rattle.image_store.specs.FirstFault.{FaultIsFirst};
 ghost use Rattle.image_store.specs.Laws.{CutTextsAreTruncated, EachVersionLoads, FaultsAreByPrefix, LastVersionHasAll, LoadedTextsAreNamespaces, LongerTextsAreTrailing, OnlyTextsLoad, SavedTextsLoad, ShapesAreTested, UpgradedStandsForTheSame, UpgradingTwiceIsOnce, VersionsAreKnown};
@@ -34,7 +34,7 @@ pub fn texts_have_one_length()
 {}
 
 /// A text is tested from its front: what stands behind the fault that it is refused with, unless that is one of its
-/// end, changes nothing of that.
+/// end, changes nothing of that in a text that is no shorter.
 pub fn faults_are_by_prefix()
     ensures { FaultsAreByPrefix }
 {}

@@ -112,19 +112,7 @@ fn a_saved_image_loads_again(rt: HostRuntime) -> Result<(), Fail> {
 
 #[test]
 fn an_image_of_another_length_has_its_fault(rt: HostRuntime) -> Result<(), Fail> {
-    assert_eq!(rt; fault_of_front(rt.alloc(), &EMPTY, 96), None);
-    assert_eq!(rt;
-        fault_of_front(rt.alloc(), &EMPTY, 95),
-        Some(LoadFault::Truncated)
-    );
-    assert_eq!(rt;
-        fault_of_front(rt.alloc(), &EMPTY, 0),
-        Some(LoadFault::Truncated)
-    );
-    let mut longer = EMPTY.to_vec(rt.alloc())?;
-    longer.push(0)?;
-    assert_eq!(rt; fault_of(rt.alloc(), &longer), Some(LoadFault::Trailing));
-    Ok(())
+    check_one_length(&rt, rt.alloc(), EMPTY.to_vec(rt.alloc())?)
 }
 
 #[test]

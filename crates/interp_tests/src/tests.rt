@@ -12,7 +12,7 @@ use program_meaning::{Cause, End};
 use std::alloc::Global;
 use std::process::Abort;
 use std::test::Fail;
-use test_inputs::slots::{EXIT, FILTER, bytes_of};
+use test_inputs::slots::{EXIT, MATCHING, bytes_of};
 use vectors::{IMMEDIATE_STORES, LOADS, STORES};
 
 const MOVE_TO_R10: u64 = 0xb70a_0000_0100_0000;
@@ -79,7 +79,7 @@ const NO_ROOM: End = End::Trap {
     cause: Cause::EmitLength,
 };
 
-/// A run of `FILTER`: the most bytes that it may emit and its fuel; how it ends, after how many steps, and the bytes
+/// A run of `MATCHING`: the most bytes that it may emit and its fuel; how it ends, after how many steps, and the bytes
 /// and the frames that it has emitted by then.
 type Run = (usize, u64, End, u64, usize, u64);
 
@@ -115,7 +115,7 @@ fn check_filter(rt: &impl Abort, filter: &Program, run: Run) {
 
 #[test]
 fn a_frame_of_a_block_that_matches(rt: HostRuntime) -> Result<(), Fail> {
-    let filter = program(rt.alloc(), &FILTER)?;
+    let filter = program(rt.alloc(), &MATCHING)?;
     for run in RUNS {
         check_filter(&rt, &filter, *run);
     }
@@ -124,7 +124,7 @@ fn a_frame_of_a_block_that_matches(rt: HostRuntime) -> Result<(), Fail> {
 
 #[test]
 fn no_frame_of_another_block(rt: HostRuntime) -> Result<(), Fail> {
-    let filter = program(rt.alloc(), &FILTER)?;
+    let filter = program(rt.alloc(), &MATCHING)?;
     assert_eq!(rt; run(&rt, &filter, &[0; 512]), (End::Exit { r0: 0 }, 4));
     Ok(())
 }
@@ -164,7 +164,7 @@ fn a_frame_that_fills_the_largest_block(rt: HostRuntime) -> Result<(), Fail> {
 
 #[test]
 fn the_slots_of_a_run(rt: HostRuntime) -> Result<(), Fail> {
-    let filter = program(rt.alloc(), &FILTER)?;
+    let filter = program(rt.alloc(), &MATCHING)?;
     let mut block = [0; 512];
     block[0] = 7;
     let context = [0; 32];

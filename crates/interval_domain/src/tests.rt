@@ -37,7 +37,7 @@ fn small_block(rt: &impl Abort) -> BlockSize {
     block
 }
 
-/// What any domain answers where it knows the words.
+/// What any domain gives where it knows the words.
 fn check_domain<D: Domain>(rt: &impl Abort) {
     let block = small_block(rt);
     let five = bits64(Operation::Add, D::constant(2), D::constant(3));

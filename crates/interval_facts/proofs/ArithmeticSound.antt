@@ -3,7 +3,6 @@
 use Rattle.std.proofs.Common.{ℕ, ◌≡◌, ◌+◌, ◌-◌, ◌%◌, ◌^◌, ◌<◌, true, sym, ap, subst, arith}
 use Rattle.std.proofs.lemmas.Bool.{ltb-true, and_parts}
 use Rattle.std.proofs.lemmas.Int.{to_z_pos}
-use Rattle.std.proofs.lemmas.Nat.{mod_below, pow_pos}
 use Rattle.std.specs.Int.{w8, w16, w32}
 use Rattle.std.specs.Prelude.{◌&&◌, nat_lt}
 use Rattle.instruction_set.specs.declared.operation.Operation.{Operation}
@@ -23,7 +22,7 @@ use Rattle.program_meaning.specs.declared.word.Arithmetic.{Arithmetic}
 use Rattle.program_meaning.specs.declared.word.Arithmetic.TheVariants.{Binary, Negate, MoveSigned, SwapBytes}
 use Rattle.interval_facts.proofs.FactSound.{any_law, bounds_law, constant_law, either_fact, is_word}
 use Rattle.interval_facts.proofs.PointerSound.{moved_back_law, moved_on_law}
-use Rattle.interval_facts.proofs.RangeSound.{combined_law, either, known, top_law}
+use Rattle.interval_facts.proofs.RangeSound.{combined_law, either, known, top_law, wrapped_law}
 use Rattle.interval_facts.specs.Arithmetic.{sum_of, alu_of, are_known, combined_64, combined_of, cut, estimated, extended_of, is_known, operand_of, difference_of, swapped_of, unsigned_below}
 use Rattle.interval_facts.specs.Fact.{ContainsWord, IsWithin, bounds_of, is_single, single}
 use Rattle.interval_facts.specs.Range.{combined, number_count, top}
@@ -96,9 +95,6 @@ combined_of_law Bits64 operation d s x y hd hs = combined_64_law operation d s x
 
 -- ---- one operand
 
-negated_law : (w : Width) (x : ℕ) → IsWithin (top w) (computed (Negate w) x 0)
-negated_law w x = top_law w ((number_count w - low_bits w x) % number_count w) (mod_below (number_count w - low_bits w x) (number_count w) (pow_pos (bits w)))
-
 -- a number without a sign is its own extension
 extended_is : (extension : SignExtension) (y : ℕ) → low_bits (extension_width extension) y < unsigned_below extension
     → extended extension y ≡ low_bits (extension_width extension) y
@@ -146,7 +142,7 @@ swapped_law Reverse size x h = reversed_law size x h
 estimated_law : (a : Arithmetic) (d s : Fact) (x y : ℕ) → ContainsWord d x → ContainsWord s y
     → ContainsWord (estimated a d s) (computed a x y)
 estimated_law (Binary w operation) d s x y hd hs = combined_of_law w operation d s x y hd hs
-estimated_law (Negate w) d s x y hd hs = (negated_law w x, words_are_computed (Negate w) x y (is_word d x hd) (is_word s y hs))
+estimated_law (Negate w) d s x y hd hs = (wrapped_law w (number_count w - low_bits w x), words_are_computed (Negate w) x y (is_word d x hd) (is_word s y hs))
 estimated_law (MoveSigned extension) d s x y hd hs = (
   extended_of_law extension (operand_of (extension_width extension) s) y (is_word s y hs) (operand_law (extension_width extension) s y hs),
   words_are_computed (MoveSigned extension) x y (is_word d x hd) (is_word s y hs),

@@ -1,7 +1,8 @@
 -- Pointers: where they lead, moved by words, how far from their area, and which bytes they reach.
-use Rattle.std.proofs.Common.{ℕ, ℤ, suc, pos, negsuc, ◌≡◌, ◌+◌, ◌-◌, ◌%◌, ◌^◌, ◌<◌, ◌≤◌, ◌+ℤ◌, ◌-ℤ◌, Bool, true, false, cond, Some, None, inl, inr, refl, subst, arith}
+use Rattle.std.proofs.Common.{ℕ, ℤ, suc, pos, negsuc, ◌≡◌, ◌+◌, ◌-◌, ◌%◌, ◌^◌, ◌<◌, ◌≤◌, ◌+ℤ◌, ◌-ℤ◌, Bool, true, false, cond, Some, None, inl, inr, refl, subst, arith, lit<}
 use Rattle.std.proofs.lemmas.Bool.{cond_both, and_parts, and_from, le-leb, le-ltb, or_cases, ltb-true, leb-true}
 use Rattle.std.proofs.lemmas.Int.{ints}
+use Rattle.std.proofs.Math.Nat.{mod-lt}
 use Rattle.std.specs.Int.{w64, cast_signed, cast_unsigned}
 use Rattle.std.specs.Prelude.{◌&&◌, ◌||◌, ◌≤ℤ◌, int_le, nat_lt, nat_le}
 use Rattle.program_meaning.specs.Memory.{lies_in}
@@ -93,32 +94,29 @@ back_negative address x y least most low high far fits small from to from' to' n
     let m = negative_is most (omega arith) in
     (omega (arith, ints, l, m), omega (arith, ints, l, m))
 
-mod_word : (n : ℕ) → n % 2 ^ 64 < 2 ^ 64
-mod_word n = omega arith
-
 pub moved_on_law : (area : Area) (low high : ℤ) (b : Bounds) (x y : ℕ) → ContainsWord (Pointer area low high) x
     → ContainsWord (Words b) y → ContainsWord (moved_on area low high (signed_bounds b)) ((x + y) % 2 ^ 64)
 moved_on_law area low high b x y hx hy =
     let n = (x + y) % 2 ^ 64 in
     cond_both (nat_lt b.high (2 ^ 63) || nat_le (2 ^ 63) b.low) _ _ (λ by. ContainsWord (moved_on area low high by) n)
-    (λ one_sign. pointer_to_law area (low +ℤ cast_signed w64 b.low) (high +ℤ cast_signed w64 b.high) n (mod_word (x + y))
+    (λ one_sign. pointer_to_law area (low +ℤ cast_signed w64 b.low) (high +ℤ cast_signed w64 b.high) n (mod-lt (x + y) (lit< tt))
     (λ least most. elim (or_cases (nat_lt b.high (2 ^ 63)) (nat_le (2 ^ 63) b.low) one_sign) [
       | inl positive ↦ on_positive (address_of area) x y b.low b.high low high (far_in area) hx.1 hx.0.0 hx.0.1 hy.0.0 hy.0.1 (ltb-true b.high (2 ^ 63) positive) most
       | inr negative ↦ on_negative (address_of area) x y b.low b.high low high (far_in area) hx.1 hy.1 hx.0.0 hx.0.1 hy.0.0 hy.0.1 (leb-true (2 ^ 63) b.low negative) least
     ]))
-    (λ _. any_law n (mod_word (x + y)))
+    (λ _. any_law n (mod-lt (x + y) (lit< tt)))
 
 pub moved_back_law : (area : Area) (low high : ℤ) (b : Bounds) (x y : ℕ) → ContainsWord (Pointer area low high) x
     → ContainsWord (Words b) y → ContainsWord (moved_back area low high (signed_bounds b)) ((x + (2 ^ 64 - y)) % 2 ^ 64)
 moved_back_law area low high b x y hx hy =
     let n = (x + (2 ^ 64 - y)) % 2 ^ 64 in
     cond_both (nat_lt b.high (2 ^ 63) || nat_le (2 ^ 63) b.low) _ _ (λ by. ContainsWord (moved_back area low high by) n)
-    (λ one_sign. pointer_to_law area (low -ℤ cast_signed w64 b.high) (high -ℤ cast_signed w64 b.low) n (mod_word (x + (2 ^ 64 - y)))
+    (λ one_sign. pointer_to_law area (low -ℤ cast_signed w64 b.high) (high -ℤ cast_signed w64 b.low) n (mod-lt (x + (2 ^ 64 - y)) (lit< tt))
     (λ least most. elim (or_cases (nat_lt b.high (2 ^ 63)) (nat_le (2 ^ 63) b.low) one_sign) [
       | inl positive ↦ back_positive (address_of area) x y b.low b.high low high (far_in area) hx.1 hx.0.0 hx.0.1 hy.0.0 hy.0.1 (ltb-true b.high (2 ^ 63) positive) least
       | inr negative ↦ back_negative (address_of area) x y b.low b.high low high (far_in area) hx.1 hy.1 hx.0.0 hx.0.1 hy.0.0 hy.0.1 (leb-true (2 ^ 63) b.low negative) most
     ]))
-    (λ _. any_law n (mod_word (x + (2 ^ 64 - y))))
+    (λ _. any_law n (mod-lt (x + (2 ^ 64 - y)) (lit< tt)))
 
 -- ---- offsets
 

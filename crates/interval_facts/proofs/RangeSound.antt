@@ -26,7 +26,7 @@ either test b c n when unless = cond_both test b c (λ chosen. IsWithin chosen n
 pub top_law : (w : Width) (n : ℕ) → n < number_count w → IsWithin (top w) n
 top_law w n fits = (omega arith, omega arith)
 
-wrapped_law : (w : Width) (n : ℕ) → IsWithin (top w) (n % number_count w)
+pub wrapped_law : (w : Width) (n : ℕ) → IsWithin (top w) (n % number_count w)
 wrapped_law w n = top_law w (n % number_count w) (mod_below n (number_count w) (pow_pos (bits w)))
 
 sum_law : (w : Width) (d s : Bounds) (x y : ℕ) → IsWithin d x → IsWithin s y → x < number_count w → y < number_count w

@@ -1,6 +1,7 @@
 -- The domain of constants: that of intervals, but what comes out of a rule with two different bounds is
 -- widened to every word (profile).
-use Rattle.std.specs.Prelude.{Option, Some, None}
+use Rattle.std.specs.Prelude.{Option}
+use Rattle.std.specs.Option.{option_map}
 use Rattle.word_domain.specs.Domain.{Operations}
 use Rattle.interval_facts.specs.Fact.{widened}
 use Rattle.interval_facts.specs.Intervals.{intervals}
@@ -8,8 +9,7 @@ use Rattle.interval_facts.specs.declared.fact.Fact.{Fact}
 
 -- both facts widened, if there are two
 abbrev pub both_widened : Option (Fact × Fact) → Option (Fact × Fact)
-both_widened None = None
-both_widened (Some facts) = Some (widened facts.0, widened facts.1)
+both_widened found = option_map (λ (both : Fact × Fact). (widened both.0, widened both.1)) found
 
 -- the operations of the domain of constants
 abbrev pub constants : Operations Fact

@@ -1,5 +1,6 @@
 -- What an edge of a compare tells of its operands (profile).
 use Rattle.std.specs.Prelude.{ℕ, Bool, true, false, Option, Some, None, ◌+◌, ◌-◌, ◌^◌, ◌==◌, ◌&&◌, ◌||◌, nat_lt, not, min, max, if◌then◌else◌}
+use Rattle.std.specs.Option.{option_map}
 use Rattle.instruction_set.specs.declared.operation.Relation.{Relation}
 use Rattle.instruction_set.specs.declared.operation.Relation.TheVariants.{Equal, Greater, GreaterOrEqual, AnyBitSet, NotEqual, SignedGreater, SignedGreaterOrEqual, Less, LessOrEqual, SignedLess, SignedLessOrEqual}
 use Rattle.instruction_set.specs.declared.operation.Width.{Width}
@@ -51,8 +52,7 @@ at_most d s = edge_of (range d.low (min d.high s.high)) (range (max s.low d.low)
 
 -- both in the other order, if there are two
 abbrev pub exchanged : Option (Bounds × Bounds) → Option (Bounds × Bounds)
-exchanged None = None
-exchanged (Some both) = Some (both.1, both.0)
+exchanged found = option_map (λ (both : Bounds × Bounds). (both.1, both.0)) found
 
 -- an edge that is taken has its relation, the other the opposite; those that speak of signs or bits
 -- tell nothing
@@ -77,8 +77,7 @@ narrowed SignedLessOrEqual taken d s = Some (d, s)
 
 -- both as facts about words, if there are two
 abbrev pub as_facts : Option (Bounds × Bounds) → Option (Fact × Fact)
-as_facts None = None
-as_facts (Some both) = Some (Words both.0, Words both.1)
+as_facts found = option_map (λ (both : Bounds × Bounds). (Words both.0, Words both.1)) found
 
 -- is each word its own low bits?
 abbrev pub fits : Width → Bounds → Bool

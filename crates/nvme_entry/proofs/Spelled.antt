@@ -8,6 +8,7 @@ use Rattle.zone_state.specs.declared.status.Status.{Status}
 use Rattle.zone_state.specs.declared.status.TheConstants.Status.{INVALID_FIELD_IN_COMMAND, INVALID_NAMESPACE_OR_FORMAT}
 use Rattle.zone_state.specs.Transition.{action_of}
 use Rattle.program_interface.specs.Readings.{unless_fault}
+use Rattle.program_interface.proofs.Proved.{found_where_ok}
 use Rattle.zone_state.specs.Checks.{demand, first_failed}
 use Rattle.nvme_entry.specs.Entry.{asked, asked_blocks, command_of, decoded_by, dwords_of, fuse_of, namespace_identifier, opcode_of, starting_lba}
 use Rattle.nvme_entry.specs.EntryLaws.{AsksFor, FieldsAreSpelled, SpelledEntriesAreDecoded, Spells}
@@ -131,18 +132,12 @@ past true true r c e = (refl, refl, e)
 past true false r c e = absurd cc
 past false b r c e = absurd cc
 
-given : (found : Option Command) (c : Command) → ok_or found INVALID_FIELD_IN_COMMAND ≡ Ok c → found ≡ Some c
-given None c e = absurd cc
-given (Some x) c e =
-    let same : x ≡ c = cc in
-    ap (λ (y : Command). Some y) same
-
 decoded_as : (entry : List ℕ) (found : Option Opcode) (c : Command) → opcode_of (slice_index entry 0) ≡ found → decoded_by found entry ≡ Ok c
     → AsksFor entry c
 decoded_as entry None c is e = absurd cc
 decoded_as entry (Some o) c is e =
     let told = past (fuse_of entry == 0) (namespace_identifier entry == 1) (asked o entry) c e in
-    (eqb-true (fuse_of entry) 0 told.0, eqb-true (namespace_identifier entry) 1 told.1, spelled_by o entry c (code_told (slice_index entry 0) o is) (given (command_of o entry) c told.2))
+    (eqb-true (fuse_of entry) 0 told.0, eqb-true (namespace_identifier entry) 1 told.1, spelled_by o entry c (code_told (slice_index entry 0) o is) (found_where_ok (command_of o entry) INVALID_FIELD_IN_COMMAND c told.2))
 
 pub fields_are_spelled : FieldsAreSpelled
 fields_are_spelled entry c e = decoded_as entry (opcode_of (slice_index entry 0)) c refl e

@@ -1,5 +1,6 @@
 -- What an entry made of a command has.
 use Rattle.std.specs.Prelude.{ℕ, ◌^◌, ◌<◌, List, [], ◌∷◌}
+use Rattle.std.specs.List.{AllByRecursion}
 use Rattle.program_interface.specs.Bytes.{field}
 use Rattle.nvme_entry.specs.declared.command.Command.{Command}
 use Rattle.nvme_entry.specs.declared.command.Command.TheVariants as command
@@ -28,5 +29,4 @@ unused c = (1, 1, 0) ∷ (8, 32, 0) ∷ unused_dwords c
 
 -- these bits of an entry are 0: their bytes, as a number, are below 2 to how many are in use
 abbrev pub AreZero : List ℕ → List (ℕ × ℕ × ℕ) → Type 0
-AreZero entry [] = Unit {0}
-AreZero entry (bits ∷ rest) = (field entry bits.0 bits.1 < 2 ^ bits.2) × AreZero entry rest
+AreZero entry all = AllByRecursion (λ bits. field entry bits.0 bits.1 < 2 ^ bits.2) all

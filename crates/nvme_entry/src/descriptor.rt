@@ -2,7 +2,7 @@
 
 ghost use Rattle.std.specs.Prelude.{◌≡◌, ◌<◌, ◌≤◌, ◌+◌, ◌*◌, ◌/◌, ◌%◌, ◌^◌, IfSome};
 ghost use Rattle.nvme_entry.specs.Descriptor.{AreDescriptorFields, type_and_state, pointer_told, descriptor_bytes, described};
-ghost use Rattle.nvme_entry.specs.steps.DescriptorFields.{number_in, descriptor_in};
+ghost use Rattle.nvme_entry.specs.steps.DescriptorFields.{eight_bytes, descriptor_in};
 
 use byteorder::{ByteOrder, LittleEndian};
 use zone_state::{Zone, ZoneState};
@@ -118,7 +118,7 @@ fn state_code(first: u64) -> u8
 /// The number in the 8 bytes with this index.
 fn number(bytes: &[u8; DESCRIPTOR_BYTES], index: usize) -> u64
     requires { index < 8 }
-    ensures { result ≡ number_in bytes.now index }
+    ensures { result ≡ eight_bytes bytes.now index }
 {
     LittleEndian::read_u64(&bytes[8 * index..])
 }

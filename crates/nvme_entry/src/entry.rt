@@ -19,7 +19,7 @@ pub(crate) const NAMESPACE: u32 = 1;
 /// The zone receive action Report Zones (ZNS 1.1, 3.4.2), the one that is supported (profile).
 const REPORT_ZONES: u8 = 0x00;
 
-/// The reader of submission queue entries (NVMe Base 2.0, 3.3.3.1): 64 bytes, little-endian.
+/// What reads and makes submission queue entries (NVMe Base 2.0, 3.3.3.1): 64 bytes, little-endian.
 pub struct Entry;
 
 impl Entry {

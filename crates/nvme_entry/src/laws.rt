@@ -5,7 +5,8 @@ ghost use Rattle.nvme_entry.specs.EntryLaws.{FieldsAreSpelled, OnlyNamedFieldsCo
 ghost use Rattle.nvme_entry.specs.ReportLaws.{ReportsGiveWhatMatches};
 ghost use Rattle.nvme_entry.specs.CompletionFields.{CompletionsTell};
 
-/// The fields of the command that an entry is decoded to are the numbers of the entry's bytes at their places.
+/// An entry that is decoded to a command has its opcode and its fields at their bytes, is for namespace 1 and no part of a
+/// fused command.
 pub fn fields_are_spelled()
     ensures { FieldsAreSpelled }
 {}
@@ -27,7 +28,8 @@ pub fn completions_tell()
     ensures { CompletionsTell }
 {}
 
-/// A report with room for its header gives the descriptors of the zones that match, in order, as many as fit whole.
+/// A report with room for its header tells how many zones match, or with Partial how many are given, and gives the
+/// descriptors of the zones that match, in order, as many as fit whole, with zeros behind them.
 pub fn reports_give_what_matches()
     ensures { ReportsGiveWhatMatches }
 {}

@@ -3,4 +3,5 @@ mod ByteParts
 mod ContextFields
 mod FirstPassed
 pub mod Proved
+mod Readings
 mod SameFronts

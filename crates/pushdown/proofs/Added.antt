@@ -1,9 +1,9 @@
 -- What is added to a zone.
-use Rattle.std.proofs.Common.{◌≡◌, ◌≢◌, ℕ, zero, suc, ◌+◌, ◌*◌, ◌/◌, ◌<◌, ◌≤◌, Bool, true, false, cond, List, [], ◌∷◌, ◌++◌, length, get_or, drop, refl, ap, sym, subst, ◌∙◌, arith, length-append, get_or-set_other, get_or-set_same}
+use Rattle.std.proofs.Common.{◌≡◌, ◌≢◌, ℕ, zero, suc, ◌+◌, ◌*◌, ◌/◌, ◌<◌, ◌≤◌, Bool, true, false, cond, List, [], ◌∷◌, ◌++◌, length, get_or, refl, ap, sym, subst, ◌∙◌, arith, get_or-set_other, get_or-set_same}
 use Rattle.std.specs.Prelude.{nat_eq}
 use Rattle.std.specs.List.{concat}
-use Rattle.std.proofs.lemmas.List.{append-nil, length-set, take_at, drop_at}
-use Rattle.std.proofs.Math.Nat.{suc-mul, mul-div_cancel}
+use Rattle.std.proofs.lemmas.List.{append-nil}
+use Rattle.std.proofs.Math.Nat.{mul-div_cancel}
 use Rattle.zone_state.specs.State.{is_open}
 use Rattle.zone_state.specs.Zone.{written_state}
 use Rattle.zone_state.specs.declared.state.ZoneState.{ZoneState}
@@ -15,10 +15,11 @@ use Rattle.image_store.specs.Blocks.{as_blocks, block_count}
 use Rattle.image_store.specs.Geometry.{Shape}
 use Rattle.image_store.specs.Namespace.{ZoneBlocks, ZonedNamespace, appended, grown, no_zone, shape, with_zone, zone_at}
 use Rattle.zns_commands.specs.Left.{Grows}
-use Rattle.zns_commands.proofs.Proved.{grows_by_none, replaced_grows}
+use Rattle.image_store.proofs.Proved.{blocks_are_cut_again, blocks_have_bytes}
+use Rattle.zns_commands.proofs.Proved.{grows_by_none, replaced_grows, with_zone_shape}
 use Rattle.pushdown.specs.Laws.{BlocksLeaveOthers}
 use Rattle.pushdown.specs.Happenings.{added}
-use Rattle.pushdown.proofs.Bytes.{AreBlocks}
+use Rattle.pushdown.proofs.Bytes.{AreBlocks, whole_at}
 
 -- a zone that isn't Offline is one of the namespace
 pub inside : (zones : List ZoneBlocks) (z : ℕ) → (get_or zones z no_zone).state ≢ Offline → z < length zones
@@ -58,9 +59,7 @@ added_leaves ns z other (b ∷ bs) differs = get_or-set_other ns.zones z other (
 
 pub added_shape : (ns : ZonedNamespace) (z : ℕ) (blocks : List (List ℕ)) → shape (added ns z blocks) ≡ shape ns
 added_shape ns z [] = refl
-added_shape ns z (b ∷ bs) =
-    let of : ℕ → Shape = λ n. record { block = ns.block; zones = n; size = ns.size; capacity = ns.capacity; limits = ns.limits } in
-    ap of (length-set ns.zones z (grown ns.capacity (zone_at ns z) (b ∷ bs)))
+added_shape ns z (b ∷ bs) = with_zone_shape ns z (grown ns.capacity (zone_at ns z) (b ∷ bs))
 
 pub added_block : (ns : ZonedNamespace) (z : ℕ) (blocks : List (List ℕ)) → (added ns z blocks).block ≡ ns.block
 added_block ns z blocks = ap (λ (x : Shape). x.block) (added_shape ns z blocks)
@@ -78,12 +77,7 @@ added_grows ns z other (b ∷ bs) =
 
 module _ (block : ℕ) where
   pub bytes_long : (blocks : List (List ℕ)) → AreBlocks block blocks → length (concat blocks) ≡ length blocks * block
-  bytes_long [] h = let none : 0 * block ≡ 0 = omega arith in sym none
-  bytes_long (b ∷ bs) h =
-      let rest = bytes_long bs h.1 in
-      let joined = length-append b (concat bs) in
-      let product = suc-mul (length bs) block in
-      omega (arith, rest, joined, product, h.0.whole)
+  bytes_long blocks h = blocks_have_bytes block blocks (whole_at block blocks h)
 
   all_bytes : (blocks : List (List ℕ)) → AreBlocks block blocks → AllBytes (concat blocks)
   all_bytes [] h = tt
@@ -92,19 +86,13 @@ module _ (block : ℕ) where
   pub bytes_are : (blocks : List (List ℕ)) → AreBlocks block blocks → AreBytes (concat blocks)
   bytes_are blocks h = by_place (concat blocks) (all_bytes blocks h)
 
-  cut_again : (blocks : List (List ℕ)) → AreBlocks block blocks → pieces block (length blocks) (concat blocks) ≡ blocks
-  cut_again [] h = refl
-  cut_again (b ∷ bs) h =
-      ap (λ (x : List ℕ). x ∷ pieces block (length bs) (drop block (b ++ concat bs))) (take_at b (concat bs) block h.0.whole)
-      ∙ ap (λ (xs : List ℕ). b ∷ pieces block (length bs) xs) (drop_at b (concat bs) block h.0.whole)
-      ∙ ap (λ (yss : List (List ℕ)). b ∷ yss) (cut_again bs h.1)
-
   pub bytes_count : (blocks : List (List ℕ)) → 1 ≤ block → AreBlocks block blocks → block_count block (concat blocks) ≡ length blocks
   bytes_count blocks some h =
       ap (λ (n : ℕ). n / block) (bytes_long blocks h) ∙ mul-div_cancel (length blocks) (omega (arith, some))
 
   pub bytes_cut : (blocks : List (List ℕ)) → 1 ≤ block → AreBlocks block blocks → as_blocks block (concat blocks) ≡ blocks
-  bytes_cut blocks some h = ap (λ (n : ℕ). pieces block n (concat blocks)) (bytes_count blocks some h) ∙ cut_again blocks h
+  bytes_cut blocks some h =
+      ap (λ (n : ℕ). pieces block n (concat blocks)) (bytes_count blocks some h) ∙ blocks_are_cut_again block blocks (whole_at block blocks h)
 
 -- blocks that are added are written as their bytes
 pub added_bytes : (ns : ZonedNamespace) (z : ℕ) (blocks : List (List ℕ)) → blocks ≢ [] → 1 ≤ ns.block → AreBlocks ns.block blocks

@@ -2,12 +2,13 @@
 use denote.RawPtr.{Ptr}
 use Rattle.std.proofs.Common.{ℕ, ◌<◌, ◌^◌, false, List, [], ◌∷◌, ◌++◌, length, replicate, Vec, refl, lit<, lit≤, arith}
 use Rattle.std.specs.declared.alloc.Global.{Global}
+use Rattle.zone_state.specs.declared.state.ZoneState.TheVariants as zone
 use Rattle.nvme_entry.specs.declared.command.RunCommand.{RunCommand}
 use Rattle.word_domain.specs.Domain.{Operations}
 use Rattle.program_interface.proofs.Proved.{all_append, all_same}
 use Rattle.emit_append.proofs.Proved.{AllBytes, by_place}
 use Rattle.image_store.specs.Geometry.{IsShape, Shape}
-use Rattle.image_store.specs.Namespace.{all_empty}
+use Rattle.image_store.specs.Namespace.{all_empty, shape}
 use Rattle.program_interface.specs.Bytes.{AreBytes}
 use Rattle.zns_commands.proofs.Proved.{empty_is_namespace}
 use Rattle.pushdown.specs.EventReplies.{submission_of}
@@ -16,12 +17,13 @@ use Rattle.pushdown.specs.Pushdown.{IsAdmitted}
 use Rattle.pushdown.specs.Reached.{IsReached}
 use Rattle.pushdown.specs.State.{State, new_state}
 use Rattle.device_events.specs.declared.event.Event.TheVariants as event
+use Rattle.pushdown.proofs.ExampleEvents.{zone_of}
 use Rattle.pushdown.proofs.ExampleLoads.{leave, load_entry, move}
-use Rattle.pushdown.proofs.Examples.{block_of, entry_of, run_entry}
+use Rattle.pushdown.proofs.Examples.{block_of, entry_of, four_zones, run_entry}
 
--- four zones of 8 blocks, of which 6 can be written; two may be open, and three active
+-- the shape of the four zones of other examples
 abbrev four : Shape
-four = record { block = 512; zones = 4; size = 8; capacity = 6; limits = record { open_limit = 2; active_limit = 3 } }
+four = shape (four_zones (replicate 4 (zone_of zone.Empty [])))
 
 is_shape : IsShape four
 is_shape = record {

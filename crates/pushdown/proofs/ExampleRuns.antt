@@ -1,12 +1,11 @@
 -- What the turns of runs do, by computing the definitions.
 use Rattle.std.proofs.Common.{◌≡◌, ℕ, List, [], ◌∷◌, ◌++◌, map, replicate, Option, Some, None, refl}
 use Rattle.std.specs.List.{concat}
-use Rattle.zone_state.specs.declared.status.TheConstants.Status.{SUCCESS}
 use Rattle.instruction_set.specs.declared.instruction.Instruction.{Instruction}
 use Rattle.emit_append.specs.Need.{need}
 use Rattle.program_meaning.specs.BlockRun.{BlockRun, block_run_of}
 use Rattle.pushdown.specs.BlockRuns.{Task, block_runs_of, no_scratch}
-use Rattle.pushdown.specs.Outcome.{Turn, outcome, trapped}
+use Rattle.pushdown.specs.Outcome.{Turn, outcome, success, trapped}
 use Rattle.pushdown.specs.Pushdown.{no_turn}
 use Rattle.pushdown.proofs.Examples.{block_of, frame, loops, passes, sevens, sums, tells, traps, twice}
 
@@ -16,7 +15,7 @@ task_of program limit count = record { program = program; sizes = record { block
 
 -- the last turn of a run that succeeds
 abbrev ends : List (List ℕ) → ℕ → ℕ → List ℕ → Turn
-ends blocks frames count result = record { blocks = blocks; ending = Some (record { status = SUCCESS; dw0 = frames; dw1 = count; result = Some result }) }
+ends blocks frames count result = record { blocks = blocks; ending = Some (success frames count result) }
 
 -- the steps that a run's block runs take
 abbrev steps_of : Task → List (List ℕ) → List ℕ

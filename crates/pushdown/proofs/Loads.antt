@@ -7,7 +7,7 @@ use Rattle.zone_state.specs.Checks.{first_failed}
 use Rattle.nvme_entry.specs.Entry.{identifier_of}
 use Rattle.nvme_entry.specs.declared.command.LoadCommand.{LoadCommand}
 use Rattle.ebpf_decode.specs.Faults.{fault_number}
-use Rattle.ebpf_decode.specs.Reading.{decoded_program as program_in_bytes}
+use Rattle.ebpf_decode.specs.Reading.{decoded_program}
 use Rattle.ebpf_decode.specs.declared.fault.Fault.{Fault}
 use Rattle.instruction_set.specs.declared.instruction.Instruction.{Instruction}
 use Rattle.word_domain.specs.Domain.{Operations}
@@ -32,7 +32,7 @@ module _ {D : Type 0} (operations : Operations D) (sub : Submission) (s : State)
   pub record TakesSlot (t : State) : Type 0 where
     pub program : List (Option Instruction)
     pub passed : first_failed (load_checks s load sub.input) ≡ None
-    pub read : program_in_bytes sub.input ≡ Ok program
+    pub read : decoded_program sub.input ≡ Ok program
     pub accepted : refusal operations program (sizes_for s load) ≡ None
     pub taken : t ≡ with_slot s load.slot (Some (just_loaded program load.limit))
 
@@ -51,7 +51,7 @@ module _ {D : Type 0} (operations : Operations D) (sub : Submission) (s : State)
   }
 
   judged_is : (program : List (Option Instruction)) (why : Option Refusal) → first_failed (load_checks s load sub.input) ≡ None
-      → program_in_bytes sub.input ≡ Ok program → refusal operations program (sizes_for s load) ≡ why → IsLoad (judged sub s load program why)
+      → decoded_program sub.input ≡ Ok program → refusal operations program (sizes_for s load) ≡ why → IsLoad (judged sub s load program why)
   judged_is program (Some why) passed read e = refused_is PROGRAM_REFUSED why.slot (reason_number why.reason)
   judged_is program None passed read e = record {
     replied = refl;
@@ -61,7 +61,7 @@ module _ {D : Type 0} (operations : Operations D) (sub : Submission) (s : State)
   }
 
   read_is : (read : Result (List (Option Instruction)) Fault) → first_failed (load_checks s load sub.input) ≡ None
-      → program_in_bytes sub.input ≡ read → IsLoad (read_program operations sub s load read)
+      → decoded_program sub.input ≡ read → IsLoad (read_program operations sub s load read)
   read_is (Err fault) passed e = refused_is PROGRAM_REFUSED fault.slot (fault_number fault.kind)
   read_is (Ok program) passed e = judged_is program (refusal operations program (sizes_for s load)) passed e refl
 
@@ -69,7 +69,7 @@ module _ {D : Type 0} (operations : Operations D) (sub : Submission) (s : State)
       → IsLoad (load_unless operations why starved sub s load)
   unless_is (Some status) starved e = refused_is status 0 0
   unless_is None true e = refused_is WANT_OF_MEMORY 0 0
-  unless_is None false e = read_is (program_in_bytes sub.input) e refl
+  unless_is None false e = read_is (decoded_program sub.input) e refl
 
   pub loading_is : (starved : Bool) → IsLoad (loading operations starved sub s load)
   loading_is starved = unless_is (first_failed (load_checks s load sub.input)) starved refl

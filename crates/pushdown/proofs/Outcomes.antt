@@ -1,8 +1,7 @@
 -- The outcome of a run whose block runs all end by EXIT.
 use Rattle.std.proofs.Common.{◌≡◌, ℕ, ◌+◌, ◌≤◌, List, [], ◌∷◌, ◌++◌, length, Option, Some, refl, ap, sym, ◌∙◌, arith, append_assoc}
-use Rattle.std.proofs.lemmas.List.{append-nil}
+use Rattle.std.proofs.lemmas.List.{append-nil, drop_at}
 use Rattle.std.specs.List.{AllByRecursion}
-use Rattle.zone_state.specs.declared.status.TheConstants.Status.{SUCCESS}
 use Rattle.program_meaning.specs.BlockRun.{BlockRun}
 use Rattle.program_meaning.specs.TrapFree.{IsExit}
 use Rattle.program_meaning.specs.declared.end.End.{End}
@@ -13,7 +12,7 @@ use Rattle.emit_append.specs.Packing.{packed, pending_of, released}
 use Rattle.emit_append.proofs.Proved.{output_blocks_are_bytes, output_blocks_are_whole, packing_goes_on}
 use Rattle.pushdown.specs.BlockRuns.{Task, block_runs_of, frames_of, groups_of, last_scratch, scratch_after}
 use Rattle.pushdown.specs.Laws.{OutcomeIsPacked}
-use Rattle.pushdown.specs.Outcome.{Ending, Emitted, Turn, appended_by, behind, ending_of, last_turn_by, middle_turn, nothing_emitted, turns_after, with_group}
+use Rattle.pushdown.specs.Outcome.{Ending, Emitted, Turn, appended_by, behind, ending_of, last_turn_by, middle_turn, nothing_emitted, success, turns_after, with_group}
 use Rattle.pushdown.specs.Pushdown.{EndsWithLast, Succeeds, success_of}
 use Rattle.pushdown.proofs.BlockRuns.{IsDone}
 use Rattle.program_interface.proofs.Proved.{all_append, all_drop}
@@ -96,8 +95,7 @@ AllExit block_runs = AllByRecursion (λ run. IsExit run.end) block_runs
 
 -- what stood in front, and then what comes to it
 in_whole : (first more : List (List ℕ)) → first ++ behind first (first ++ more) ≡ first ++ more
-in_whole [] more = refl
-in_whole (x ∷ first) more = ap (λ xs. x ∷ xs) (in_whole first more)
+in_whole first more = ap (λ xs. first ++ xs) (drop_at first more (length first) refl)
 
 whole_again : (first rest whole : List (List ℕ)) → whole ≡ first ++ rest → first ++ behind first whole ≡ whole
 whole_again first rest whole is = ap (λ xs. first ++ behind first xs) is ∙ in_whole first rest ∙ sym is
@@ -151,7 +149,7 @@ module _ (block : ℕ) where
   -- ---- how the last turn ends
 
   abbrev told : ℕ → ℕ → List ℕ → Option Ending
-  told frames blocks scratch = Some (record { status = SUCCESS; dw0 = frames; dw1 = blocks; result = Some scratch })
+  told frames blocks scratch = Some (success frames blocks scratch)
 
   last_told : (e : End) (emitted : Emitted) (run : BlockRun) → IsExit e
       → (last_turn_by e block emitted run).ending

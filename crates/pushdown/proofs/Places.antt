@@ -17,7 +17,7 @@ use Rattle.pushdown.specs.Admission.{admission_checks, destination_zone}
 use Rattle.pushdown.specs.EventReplies.{Submission}
 use Rattle.pushdown.specs.Happenings.{admitted_place, happens, place_left, turned, why_not_run}
 use Rattle.pushdown.specs.Outcome.{Ending, Turn}
-use Rattle.pushdown.specs.State.{Place, State, destination_of, free_place, holds_at, new_state, place_at, program_at}
+use Rattle.pushdown.specs.State.{Place, State, destination_of, free_place, holds_at, new_state, program_at}
 use Rattle.device_events.specs.declared.event.Event.{Event}
 use Rattle.pushdown.proofs.Changes.{after_event, after_turn}
 use Rattle.pushdown.proofs.OthersEvents.{free_within}
@@ -25,9 +25,6 @@ use Rattle.pushdown.proofs.OthersEvents.{free_within}
 pub record AreApart (places : List (Option Place)) : Type 0 where
   pub apart : (j k : ℕ) (p q : Place) → get_or places j None ≡ Some p → get_or places k None ≡ Some q
       → p.destination ≡ q.destination → j ≡ k
-
-pub new_none : (ns : ZonedNamespace) (j : ℕ) (p : Place) → place_at (new_state ns) j ≡ Some p → ⊥
-new_none ns j p at = none_known RUNS j p at
 
 pub new_apart : (ns : ZonedNamespace) → AreApart (new_state ns).places
 new_apart ns = record { apart = λ j k p q at_j at_k same. absurd (none_known RUNS j p at_j) }

@@ -16,6 +16,7 @@ use Rattle.pushdown.proofs.AnyOrder as any_order
 use Rattle.pushdown.proofs.Drained as drained
 use Rattle.pushdown.proofs.JoinedEvents as joined
 use Rattle.pushdown.proofs.KeptForRuns as kept
+pub use Rattle.pushdown.proofs.OthersEvents.{turned_is}
 use Rattle.pushdown.proofs.Pushdown as theorem
 use Rattle.pushdown.proofs.Reached as reached
 use Rattle.pushdown.proofs.ReadBack as read_back

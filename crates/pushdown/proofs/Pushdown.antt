@@ -1,5 +1,5 @@
 -- The pushdown theorem, and what an admitted Run leaves.
-use Rattle.std.proofs.Common.{◌≡◌, ◌≢◌, ℕ, zero, suc, ◌/◌, ◌<◌, ◌≤◌, Bool, List, [], ◌∷◌, length, set, get_or, Option, Some, None, refl, ap, sym, subst, ◌∙◌, arith, get_or-set_other, get_or-set_same}
+use Rattle.std.proofs.Common.{◌≡◌, ◌≢◌, ℕ, ◌/◌, ◌<◌, ◌≤◌, Bool, List, length, set, get_or, Option, Some, None, refl, ap, sym, subst, ◌∙◌, arith, get_or-set_other, get_or-set_same}
 use Rattle.std.specs.Prelude.{is_some, Vec}
 use Rattle.std.specs.declared.alloc.Global.{Global}
 use Rattle.std.proofs.lemmas.Nat.{mul-le}
@@ -14,8 +14,8 @@ use Rattle.instruction_set.specs.Program.{instruction_count}
 use Rattle.program_meaning.specs.BlockRun.{BlockRun}
 use Rattle.word_domain.specs.Domain.{Operations}
 use Rattle.accepted_programs.specs.Laws.{AcceptedNeverTraps}
-use Rattle.image_store.specs.Namespace.{ZoneBlocks, ZonedNamespace, IsNamespace, no_zone, shape, zone_at}
-use Rattle.image_store.proofs.Proved.{written_is_within, zone_room_is_bounded}
+use Rattle.image_store.specs.Namespace.{ZonedNamespace, shape, zone_at}
+use Rattle.image_store.proofs.Proved.{blocks_lie_in_zones, written_is_within, zone_room_is_bounded}
 use Rattle.pushdown.specs.Admission.{admission_checks, source_blocks, task_of}
 use Rattle.pushdown.specs.EventReplies.{Happening, Submission, plain, submission_of}
 use Rattle.pushdown.specs.BlockRuns.{block_runs_of, no_scratch}
@@ -141,19 +141,6 @@ module _ {D : Type 0} (operations : Operations D) where
   pub admitted_starts : AdmittedStarts operations
   admitted_starts s starved queue entry input command run admitted = starts operations s queue entry input command run starved admitted
 
--- ---- the completion's dwords
-
-blocks_most : (capacity : ℕ) (zones : List ZoneBlocks) → ((z : ℕ) → z < length zones → length (get_or zones z no_zone).blocks ≤ capacity)
-    → (z : ℕ) → length (get_or zones z no_zone).blocks ≤ capacity
-blocks_most capacity [] each z = omega arith
-blocks_most capacity (x ∷ xs) each zero = each 0 (omega arith)
-blocks_most capacity (x ∷ xs) each (suc z) = blocks_most capacity xs (λ k less. each (suc k) (omega (arith, less))) z
-
-written_most : (ns : ZonedNamespace) (z : ℕ) → IsNamespace ns → length (zone_at ns z).blocks ≤ ns.capacity
-written_most ns z is =
-    blocks_most ns.capacity ns.zones
-    (λ k less. written_is_within (zone_at ns k).state (length (zone_at ns k).blocks) ns.capacity (is.fits k less)) z
-
 -- ---- the theorem
 
 module _ {D : Type 0} (operations : Operations D) (never : AcceptedNeverTraps operations) (block : ℕ) (s : State) (fine : IsFine operations never block s)
@@ -168,12 +155,14 @@ module _ {D : Type 0} (operations : Operations D) (never : AcceptedNeverTraps op
       let task = task_of ns (program_at s command.slot) command in
       let source = source_blocks ns command in
       let block_runs = block_runs_of task source in
-      let some = decoded_has entry (commands.Run command) admitted.asked in
+      let some : 1 ≤ command.blocks = decoded_has entry (commands.Run command) admitted.asked in
       let whole = outcome_is_packed task source (all_exit operations never block given s command fine none) in
       let frames = few_frames task block_runs (runs_all_done operations never block given s command fine none) in
       let few = few_runs task 0 no_scratch source in
       let asked = written operations never block given s command fine none in
-      let most = written_most ns (command.lba / ns.size) fine.is in
+      let from = zone_at ns (command.lba / ns.size) in
+      let inside = blocks_lie_in_zones ns.zones (command.lba / ns.size) 0 (omega (arith, asked, some)) in
+      let most = written_is_within from.state (length from.blocks) ns.capacity (fine.is.fits (command.lba / ns.size) inside) in
       let limit = (is_ready operations never block given s command fine none).sizes.fits in
       let product = mul-le (length block_runs) task.sizes.limit ns.capacity ns.block
       (omega (arith, few, few_source ns command, asked, most)) limit in

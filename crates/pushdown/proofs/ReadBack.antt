@@ -1,12 +1,13 @@
 -- What was written is read back, whatever events happen in between.
-use Rattle.std.proofs.Common.{◌≡◌, ℕ, suc, ◌+◌, ◌*◌, ◌^◌, ◌≤◌, Bool, List, [], ◌∷◌, ◌++◌, length, take, drop, None, Result, refl, ap, sym, subst, ◌∙◌, arith, append_assoc, length-append}
+use Rattle.std.proofs.Common.{◌≡◌, ℕ, suc, ◌+◌, ◌*◌, ◌^◌, ◌≤◌, Bool, false, List, [], ◌∷◌, ◌++◌, length, take, drop, Result, refl, ap, sym, subst, ◌∙◌, arith, append_assoc, length-append}
 use Rattle.std.specs.List.{concat}
 use Rattle.std.proofs.lemmas.Bool.{le-leb}
 use Rattle.std.proofs.lemmas.Bool.Decides.{nat_tests}
 use Rattle.std.proofs.lemmas.List.{append-nil, length-drop, length-take-le, take-append-drop}
+use Rattle.zone_state.specs.State.{is_cleared}
 use Rattle.zone_state.specs.Zone.{IsZone}
 use Rattle.zone_state.specs.declared.state.ZoneState.{ZoneState}
-use Rattle.zone_state.specs.declared.state.ZoneState.TheVariants.{Empty, ImplicitlyOpened, ExplicitlyOpened, Closed, ReadOnly, Full, Offline}
+use Rattle.zone_state.specs.declared.state.ZoneState.TheVariants.{Empty, Offline}
 use Rattle.zone_state.specs.declared.status.Status.{Status}
 use Rattle.nvme_entry.specs.declared.command.Command.{Command}
 use Rattle.nvme_entry.specs.declared.command.Command.TheVariants as commands
@@ -20,8 +21,7 @@ use Rattle.zns_commands.specs.Address.{zone_number}
 use Rattle.zns_commands.specs.Effect.{Effect}
 use Rattle.zns_commands.specs.Meaning.{meaning}
 use Rattle.zns_commands.specs.Laws.{AreRead}
-use Rattle.zns_commands.specs.Read.{read_refusal}
-use Rattle.zns_commands.proofs.Proved.{BlocksLieAt, KeepsZone, appended_stays, lying_is_read, written_stays}
+use Rattle.zns_commands.proofs.Proved.{BlocksLieAt, KeepsZone, appended_stays, lying_is_read, uncleared_is_readable, written_stays}
 use Rattle.pushdown.specs.EventReplies.{Happening, submission_of}
 use Rattle.pushdown.specs.Events.{Occurrence, state_after}
 use Rattle.pushdown.specs.Happenings.{commanded, happens, submitted}
@@ -35,18 +35,11 @@ use Rattle.pushdown.proofs.Spelled.{HasBlocks, decoded_has}
 
 -- ---- written blocks of a namespace
 
-record HasSome (state : ZoneState) (written capacity : ℕ) : Type 0 where
-  readable : read_refusal state ≡ None
-  most : written ≤ capacity
-
-has_some : (state : ZoneState) (written capacity : ℕ) → IsZone state written capacity → 1 ≤ written → HasSome state written capacity
-has_some Empty written capacity is some = absurd (grind (arith, nat_tests, is.1, some))
-has_some ImplicitlyOpened written capacity is some = record { readable = refl; most = written_is_within ImplicitlyOpened written capacity is }
-has_some ExplicitlyOpened written capacity is some = record { readable = refl; most = written_is_within ExplicitlyOpened written capacity is }
-has_some Closed written capacity is some = record { readable = refl; most = written_is_within Closed written capacity is }
-has_some ReadOnly written capacity is some = record { readable = refl; most = written_is_within ReadOnly written capacity is }
-has_some Full written capacity is some = record { readable = refl; most = written_is_within Full written capacity is }
-has_some Offline written capacity is some = absurd (grind (arith, nat_tests, is.1, some))
+-- a zone with blocks isn't cleared
+uncleared : (state : ZoneState) (written capacity : ℕ) → IsZone state written capacity → 1 ≤ written → is_cleared state ≡ false
+uncleared Empty written capacity is some = absurd (grind (arith, nat_tests, is.1, some))
+uncleared Offline written capacity is some = absurd (grind (arith, nat_tests, is.1, some))
+uncleared state written capacity is some = refl
 
 three : (front more behind : List (List ℕ)) → length (front ++ (more ++ behind)) ≡ length front + (length more + length behind)
 three front more behind = simp length-append
@@ -58,7 +51,9 @@ pub blocks_read : (ns : ZonedNamespace) (z : ℕ) (front more behind : List (Lis
 blocks_read ns z front more behind is there some transfer =
     let all = ap length there ∙ three front more behind in
     let within = blocks_lie_in_zones ns.zones z 0 (omega (arith, all, some)) in
-    let has = has_some (zone_at ns z).state (length (zone_at ns z).blocks) ns.capacity (is.fits z within) (omega (arith, all, some)) in
+    let zone = zone_at ns z in
+    let fits = is.fits z within in
+    let most = written_is_within zone.state (length zone.blocks) ns.capacity fits in
     let lie : BlocksLieAt ns z (length front) (length more) (concat more) = record {
       front = front;
       more = more;
@@ -67,9 +62,9 @@ blocks_read ns z front more behind is there some transfer =
       start = refl;
       count = refl;
       bytes = refl;
-      readable = has.readable;
+      readable = uncleared_is_readable zone.state (uncleared zone.state (length zone.blocks) ns.capacity fits (omega (arith, all, some)));
       inside = within;
-      room = omega (arith, all, has.most, is.shape.capacity_most);
+      room = omega (arith, all, most, is.shape.capacity_most);
       some = some;
       transfer = le-leb _ _ transfer;
     } in

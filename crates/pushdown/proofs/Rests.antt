@@ -1,6 +1,5 @@
 -- The rest of a run.
 use Rattle.std.proofs.Common.{◌≡◌, ℕ, suc, ◌+◌, Bool, true, false, cond, List, [], ◌∷◌, ◌++◌, length, Some, None, inl, inr, refl, ap, ◌∙◌, arith, append_assoc, length-append}
-use Rattle.zone_state.specs.declared.status.TheConstants.Status.{SUCCESS}
 use Rattle.program_meaning.specs.BlockRun.{BlockRun}
 use Rattle.program_meaning.specs.declared.end.End.{End}
 use Rattle.program_meaning.specs.declared.end.End.TheVariants as end
@@ -9,7 +8,7 @@ use Rattle.emit_append.proofs.Proved.{one_group_is_pending, packing_goes_on}
 use Rattle.pushdown.proofs.BlockRuns.{few_runs}
 use Rattle.pushdown.specs.Laws.{RestAtAdmission, RestEnds, RestGoesOn, RestIsFew, further, next_turn}
 use Rattle.pushdown.specs.BlockRuns.{Task, block_run, block_runs_from, block_runs_of, goes_on, scratch_after, until_ended}
-use Rattle.pushdown.specs.Outcome.{Turn, Emitted, Progress, behind, last_turn, last_turn_by, middle_turn, emitted_by, rest, turns_after, with_group}
+use Rattle.pushdown.specs.Outcome.{Turn, Emitted, Progress, behind, last_turn, last_turn_by, middle_turn, emitted_by, rest, success, turns_after, with_group}
 
 abbrev out : List (List ℕ) → ℕ → ℕ → Emitted
 out groups frames appended = record { groups = groups; frames = frames; appended = appended }
@@ -60,10 +59,7 @@ module _ (block : ℕ) (before : List (List ℕ)) where
       (behind_both (released block before) (released block (kept ∷ after)) (released block (kept ∷ (after ++ g))))
 
   abbrev ended : List ℕ → ℕ → List (List ℕ) → ℕ → Turn
-  ended scratch frames blocks all = record {
-    blocks = blocks;
-    ending = Some (record { status = SUCCESS; dw0 = frames; dw1 = all; result = Some scratch });
-  }
+  ended scratch frames blocks all = record { blocks = blocks; ending = Some (success frames all scratch) }
 
   ended_on : (after : List (List ℕ)) (frames appended : ℕ) (run : BlockRun) (e : End)
       → last_turn_by e block (out (before ++ after) frames appended) run ≡ last_turn_by e block (out (kept ∷ after) frames (appended + sent)) run

@@ -1,5 +1,5 @@
 -- What a run leaves as the result of its slot is given, whatever events happen after its last turn.
-use Rattle.std.proofs.Common.{◌≡◌, ℕ, zero, suc, ◌+◌, ◌<◌, ◌≤◌, Bool, true, List, [], ◌∷◌, length, set, get_or, Option, Some, None, Result, Ok, Err, Vec, refl, ap, sym, ◌∙◌, arith, inl, inr, get_or-set_other, get_or-set_same}
+use Rattle.std.proofs.Common.{◌≡◌, ℕ, zero, suc, ◌+◌, ◌≤◌, Bool, true, List, [], ◌∷◌, length, set, get_or, Option, Some, None, Result, Vec, refl, ap, sym, ◌∙◌, arith, inl, inr, get_or-set_other, get_or-set_same}
 use Rattle.std.specs.Prelude.{is_some}
 use Rattle.std.specs.List.{AllByRecursion}
 use Rattle.std.specs.declared.alloc.Global.{Global}
@@ -8,7 +8,6 @@ use Rattle.zone_state.specs.declared.status.Status.{Status}
 use Rattle.zone_state.specs.declared.status.TheConstants.Status.{SUCCESS, NO_SUCH_PROGRAM}
 use Rattle.zone_state.specs.Checks.{first_failed}
 use Rattle.zone_state.proofs.Proved.{demanded, passed}
-use Rattle.nvme_entry.specs.Entry.{decoded}
 use Rattle.nvme_entry.specs.declared.command.Command.{Command}
 use Rattle.nvme_entry.specs.declared.command.Command.TheVariants as commands
 use Rattle.nvme_entry.specs.declared.command.RunCommand.{RunCommand}
@@ -22,7 +21,7 @@ use Rattle.pushdown.specs.Admission.{Loaded, admission_checks}
 use Rattle.pushdown.specs.BlockRuns.{Task, last_scratch}
 use Rattle.pushdown.specs.EventReplies.{Submission, completed, submission_of}
 use Rattle.pushdown.specs.Events.{Occurrence, state_after}
-use Rattle.pushdown.specs.Happenings.{happens, just_loaded, keeping, place_left, result_by, slots_left, start_by, submitted, take_turn, turned_at, why_not_run}
+use Rattle.pushdown.specs.Happenings.{happens, just_loaded, keeping, place_left, result_by, slots_left, submitted, take_turn}
 use Rattle.pushdown.specs.Outcome.{Ending, Turn, ending_of}
 use Rattle.pushdown.specs.Pushdown.{IsAdmitted, block_runs, no_turn, now, own_turns, place, task}
 use Rattle.pushdown.specs.ReadBack.{IsCompleted, LoadSucceeds, NoEventReplaces, NoRunEnds, ResultGives, ResultsReadBack, Submits, after_turn}
@@ -30,13 +29,14 @@ use Rattle.pushdown.specs.Reached.{IsReached}
 use Rattle.pushdown.specs.State.{Place, State, free_place, holds_at, place_at, program_at, uses}
 use Rattle.device_events.specs.declared.event.Event.{Event}
 use Rattle.device_events.specs.declared.event.Event.TheVariants as event
+use Rattle.pushdown.proofs.Answered.{only_loads_change_slots}
 use Rattle.pushdown.proofs.BlockRuns.{IsDone}
-use Rattle.pushdown.proofs.Changes.{after_event}
+use Rattle.pushdown.proofs.Changes.{after_event, after_turn as turn_changes}
 use Rattle.pushdown.proofs.Pushdown.{pushdown}
 use Rattle.pushdown.proofs.KeptForRuns.{left_program}
-use Rattle.pushdown.proofs.Loads.{loading_is}
 use Rattle.pushdown.proofs.Spelled.{decoded_has}
 use Rattle.pushdown.proofs.States.{reached_fine, runs_all_done, some_run}
+use Rattle.pushdown.proofs.TurnsDone.{left_other}
 
 -- ---- a slot that has a program has one
 
@@ -47,11 +47,6 @@ set_some (x ∷ xs) zero zero new is = refl
 set_some (x ∷ xs) zero (suc j) new is = is
 set_some (x ∷ xs) (suc i) zero new is = is
 set_some (x ∷ xs) (suc i) (suc j) new is = set_some xs i j new is
-
-within : (slots : List (Option Loaded)) (slot : ℕ) → is_some (get_or slots slot None) ≡ true → slot < length slots
-within [] slot is = cc
-within (x ∷ xs) zero is = omega arith
-within (x ∷ xs) (suc slot) is = let less = within xs slot is in omega (arith, less)
 
 module _ {D : Type 0} (operations : Operations D) where
   event_leaves_some : (s : State) (starved : Bool) (e : Event) (slot : ℕ) → is_some (program_at s slot) ≡ true
@@ -78,12 +73,12 @@ pub record HasResult (s : State) (slot : ℕ) (bytes : List ℕ) : Type 0 where
   pub at : program_at s slot ≡ Some loaded
   pub result : loaded.result ≡ bytes
 
-keeping_has : (s : State) (slot : ℕ) (bytes : List ℕ) (old : Option Loaded) → slot < length s.slots → is_some old ≡ true
+keeping_has : (s : State) (slot : ℕ) (bytes : List ℕ) (old : Option Loaded) → program_at s slot ≡ old → is_some old ≡ true
     → HasResult (record s { slots = set s.slots slot (keeping old (Some bytes)) }) slot bytes
-keeping_has s slot bytes (Some loaded) less is =
+keeping_has s slot bytes (Some loaded) at is =
     let new : Loaded = record loaded { result = bytes } in
-    record { loaded = new; at = get_or-set_same s.slots slot (Some new) None less; result = refl }
-keeping_has s slot bytes None less is = cc
+    record { loaded = new; at = get_or-set_same s.slots slot (Some new) None (there s.slots slot loaded at); result = refl }
+keeping_has s slot bytes None at is = cc
 
 last_ending : (turns : List Turn) (k : ℕ) → k + 1 ≡ length turns → (get_or turns k no_turn).ending ≡ ending_of turns
 last_ending [] k is = absurd (omega (arith, is))
@@ -100,46 +95,6 @@ last_scratch_long task (run ∷ next ∷ block_runs) done some = last_scratch_lo
 -- ---- events that don't replace a result
 
 module _ {D : Type 0} (operations : Operations D) (slot : ℕ) where
-  start_leaves : (why : Option Status) (free : Option ℕ) (sub : Submission) (s : State) (command : RunCommand)
-      → program_at (start_by why free sub s command).state slot ≡ program_at s slot
-  start_leaves (Some status) free sub s command = refl
-  start_leaves None None sub s command = refl
-  start_leaves None (Some run) sub s command = refl
-
-  result_leaves : (of : Option Loaded) (why : Option Status) (sub : Submission) (s : State)
-      → program_at (result_by of why sub s).state slot ≡ program_at s slot
-  result_leaves of (Some status) sub s = refl
-  result_leaves None None sub s = refl
-  result_leaves (Some loaded) None sub s = refl
-
-  entry_leaves : (starved : Bool) (queue : ℕ) (entry : List ℕ) (input : Vec ℕ Global) (s : State) (asked : Result Command Status)
-      → decoded entry ≡ asked
-      → (LoadSucceeds slot (event.Submit queue entry input)
-      (submitted operations starved (submission_of queue entry input.items) s asked).reply → ⊥)
-      → program_at (submitted operations starved (submission_of queue entry input.items) s asked).state slot ≡ program_at s slot
-  entry_leaves starved queue entry input s (Err status) is none = refl
-  entry_leaves starved queue entry input s (Ok (commands.Standard c)) is none = refl
-  entry_leaves starved queue entry input s (Ok (commands.Run command)) is none =
-      let sub = submission_of queue entry input.items in
-      start_leaves (why_not_run sub s command) (free_place s) sub s command
-  entry_leaves starved queue entry input s (Ok (commands.Result of)) is none =
-      let sub = submission_of queue entry input.items in
-      result_leaves (program_at s of) (first_failed (transfer_checks 0 0 sub.input)) sub s
-  entry_leaves starved queue entry input s (Ok (commands.Load load)) is none =
-      let sub = submission_of queue entry input.items in
-      let load_is = loading_is operations sub s load starved in
-      elim load_is.state [
-        | inl same ↦ ap (λ (t : State). program_at t slot) same
-        | inr takes ↦ elim load_is.succeeds [
-          | inl same ↦ ap (λ (t : State). program_at t slot) same
-          | inr success ↦ elim (eqb_tells load.slot slot) [
-            | inl same ↦ absurd (none (load, (is, (same.1, success))))
-            | inr differs ↦ ap (λ (t : State). program_at t slot) takes.taken
-                ∙ get_or-set_other s.slots load.slot slot (Some (just_loaded takes.program load.limit)) None (λ equal. differs.1 (sym equal))
-          ]
-        ]
-      ]
-
   left_by : (s : State) (run : ℕ) (p : Place) (turn : Turn) (later : List Turn) (ending : Option Ending) → place_at s run ≡ Some p
       → turn.ending ≡ ending → NoRunEnds slot s (take_turn s run p (turn ∷ later)).state
       → get_or (slots_left s p ending) slot None ≡ program_at s slot
@@ -152,23 +107,25 @@ module _ {D : Type 0} (operations : Operations D) (slot : ℕ) where
         get_or-set_same s.places run (place_left p later turn.ending) None (there s.places run p at) ∙ ap (place_left p later) is in
         let gone = ap is_some freed in
         cc
-    | inr differs ↦ get_or-set_other s.slots p.slot slot (keeping (program_at s p.slot) ending.result) None (λ equal. differs.1 (sym equal))
+    | inr differs ↦ left_other s p (Some ending) slot (λ equal. differs.1 (sym equal))
   ]
-
-  taken_leaves : (s : State) (run : ℕ) (p : Place) (turns : List Turn) → place_at s run ≡ Some p → NoRunEnds slot s (take_turn s run p turns).state
-      → program_at (take_turn s run p turns).state slot ≡ program_at s slot
-  taken_leaves s run p [] at none = refl
-  taken_leaves s run p (turn ∷ later) at none = left_by s run p turn later turn.ending at refl none
-
-  turned_leaves : (s : State) (run : ℕ) (at : Option Place) → place_at s run ≡ at → NoRunEnds slot s (turned_at s run at).state
-      → program_at (turned_at s run at).state slot ≡ program_at s slot
-  turned_leaves s run None is none = refl
-  turned_leaves s run (Some p) is none = taken_leaves s run p p.turns is none
 
   event_leaves : (s : State) (starved : Bool) (e : Event) → NoRunEnds slot s (happens operations s starved e).state
       → (LoadSucceeds slot e (happens operations s starved e).reply → ⊥) → program_at (happens operations s starved e).state slot ≡ program_at s slot
-  event_leaves s starved (event.Submit queue entry input) ends loads = entry_leaves starved queue entry input s (decoded entry) refl loads
-  event_leaves s starved (event.Turn run) ends loads = turned_leaves s run (place_at s run) refl ends
+  event_leaves s starved (event.Submit queue entry input) ends loads = elim (only_loads_change_slots operations s starved queue entry input) [
+    | inl same ↦ ap (λ (xs : List (Option Loaded)). get_or xs slot None) same
+    | inr loaded ↦
+        let load = loaded.0 in
+        let is = loaded.1 in
+        elim (eqb_tells load.slot slot) [
+          | inl same ↦ absurd (loads (load, (is.asked, (same.1, is.reply))))
+          | inr differs ↦ ap (λ (t : State). program_at t slot) is.state
+              ∙ get_or-set_other s.slots load.slot slot (Some (just_loaded is.program load.limit)) None (λ equal. differs.1 (sym equal))
+        ]
+  ]
+  event_leaves s starved (event.Turn run) ends loads =
+      turn_changes (λ (t : State). NoRunEnds slot s t → program_at t slot ≡ program_at s slot) s run (λ none. refl)
+      (λ p turn later at is. left_by s run p turn later turn.ending at refl) ends
   event_leaves s starved (event.Fault zone state) ends loads = refl
 
   pub events_leave : (events : List Occurrence) (s : State) → NoEventReplaces operations slot events s
@@ -229,8 +186,7 @@ module _ {D : Type 0} (operations : Operations D) (never : AcceptedNeverTraps op
         let ending = last_ending here.turns k last ∙ theorem.tells_frames_and_blocks.ending in
         let slots = does.then_slots ∙ ap (slots_left before_turn here) ending in
         let old = program_at before_turn command.slot in
-        let less = within before_turn.slots command.slot has_program in
-        let new = keeping_has before_turn command.slot (last_scratch all_runs) old less has_program in
+        let new = keeping_has before_turn command.slot (last_scratch all_runs) old refl has_program in
         record { loaded = new.loaded; at = ap (λ (xs : List (Option Loaded)). get_or xs command.slot None) slots ∙ new.at; result = new.result }
 
     long : length (last_scratch all_runs) ≡ 1024

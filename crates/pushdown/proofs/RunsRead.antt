@@ -4,7 +4,7 @@ use Rattle.std.specs.Prelude.{is_some, nat_eq}
 use Rattle.std.specs.List.{concat}
 use Rattle.std.specs.declared.alloc.Global.{Global}
 use Rattle.std.proofs.lemmas.Bool.{eqb-true}
-use Rattle.std.proofs.lemmas.List.{take_all}
+use Rattle.std.proofs.lemmas.List.{take_all, nil_from_length}
 use Rattle.zone_state.specs.declared.status.TheConstants.Status.{INVALID_FIELD_IN_COMMAND}
 use Rattle.zone_state.proofs.Proved.{demanded, passed}
 use Rattle.nvme_entry.specs.declared.command.RunCommand.{RunCommand}
@@ -30,16 +30,12 @@ use Rattle.pushdown.proofs.Lasting.{events_keep, events_keep_shapes}
 use Rattle.pushdown.proofs.ReadBack.{each_is_read, part_is_read}
 use Rattle.pushdown.proofs.States.{IsFine, events_fine, reached_fine, turn_fine}
 
-none_beside : (xs : List ℕ) → length xs ≡ 0 → AreBytes xs
-none_beside [] none = λ i. omega arith
-none_beside (x ∷ xs) none = absurd (omega (arith, none))
-
 -- no data stands beside a Run
 admitted_bytes : (s : State) (sub : Submission) (command : RunCommand) (run : ℕ) → IsAdmitted s sub command run → AreBytes sub.input
 admitted_bytes s sub command run admitted =
     let checks = admission_checks s.namespace (holds_at s) (is_some (free_place s)) (program_at s command.slot) command sub.input in
     let test = nat_eq (length sub.input) 0 in
-    none_beside sub.input (eqb-true (length sub.input) 0 (demanded test INVALID_FIELD_IN_COMMAND (passed checks 1 admitted.passed)))
+    subst AreBytes (sym (nil_from_length sub.input (eqb-true (length sub.input) 0 (demanded test INVALID_FIELD_IN_COMMAND (passed checks 1 admitted.passed))))) (λ i. omega arith)
 
 module _ {D : Type 0} (operations : Operations D) (never : AcceptedNeverTraps operations) (s : State) (reached : IsReached operations s)
     (queue : ℕ) (entry : List ℕ) (input : Vec ℕ Global) (starved : Bool) (command : RunCommand) (run : ℕ) (events later : List Occurrence) where

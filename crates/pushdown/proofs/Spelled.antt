@@ -1,4 +1,4 @@
--- A command that an entry spells has at least one block.
+-- A Write, an Append and a Run that entries spell have at least one block, and what is so spelled.
 use Rattle.std.proofs.Common.{◌≡◌, ℕ, zero, suc, ◌+◌, ◌≤◌, List, [], ◌∷◌, Ok, arith}
 use Rattle.std.specs.Prelude.{All}
 use Rattle.zone_resources.specs.declared.holds.Holds.{Holds}

@@ -37,6 +37,7 @@ use Rattle.image_store.proofs.Proved.{block_most}
 use Rattle.zns_commands.specs.Left as kept
 use Rattle.zns_commands.specs.Laws.{IsSpelled, NamespaceEvent, after}
 use Rattle.zns_commands.proofs.Proved.{held_destinations_are_left, events_keep_namespaces, events_keep_shapes}
+use Rattle.accepted_programs.proofs.Proved.{none_known}
 use Rattle.pushdown.specs.Admission.{Loaded, admission_checks, source_blocks, task_of}
 use Rattle.pushdown.specs.EventReplies.{Submission}
 use Rattle.pushdown.specs.BlockRuns.{Task, block_runs_of, groups_of, no_scratch}
@@ -56,7 +57,7 @@ use Rattle.pushdown.proofs.FewBlocks.{HasFew, turns_few}
 use Rattle.pushdown.proofs.OthersEvents.{free_within}
 use Rattle.pushdown.proofs.Loads.{TakesSlot}
 use Rattle.pushdown.proofs.Outcomes.{HasWhole, ends_with_last, no_groups, outcome_is_packed, turns_whole}
-use Rattle.pushdown.proofs.Places.{AreApart, held_at, left_apart, new_apart, new_none, started_apart}
+use Rattle.pushdown.proofs.Places.{AreApart, held_at, left_apart, new_apart, started_apart}
 use Rattle.pushdown.proofs.TurnsFit.{turn_appended, turn_sound}
 use Rattle.pushdown.proofs.RunsFit.{Rooms, kept_rooms, now_room, turn_rooms}
 use Rattle.pushdown.proofs.Spelled.{just_one}
@@ -130,7 +131,7 @@ module _ {D : Type 0} (operations : Operations D) (never : AcceptedNeverTraps op
     slots = all_same SlotIsFine PROGRAM_SLOTS None tt;
     places = all_same PlaceIsFine RUNS None tt;
     apart = new_apart ns;
-    rooms = λ j p at. absurd (new_none ns j p at);
+    rooms = λ j p at. absurd (none_known RUNS j p at);
   }
 
   -- ---- commands and faults

@@ -1,7 +1,7 @@
 -- A run does its turns, whatever comes between.
 use Rattle.std.proofs.Common.{◌≡◌, ◌≢◌, ℕ, zero, suc, ◌+◌, ◌<◌, Bool, true, false, List, [], ◌∷◌, ◌++◌, length, get_or, take, drop, Option, Some, None, refl, ap, sym, subst, ◌∙◌, arith, append_assoc, get_or-set_other, get_or-set_same}
 use Rattle.std.proofs.lemmas.Bool.{eqb-true}
-use Rattle.std.proofs.lemmas.List.{append-nil}
+use Rattle.std.proofs.lemmas.List.{append-nil, drop_more}
 use Rattle.zone_state.specs.declared.state.ZoneState.TheVariants.{Offline}
 use Rattle.zone_resources.specs.Holds.{is_destination}
 use Rattle.zone_resources.specs.declared.holds.Holds.{Holds}
@@ -137,13 +137,6 @@ module _ {D : Type 0} (operations : Operations D) where
 
 -- ---- the next turn
 
-split : (turns : List Turn) (k : ℕ) → k < length turns → drop k turns ≡ get_or turns k no_turn ∷ drop (k + 1) turns
-split [] k less = absurd (omega (arith, less))
-split (turn ∷ turns) zero less = refl
-split (turn ∷ turns) (suc k) less =
-    let more : suc k + 1 ≡ suc (k + 1) = omega arith in
-    split turns k (omega (arith, less)) ∙ ap (λ (n : ℕ). get_or turns k no_turn ∷ drop n (turn ∷ turns)) (sym more)
-
 take_next : (turns : List Turn) (k : ℕ) → k < length turns
     → appended_by (take k turns) ++ (get_or turns k no_turn).blocks ≡ appended_by (take (k + 1) turns)
 take_next [] k less = absurd (omega (arith, less))
@@ -156,7 +149,7 @@ take_next (turn ∷ turns) (suc k) less =
 
 -- ---- the slot of a run's program
 
-left_other : (s : State) (place : Place) (ending : Option Ending) (slot : ℕ) → slot ≢ place.slot → get_or (slots_left s place ending) slot None ≡ program_at s slot
+pub left_other : (s : State) (place : Place) (ending : Option Ending) (slot : ℕ) → slot ≢ place.slot → get_or (slots_left s place ending) slot None ≡ program_at s slot
 left_other s place None slot differs = refl
 left_other s place (Some ending) slot differs =
     get_or-set_other s.slots place.slot slot (keeping (program_at s place.slot) ending.result) None differs
@@ -194,7 +187,7 @@ next_is s now run place turns k stands less =
     let turn = get_or turns k no_turn in
     let later = drop (k + 1) turns in
     let here = with_turns place (drop k turns) in
-    let took = turned_is now run here turn later stands.left (split turns k less) in
+    let took = turned_is now run here turn later stands.left (drop_more turns k no_turn less) in
     let same = ap (λ (h : Happening). h.state.namespace) took in
     let grown_by = ap (λ (ns : ZonedNamespace). (zone_at ns d).blocks) same ∙ (is_added now.namespace d turn.blocks stands.on).blocks_is in
     record {

@@ -14,11 +14,11 @@ use Rattle.nvme_entry.specs.declared.command.TheConstants.{MOST_TRANSFER}
 use Rattle.image_store.specs.Namespace.{ZoneBlocks, ZonedNamespace, IsNamespace, appended, grown, no_zone, zone_at}
 use Rattle.image_store.proofs.Proved.{block_most, block_some}
 use Rattle.zns_commands.specs.Append.{TakesBlocks, append_checks}
-use Rattle.zns_commands.proofs.Proved.{blocks_are_the_effect, added_blocks_keep_namespaces_sound, taken_blocks_pass}
+use Rattle.zns_commands.proofs.Proved.{blocks_are_the_effect, added_blocks_keep_namespaces_sound, open_is_there, taken_blocks_pass}
 use Rattle.pushdown.specs.Laws.{IsAppended, RoomIn, RoomIsOpen, RoomStays}
 use Rattle.pushdown.specs.Happenings.{added}
 use Rattle.pushdown.specs.Outcome.{Ending, Turn, appended_by}
-use Rattle.pushdown.proofs.Added.{added_bytes, bytes_are, bytes_count, bytes_long, inside, open_on}
+use Rattle.pushdown.proofs.Added.{added_bytes, bytes_are, bytes_count, bytes_long}
 use Rattle.pushdown.proofs.Bytes.{AreBlocks}
 
 pub room_is_open : RoomIsOpen
@@ -110,7 +110,7 @@ room_stays ns z (b ∷ bs) ending turns h =
     let more = length-append (b ∷ bs) (appended_by turns) in
     let fits : length (zone_at ns z).blocks + length (b ∷ bs) ≤ ns.capacity = omega (arith, h.room, more) in
     let zone = grown ns.capacity (zone_at ns z) (b ∷ bs) in
-    let here : zone_at (added ns z (b ∷ bs)) z ≡ zone = get_or-set_same ns.zones z zone no_zone (inside ns.zones z (open_on (zone_at ns z).state is)) in
+    let here : zone_at (added ns z (b ∷ bs)) z ≡ zone = get_or-set_same ns.zones z zone no_zone (open_is_there ns.zones z is) in
     let all = length-append (zone_at ns z).blocks (b ∷ bs) in
     subst (λ (x : ZoneBlocks). RoomIn ns.capacity x turns) (sym here)
     (record { room = omega (arith, h.room, more, all); opened = more_open ns z b bs is fits })

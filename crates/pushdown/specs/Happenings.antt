@@ -11,7 +11,7 @@ use Rattle.nvme_entry.specs.declared.command.Command.TheVariants as commands
 use Rattle.nvme_entry.specs.declared.command.LoadCommand.{LoadCommand}
 use Rattle.nvme_entry.specs.declared.command.RunCommand.{RunCommand}
 use Rattle.ebpf_decode.specs.Faults.{fault_number}
-use Rattle.ebpf_decode.specs.Reading.{decoded_program as program_in_bytes}
+use Rattle.ebpf_decode.specs.Reading.{decoded_program}
 use Rattle.ebpf_decode.specs.declared.fault.Fault.{Fault}
 use Rattle.instruction_set.specs.declared.instruction.Instruction.{Instruction}
 use Rattle.program_interface.specs.RunSizes.{Sizes}
@@ -71,7 +71,7 @@ module _ {D : Type 0} (operations : Operations D) where
   abbrev pub load_unless : Option Status → Bool → Submission → State → LoadCommand → Happening
   load_unless (Some status) starved sub s load = refused sub status s
   load_unless None true sub s load = refused sub WANT_OF_MEMORY s
-  load_unless None false sub s load = read_program sub s load (program_in_bytes sub.input)
+  load_unless None false sub s load = read_program sub s load (decoded_program sub.input)
 
   -- what a Load comes to
   abbrev pub loading : Bool → Submission → State → LoadCommand → Happening

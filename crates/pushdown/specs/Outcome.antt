@@ -19,6 +19,10 @@ pub record Ending : Type 0 where
   pub dw1 : ℕ
   pub result : Option (List ℕ)
 
+-- how a run ends that succeeds: its frames and the blocks that it appended are told, and its scratch bytes kept
+abbrev pub success : ℕ → ℕ → List ℕ → Ending
+success frames appended scratch = record { status = SUCCESS; dw0 = frames; dw1 = appended; result = Some scratch }
+
 -- what one turn does: the blocks that it appends, and how it ends the run, if it does
 pub record Turn : Type 0 where
   pub blocks : List (List ℕ)
@@ -58,12 +62,7 @@ middle_turn block emitted run = record {
 abbrev pub succeeded : ℕ → Emitted → Emitted → List ℕ → Turn
 succeeded block before emitted scratch = record {
   blocks = behind (released block before.groups) (packed block emitted.groups);
-  ending = Some (record {
-    status = SUCCESS;
-    dw0 = emitted.frames;
-    dw1 = emitted.appended + length (packed block emitted.groups);
-    result = Some scratch;
-  });
+  ending = Some (success emitted.frames (emitted.appended + length (packed block emitted.groups)) scratch);
 }
 
 -- a run whose program couldn't go on: nothing more is appended

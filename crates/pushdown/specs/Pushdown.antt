@@ -25,7 +25,7 @@ use Rattle.pushdown.specs.EventReplies.{Happening, Submission, submission_of}
 use Rattle.pushdown.specs.BlockRuns.{Task, block_runs_of, frames_of, last_scratch}
 use Rattle.pushdown.specs.Events.{Occurrence, state_after}
 use Rattle.pushdown.specs.Happenings.{added, admitted_place, place_left, slots_left, turn_reply, turned, why_not_run}
-use Rattle.pushdown.specs.Outcome.{Ending, Turn, appended_by, ending_of, outcome}
+use Rattle.pushdown.specs.Outcome.{Ending, Turn, appended_by, ending_of, outcome, success}
 use Rattle.pushdown.specs.Reached.{IsReached}
 use Rattle.pushdown.specs.State.{Place, State, free_place, place_at, program_at}
 use Rattle.device_events.specs.declared.event.Event.{Event}
@@ -74,12 +74,7 @@ EndsWithLast (turn ∷ next ∷ turns) = (turn.ending ≡ None) × EndsWithLast 
 -- a success that tells the frames of these block runs and the blocks of these turns; the scratch bytes that
 -- the last block run left are the result
 abbrev pub success_of : List BlockRun → List Turn → Ending
-success_of block_runs turns = record {
-  status = SUCCESS;
-  dw0 = frames_of block_runs;
-  dw1 = length (appended_by turns);
-  result = Some (last_scratch block_runs);
-}
+success_of block_runs turns = success (frames_of block_runs) (length (appended_by turns)) (last_scratch block_runs)
 
 -- ---- the five parts
 

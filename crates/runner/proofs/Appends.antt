@@ -1,9 +1,9 @@
 -- Blocks that are written to a zone one after another.
-use Rattle.std.proofs.Common.{◌≡◌, ℕ, ◌+◌, ◌<◌, ◌≤◌, ◌/◌, Bool, true, false, cond, List, [], ◌∷◌, ◌++◌, length, refl, ap, ◌∙◌, arith, length-append, get_or-set_same, append_assoc, inl, inr}
+use Rattle.std.proofs.Common.{◌≡◌, ℕ, ◌+◌, ◌<◌, ◌≤◌, ◌/◌, Bool, true, false, cond, List, [], ◌∷◌, ◌++◌, length, refl, ap, ◌∙◌, arith, length-append, get_or-set_same, append_assoc}
 use Rattle.std.specs.Prelude.{nat_eq}
 use Rattle.std.proofs.Math.Nat.{div_self}
 use Rattle.std.proofs.lemmas.List.{take_all, set-set}
-use Rattle.std.proofs.lemmas.Bool.Decides.{eqb_tells}
+use Rattle.std.proofs.lemmas.Bool.{ne_eqb}
 use Rattle.zone_state.specs.State.{is_open}
 use Rattle.zone_state.specs.Zone.{written_state}
 use Rattle.zone_state.specs.declared.state.ZoneState.{ZoneState}
@@ -40,12 +40,6 @@ state_by ReadOnly false whole is e = cc
 state_by Full false whole is e = cc
 state_by Offline false whole is e = cc
 
-not_filled : (n m c : ℕ) → 1 ≤ m → n + m ≤ c → nat_eq n c ≡ false
-not_filled n m c some fits = elim (eqb_tells n c) [
-  | inl same ↦ absurd (omega (arith, some, fits, same.1))
-  | inr differs ↦ differs.0
-]
-
 pub added_both : (ns : ZonedNamespace) (z : ℕ) (b c : List ℕ) (bs cs : List (List ℕ)) → is_open (zone_at ns z).state ≡ true → z < length ns.zones
     → length (zone_at ns z).blocks + length ((b ∷ bs) ++ (c ∷ cs)) ≤ ns.capacity
     → added (added ns z (b ∷ bs)) z (c ∷ cs) ≡ added ns z ((b ∷ bs) ++ (c ∷ cs))
@@ -57,7 +51,7 @@ added_both ns z b c bs cs is inside room =
     let both = length-append (b ∷ bs) (c ∷ cs) in
     let size : length (zone.blocks ++ (b ∷ bs)) + length (c ∷ cs) ≡ n + length ((b ∷ bs) ++ (c ∷ cs)) = omega (arith, length-append zone.blocks (b ∷ bs), both) in
     let part : nat_eq (n + length (b ∷ bs)) ns.capacity ≡ false =
-    not_filled (n + length (b ∷ bs)) (length (c ∷ cs)) ns.capacity (omega arith) (omega (arith, room, both)) in
+    ne_eqb (n + length (b ∷ bs)) ns.capacity (λ same. omega (arith, room, both)) in
     let state : second.state ≡ (grown ns.capacity zone ((b ∷ bs) ++ (c ∷ cs))).state =
     ap (λ (k : ℕ). cond (nat_eq k ns.capacity) Full (written_state first.state)) size
     ∙ state_by zone.state (nat_eq (n + length (b ∷ bs)) ns.capacity) (nat_eq (n + length ((b ∷ bs) ++ (c ∷ cs))) ns.capacity) is part in

@@ -23,7 +23,7 @@ use Rattle.pushdown.specs.View.{place_of, seen, to_come, turns_of}
 use Rattle.device_events.specs.declared.event.Event.TheVariants as event
 use Rattle.device_events.specs.declared.reply.Reply.{Reply}
 use Rattle.device_events.specs.declared.reply.Reply.TheVariants as reply
-use Rattle.pushdown.proofs.Proved.{events_keep_for_runs}
+use Rattle.pushdown.proofs.Proved.{events_keep_for_runs, turned_is}
 use Rattle.runner.specs.steps.Answered.{complete_reply}
 use Rattle.runner.specs.DeviceState.{active_of, loaded_slot, loaded_of, running, device_state}
 use Rattle.runner.specs.Ready.{Fits, IsForBlocks, IsReady, IsRunning}
@@ -33,7 +33,7 @@ use Rattle.runner.specs.declared.active_run.ActiveRun.{ActiveRun}
 use Rattle.runner.specs.declared.loaded_program.LoadedProgram.{LoadedProgram}
 use Rattle.runner.proofs.MayBeThere.{Where, found, still_some, was_set}
 use Rattle.runner.proofs.Reached.{reached_is_sound}
-use Rattle.runner.proofs.Staying.{Stays, grows_there, keeps_source, others_stay, placed_at, still_fits}
+use Rattle.runner.proofs.Staying.{Stays, grows_there, keeps_source, others_stay, place_is, placed_at, still_fits}
 
 module _ (ns : ZonedNamespace) (slots : List (Option LoadedProgram)) (runs : List (Option ActiveRun)) (ready : IsReady ns slots runs)
     (k : ℕ) (a : ActiveRun) (at : get_or runs k None ≡ Some a) (p : LoadedProgram) (loaded : get_or slots a.command.slot None ≡ Some p) where
@@ -91,9 +91,7 @@ module _ (ns : ZonedNamespace) (slots : List (Option LoadedProgram)) (runs : Lis
     slots' = set slots a.command.slot (Some q)
 
     comes : turned s k ≡ take_turn s k place (turn ∷ later)
-    comes =
-        ap (λ (p : Option Place). turned_at s k p) here
-        ∙ ap (λ (turns : List Turn). take_turn s k place turns) (turns_are ∙ first)
+    comes = turned_is s k place turn later here (turns_are ∙ first)
 
     written_there : added ns place.destination turn.blocks ≡ new
     written_there = ap (λ (z : ℕ). added ns z turn.blocks) (sym fits.destination) ∙ sym written
@@ -270,9 +268,7 @@ idles : (ns : ZonedNamespace) (slots : List (Option LoadedProgram)) (runs : List
     → get_or runs k None ≡ None → IsTurned (device_state ns slots runs) k ns slots runs reply.Idle
 idles ns slots runs k ready none =
     let s = device_state ns slots runs in
-    let free : place_at s k ≡ None =
-    get_or-map (seen ns (map loaded_slot slots)) (map running runs) k None
-    ∙ ap (seen ns (map loaded_slot slots)) (get_or-map running runs k None ∙ ap running none) in
+    let free : place_at s k ≡ None = place_is ns slots runs k ∙ ap (λ (o : Option ActiveRun). seen ns (map loaded_slot slots) (running o)) none in
     let comes : turned s k ≡ idle s = ap (λ (o : Option Place). turned_at s k o) free in
     record { reply = sym (ap (λ (h : Happening). h.reply.reply) comes); state = sym (ap (λ (h : Happening). h.state) comes); ready = ready }
 

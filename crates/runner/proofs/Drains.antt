@@ -1,14 +1,14 @@
 -- Turns of the lowest active run, one turn more.
 use Rattle.std.proofs.Common.{◌≡◌, ℕ, suc, ◌+◌, ◌-◌, ◌*◌, ◌%◌, ◌≤◌, List, [], ◌∷◌, ◌++◌, append-nil, length, map, take, drop, get_or, Option, Some, None, refl, inl, inr, ◌⊎◌, ap, sym, subst, ◌∙◌, arith, length-append}
 use Rattle.std.specs.Prelude.{is_some}
-use Rattle.std.proofs.lemmas.List.{length-take, take_at}
+use Rattle.std.proofs.lemmas.List.{length-take, take_at, nil_from_length}
 use Rattle.std.proofs.lemmas.List.Quantifiers.{position-Some}
 use Rattle.interval_domain.specs.Intervals.{intervals}
 use Rattle.image_store.specs.Namespace.{ZonedNamespace, zone_at}
 use Rattle.zns_commands.specs.Address.{zone_number}
 use Rattle.pushdown.specs.Admission.{task_of}
 use Rattle.device_events.specs.Replies.{Joins, ReplyWithData}
-use Rattle.pushdown.specs.Draining.{AreLowest, HasDrained, StopsDraining, lowest_run, replies_to_turns, state_after_turns, turns_left}
+use Rattle.pushdown.specs.Draining.{AreLowest, StopsDraining, lowest_run, replies_to_turns, state_after_turns, turns_left}
 use Rattle.pushdown.specs.Happenings.{turned}
 use Rattle.pushdown.specs.State.{State}
 use Rattle.pushdown.specs.View.{seen, to_come}
@@ -122,27 +122,9 @@ module _ {T : Type 0} (took : T → T → List ReplyWithData → Type 0) (joins 
 pub drained_none : {T : Type 0} (took : T → T → List ReplyWithData → Type 0) (first : T) (s : State) → took first first [] → IsDraining s s (took first first) 0
 drained_none took first s none = record { runs = []; lowest = tt; count = refl; state = refl; replies = none; few = omega arith }
 
--- no run is left
-pub drained : (old now : State) (took : List ReplyWithData → Type 0) (done : ℕ) → IsDraining old now took done → lowest_run now ≡ None
-    → HasDrained old now took
-drained old now took done d none = record {
-  runs = d.runs;
-  drains = record {
-    lowest = d.lowest;
-    none_left = subst (λ (s : State). lowest_run s ≡ None) d.state none;
-    few = omega (arith, d.count, d.few);
-  };
-  state = d.state;
-  replies = d.replies;
-}
-
-none_done : (runs : List ℕ) (s : State) → length runs ≡ 0 → state_after_turns runs s ≡ s
-none_done [] s none = refl
-none_done (run ∷ runs) s none = absurd (omega (arith, none))
-
 -- what bounds the turns that are left before any turn bounded them at first
 pub few_at_first : (old now : State) (took : List ReplyWithData → Type 0) (done most : ℕ) → IsDraining old now took done
     → (done ≡ 0) ⊎ (turns_left old.places ≤ most) → turns_left now.places ≤ most → turns_left old.places ≤ most
 few_at_first old now took done most d (inr few) left = few
 few_at_first old now took done most d (inl none) left =
-    subst (λ (s : State). turns_left s.places ≤ most) (d.state ∙ none_done d.runs old (d.count ∙ none)) left
+    subst (λ (s : State). turns_left s.places ≤ most) (d.state ∙ ap (λ (runs : List ℕ). state_after_turns runs old) (nil_from_length d.runs (d.count ∙ none))) left

@@ -1,4 +1,3 @@
-pub mod Arrays
 pub mod Admissions
 pub mod Appends
 pub mod CommandsLeave

@@ -1,5 +1,6 @@
 -- What is seen of active runs stays, whatever is written behind their source blocks.
 use Rattle.std.proofs.Common.{◌≡◌, ◌≢◌, ℕ, zero, suc, ◌+◌, ◌/◌, ◌%◌, ◌≤◌, List, [], ◌∷◌, length, map, set, get_or, Option, Some, None, refl, ap, sym, subst, ◌∙◌, arith, length-append}
+use Rattle.std.proofs.Math.ListN.{get_or-map}
 use Rattle.image_store.specs.Geometry.{Shape}
 use Rattle.image_store.specs.Namespace.{ZonedNamespace, shape, zone_at}
 use Rattle.image_store.specs.declared.geometry.ZoneBlock.{ZoneBlock}
@@ -65,12 +66,17 @@ grows_there ns later a fits grows =
 
 -- ---- all runs
 
+-- what is seen at a place
+pub place_is : (ns : ZonedNamespace) (slots : List (Option LoadedProgram)) (runs : List (Option ActiveRun)) (k : ℕ)
+    → place_at (device_state ns slots runs) k ≡ seen ns (map loaded_slot slots) (running (get_or runs k None))
+place_is ns slots runs k =
+    get_or-map (seen ns (map loaded_slot slots)) (map running runs) k None
+    ∙ ap (seen ns (map loaded_slot slots)) (get_or-map running runs k None)
+
 -- the place of a run
 pub placed_at : (ns : ZonedNamespace) (slots : List (Option LoadedProgram)) (runs : List (Option ActiveRun)) (k : ℕ) (a : ActiveRun)
     → get_or runs k None ≡ Some a → place_at (device_state ns slots runs) k ≡ Some (place_of ns (map loaded_slot slots) (active_of a))
-placed_at ns slots [] k a at = cc
-placed_at ns slots (r ∷ rs) zero a at = ap (λ (o : Option ActiveRun). seen ns (map loaded_slot slots) (running o)) at
-placed_at ns slots (r ∷ rs) (suc k) a at = placed_at ns slots rs k a at
+placed_at ns slots runs k a at = place_is ns slots runs k ∙ ap (λ (o : Option ActiveRun). seen ns (map loaded_slot slots) (running o)) at
 
 module _ (ns later : ZonedNamespace) (slots slots' : List (Option LoadedProgram)) where
   abbrev StayAll : List (Option ActiveRun) → Type 0

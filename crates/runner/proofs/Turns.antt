@@ -1,8 +1,8 @@
 -- A turn of a run, as the code takes it.
-use Rattle.std.proofs.Common.{◌≡◌, ◌≢◌, ℕ, zero, suc, ◌+◌, ◌-◌, ◌<◌, ◌≤◌, ◌%◌, Bool, true, false, List, [], ◌∷◌, ◌++◌, length, take, drop, get_or, Option, Some, None, refl, sym, ap, subst, ◌∙◌, arith, inl, inr, append-nil, length-append, append_assoc}
+use Rattle.std.proofs.Common.{◌≡◌, ◌≢◌, ℕ, suc, ◌+◌, ◌-◌, ◌<◌, ◌≤◌, ◌%◌, Bool, true, false, List, [], ◌∷◌, ◌++◌, length, take, drop, Option, Some, None, refl, sym, ap, subst, ◌∙◌, arith, inl, inr, append-nil, length-append, append_assoc}
 use Rattle.std.specs.Prelude.{◌⊎◌, ◌==◌}
-use Rattle.std.proofs.lemmas.Bool.Decides.{eqb_tells, leb_tells}
-use Rattle.std.proofs.lemmas.List.{length-take-le, length-drop}
+use Rattle.std.proofs.lemmas.Bool.{cases_lt, ne_eqb}
+use Rattle.std.proofs.lemmas.List.{at_drop_more, length-take-le, length-drop}
 use Rattle.zone_state.specs.declared.status.TheConstants.Status.{SUCCESS}
 use Rattle.instruction_set.specs.declared.instruction.Instruction.{Instruction}
 use Rattle.program_meaning.specs.BlockRun.{BlockRun}
@@ -20,7 +20,7 @@ use Rattle.pushdown.specs.Admission.{task_by}
 use Rattle.pushdown.specs.BlockRuns.{Task, goes_on, scratch_after}
 use Rattle.pushdown.specs.Laws.{Ends, RoomIn, further, next_turn}
 use Rattle.pushdown.specs.Happenings.{added}
-use Rattle.pushdown.specs.Outcome.{Ending, Progress, Turn, appended_by, behind, last_turn, last_turn_by, emitted_by, rest}
+use Rattle.pushdown.specs.Outcome.{Ending, Progress, Turn, appended_by, behind, last_turn, last_turn_by, emitted_by, rest, success}
 use Rattle.pushdown.specs.View.{Active, to_come, turns_of}
 use Rattle.pushdown.proofs.Proved.{blocks_leave_others, rest_ends, rest_goes_on, room_is_open, room_stays}
 use Rattle.runner.specs.DeviceState.{active_of}
@@ -28,23 +28,6 @@ use Rattle.runner.specs.steps.Ran.{HasRun}
 use Rattle.runner.specs.steps.Turning.{FitsOn, TurnGoesOn, HasEnded, HasRoom, next_block, next_block_run, with_packer, with_scratch}
 use Rattle.runner.specs.declared.active_run.ActiveRun.{ActiveRun}
 use Rattle.runner.proofs.Appends.{added_both}
-
-lt_or_le : (a b : ℕ) → (a < b) ⊎ (b ≤ a)
-lt_or_le a b = elim (leb_tells b a) [
-  | inl is ↦ inr is.1
-  | inr not_so ↦ inl not_so.1
-]
-
-not_zero : (n : ℕ) → n ≢ 0 → (n == 0) ≡ false
-not_zero n other = elim (eqb_tells n 0) [
-  | inl is ↦ absurd (other is.1)
-  | inr differs ↦ differs.0
-]
-
-cut_first : (n at : ℕ) (xs : List (List ℕ)) → at < length xs → take (suc n) (drop at xs) ≡ get_or xs at [] ∷ take n (drop (suc at) xs)
-cut_first n at [] less = absurd (omega (arith, less))
-cut_first n zero (x ∷ xs) less = refl
-cut_first n (suc at) (x ∷ xs) less = cut_first n at xs (omega (arith, less))
 
 -- ---- the source blocks still to come
 
@@ -66,9 +49,9 @@ module _ (ns : ZonedNamespace) (program : List (Option Instruction)) (limit : �
     come : to_come ns a ≡ next_block ns a ∷ later
     come =
         let n : a.command.blocks - a.so_far.index ≡ suc (a.command.blocks - (a.so_far.index + 1)) = omega (arith, left) in
-        let k : suc at ≡ a.command.lba % ns.size + (a.so_far.index + 1) = omega arith in
+        let k : at + 1 ≡ a.command.lba % ns.size + (a.so_far.index + 1) = omega arith in
         ap (λ (n : ℕ). take n (drop at blocks)) n
-        ∙ cut_first (a.command.blocks - (a.so_far.index + 1)) at blocks (omega (arith, left, written))
+        ∙ at_drop_more (take (suc (a.command.blocks - (a.so_far.index + 1)))) blocks at [] (omega (arith, left, written))
         ∙ ap (λ (k : ℕ). next_block ns a ∷ take (a.command.blocks - (a.so_far.index + 1)) (drop k blocks)) k
 
     abbrev task : Task
@@ -108,11 +91,11 @@ module _ (block : ℕ) (so_far : Progress) (run : BlockRun) where
   all = packed block (so_far.pending ∷ run.state.group ∷ [])
 
   last_by : (e : End) (r0 : ℕ) → e ≡ end.Exit r0 → last_turn_by e block (emitted_by so_far) run
-      ≡ record { blocks = all; ending = Some (record { status = SUCCESS; dw0 = so_far.frames + run.state.frames; dw1 = so_far.appended + length all; result = Some (scratch_after run) }) }
+      ≡ record { blocks = all; ending = Some (success (so_far.frames + run.state.frames) (so_far.appended + length all) (scratch_after run)) }
   last_by (end.Exit r) r0 is =
       ap (λ (first : List (List ℕ)). record {
         blocks = behind first all;
-        ending = Some (record { status = SUCCESS; dw0 = so_far.frames + run.state.frames; dw1 = so_far.appended + length all; result = Some (scratch_after run) });
+        ending = Some (success (so_far.frames + run.state.frames) (so_far.appended + length all) (scratch_after run));
       }) (one_group_is_pending block so_far.pending).released_none
   last_by (end.Trap slot cause) r0 is = cc
   last_by end.OutOfFuel r0 is = cc
@@ -219,7 +202,7 @@ module _ (ns : ZonedNamespace) (program : List (Option Instruction)) (limit : �
   abbrev end_of : List (List ℕ) → Turn
   end_of blocks = record {
     blocks = blocks;
-    ending = Some (record { status = SUCCESS; dw0 = a.frames + ran.state.frames; dw1 = a.appended + length blocks; result = Some (scratch_after ran) });
+    ending = Some (success (a.frames + ran.state.frames) (a.appended + length blocks) (scratch_after ran));
   }
 
   abbrev Over : Type 0
@@ -259,7 +242,7 @@ module _ (ns : ZonedNamespace) (program : List (Option Instruction)) (limit : �
   first_by false on r0 exit more = room_first ns a.destination ending [] h.some sent closing (end_room r0 exit (inl on))
 
   first_room : (r0 : ℕ) → ran.end ≡ end.Exit r0 → HasRoom ns a.destination sent
-  first_room r0 exit = first_by (goes_on ran.end) refl r0 exit (lt_or_le (a.index + 1) a.command.blocks)
+  first_room r0 exit = first_by (goes_on ran.end) refl r0 exit (cases_lt (a.index + 1) a.command.blocks)
 
   last_room : (r0 : ℕ) → ran.end ≡ end.Exit r0 → Over → HasRoom (added ns a.destination sent) a.destination closing
   last_room r0 exit over = room_second ns a.destination ending [] h.some sent closing (end_room r0 exit over)
@@ -271,7 +254,7 @@ module _ (ns : ZonedNamespace) (program : List (Option Instruction)) (limit : �
       let n : a.appended + length (sent ++ closing) ≡ a.appended + length sent + length closing = omega (arith, length-append sent closing) in
       let last : ℕ → List ℕ → Turn = λ n bytes. record {
         blocks = sent ++ closing;
-        ending = Some (record { status = SUCCESS; dw0 = a.frames + ran.state.frames; dw1 = n; result = Some bytes });
+        ending = Some (success (a.frames + ran.state.frames) n bytes);
       } in
       record {
         blocks = sent ++ closing;
@@ -309,7 +292,7 @@ module _ (ns : ZonedNamespace) (program : List (Option Instruction)) (limit : �
           rw (written, put_is, same, sym run.group, sym run.frames) (goes_is on (omega (arith, index_is, blocks_are, more)))
 
       is_over : (r0 ≢ 0) ⊎ (counted.command.blocks ≤ counted.index) → Over
-      is_over (inl other) = inl (ap goes_on run.exit ∙ not_zero r0 other)
+      is_over (inl other) = inl (ap goes_on run.exit ∙ ne_eqb r0 0 other)
       is_over (inr last) = inr (omega (arith, index_is, blocks_are, last))
 
       pub room_for_finish : (r0 ≢ 0) ⊎ (counted.command.blocks ≤ counted.index) → HasRoom then counted.destination (given_by_finish counted.packer)

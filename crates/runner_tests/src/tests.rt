@@ -10,7 +10,7 @@ use std::process::Abort;
 use std::test::Fail;
 use steps::Expected::{Done, DoneWith, Faulted, Idle, Pending};
 use steps::{Case, Step, bytes_of};
-use test_inputs::programs::EMITTING;
+use test_inputs::programs::Text;
 use zns_commands::{FaultState, MOST_TRANSFER};
 use zone_state::Action;
 
@@ -31,6 +31,9 @@ fn room(rt: &impl Abort, alloc: Global) -> Vec<u8>
 {
     vec![in alloc; 0; MOST_TRANSFER].expect(rt, "memory")
 }
+
+/// A program that emits the first 8 bytes of a block.
+const EMITTING: Text = "mov r1, r2\nmov r2, 8\ncall 1\nmov r0, 0\nexit";
 
 const SOURCE_APPENDED: Case = (Step::Append(1, 0, "07*1024"), Done(1));
 

@@ -6,7 +6,7 @@ use std::alloc::{AllocError, Global};
 pub const EXIT: u64 = 0x9500_0000_0000_0000;
 
 /// Emits the first 8 bytes of a block whose first byte is 7.
-pub const FILTER: [u64; 7] = [
+pub const MATCHING: [u64; 7] = [
     0x7126_0000_0000_0000, // ldxb r6, [r2+0]
     0x5506_0300_0700_0000, // jne r6, 7, +3
     0xbf21_0000_0000_0000, // mov r1, r2

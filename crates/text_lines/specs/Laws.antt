@@ -25,7 +25,7 @@ HasFirst parts = (first : List ℕ) × (rest : List (List ℕ)) × (parts ≡ fi
 abbrev pub SomePartIsThere : Type 0
 SomePartIsThere = (byte : ℕ) (text : List ℕ) → HasFirst (parts_at byte text)
 
--- the first line of a text stands before its first newline
+-- the first line of a text is what stands before its first newline, but for a carriage return at its end
 abbrev pub LinesAreCut : Type 0
 LinesAreCut =
     (text line behind : List ℕ) → cut_at 10 text ≡ Some (line, behind) → lines text ≡ strip_carriage_return line ∷ lines behind

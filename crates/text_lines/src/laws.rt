@@ -10,7 +10,7 @@ pub fn parts_are_cut()
     ensures some { SomePartIsThere }
 {}
 
-/// A text is cut into lines one newline at a time.
+/// A text is cut into lines one newline at a time; a carriage return at a line's end is no part of it.
 pub fn lines_are_cut()
     ensures { LinesAreCut }
 {}

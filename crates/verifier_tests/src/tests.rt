@@ -1,15 +1,13 @@
 //! Programs that are accepted or refused, worked out by hand from the rules.
 
-ghost use Rattle.std.specs.Prelude.{◌≡◌, IfOk};
-
 use ebpf_asm::assemble;
 use ebpf_decode::decode;
 use instruction_set::Program;
 use interval_domain::Constants;
-use program_interface::{BlockSize, RunSizes};
 use std::alloc::Global;
 use std::test::Fail;
 use test_inputs::programs::RETURNING;
+use test_inputs::sizes::sizes;
 use verifier::verify;
 
 mod accesses;
@@ -19,6 +17,7 @@ mod emits;
 mod ends;
 mod jumps;
 mod kept;
+mod programs;
 mod rows;
 mod runs;
 mod ways;
@@ -26,19 +25,6 @@ mod ways;
 fn program(alloc: Global, text: &str) -> Result<Program, Fail> {
     let bytes = assemble(alloc, text.as_bytes())?;
     Ok(decode(alloc, bytes.as_slice())?)
-}
-
-/// The sizes of runs over blocks of so many bytes, with groups of at most `limit`.
-fn sizes(limit: u32, block: u32) -> Result<RunSizes, Fail>
-    ensures { IfOk result (λ sizes. (sizes.limit ≡ limit) × (sizes.block ≡ block)) }
-{
-    let Some(block) = BlockSize::new(block) else {
-        return Err(Fail::from("no block size"));
-    };
-    let Some(sizes) = RunSizes::new(block, limit) else {
-        return Err(Fail::from("a group that fits no block"));
-    };
-    Ok(sizes)
 }
 
 #[test]

@@ -18,8 +18,9 @@ use Rattle.zns_commands.specs.Send.{room_of, led_by, zone_checks}
 use Rattle.zns_commands.specs.steps.Accepted.{CanMove}
 use Rattle.zns_commands.specs.declared.send.ZonePlan.{ZonePlan}
 use Rattle.zns_commands.specs.steps.Plans.{zone_plan}
+use Rattle.zns_commands.proofs.FittingZones.{action_fits}
 use Rattle.zns_commands.proofs.GivenWay.{has_room, no_one_gives_way}
-use Rattle.zns_commands.proofs.MovedZones.{action_fits, moved_sound}
+use Rattle.zns_commands.proofs.MovedZones.{moved_sound}
 use Rattle.zns_commands.proofs.PassedChecks.{roomed, zone_inside}
 
 -- the checks of an action on one zone, all passed, and what they give

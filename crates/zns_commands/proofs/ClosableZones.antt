@@ -1,12 +1,10 @@
 -- Zones that may give way.
 use Rattle.std.proofs.Common.{◌≡◌, ℕ, ◌<◌, length, Some, ap, sym, subst, ◌∙◌, arith}
 use Rattle.std.specs.Prelude.{◌≢◌}
-use Rattle.std.proofs.lemmas.Bool.Decides.{nat_tests}
 use Rattle.std.proofs.lemmas.List.{length-map, get_or-map}
 use Rattle.std.proofs.lemmas.Option.{slice_get_within, get_or_from_slice_get}
-use Rattle.zone_state.specs.Zone.{CountedZone, IsZone}
-use Rattle.zone_state.specs.declared.state.ZoneState.{ZoneState}
-use Rattle.zone_state.specs.declared.state.ZoneState.TheVariants.{Empty, ImplicitlyOpened, ExplicitlyOpened, Closed, ReadOnly, Full, Offline}
+use Rattle.zone_state.specs.Zone.{CountedZone}
+use Rattle.zone_state.specs.declared.state.ZoneState.TheVariants.{ImplicitlyOpened}
 use Rattle.zone_resources.specs.Admission.{wanted_of, IsClosable}
 use Rattle.zone_resources.specs.declared.admission.Wanted.{Wanted}
 use Rattle.zone_resources.specs.declared.holds.Holds.{Holds}
@@ -26,16 +24,7 @@ closable_state ns holds z h =
     let mapped = get_or-map (counted ns.capacity) ns.zones z no_zone (counted ns.capacity no_zone) inside in
     ap (λ (r : CountedZone). r.state) (sym mapped ∙ read) ∙ h.implicitly_opened
 
--- a zone that wants room isn't the one that gives way, which can be Closed
+-- a zone that wants room isn't the one that gives way
 pub other_zone : (ns : ZonedNamespace) (holds : Holds) (zone : ℕ) (wanted : Wanted) (z : ℕ) → wanted_of (zone_at ns zone).state ≡ Some wanted → IsClosable holds (counted_zones ns) z → z ≢ zone
 other_zone ns holds zone wanted z wanted_is closable = λ (same : z ≡ zone).
     (wants (zone_at ns zone).state wanted wanted_is).not_open (subst (λ (k : ℕ). (zone_at ns k).state ≡ ImplicitlyOpened) same (closable_state ns holds z closable))
-
-pub closed_fits : (state : ZoneState) (w c : ℕ) → state ≡ ImplicitlyOpened → IsZone state w c → IsZone Closed w c
-closed_fits ImplicitlyOpened w c is h = (h.0, grind (arith, nat_tests, h.1))
-closed_fits Empty w c is h = cc
-closed_fits ExplicitlyOpened w c is h = cc
-closed_fits Closed w c is h = cc
-closed_fits ReadOnly w c is h = cc
-closed_fits Full w c is h = cc
-closed_fits Offline w c is h = cc

@@ -1,16 +1,23 @@
 -- Zones that fit a namespace, and the resources that they hold.
-use Rattle.std.proofs.Common.{◌≡◌, ℕ, zero, suc, ◌<◌, List, [], ◌∷◌, length, get_or, set, Some, ap, sym, subst, ◌∙◌, arith}
+use Rattle.std.proofs.Common.{◌≡◌, ℕ, zero, suc, ◌<◌, true, List, [], ◌∷◌, length, get_or, set, Some, refl, ap, sym, subst, ◌∙◌, arith}
 use Rattle.std.specs.Prelude.{slice_get, slice_set}
+use Rattle.std.proofs.lemmas.Bool.Decides.{nat_tests}
 use Rattle.std.proofs.lemmas.List.{length-map, length-set, get_or-map, map-set}
 use Rattle.std.proofs.lemmas.Option.{slice_get-get_or}
-use Rattle.zone_state.specs.Zone.{CountedZone, IsZone}
+use Rattle.zone_state.specs.State.{is_open}
+use Rattle.zone_state.specs.Zone.{CountedZone, IsZone, kept}
+use Rattle.zone_state.specs.declared.action.Action.{Action}
+use Rattle.zone_state.specs.declared.action.Action.TheVariants as action
+use Rattle.zone_state.specs.declared.state.ZoneState.{ZoneState}
+use Rattle.zone_state.specs.declared.state.ZoneState.TheVariants.{Empty, ImplicitlyOpened, ExplicitlyOpened, Closed, ReadOnly, Full, Offline}
 use Rattle.zone_resources.specs.Admission.{HoldsNoMore, IsWithin}
 use Rattle.zone_resources.proofs.Proved.{release_keeps_limits}
 use Rattle.program_interface.specs.Bytes.{AreBytes}
 use Rattle.image_store.specs.Geometry.{IsShape}
 use Rattle.image_store.specs.Namespace.{ZoneBlocks, ZonedNamespace, no_zone, zone_at, with_zone, counted, shape, counted_zones, IsNamespace, IsWithinLimits}
-use Rattle.image_store.proofs.Proved.{blocks_lie_in_zones, each_set}
+use Rattle.image_store.proofs.Proved.{blocks_lie_in_zones, each_set, resized}
 use Rattle.zns_commands.specs.Address.{counted_zone_at}
+use Rattle.zns_commands.specs.Send.{led_to}
 
 -- what holds of one zone: its state allows its blocks, and each of them is whole and of bytes
 pub record FitsIn (block capacity : ℕ) (zone : ZoneBlocks) : Type 0 where
@@ -23,6 +30,24 @@ no_bytes i = omega arith
 
 pub zone_fits : (ns : ZonedNamespace) (z : ℕ) → IsNamespace ns → z < length ns.zones → FitsIn ns.block ns.capacity (zone_at ns z)
 zone_fits ns z sound inside = record { state = sound.fits z inside; whole = sound.whole z; bytes = sound.bytes z }
+
+-- an action leads a zone to a state that fits the blocks which it keeps
+pub action_fits : (a : Action) (s : ZoneState) (w c : ℕ) → IsZone s w c → IsZone (led_to a s) (kept (led_to a s) w) c
+action_fits action.Close ImplicitlyOpened w c h = (h.0, grind (arith, nat_tests, h.1))
+action_fits action.Finish Empty w c h = (h.0, grind (arith, nat_tests, h.1))
+action_fits action.Finish ImplicitlyOpened w c h = (h.0, grind (arith, nat_tests, h.1))
+action_fits action.Finish ExplicitlyOpened w c h = (h.0, grind (arith, nat_tests, h.1))
+action_fits action.Finish Closed w c h = (h.0, grind (arith, nat_tests, h.1))
+action_fits action.Open Empty w c h = (h.0, grind (arith, nat_tests, h.0, h.1))
+action_fits action.Open ImplicitlyOpened w c h = (h.0, grind (arith, nat_tests, h.1))
+action_fits action.Reset ImplicitlyOpened w c h = (h.0, refl)
+action_fits action.Reset ExplicitlyOpened w c h = (h.0, refl)
+action_fits action.Reset Closed w c h = (h.0, refl)
+action_fits action.Reset Full w c h = (h.0, refl)
+action_fits action.Offline ReadOnly w c h = (h.0, refl)
+action_fits a Empty w c h = (h.0, refl)
+action_fits a Offline w c h = (h.0, refl)
+action_fits a s w c h = h
 
 -- the same of each zone is the same of all of them
 pub each_fits : (b c : ℕ) (zones : List ZoneBlocks) → ((z : ℕ) → z < length zones → FitsIn b c (get_or zones z no_zone))
@@ -44,7 +69,7 @@ pub namespace_of_zones : (ns : ZonedNamespace) (zones : List ZoneBlocks)
     → ((z : ℕ) → z < length zones → FitsIn ns.block ns.capacity (get_or zones z no_zone))
     → IsWithinLimits (with_zones ns zones) → IsNamespace (with_zones ns zones)
 namespace_of_zones ns zones known count all within = record {
-  shape = subst (λ (n : ℕ). IsShape (record { block = ns.block; zones = n; size = ns.size; capacity = ns.capacity; limits = ns.limits })) (sym count) known;
+  shape = subst (λ (n : ℕ). IsShape (resized (shape ns) n)) (sym count) known;
   fits = λ z inside. (all z inside).state;
   within = within;
   whole = each_fits ns.block ns.capacity zones all;
@@ -66,6 +91,16 @@ counted_zone_there ns z inside =
 
 pub counted_zones_with : (ns : ZonedNamespace) (z : ℕ) (zone : ZoneBlocks) → counted_zones (with_zone ns z zone) ≡ slice_set (counted_zones ns) z (counted ns.capacity zone)
 counted_zones_with ns z zone = map-set (counted ns.capacity) ns.zones z zone
+
+-- an open zone holds all resources that a zone can hold
+pub open_holds : (is s : ZoneState) → is_open s ≡ true → HoldsNoMore is s
+open_holds is Empty open_so = cc
+open_holds is Closed open_so = cc
+open_holds is ReadOnly open_so = cc
+open_holds is Full open_so = cc
+open_holds is Offline open_so = cc
+open_holds Empty s open_so = record { opened = omega arith; active = omega arith }
+open_holds is s open_so = record { opened = omega arith; active = omega arith }
 
 -- one zone that comes into a state which holds no more
 pub one_within : (ns : ZonedNamespace) (z : ℕ) (zone : ZoneBlocks) → z < length ns.zones → IsWithinLimits ns

@@ -1,10 +1,12 @@
 -- Namespaces in which a zone gave way to another.
-use Rattle.std.proofs.Common.{arith, ◌≡◌, ◌≢◌, ℕ, ◌<◌, Bool, true, false, cond, List, length, Option, Some, None, Ok, refl, ap, sym, subst, ◌∙◌, get_or-set_other}
+use Rattle.std.proofs.Common.{◌≡◌, ◌≢◌, ℕ, ◌<◌, Bool, true, false, cond, List, length, Option, Some, None, Ok, refl, ap, sym, subst, ◌∙◌, get_or-set_other}
 use Rattle.std.specs.Prelude.{slice_set, nat_lt, MatchOption}
 use Rattle.std.specs.Option.{ForSome}
-use Rattle.zone_state.specs.Zone.{CountedZone}
+use Rattle.zone_state.specs.State.{is_open}
+use Rattle.zone_state.specs.Zone.{CountedZone, IsZone}
+use Rattle.zone_state.specs.declared.action.Action.TheVariants as action
 use Rattle.zone_state.specs.declared.state.ZoneState.{ZoneState}
-use Rattle.zone_state.specs.declared.state.ZoneState.TheVariants.{Empty, ImplicitlyOpened, ExplicitlyOpened, Closed, ReadOnly, Full, Offline}
+use Rattle.zone_state.specs.declared.state.ZoneState.TheVariants.{ImplicitlyOpened, Closed}
 use Rattle.zone_state.specs.declared.status.TheConstants.Status.{TOO_MANY_ACTIVE_ZONES}
 use Rattle.zone_resources.specs.Admission.{admission, open_admission, closing_answer, zone_to_close, wanted_of, IsClosable, IsWithin, HoldsNoMore, after_closing, closed_in}
 use Rattle.zone_resources.specs.Counts.{open_count, active_count}
@@ -19,8 +21,8 @@ use Rattle.zns_commands.specs.Address.{counted_zone_at}
 use Rattle.zns_commands.specs.Resources.{room_by, room_for, closed}
 use Rattle.zns_commands.specs.steps.Accepted.{CanGiveWay}
 use Rattle.zns_commands.specs.steps.Plans.{written_by}
-use Rattle.zns_commands.proofs.ClosableZones.{closable_zone, closable_state, other_zone, closed_fits}
-use Rattle.zns_commands.proofs.FittingZones.{FitsIn, set_namespace, counted_zone_there, counted_zones_with, one_within}
+use Rattle.zns_commands.proofs.ClosableZones.{closable_zone, closable_state, other_zone}
+use Rattle.zns_commands.proofs.FittingZones.{FitsIn, action_fits, set_namespace, counted_zone_there, counted_zones_with, one_within, open_holds}
 
 -- what is to be closed may be
 lowest_closable : (zones : List CountedZone) (holds : Holds) (lowest : ℕ) → zone_to_close holds zones ≡ Some lowest → IsClosable holds zones lowest
@@ -61,31 +63,24 @@ closed_with_within ns z zone (Some k) inside within =
     ∙ sym (counted_zones_with (with_zone ns k given) z zone)))
     within
 
--- that zone holds no less open than Closed
-closed_holds_no_more : (s : ZoneState) → s ≡ ImplicitlyOpened → HoldsNoMore Closed s
-closed_holds_no_more ImplicitlyOpened is = record { opened = omega arith; active = omega arith }
-closed_holds_no_more Empty is = cc
-closed_holds_no_more ExplicitlyOpened is = cc
-closed_holds_no_more Closed is = cc
-closed_holds_no_more ReadOnly is = cc
-closed_holds_no_more Full is = cc
-closed_holds_no_more Offline is = cc
-
+-- its close leaves the limits kept
 closed_limits : (ns : ZonedNamespace) (holds : Holds) (gives : Option ℕ) → IsNamespace ns
     → ForSome gives (IsClosable holds (counted_zones ns)) → IsWithinLimits (closed ns gives)
 closed_limits ns holds None sound closable = sound.within
 closed_limits ns holds (Some k) sound closable =
     let may = closable k refl in
     one_within ns k (record { state = Closed; blocks = (zone_at ns k).blocks }) (closable_zone ns holds k may) sound.within
-    (closed_holds_no_more (zone_at ns k).state (closable_state ns holds k may))
+    (open_holds Closed (zone_at ns k).state (ap is_open (closable_state ns holds k may)))
 
 can_give_way : (ns : ZonedNamespace) (holds : Holds) (zone : ℕ) (wanted : Wanted) (gives : Option ℕ) → IsNamespace ns
     → wanted_of (zone_at ns zone).state ≡ Some wanted → ForSome gives (IsClosable holds (counted_zones ns)) → CanGiveWay ns zone gives
 can_give_way ns holds zone wanted gives sound wants closable = record {
   inside = λ z is. closable_zone ns holds z (closable z is);
   fits = λ z is.
-      closed_fits (zone_at ns z).state (length (zone_at ns z).blocks) ns.capacity (closable_state ns holds z (closable z is))
-      (sound.fits z (closable_zone ns holds z (closable z is)));
+      let may = closable z is in
+      let written = length (zone_at ns z).blocks in
+      action_fits action.Close ImplicitlyOpened written ns.capacity
+      (subst (λ (s : ZoneState). IsZone s written ns.capacity) (closable_state ns holds z may) (sound.fits z (closable_zone ns holds z may)));
   other = λ is. other_zone ns holds zone wanted zone wants (closable zone is) refl;
   limits = closed_limits ns holds gives sound closable;
 }

@@ -67,7 +67,7 @@ not_both false refuses_it more held e = refl
 abbrev pub held_from : Holds → ℕ → List CountedZone → Action → Bool
 held_from holds n zones a = list_any (λ p. takes a p.1.state && refuses holds a p.0) (enumerate_from n zones)
 
-pub not_taken_from : (holds : Holds) (a : Action) (c n at : ℕ) (zones : List ZoneBlocks) → refuses holds a (n + at) ≡ true
+not_taken_from : (holds : Holds) (a : Action) (c n at : ℕ) (zones : List ZoneBlocks) → refuses holds a (n + at) ≡ true
     → held_from holds n (map (counted c) zones) a ≡ false → takes a (get_or zones at no_zone).state ≡ false
 not_taken_from holds a c n at [] held none = none_offline a
 not_taken_from holds a c n zero (x ∷ xs) held none =
@@ -79,14 +79,21 @@ not_taken_from holds a c n (suc at) (x ∷ xs) held none =
     not_taken_from holds a c (n + 1) at xs (subst (λ (k : ℕ). refuses holds a k ≡ true) same held)
     (or_parts (takes a x.state && refuses holds a n) (held_from holds (n + 1) (map (counted c) xs) a) none).1
 
+-- where no zone that would be taken is held, one that is held would not be taken
+pub held_is_left : (ns : ZonedNamespace) (holds : Holds) (a : Action) (z : ℕ) → held_among (counted_zones ns) holds a ≡ false
+    → refuses holds a z ≡ true → takes a (zone_at ns z).state ≡ false
+held_is_left ns holds a z none held =
+    let same : z ≡ 0 + z = omega arith in
+    not_taken_from holds a ns.capacity 0 z ns.zones (subst (λ (k : ℕ). refuses holds a k ≡ true) same held) none
+
 -- Select All takes no zone that is held against it
 pub not_taken : (ns : ZonedNamespace) (holds : Holds) (lba : ℕ) (a : Action) (input : List ℕ) (z : ℕ)
     → first_failed (send_checks ns holds lba a true input) ≡ None → refuses holds a z ≡ true → takes a (zone_at ns z).state ≡ false
 not_taken ns holds lba a input z none held =
-    let same : z ≡ 0 + z = omega arith in
-    not_taken_from holds a ns.capacity 0 z ns.zones (subst (λ (k : ℕ). refuses holds a k ≡ true) same held)
+    held_is_left ns holds a z
     (not-true (held_among (counted_zones ns) holds a)
     (demanded (not (held_among (counted_zones ns) holds a)) ZONE_HELD (passed (send_checks ns holds lba a true input) 2 none)))
+    held
 
 -- an action on one zone is on one that isn't held against it
 pub not_refused : (ns : ZonedNamespace) (holds : Holds) (lba : ℕ) (a : Action) (input : List ℕ)

@@ -11,8 +11,8 @@ use Rattle.zone_resources.specs.declared.holds.Holds.{Holds}
 use Rattle.nvme_entry.specs.declared.command.StandardCommand.{StandardCommand}
 use Rattle.nvme_entry.specs.declared.command.StandardCommand.TheVariants.{Write, Read, Send, Receive, Append}
 use Rattle.image_store.specs.Blocks.{as_blocks}
-use Rattle.image_store.specs.Geometry.{Shape}
 use Rattle.image_store.specs.Namespace.{ZoneBlocks, ZonedNamespace, no_zone, zone_at, with_zone, grown, shape, arrived, with_state}
+use Rattle.image_store.proofs.Proved.{resized}
 use Rattle.zone_state.specs.State.{is_cleared}
 use Rattle.zns_commands.specs.declared.write.WritePlan.{WritePlan}
 use Rattle.zns_commands.specs.Address.{zone_number}
@@ -130,12 +130,9 @@ event_grows (Commanded holds command input) ns z =
     (λ stays. grows_by_none (zone_at ns z).blocks) (λ none. effect_grows ns holds command input z)
 event_grows (Faulted holds y fault) ns z = faulted_grows (zone_fault_refusal ns holds y fault) ns y z fault
 
--- a namespace with so many zones, otherwise of the same shape
-abbrev with_count : ZonedNamespace → ℕ → Shape
-with_count ns n = record { block = ns.block; zones = n; size = ns.size; capacity = ns.capacity; limits = ns.limits }
-
-with_zone_shape : (ns : ZonedNamespace) (z : ℕ) (zone : ZoneBlocks) → shape (with_zone ns z zone) ≡ shape ns
-with_zone_shape ns z zone = ap (with_count ns) (length-set ns.zones z zone)
+-- another zone in a zone's place leaves the shape
+pub with_zone_shape : (ns : ZonedNamespace) (z : ℕ) (zone : ZoneBlocks) → shape (with_zone ns z zone) ≡ shape ns
+with_zone_shape ns z zone = ap (resized (shape ns)) (length-set ns.zones z zone)
 
 closed_shape : (ns : ZonedNamespace) (gives : Option ℕ) → shape (closed ns gives) ≡ shape ns
 closed_shape ns None = refl
@@ -152,7 +149,7 @@ moved_shape ns gives z to =
 
 send_shape : (ns : ZonedNamespace) (holds : Holds) (lba : ℕ) (a : Action) (select_all : Bool)
     → shape (send_effect ns holds lba a select_all) ≡ shape ns
-send_shape ns holds lba a true = ap (with_count ns) (length-map ns.zones (swept a))
+send_shape ns holds lba a true = ap (resized (shape ns)) (length-map ns.zones (swept a))
 send_shape ns holds lba a false =
     let plan = zone_plan ns holds lba a in moved_shape ns plan.closing plan.zone plan.to
 

@@ -2,24 +2,24 @@
 use Rattle.std.proofs.Common.{◌≡◌, ℕ, ◌<◌, Bool, true, false, cond, length, Option, None, Result, Ok, Err, refl, sym, subst, arith}
 use Rattle.std.specs.Prelude.{nat_lt, ◌&&◌, not}
 use Rattle.std.proofs.lemmas.Bool.{ltb-true, le-leb}
-use Rattle.std.proofs.lemmas.Bool.Decides.{nat_tests}
 use Rattle.zone_state.specs.Zone.{IsZone, kept, state_of_fault, fault_refusal}
 use Rattle.zone_state.specs.declared.action.Action.{Action}
 use Rattle.zone_state.specs.declared.action.Action.TheVariants as action
 use Rattle.zone_state.specs.declared.state.FaultState.{FaultState}
 use Rattle.zone_state.specs.declared.state.FaultState.TheVariants as fault
 use Rattle.zone_state.specs.declared.state.ZoneState.{ZoneState}
-use Rattle.zone_state.specs.declared.state.ZoneState.TheVariants.{Empty, ImplicitlyOpened, ExplicitlyOpened, Closed, ReadOnly, Full, Offline}
+use Rattle.zone_state.specs.declared.state.ZoneState.TheVariants.{Empty, ImplicitlyOpened, Closed, ReadOnly, Offline}
 use Rattle.zone_state.specs.declared.zone.FaultRefused.{FaultRefused}
 use Rattle.zone_resources.specs.Admission.{wanted_of, HoldsNoMore}
 use Rattle.zone_resources.specs.Holds.{is_held}
 use Rattle.zone_resources.specs.declared.holds.Holds.{Holds}
+use Rattle.zone_resources.proofs.Proved.{idle_holds_no_more}
 use Rattle.image_store.specs.Namespace.{ZoneBlocks, ZonedNamespace, zone_at, IsNamespace, arrived, with_state}
 use Rattle.image_store.proofs.Proved.{written_is_within}
 use Rattle.zns_commands.specs.Fault.{zone_fault_refusal, faulted_by, faulted}
 use Rattle.zns_commands.specs.Resources.{room_by, closed}
 use Rattle.zns_commands.specs.Send.{room_of, led_to}
-use Rattle.zns_commands.proofs.FittingZones.{FitsIn, no_bytes, zone_fits, one_sound}
+use Rattle.zns_commands.proofs.FittingZones.{FitsIn, action_fits, no_bytes, zone_fits, one_sound}
 use Rattle.zns_commands.proofs.GivenWay.{has_room, room_sound, moved_is}
 
 -- a zone that comes into a state
@@ -28,23 +28,6 @@ pub arrived_fits : (b c : ℕ) (to : ZoneState) (zone : ZoneBlocks)
 arrived_fits b c Empty zone fits is = record { state = is; whole = λ i h. absurd (omega arith); bytes = λ i. no_bytes }
 arrived_fits b c Offline zone fits is = record { state = is; whole = λ i h. absurd (omega arith); bytes = λ i. no_bytes }
 arrived_fits b c to zone fits is = record { state = is; whole = fits.whole; bytes = fits.bytes }
-
-pub action_fits : (a : Action) (s : ZoneState) (w c : ℕ) → IsZone s w c → IsZone (led_to a s) (kept (led_to a s) w) c
-action_fits action.Close ImplicitlyOpened w c h = (h.0, grind (arith, nat_tests, h.1))
-action_fits action.Finish Empty w c h = (h.0, grind (arith, nat_tests, h.1))
-action_fits action.Finish ImplicitlyOpened w c h = (h.0, grind (arith, nat_tests, h.1))
-action_fits action.Finish ExplicitlyOpened w c h = (h.0, grind (arith, nat_tests, h.1))
-action_fits action.Finish Closed w c h = (h.0, grind (arith, nat_tests, h.1))
-action_fits action.Open Empty w c h = (h.0, grind (arith, nat_tests, h.0, h.1))
-action_fits action.Open ImplicitlyOpened w c h = (h.0, grind (arith, nat_tests, h.1))
-action_fits action.Reset ImplicitlyOpened w c h = (h.0, refl)
-action_fits action.Reset ExplicitlyOpened w c h = (h.0, refl)
-action_fits action.Reset Closed w c h = (h.0, refl)
-action_fits action.Reset Full w c h = (h.0, refl)
-action_fits action.Offline ReadOnly w c h = (h.0, refl)
-action_fits a Empty w c h = (h.0, refl)
-action_fits a Offline w c h = (h.0, refl)
-action_fits a s w c h = h
 
 action_zone_fits : (ns : ZonedNamespace) (z : ℕ) (a : Action) → IsNamespace ns → z < length ns.zones
     → FitsIn ns.block ns.capacity (arrived (led_to a (zone_at ns z).state) (zone_at ns z))
@@ -109,8 +92,8 @@ fault_fits fault.ReadOnly s w c h = (h.0, le-leb w c (written_is_within s w c h)
 fault_fits fault.Offline s w c h = (h.0, refl)
 
 fault_holds : (fault : FaultState) (s : ZoneState) → HoldsNoMore (state_of_fault fault) s
-fault_holds fault.ReadOnly s = record { opened = omega arith; active = omega arith }
-fault_holds fault.Offline s = record { opened = omega arith; active = omega arith }
+fault_holds fault.ReadOnly s = idle_holds_no_more ReadOnly s refl
+fault_holds fault.Offline s = idle_holds_no_more Offline s refl
 
 pub lost_sound : (ns : ZonedNamespace) (z : ℕ) (fault : FaultState) → IsNamespace ns → z < length ns.zones → IsNamespace (with_state ns z (state_of_fault fault))
 lost_sound ns z fault sound inside =

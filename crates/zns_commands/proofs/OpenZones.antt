@@ -1,15 +1,13 @@
 -- That an open zone wants nothing, and takes blocks as by an Append.
-use Rattle.std.proofs.Common.{◌≡◌, ℕ, zero, suc, ◌+◌, ◌*◌, ◌/◌, ◌%◌, ◌≤◌, ◌<◌, Bool, true, List, [], ◌∷◌, length, get_or, Option, None, Result, Ok, refl, ap, sym, subst, ◌∙◌, arith}
+use Rattle.std.proofs.Common.{◌≡◌, ℕ, zero, suc, ◌+◌, ◌*◌, ◌%◌, ◌≤◌, ◌<◌, Bool, true, List, [], ◌∷◌, length, get_or, Option, None, Result, Ok, refl, ap, sym, subst, ◌∙◌, arith}
 use Rattle.std.specs.Prelude.{nat_eq, nat_le, nat_lt, not}
-use Rattle.std.proofs.Math.Nat.{mul-div_cancel, mul-le-mul_right, suc-mul}
 use Rattle.std.proofs.lemmas.Bool.{eq-eqb, le-leb, lt-ltb}
-use Rattle.std.proofs.lemmas.Nat.{mod-mul-add}
 use Rattle.zone_state.specs.Checks.{demand, first_failed}
 use Rattle.zone_state.specs.State.{is_open}
 use Rattle.zone_state.specs.Zone.{write_check, write_refusal}
 use Rattle.zone_state.specs.declared.state.ZoneState.{ZoneState}
-use Rattle.zone_state.specs.declared.state.ZoneState.TheVariants.{Empty, ImplicitlyOpened, ExplicitlyOpened, Closed, ReadOnly, Full, Offline}
-use Rattle.zone_resources.specs.Admission.{wanted_of, HoldsNoMore}
+use Rattle.zone_state.specs.declared.state.ZoneState.TheVariants.{Empty, ImplicitlyOpened, ExplicitlyOpened, Closed}
+use Rattle.zone_resources.specs.Admission.{wanted_of}
 use Rattle.zone_state.specs.declared.status.Status.{Status}
 use Rattle.zone_state.specs.declared.status.TheConstants.Status.{SUCCESS, INVALID_FIELD_IN_COMMAND, LBA_OUT_OF_RANGE, ZONE_HELD}
 use Rattle.zone_state.proofs.Proved.{allowed_passes}
@@ -26,22 +24,14 @@ use Rattle.zns_commands.specs.Laws.{AddedBlocksAreAppended, AddedBlocksKeepNames
 use Rattle.zns_commands.specs.Resources.{room_by, room_for, why_not, closing_of}
 use Rattle.zns_commands.specs.declared.write.WritePlan.{WritePlan}
 use Rattle.zns_commands.specs.steps.Plans.{write_plan, written_by}
-use Rattle.zns_commands.proofs.FittingZones.{one_within}
+use Rattle.zns_commands.proofs.FittingZones.{one_within, open_holds}
+use Rattle.zns_commands.proofs.PassedChecks.{lowest_of}
 use Rattle.zns_commands.proofs.WrittenZones.{written_sound}
 
 open_wants_none : (s : ZoneState) → is_open s ≡ true → wanted_of s ≡ None
 open_wants_none Empty is = cc
 open_wants_none Closed is = cc
 open_wants_none s is = refl
-
--- no zone gives way to an open one
-open_plan : (ns : ZonedNamespace) (holds : Holds) (z : ℕ) → 1 ≤ ns.size → is_open (zone_at ns z).state ≡ true
-    → write_plan ns holds (zone_number ns (z * ns.size)) ≡ record { zone = z; closing = None }
-open_plan ns holds z some is =
-    let number : z * ns.size / ns.size ≡ z = mul-div_cancel z (omega (arith, some)) in
-    ap (write_plan ns holds) number
-    ∙ ap (λ (wanted : Option Wanted). let plan : WritePlan = record { zone = z; closing = closing_of (room_by ns holds wanted) } in plan)
-    (open_wants_none (zone_at ns z).state is)
 
 -- an open zone is one of the zones
 pub open_is_there : (zones : List ZoneBlocks) (z : ℕ) → is_open (get_or zones z no_zone).state ≡ true → z < length zones
@@ -50,15 +40,13 @@ open_is_there (x ∷ xs) zero is = omega arith
 open_is_there (x ∷ xs) (suc z) is =
     let rest = open_is_there xs z is in omega arith
 
--- an open zone holds all resources that a zone can hold
-open_holds : (is s : ZoneState) → is_open s ≡ true → HoldsNoMore is s
-open_holds is Empty open_so = cc
-open_holds is Closed open_so = cc
-open_holds is ReadOnly open_so = cc
-open_holds is Full open_so = cc
-open_holds is Offline open_so = cc
-open_holds Empty s open_so = record { opened = omega arith; active = omega arith }
-open_holds is s open_so = record { opened = omega arith; active = omega arith }
+-- no zone gives way to an open one
+open_plan : (ns : ZonedNamespace) (holds : Holds) (z : ℕ) → IsNamespace ns → is_open (zone_at ns z).state ≡ true
+    → write_plan ns holds (zone_number ns (z * ns.size)) ≡ record { zone = z; closing = None }
+open_plan ns holds z sound is =
+    ap (write_plan ns holds) (lowest_of ns z sound (open_is_there ns.zones z is)).named
+    ∙ ap (λ (wanted : Option Wanted). let plan : WritePlan = record { zone = z; closing = closing_of (room_by ns holds wanted) } in plan)
+    (open_wants_none (zone_at ns z).state is)
 
 -- blocks that an open zone takes raise no count
 pub open_within : (ns : ZonedNamespace) (z : ℕ) (bytes : List ℕ) → IsNamespace ns → is_open (zone_at ns z).state ≡ true
@@ -91,7 +79,7 @@ added_blocks_keep_namespaces_sound ns z bytes sound takes are =
 pub blocks_are_the_effect : (ns : ZonedNamespace) (z : ℕ) (bytes : List ℕ) → IsNamespace ns → TakesBlocks ns z bytes
     → appended ns z bytes ≡ (append_effect ns no_holds (z * ns.size) bytes).namespace
 blocks_are_the_effect ns z bytes sound takes =
-    ap (λ (plan : WritePlan). written_by ns plan bytes) (sym (open_plan ns no_holds z sound.shape.size_some takes.opened))
+    ap (λ (plan : WritePlan). written_by ns plan bytes) (sym (open_plan ns no_holds z sound takes.opened))
 
 -- ---- no check refuses that Append
 
@@ -115,18 +103,12 @@ taken_blocks_pass ns z bytes sound takes most =
     let size = ns.size in
     let n = block_count ns.block bytes in
     let lba = z * size in
-    let some : 1 ≤ size = sound.shape.size_some in
-    let inside = open_is_there ns.zones z takes.opened in
-    let named : zone_number ns lba ≡ z = mul-div_cancel z (omega (arith, some)) in
-    let offset : lba % size ≡ 0 = ap (λ (k : ℕ). k % size) (omega arith) ∙ mod-mul-add z size 0 (omega (arith, some)) in
-    let below : suc z ≤ length ns.zones = omega (arith, inside) in
-    let product : suc z * size ≤ length ns.zones * size = mul-le-mul_right size below in
-    let start : lba < block_total ns = omega (arith, suc-mul z size, product, some) in
+    let lowest = lowest_of ns z sound (open_is_there ns.zones z takes.opened) in
     let few : n * ns.block ≤ MOST_TRANSFER = omega (arith, takes.whole, most) in
-    ap (checked_by ns n (nat_le (n * ns.block) MOST_TRANSFER) (nat_eq (length bytes) (n * ns.block)) (nat_lt lba (block_total ns)) (nat_eq (lba % size) 0)) named
+    ap (checked_by ns n (nat_le (n * ns.block) MOST_TRANSFER) (nat_eq (length bytes) (n * ns.block)) (nat_lt lba (block_total ns)) (nat_eq (lba % size) 0)) lowest.named
     ∙ all_pass ns n z (nat_le (n * ns.block) MOST_TRANSFER) (nat_eq (length bytes) (n * ns.block)) (nat_lt lba (block_total ns)) (nat_eq (lba % size) 0)
     (write_check (counted_zone_at ns z) (length (zone_at ns z).blocks) n) (room_for ns no_holds (zone_at ns z).state)
-    (le-leb _ _ few) (eq-eqb _ _ takes.whole) (lt-ltb _ _ start) (eq-eqb _ _ offset)
+    (le-leb _ _ few) (eq-eqb _ _ takes.whole) (lt-ltb _ _ lowest.inside) (eq-eqb _ _ lowest.first)
     (open_takes ns z n takes.opened takes.room)
     (ap (room_by ns no_holds) (open_wants_none (zone_at ns z).state takes.opened))
 

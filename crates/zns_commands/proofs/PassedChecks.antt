@@ -1,9 +1,10 @@
 -- What is known where no check fails, and that none fails where a command succeeds.
-use Rattle.std.proofs.Common.{◌≡◌, ℕ, ◌+◌, ◌*◌, ◌%◌, ◌<◌, ◌≤◌, Bool, true, false, cond, List, [], ◌∷◌, ◌++◌, length, Option, Some, None, Result, Ok, Err, refl, ap, subst, arith}
+use Rattle.std.proofs.Common.{◌≡◌, ℕ, suc, ◌+◌, ◌*◌, ◌/◌, ◌%◌, ◌<◌, ◌≤◌, Bool, true, false, cond, List, [], ◌∷◌, ◌++◌, length, Option, Some, None, Result, Ok, Err, refl, ap, subst, ◌∙◌, arith}
 use Rattle.std.specs.Prelude.{nat_lt, nat_le, nat_eq, not}
 use Rattle.std.specs.List.{AllByRecursion}
-use Rattle.std.proofs.Math.Nat.{div-lt_iff_lt-mul}
+use Rattle.std.proofs.Math.Nat.{div-lt_iff_lt-mul, mul-div_cancel, mul-le-mul_right, suc-mul}
 use Rattle.std.proofs.lemmas.Bool.{eqb-true, leb-true, ltb-true}
+use Rattle.std.proofs.lemmas.Nat.{mod-mul-add}
 use Rattle.zone_state.specs.Zone.{CountedZone, checks_of_write, write_check, write_refusal}
 use Rattle.zone_state.specs.declared.state.ZoneState.{ZoneState}
 use Rattle.zone_state.specs.declared.state.ZoneState.TheVariants.{ReadOnly, Full, Offline}
@@ -44,6 +45,24 @@ pub zone_inside : (ns : ZonedNamespace) (lba : ℕ) → IsNamespace ns → lba <
 zone_inside ns lba sound inside =
     let some : 0 < ns.size = omega (arith, sound.shape.size_some) in
     (div-lt_iff_lt-mul {k = ns.size} some).1 inside
+
+-- what holds of the lowest logical block of a zone: it is in that zone, the first there, and the namespace has it
+pub record IsLowestBlock (ns : ZonedNamespace) (z lba : ℕ) : Type 0 where
+  pub named : zone_number ns lba ≡ z
+  pub first : lba % ns.size ≡ 0
+  pub inside : lba < block_total ns
+
+pub lowest_of : (ns : ZonedNamespace) (z : ℕ) → IsNamespace ns → z < length ns.zones → IsLowestBlock ns z (z * ns.size)
+lowest_of ns z sound inside =
+    let size = ns.size in
+    let lba = z * size in
+    let some : 1 ≤ size = sound.shape.size_some in
+    let number : lba / size ≡ z = mul-div_cancel z (omega (arith, some)) in
+    let place : lba % size ≡ 0 = ap (λ (n : ℕ). n % size) (omega arith) ∙ mod-mul-add z size 0 (omega (arith, some)) in
+    let below : suc z ≤ length ns.zones = omega (arith, inside) in
+    let product : suc z * size ≤ length ns.zones * size = mul-le-mul_right size below in
+    let start : lba < block_total ns = omega (arith, suc-mul z size, product, some) in
+    record { named = number; first = place; inside = start }
 
 -- what holds of a write that isn't refused
 pub record Writes (ns : ZonedNamespace) (holds : Holds) (z blocks : ℕ) (input : List ℕ) : Type 0 where

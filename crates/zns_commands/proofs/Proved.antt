@@ -6,7 +6,7 @@ use Rattle.zns_commands.proofs.HeldCommands as held
 use Rattle.zns_commands.proofs.HeldSources as held_sources
 use Rattle.zns_commands.proofs.HeldZones as held_zones
 use Rattle.zns_commands.proofs.KeptBlocks.{event_shape}
-pub use Rattle.zns_commands.proofs.KeptBlocks.{KeepsZone, events_keep_zones, grows_by_none, grows_on, replaced_grows, uncleared_is_readable}
+pub use Rattle.zns_commands.proofs.KeptBlocks.{KeepsZone, events_keep_zones, grows_by_none, grows_on, replaced_grows, uncleared_is_readable, with_zone_shape}
 use Rattle.zns_commands.proofs.OpenZones as open_zones
 pub use Rattle.zns_commands.proofs.OpenZones.{blocks_are_the_effect, open_is_there, taken_blocks_pass}
 pub use Rattle.zns_commands.proofs.ReadBack.{BlocksLieAt, appended_stays, lying_is_read, written_stays}

@@ -6,7 +6,7 @@ use Rattle.std.proofs.lemmas.Bool.{cases_lt, le-leb, le-ltb, lt-ltb}
 use Rattle.std.proofs.lemmas.List.{drop_all, drop-drop, drop-map, length-drop, length-map, take-append-drop, take-map}
 use Rattle.std.proofs.lemmas.List.FromFn.{length-enumerate_from}
 use Rattle.std.proofs.lemmas.Nat.{le-div}
-use Rattle.std.proofs.Math.Nat.{mul-div_cancel, mul-le-mul_right, suc-mul}
+use Rattle.std.proofs.Math.Nat.{mul-le-mul_right, suc-mul}
 use Rattle.zone_state.specs.Zone.{CountedZone}
 use Rattle.zone_state.specs.declared.status.Status.{Status}
 use Rattle.zone_state.specs.declared.status.TheConstants.Status.{SUCCESS, INVALID_FIELD_IN_COMMAND, LBA_OUT_OF_RANGE}
@@ -24,6 +24,7 @@ use Rattle.zns_commands.specs.Meaning.{meaning}
 use Rattle.zns_commands.specs.Receive.{receive_checks, receive_effect}
 use Rattle.zns_commands.specs.Laws.{ReportsEveryZone, ReportsWhatMatches, all_descriptors, listed_by}
 use Rattle.nvme_entry.proofs.Proved.{reports_give_what_matches}
+use Rattle.zns_commands.proofs.PassedChecks.{lowest_of}
 
 both_pass : (a b : Bool) (s t : Status) → a ≡ true → b ≡ true → first_failed (demand a s ∷ None ∷ demand b t ∷ []) ≡ None
 both_pass a b s t ea eb = rw (ea, eb) refl
@@ -78,19 +79,15 @@ lists_some : (ns : ZonedNamespace) (holds : Holds) (dwords z : ℕ) → IsNamesp
     → z < length ns.zones → ListsOn ns dwords z (reported ns holds dwords z)
 lists_some ns holds dwords z sound room most inside =
     let size = ns.size in
-    let some : 1 ≤ size = sound.shape.size_some in
     let zones = counted_zones ns in
     let all = enumerate_from 0 zones in
-    let below : suc z ≤ length ns.zones = omega (arith, inside) in
-    let product : suc z * size ≤ length ns.zones * size = mul-le-mul_right size below in
-    let start : z * size < block_total ns = omega (arith, suc-mul z size, product, some) in
-    let tells = (reports_what_matches ns holds (z * size) dwords filters.All true sound start room most).1 in
+    let lowest = lowest_of ns z sound inside in
+    let tells = (reports_what_matches ns holds (z * size) dwords filters.All true sound lowest.inside room most).1 in
     let bytes = reported ns holds dwords z in
-    let named : zone_number ns (z * size) ≡ z = mul-div_cancel z (omega (arith, some)) in
     let found = matching zones (zone_number ns (z * size)) filters.All in
     let from_zero : 0 + z ≡ z = omega arith in
     let is_found : found ≡ drop z all =
-    ap (λ (k : ℕ). matching zones k filters.All) named
+    ap (λ (k : ℕ). matching zones k filters.All) lowest.named
     ∙ (all_are_listed (enumerate_from z (drop z zones))
     ∙ (ap (λ (k : ℕ). enumerate_from k (drop z zones)) (sym from_zero) ∙ numbered_on 0 z zones)) in
     let count : length zones ≡ length ns.zones = length-map ns.zones (counted ns.capacity) in

@@ -1,11 +1,9 @@
 -- That Select All leaves each zone that it takes as the action on that zone alone does, and what refuses it.
-use Rattle.std.proofs.Common.{◌≡◌, ℕ, zero, suc, ◌+◌, ◌*◌, ◌/◌, ◌%◌, ◌<◌, ◌≤◌, Bool, true, false, cond, List, [], ◌∷◌, length, get_or, map, Option, None, Result, Ok, refl, ap, sym, subst, ◌∙◌, arith}
+use Rattle.std.proofs.Common.{◌≡◌, ℕ, zero, suc, ◌+◌, ◌*◌, ◌%◌, ◌<◌, ◌≤◌, Bool, true, false, cond, List, [], ◌∷◌, length, get_or, map, Option, None, Result, Ok, refl, ap, sym, subst, ◌∙◌, arith}
 use Rattle.std.specs.Prelude.{nat_eq, nat_le, nat_lt, not, ◌&&◌, ◌||◌}
-use Rattle.std.proofs.Math.Nat.{mul-div_cancel, suc-mul, mul-le-mul_right}
 use Rattle.std.proofs.lemmas.Bool.{eq-eqb, leb-true, le-leb, lt-ltb}
 use Rattle.std.proofs.lemmas.List.{get_or-map, get_or-set_same}
 use Rattle.std.proofs.lemmas.List.Sums.{sum_by-cons}
-use Rattle.std.proofs.lemmas.Nat.{mod-mul-add}
 use Rattle.zone_state.specs.Checks.{demand, first_failed}
 use Rattle.zone_state.specs.Transition.{transition}
 use Rattle.zone_state.specs.Zone.{CountedZone}
@@ -26,7 +24,8 @@ use Rattle.zns_commands.specs.Resources.{closed, closing_of, room_for, why_not}
 use Rattle.zns_commands.specs.SelectAll.{EachHasRoom, NoneIsHeld, SelectAllIsEachAlone, SelectAllIsRefusedByHoldsAndLimits, TakenZonesMove, sent_to_all, sent_to_one}
 use Rattle.zns_commands.specs.Send.{all_effect, all_fit, gives_way_to, held_among, led_by, led_to, room_of, swept, taken_among, takes}
 use Rattle.nvme_entry.specs.declared.command.StandardCommand.TheVariants.{Send}
-use Rattle.zns_commands.proofs.HeldZones.{held_from, not_taken_from}
+use Rattle.zns_commands.proofs.HeldZones.{held_from, held_is_left}
+use Rattle.zns_commands.proofs.PassedChecks.{lowest_of}
 use Rattle.zns_commands.proofs.SweptZones.{opened_count}
 use Rattle.zns_commands.proofs.Untouched.{other_zones_are_left}
 
@@ -96,16 +95,10 @@ named : (ns : ZonedNamespace) (holds : Holds) (a : Action) (z : ℕ) → IsNames
 named ns holds a z sound inside =
     let size = ns.size in
     let lba = z * size in
-    let some : 1 ≤ size = sound.shape.size_some in
-    let number : lba / size ≡ z = mul-div_cancel z (omega (arith, some)) in
-    let place : lba % size ≡ 0 =
-    ap (λ (n : ℕ). n % size) (omega arith) ∙ mod-mul-add z size 0 (omega (arith, some)) in
-    let below : suc z ≤ length ns.zones = omega (arith, inside) in
-    let product : suc z * size ≤ length ns.zones * size = mul-le-mul_right size below in
-    let start : lba < block_total ns = omega (arith, suc-mul z size, product, some) in
-    ap (λ (k : ℕ). by_number ns holds a k (nat_lt lba (block_total ns)) (nat_eq (lba % size) 0)) number
-    ∙ (ap (λ (b : Bool). by_number ns holds a z b (nat_eq (lba % size) 0)) (lt-ltb lba (block_total ns) start)
-    ∙ ap (by_number ns holds a z true) (eq-eqb (lba % size) 0 place))
+    let lowest = lowest_of ns z sound inside in
+    ap (λ (k : ℕ). by_number ns holds a k (nat_lt lba (block_total ns)) (nat_eq (lba % size) 0)) lowest.named
+    ∙ (ap (λ (b : Bool). by_number ns holds a z b (nat_eq (lba % size) 0)) (lt-ltb lba (block_total ns) lowest.inside)
+    ∙ ap (by_number ns holds a z true) (eq-eqb (lba % size) 0 lowest.first))
 
 -- the action on one zone that all would take
 done_alone : (ns : ZonedNamespace) (holds : Holds) (a : Action) (z : ℕ) (to : ZoneState) → IsNamespace ns → z < length ns.zones
@@ -147,12 +140,6 @@ moved_by : (taken : Bool) (moves : Result ZoneState Status) (zone : ZoneBlocks) 
 moved_by taken moves zone to is leads = rw (is, leads) refl
 
 module _ (ns : ZonedNamespace) (holds : Holds) (a : Action) (z : ℕ) where
-  -- where no zone that would be taken is held, one that is held would not be taken
-  held_is_left : held_among (counted_zones ns) holds a ≡ false → refuses holds a z ≡ true → takes a (zone_at ns z).state ≡ false
-  held_is_left none held =
-      let same : z ≡ 0 + z = omega arith in
-      not_taken_from holds a ns.capacity 0 z ns.zones (subst (λ (k : ℕ). refuses holds a k ≡ true) same held) none
-
   swept_so : (to : ZoneState) → z < length ns.zones → takes a (zone_at ns z).state ≡ true → transition a (zone_at ns z).state ≡ Ok to
       → zone_at (all_effect ns a) z ≡ arrived to (zone_at ns z)
   swept_so to inside is leads =
@@ -167,7 +154,7 @@ module _ (ns : ZonedNamespace) (holds : Holds) (a : Action) (z : ℕ) where
       let held = held_among (counted_zones ns) holds a in
       let fit = all_fit ns a in
       let passed = succeeded ns a held fit success in
-      let free = free_where (takes a (zone_at ns z).state) (refuses holds a z) (held_is_left passed.0) is in
+      let free = free_where (takes a (zone_at ns z).state) (refuses holds a z) (held_is_left ns holds a z passed.0) is in
       let one = done_alone ns holds a z to sound inside is leads free passed.1 in
       let all : sent_to_all ns holds a lba ≡ success_effect (all_effect ns a) 0 [] =
       ap (λ (b : Bool). decided ns a b fit) passed.0 ∙ ap (decided ns a false) passed.1 in (

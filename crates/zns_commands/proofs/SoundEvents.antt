@@ -18,6 +18,7 @@ use Rattle.zone_state.proofs.Proved.{demanded, passed}
 use Rattle.program_interface.specs.Bytes.{AreBytes}
 use Rattle.image_store.specs.Geometry.{IsShape}
 use Rattle.image_store.specs.Namespace.{ZoneBlocks, ZonedNamespace, no_zone, zone_at, counted, IsNamespace, all_empty}
+use Rattle.image_store.proofs.Proved.{resized}
 use Rattle.zns_commands.specs.Address.{zone_number, block_total}
 use Rattle.zns_commands.specs.Meaning.{checks_of, effect_of}
 use Rattle.zns_commands.specs.Resources.{closing_of, gives_way}
@@ -84,7 +85,7 @@ empty_is_namespace s known =
     let empty : ZoneBlocks = record { state = Empty; blocks = [] } in
     let count : length (replicate s.zones empty) ≡ s.zones = length-replicate s.zones empty in
     namespace_of_zones (all_empty s) (replicate s.zones empty)
-    (subst (λ (n : ℕ). IsShape (record { block = s.block; zones = n; size = s.size; capacity = s.capacity; limits = s.limits })) (sym count) known)
+    (subst (λ (n : ℕ). IsShape (resized s n)) (sym count) known)
     refl
     (λ z h.
     let in_list : z < s.zones = omega arith in

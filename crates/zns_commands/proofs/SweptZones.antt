@@ -13,9 +13,9 @@ use Rattle.zone_resources.specs.Admission.{IsWithin}
 use Rattle.zone_resources.specs.Counts.{count_in, open_count, one_if}
 use Rattle.image_store.specs.Namespace.{ZoneBlocks, ZonedNamespace, no_zone, zone_at, counted, counted_zones, IsNamespace, IsWithinLimits, arrived}
 use Rattle.zns_commands.specs.Send.{all_effect, all_fit, led_to, takes, taken_among, swept}
-use Rattle.zns_commands.proofs.FittingZones.{FitsIn, zone_fits, namespace_of_zones}
+use Rattle.zns_commands.proofs.FittingZones.{FitsIn, action_fits, zone_fits, namespace_of_zones}
 use Rattle.zns_commands.proofs.Sweeps.{mapped, mapped-all, swept_below}
-use Rattle.zns_commands.proofs.MovedZones.{arrived_fits, action_fits}
+use Rattle.zns_commands.proofs.MovedZones.{arrived_fits}
 
 -- the state of a zone that Select All has gone over
 abbrev after_sweep : Action → ZoneState → ZoneState

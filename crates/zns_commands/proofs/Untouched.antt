@@ -1,6 +1,6 @@
 -- That commands and faults leave the zones that they do not touch.
-use Rattle.std.proofs.Common.{◌≡◌, ℕ, zero, suc, Bool, true, false, cond, nat_eq, List, [], ◌∷◌, get_or, map, Option, Some, None, Result, Ok, Err, refl, sym, ◌∙◌, get_or-set_other}
-use Rattle.std.proofs.lemmas.Bool.{eqb-false, or_parts}
+use Rattle.std.proofs.Common.{◌≡◌, ℕ, zero, suc, Bool, true, false, nat_eq, List, [], ◌∷◌, get_or, map, Option, Some, None, Result, Ok, Err, refl, sym, ◌∙◌, get_or-set_other}
+use Rattle.std.proofs.lemmas.Bool.{cond-false, eqb-false, or_parts}
 use Rattle.zone_state.specs.Zone.{state_of_fault}
 use Rattle.zone_state.specs.declared.action.Action.{Action}
 use Rattle.zone_state.specs.declared.state.FaultState.{FaultState}
@@ -24,15 +24,10 @@ use Rattle.zns_commands.specs.declared.write.WritePlan.{WritePlan}
 use Rattle.zns_commands.specs.steps.Plans.{write_plan, written_by, zone_plan}
 use Rattle.zns_commands.proofs.Meanings.{after_command}
 
-not_moved : (taken : Bool) (moved zone : ZoneBlocks) → taken ≡ false → cond taken moved zone ≡ zone
-not_moved true moved zone other = cc
-not_moved false moved zone other = refl
-
 swept_left : (a : Action) (zones : List ZoneBlocks) (z : ℕ) → takes a (get_or zones z no_zone).state ≡ false
     → get_or (map (swept a) zones) z no_zone ≡ get_or zones z no_zone
 swept_left a [] z other = refl
-swept_left a (x ∷ xs) zero other =
-    not_moved (takes a x.state) (arrived (led_to a x.state) x) x other
+swept_left a (x ∷ xs) zero other = cond-false (takes a x.state) (arrived (led_to a x.state) x) x other
 swept_left a (x ∷ xs) (suc z) other = swept_left a xs z other
 
 module _ (ns : ZonedNamespace) (d : ℕ) where

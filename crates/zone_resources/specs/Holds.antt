@@ -6,7 +6,7 @@ use Rattle.zone_resources.specs.declared.holds.TheConstants.{RUNS}
 use Rattle.zone_state.specs.declared.action.Action.{Action}
 use Rattle.zone_state.specs.declared.action.Action.TheVariants as action
 
--- does a place name the zone, as that which its run uses? A place without a run names none
+-- is the zone the one with this number, if there is a number?
 abbrev pub names : ℕ → Option ℕ → Bool
 names zone None = false
 names zone (Some number) = number == zone

@@ -1,4 +1,4 @@
--- What the stages of a load answer, before the whole of it is known.
+-- What the stages of a load give, before the whole of it is known.
 use Rattle.std.specs.Prelude.{ℕ, ◌≡◌, ◌*◌, List, length, Result, Ok, Err}
 use Rattle.zone_state.specs.Zone.{CountedZone}
 use Rattle.image_store.specs.declared.fault.LoadFault.{LoadFault}

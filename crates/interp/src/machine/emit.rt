@@ -8,7 +8,7 @@ use instruction_set::Register;
 use program_interface::{CLEARED_REGISTERS, FRAME_LENGTH_BYTES, REGISTERS};
 use program_meaning::{AreaOffset, Cause};
 
-/// Sets the registers that a call need not keep, R0 to R5 (BPF ABI 1.0), to 0 (profile).
+/// Sets the registers that a call need not keep, R0 to R5 (BPF ABI 1.0, Registers and calling convention), to 0 (profile).
 fn clear_registers(registers: &mut [u64; REGISTERS])
     ensures { registers.new ≡ replicate CLEARED_REGISTERS 0 ++ drop CLEARED_REGISTERS registers.old }
 {

@@ -11,7 +11,7 @@ impl Machine<'_> {
     ghost use Rattle.interp.specs.Machine.{group_length, scratch_name, machine_slot, machine_state, steps_of};
     ghost use Rattle.program_meaning.specs.Step.{IsAt};
 
-    /// Takes steps from where the machine stands until the run ends, and at most `fuel` of them;
+    /// Takes steps from where the machine stands until the block run ends, and at most `fuel` of them;
     /// where they are used up it gives that no fuel is left, also before an instruction that
     /// can't be done. `limit` and `group` are as for `step`.
     pub fn run_checked(

@@ -7,11 +7,11 @@ use Rattle.program_interface.specs.Bytes.{field}
 use Rattle.nvme_entry.specs.declared.descriptor.ZoneDescriptor.{ZoneDescriptor}
 
 -- the number in the 8 bytes with this index
-abbrev pub number_in : List ℕ → ℕ → ℕ
-number_in bytes index = field bytes (8 * index) 8
+abbrev pub eight_bytes : List ℕ → ℕ → ℕ
+eight_bytes bytes index = field bytes (8 * index) 8
 
 -- the descriptor with the fields that bytes tell, where they tell a state that there is
 abbrev pub descriptor_in : List ℕ → Option ZoneDescriptor
 descriptor_in bytes = option_map
-    (λ (state : ZoneState). record { state = state; capacity = number_in bytes 1; lowest = number_in bytes 2; write_pointer = number_in bytes 3 })
-    (state_of (number_in bytes 0 / 2 ^ 12 % 2 ^ 4))
+    (λ (state : ZoneState). record { state = state; capacity = eight_bytes bytes 1; lowest = eight_bytes bytes 2; write_pointer = eight_bytes bytes 3 })
+    (state_of (eight_bytes bytes 0 / 2 ^ 12 % 2 ^ 4))

@@ -1,10 +1,11 @@
 //! Turns after the last event.
 
+use super::EMITTING;
 use super::scenes::{EIGHT_ZONES, Scene, TWELVE_ZONES, play};
 use super::steps::Expected::{Done, DoneWith, Pending};
 use super::steps::{Case, Step};
 use std::test::Fail;
-use test_inputs::programs::{EMITTING, RETURNING};
+use test_inputs::programs::RETURNING;
 
 /// A run of three blocks, and one of one block, without a turn.
 const LEFT: &[Case] = &[

@@ -5,7 +5,7 @@ use super::steps::Expected::{Done, Pending, ProgramRefused, Refused};
 use super::steps::{Case, Step};
 use nvme_entry::Status;
 use std::test::Fail;
-use test_inputs::programs::{ADDING, GROWING, MATCHING, RETURNING};
+use test_inputs::programs::{GROWING, MATCHING, RETURNING, Text};
 
 const ACCEPTED: &[Case] = &[
     (Step::Load(1, 0, 0, RETURNING), Done(1)),
@@ -116,6 +116,10 @@ const WRONG_FIELDS: &[Case] = &[
         Refused(8, Status::INVALID_FIELD_IN_COMMAND),
     ),
 ];
+
+/// Adds a block's first byte to a sum in scratch.
+const ADDING: Text =
+    "ldxb r4, [r2+0]\nldxdw r5, [r3+0]\nadd r5, r4\nstxdw [r3+0], r5\nmov r0, 0\nexit";
 
 const RESULTS: &[Case] = &[
     (Step::Load(1, 0, 0, ADDING), Done(1)),

@@ -4,12 +4,11 @@ ghost use Rattle.std.specs.Prelude.{◌≡◌, ◌+◌, ◌<◌, ◌≤◌, ◌^
 
 use super::scenes::{EIGHT_ZONES, Zones, device_of, saved};
 use super::steps::Step;
-use super::{Kept, room};
+use super::{EMITTING, Kept, room};
 use runner::{Device, Event, Out, Reply};
 use std::alloc::Global;
 use std::process::Abort;
 use std::test::Fail;
-use test_inputs::programs::EMITTING;
 use zns_commands::{FaultState, MOST_TRANSFER};
 use zone_state::Action;
 

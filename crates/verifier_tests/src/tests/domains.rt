@@ -1,10 +1,11 @@
 //! Programs that are accepted over intervals, for which constants aren't enough, and like ones that both refuse.
 
+use super::programs::{BOUNDED, INDEXED, INDEXED_TWO};
 use super::rows::Verdict::{self, Accepted, Refused};
 use super::rows::verdict_of;
 use interval_domain::{Constants, Intervals};
 use std::test::Fail;
-use test_inputs::programs::{BOUNDED, GROWING, INDEXED, INDEXED_TWO};
+use test_inputs::programs::GROWING;
 
 /// Programs, each with the most bytes that it may emit for a block and the bytes of a block, and what is said of it over
 /// constants and over intervals.

@@ -1,10 +1,11 @@
 //! Programs that emit.
 
+use super::programs::TWO_FRAMES;
 use super::rows::Row::{self, Text};
 use super::rows::Verdict::{Accepted, Refused};
 use super::rows::check_both;
 use std::test::Fail;
-use test_inputs::programs::{MATCHING, TWO_FRAMES};
+use test_inputs::programs::MATCHING;
 
 const EMITS: &[Row] = &[
     // There is one helper, number 1.

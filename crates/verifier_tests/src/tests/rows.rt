@@ -1,10 +1,11 @@
 //! Programs, each with what the verifier says of it, as the rules for facts give it.
 
-use super::{program, sizes};
+use super::program;
 use interval_domain::{Constants, Intervals};
 use std::alloc::{AllocError, Global};
 use std::process::Abort;
 use std::test::Fail;
+use test_inputs::sizes::sizes;
 use verifier::{VerifyFault, verify};
 use word_domain::Domain;
 

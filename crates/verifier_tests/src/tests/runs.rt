@@ -1,6 +1,7 @@
 //! Accepted programs end the same with every check and over their superinstructions.
 
-use super::{program, sizes};
+use super::program;
+use super::programs::{BOUNDED, INDEXED, INDEXED_TWO, TWO_FRAMES};
 use interp::Machine;
 use interval_domain::Intervals;
 use program_interface::{BlockSize, CONTEXT_BYTES, Context, RunSizes, SCRATCH_BYTES};
@@ -9,9 +10,8 @@ use std::alloc::Global;
 use std::process::Abort;
 use std::test::Fail;
 use test_inputs::numbers::Numbers;
-use test_inputs::programs::{
-    ADDING_THREE, BOUNDED, GROWING, INDEXED, INDEXED_TWO, MATCHING, RETURNING, TWO_FRAMES, Text,
-};
+use test_inputs::programs::{ADDING_THREE, GROWING, MATCHING, RETURNING, Text};
+use test_inputs::sizes::sizes;
 use verified_run::Prepared;
 use verifier::{Verified, verify};
 

@@ -29,8 +29,6 @@ const USAGE: &[Act] = &[
 const STOPS: &[Act] = &[
     Act::Start(b"turn 0\nturn 1\nturn 2"),
     Act::Stops(EXEC, 3, 0, ""),
-    Act::Stops(EXEC, 2, 1, "cannot write to standard output\n"),
-    Act::Stops(EXEC, 0, 1, "cannot write to standard output\n"),
     Act::Stops("zscli --help", 0, 1, "cannot write to standard output\n"),
 ];
 

@@ -7,4 +7,4 @@ use Rattle.command_files.proofs.numbers.numeral.Goals as goal
 pub returns : goal.returns
 returns c =
     let plus = starts_char 43 c.args.digits.now c.starts_with.result c.starts_with.ensures.cases (omega arith) (omega arith) in
-    c.ok.ensures.value ∙ numeral_read c.args.base c.args.digits.now c.from_str_radix.result (not_from_Decides c.starts_with.result plus c.if-starts_with.false) c.from_str_radix.ensures.value
+    c.ok.ensures.value ∙ numeral_read c.args.radix c.args.digits.now c.from_str_radix.result (not_from_Decides c.starts_with.result plus c.if-starts_with.false) c.from_str_radix.ensures.value
