@@ -51,14 +51,14 @@ module _ {D : Type 0} where
       let left = left_from first last 0 k cells d e in
       (subst (λ n. has_byte n first last ≡ false) here left.0, left.1)
 
-  -- what is known in a cell after one was filled is what that was filled with, or was known in another
-  pub set_known : (cells : List (Option D)) (j k : ℕ) (d e : D) → get_or (set cells j (Some d)) k None ≡ Some e
-      → ((k ≡ j) × (d ≡ e)) ⊎ ((k ≢ j) × (get_or cells k None ≡ Some e))
-  set_known [] j k d e known = cc
-  set_known (c ∷ cs) zero zero d e known = inl (refl, cc)
-  set_known (c ∷ cs) zero (suc k) d e known = inr (λ same. cc, known)
-  set_known (c ∷ cs) (suc j) zero d e known = inr (λ same. cc, known)
-  set_known (c ∷ cs) (suc j) (suc k) d e known = elim (set_known cs j k d e known) [
+  -- what is known in a cell after one was set is what that was set to, or was known in another
+  pub set_known : (cells : List (Option D)) (j k : ℕ) (o : Option D) (e : D) → get_or (set cells j o) k None ≡ Some e
+      → ((k ≡ j) × (o ≡ Some e)) ⊎ ((k ≢ j) × (get_or cells k None ≡ Some e))
+  set_known [] j k o e known = cc
+  set_known (c ∷ cs) zero zero o e known = inl (refl, known)
+  set_known (c ∷ cs) zero (suc k) o e known = inr (λ same. cc, known)
+  set_known (c ∷ cs) (suc j) zero o e known = inr (λ same. cc, known)
+  set_known (c ∷ cs) (suc j) (suc k) o e known = elim (set_known cs j k o e known) [
     | inl here ↦ inl (ap suc here.0, here.1)
     | inr there ↦ inr (λ same. there.0 cc, there.1)
   ]

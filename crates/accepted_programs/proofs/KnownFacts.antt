@@ -64,8 +64,8 @@ module _ {D : Type 0} (IsFact : D → Type 0) where
   filled_facts : (cell : Option ℕ) (word : Option D) (cells others : List (Option D))
       → ((d : D) → word ≡ Some d → IsFact d) → AreCellFacts cells → AreCellFacts others
       → AreCellFacts (filled cell word cells others)
-  filled_facts (Some j) (Some d) cells others is are rest k e known = elim (set_known cells j k d e known) [
-    | inl here ↦ subst IsFact here.1 (is d refl)
+  filled_facts (Some j) (Some d) cells others is are rest k e known = elim (set_known cells j k (Some d) e known) [
+    | inl here ↦ is e here.1
     | inr there ↦ are k e there.1
   ]
   filled_facts (Some j) None cells others is are rest k e known = rest k e known

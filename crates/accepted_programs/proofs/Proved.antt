@@ -1,9 +1,9 @@
--- The laws of accepted programs that other crates cite, and that a table without entries has none.
+-- The laws of accepted programs that other crates cite, and what is there in a table without entries, and after one was set.
 use Rattle.std.specs.Prelude.{ℕ}
 use Rattle.word_domain.specs.Domain.{IsSound, Operations}
 use Rattle.accepted_programs.specs.Laws.{AcceptedNeverTraps, RefusalIsInside}
 use Rattle.accepted_programs.proofs.Statements.{AcceptedSlotsNeverTrap, NoReasonHolds, OffsetsAreShort, RefusalIsAtItsSlot}
-pub use Rattle.accepted_programs.proofs.CellLaws.{none_known}
+pub use Rattle.accepted_programs.proofs.CellLaws.{none_known, set_known}
 use Rattle.accepted_programs.proofs.FirstRefusals as first_refusals
 use Rattle.accepted_programs.proofs.Fitting as fitting
 use Rattle.accepted_programs.proofs.Refusals as refusals

@@ -189,10 +189,11 @@ module _ {D : Type 0} (contains : D → ℕ → Type 0) (stack bytes : List ℕ)
     set_belongs : (j : ℕ) → at ≡ 8 * j → (d : D) → contains d word → BelongThen (set cells j (Some d))
     set_belongs j exact d is k e known =
         let long : length bytes ≡ 8 = ap (λ (l : List ℕ). length l) all ∙ length-bytes_low_first 0 8 word in
-        elim (set_known cells j k d e known) [
+        elim (set_known cells j k (Some d) e known) [
           | inl here ↦
               let read = word_written stack j word (omega (arith, whole, fits, exact, long)) small in
-              rw (here.0, ← here.1, exact, all, read) is
+              let same : d ≡ e = cc here.1 in
+              rw (here.0, ← same, exact, all, read) is
           | inr there ↦
               let other = there.0 in
               let apart : (8 * k + 8 ≤ at) ⊎ (at + length bytes ≤ 8 * k) = elim (cases_lt k j) [

@@ -4,9 +4,9 @@ use Rattle.std.proofs.Common.{ℕ, ℤ, pos, ◌≡◌, ◌+◌, ◌^◌, ◌<�
 use Rattle.std.proofs.lemmas.Bool.{and_parts, and_from, and_right, cond_both, eqb-false, le-leb, le-ltb, leb-true, ltb-false, ne_eqb, or_from, or_parts}
 use Rattle.std.proofs.lemmas.Int.{ints}
 use Rattle.std.specs.Int.{w16}
+use Rattle.std.specs.Option.{option_flatten}
 use Rattle.std.specs.Prelude.{◌==◌, if◌then◌else◌, nat_le, nat_lt, slice_index}
 use Rattle.instruction_set.specs.Instruction.{access_of, distance_of, is_emit, signed_size_of, size_of, target}
-use Rattle.instruction_set.specs.Program.{instruction_in}
 use Rattle.instruction_set.specs.Spelling.{first_slot}
 use Rattle.instruction_set.specs.declared.instruction.Instruction.{Instruction}
 use Rattle.instruction_set.specs.declared.instruction.Instruction.TheVariants.{LoadImmediate, Load, LoadSigned, StoreImmediate, StoreRegister, Arithmetic, Negate, MoveSigned, SwapBytes, Jump, JumpLong, Branch, Call, Exit}
@@ -15,7 +15,7 @@ use Rattle.instruction_set.specs.declared.operation.SignedSize.TheVariants as si
 use Rattle.instruction_set.specs.declared.operation.Size.{Size}
 use Rattle.instruction_set.specs.declared.operation.Size.TheVariants.{Byte, HalfWord, Word, DoubleWord}
 use Rattle.program_meaning.specs.Cause as machine
-use Rattle.program_meaning.specs.Cause.{causes_of_effect, emits_badly, emits_outside, hinders, is_inside_wide, is_nowhere, is_outside, is_unwritable, is_unwritable_at, least_cause, slot_in}
+use Rattle.program_meaning.specs.Cause.{causes_of_effect, emits_badly, emits_outside, hinders, is_inside_wide, is_nowhere, is_unwritable, is_unwritable_at, least_cause, slot_in}
 use Rattle.program_meaning.specs.Effect.{address_from, operand, register}
 use Rattle.program_meaning.specs.Memory.{lies_in, area_offset_of}
 use Rattle.program_interface.specs.Area.{address_of, length_of}
@@ -43,8 +43,8 @@ none_passes test (x ∷ xs) each = rw (each x) (none_passes test xs each)
 -- ---- where it leads
 
 -- an instruction begins at what a program has at a slot
-stands : (begun : Option (Option Instruction)) → not (is_some (instruction_in begun)) ≡ false
-    → (is_outside begun ≡ false) × (is_inside_wide begun ≡ false)
+stands : (begun : Option (Option Instruction)) → not (is_some (option_flatten begun)) ≡ false
+    → (is_none begun ≡ false) × (is_inside_wide begun ≡ false)
 stands None e = cc
 stands (Some None) e = cc
 stands (Some (Some i)) e = (refl, refl)
@@ -67,7 +67,7 @@ module _ (program : List (Option Instruction)) (limit : ℕ) where
   goes_on s (Branch width relation dst source distance) there behind =
       cond_both (is_taken width relation (slice_index s.registers dst) (operand s.registers source))
       (target s.slot distance) (pos (s.slot + 1))
-      (λ next. (is_outside (slot_in program next) ≡ false) × (is_inside_wide (slot_in program next) ≡ false))
+      (λ next. (is_none (slot_in program next) ≡ false) × (is_inside_wide (slot_in program next) ≡ false))
       (λ _. stands _ there) (λ _. stands _ behind)
   goes_on s (Call helper) there behind = stands _ behind
   goes_on s Exit there behind = (refl, refl)

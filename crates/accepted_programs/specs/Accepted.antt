@@ -1,8 +1,8 @@
 -- Which programs are accepted, and why others aren't (profile).
 use Rattle.std.specs.Prelude.{ℕ, ℤ, zero, suc, Bool, true, false, not, is_some, is_none, ◌+◌, ◌==◌, ◌&&◌, ◌||◌, nat_lt, List, [], ◌∷◌, length, find, Option, Some, None, if◌then◌else◌, pos, int_lt}
-use Rattle.std.specs.Option.{option_map, option_or}
+use Rattle.std.specs.Option.{option_flatten, option_map, option_or}
 use Rattle.instruction_set.specs.Instruction.{access_of, distance_of, is_emit, target, writes}
-use Rattle.instruction_set.specs.Program.{instruction_at, instruction_in}
+use Rattle.instruction_set.specs.Program.{instruction_at}
 use Rattle.instruction_set.specs.declared.access.Access.{Access}
 use Rattle.instruction_set.specs.declared.instruction.Instruction.{Instruction}
 use Rattle.instruction_set.specs.declared.instruction.Instruction.TheVariants.{Jump, JumpLong, Exit}
@@ -37,7 +37,7 @@ all_reasons =
 
 -- does an instruction begin at this slot of a program?
 abbrev pub begins_at : List (Option Instruction) → ℤ → Bool
-begins_at program slot = is_some (instruction_in (slot_in program slot))
+begins_at program slot = is_some (option_flatten (slot_in program slot))
 
 -- does a jump of this distance, if it is one, lead back?
 abbrev pub goes_back : Option ℤ → Bool

@@ -1,12 +1,13 @@
 -- The listing of one more slot.
 use Rattle.std.proofs.Common.{◌≡◌, ℕ, ◌+◌, ◌<◌, List, [], ◌∷◌, ◌++◌, length, take, get_or, Option, Some, None, refl, sym, ap, ◌∙◌}
 use Rattle.std.specs.List.{flat_map}
+use Rattle.std.specs.Option.{option_flatten}
 use Rattle.std.proofs.lemmas.List.{take_more, append-nil}
 use Rattle.std.proofs.lemmas.List.Concat.{flat_map-append}
 use Rattle.std.proofs.lemmas.List.Elements.{filter_map-append}
 use Rattle.std.proofs.lemmas.Option.{slice_get-get_or}
 use Rattle.instruction_set.specs.declared.instruction.Instruction.{Instruction}
-use Rattle.instruction_set.specs.Program.{instruction_at, instruction_in}
+use Rattle.instruction_set.specs.Program.{instruction_at}
 use Rattle.instruction_set.specs.Spelling.{instructions_of}
 use Rattle.ebpf_asm.specs.Listing.{line_text, listing}
 
@@ -25,7 +26,7 @@ listing-push slots o =
 
 listing-more : (slots : List (Option Instruction)) (i : ℕ) → i < length slots → listing (take (i + 1) slots) ≡ listing (take i slots) ++ text_in (instruction_at slots i)
 listing-more slots i lt =
-    let here : instruction_at slots i ≡ get_or slots i None = ap instruction_in (slice_get-get_or slots i None lt) in
+    let here : instruction_at slots i ≡ get_or slots i None = ap option_flatten (slice_get-get_or slots i None lt) in
     ap listing (take_more slots i None lt) ∙ listing-push (take i slots) (get_or slots i None) ∙ ap (λ o. listing (take i slots) ++ text_in o) (sym here)
 
 pub listing-instruction : (slots : List (Option Instruction)) (i : ℕ) (instruction : Instruction) → i < length slots → Some instruction ≡ instruction_at slots i → listing (take (i + 1) slots) ≡ listing (take i slots) ++ line_text instruction

@@ -21,7 +21,7 @@ use Rattle.ebpf_decode.specs.declared.opcode.Operand.TheVariants as operands
 use Rattle.ebpf_decode.specs.declared.opcode.Uses.{Uses}
 use Rattle.instruction_set.specs.declared.instruction.Source.TheVariants as sources
 use Rattle.instruction_set.specs.declared.operation.Operation.{Operation}
-use Rattle.instruction_set.specs.declared.operation.Operation.TheVariants.{SignedDivide, SignedModulo}
+use Rattle.instruction_set.specs.declared.operation.Operation.TheVariants.{SignedDivide, SignedModulo, Move}
 use Rattle.instruction_set.specs.declared.operation.SignExtension.TheVariants.{Bits8To32, Bits16To32, Bits8To64, Bits16To64, Bits32To64}
 use Rattle.instruction_set.specs.declared.operation.SwapSize.TheVariants as kept
 use Rattle.instruction_set.specs.declared.operation.Width.{Width}
@@ -31,7 +31,7 @@ use Rattle.ebpf_decode.specs.FirstFault.{Begins}
 use Rattle.ebpf_decode.specs.Opcodes.{opcode_named, uses}
 use Rattle.instruction_set.specs.Program.{is_wide}
 use Rattle.ebpf_decode.specs.Reading.{checks, first_fault, has_more, has_no_register, has_unused, instruction_with, is_load_immediate, read, read_named, signed_move, source_of}
-use Rattle.instruction_set.specs.Spelling.{CALL, EXIT, HasValue, IMM, JA, LD, LDX, MEM, MEMSX, MOV, NEG, ST, STX, access_opcode, arithmetic_class, extension_offset, extension_width, first_slot, jump_class, kept_bits, operation_code, operation_offset, operation_opcode, relation_code, second_slot, signed_size_code, size_code, slot, swap_opcode}
+use Rattle.instruction_set.specs.Spelling.{CALL, EXIT, HasValue, IMM, JA, LD, LDX, MEM, MEMSX, NEG, ST, STX, access_opcode, arithmetic_class, extension_offset, extension_width, first_slot, jump_class, kept_bits, operation_code, operation_offset, operation_opcode, relation_code, second_slot, signed_size_code, size_code, slot, swap_opcode}
 use Rattle.ebpf_decode.proofs.NoFault.{none-fails}
 
 -- ---- opcodes
@@ -182,10 +182,10 @@ module _ (width : Width) (operation : Operation) (f : Fields) (next : Option Fie
   with-extension operands.Register named used e =
       let found = map-some (λ extension. instructions.MoveSigned extension f.dst f.src) (extension_with width operation f.offset) i e in
       let extension = found.0 in
-      let test = and_parts _ _ (found_passes (λ extension. width_eq (extension_width extension) width && eqb (operation_code operation) MOV && int_eq (extension_offset extension) f.offset) (Bits8To32 ∷ Bits16To32 ∷ Bits8To64 ∷ Bits16To64 ∷ Bits32To64 ∷ []) extension found.1) in
+      let test = and_parts _ _ (found_passes (λ extension. width_eq (extension_width extension) width && eqb (operation_code operation) (operation_code Move) && int_eq (extension_offset extension) f.offset) (Bits8To32 ∷ Bits16To32 ∷ Bits8To64 ∷ Bits16To64 ∷ Bits32To64 ∷ []) extension found.1) in
       let front = and_parts _ _ test.0 in
       let class : arithmetic_class (extension_width extension) ≡ arithmetic_class width = eqb-true _ _ front.0 in
-      let code : operation_code operation ≡ MOV = eqb-true _ _ front.1 in
+      let code : operation_code operation ≡ operation_code Move = eqb-true _ _ front.1 in
       let offset : extension_offset extension ≡ f.offset = (Decides-int_eq _ _).0 test.1 in
       moved f next (instructions.MoveSigned extension f.dst f.src) i found.2
       (slot-is f _ _ _ _ _ (ap (λ n. operation_opcode n 1 (arithmetic_class (extension_width extension))) (sym code) ∙ ap (operation_opcode (operation_code operation) 1) class ∙ eqb-true _ _ named) refl refl offset (sym (used.immediate refl)), refl, tt)

@@ -37,7 +37,7 @@ use Rattle.ebpf_decode.specs.declared.fault.FaultKind.TheVariants as kinds
 use Rattle.program_interface.specs.Readings.{unless_fault}
 use Rattle.program_interface.specs.declared.registers.TheConstants.{REGISTERS}
 use Rattle.ebpf_decode.specs.Reading.{first_fault, has_more, has_no_register, has_unused, instruction_with, is_left_out, is_load_immediate, read, read_named}
-use Rattle.instruction_set.specs.Spelling.{Fits, LDX, MEM, MEMSX, MOV, NEG, ST, STX, access_opcode, arithmetic_class, extension_offset, extension_width, first_slot, jump_class, kept_bits, operation_code, operation_offset, operation_opcode, relation_code, second_slot, signed_size_code, size_code, swap_opcode}
+use Rattle.instruction_set.specs.Spelling.{Fits, LDX, MEM, MEMSX, NEG, ST, STX, access_opcode, arithmetic_class, extension_offset, extension_width, first_slot, jump_class, kept_bits, operation_code, operation_offset, operation_opcode, relation_code, second_slot, signed_size_code, size_code, swap_opcode}
 
 -- ---- what the opcodes of instructions name
 
@@ -140,7 +140,7 @@ swap_size-told kept.Bits64 = refl
 
 abbrev ExtensionTold : SignExtension → Type 0
 ExtensionTold extension =
-    (opcode_named (operation_opcode MOV 1 (arithmetic_class (extension_width extension))) ≡ Some (Arithmetic (extension_width extension) Move operands.Register))
+    (opcode_named (operation_opcode (operation_code Move) 1 (arithmetic_class (extension_width extension))) ≡ Some (Arithmetic (extension_width extension) Move operands.Register))
     × (variant_with Move (extension_offset extension) ≡ None)
     × (extension_with (extension_width extension) Move (extension_offset extension) ≡ Some extension)
 

@@ -7,7 +7,7 @@ ghost use Rattle.ebpf_decode.specs.Reading.{decoded_program};
 ghost use Rattle.instruction_set.specs.Spelling.{access_opcode, first_slot, operation_opcode, program_bytes, second_slot, slot_bytes, source_bit, source_immediate, source_register, spelling};
 
 use crate::fields::to_bytes;
-use instruction_set::{Fields, Instruction, Program, Source, Width};
+use instruction_set::{Fields, Instruction, Operation, Program, Source, Width};
 use program_interface::MOST_SLOTS;
 use std::alloc::{AllocError, Global};
 
@@ -28,8 +28,6 @@ const STX: u8 = 3;
 const JA: u8 = 0x0;
 
 const NEG: u8 = 0x8;
-
-const MOV: u8 = 0xb;
 
 const CALL: u8 = 0x8;
 
@@ -107,7 +105,11 @@ fn opcode(instruction: &Instruction) -> u8
         }
         Instruction::Negate { width, .. } => operation_opcode(NEG, 0, width.arithmetic_class()),
         Instruction::MoveSigned { extension, .. } => {
-            operation_opcode(MOV, 1, extension.width().arithmetic_class())
+            operation_opcode(
+                Operation::Move.code(),
+                1,
+                extension.width().arithmetic_class(),
+            )
         }
         Instruction::SwapBytes { swap, .. } => swap.opcode(),
         Instruction::Jump { .. } => operation_opcode(JA, 0, Width::Bits64.jump_class()),

@@ -1,18 +1,17 @@
 -- No two active runs append to one zone.
-use Rattle.std.proofs.Common.{◌≡◌, ◌≢◌, ℕ, ◌<◌, Bool, true, false, List, length, set, map, get_or, Option, Some, None, refl, ap, sym, subst, ◌∙◌, inl, inr, get_or-set_other, get_or-set_same}
+use Rattle.std.proofs.Common.{◌≡◌, ℕ, Bool, true, false, List, set, map, get_or, Option, Some, None, refl, ap, sym, subst, ◌∙◌, inl, inr}
 use Rattle.std.specs.Prelude.{not, is_some}
 use Rattle.std.specs.List.{list_any}
 use Rattle.std.proofs.lemmas.Bool.{not-true}
-use Rattle.std.proofs.lemmas.Bool.Decides.{eqb_tells}
 use Rattle.zone_state.specs.declared.status.TheConstants.Status.{ZONE_HELD}
 use Rattle.zone_state.proofs.Proved.{demanded, passed}
 use Rattle.zone_resources.specs.Holds.{is_destination, names}
 use Rattle.zone_resources.specs.declared.holds.TheConstants.{RUNS}
 use Rattle.nvme_entry.specs.declared.command.RunCommand.{RunCommand}
 use Rattle.word_domain.specs.Domain.{Operations}
-use Rattle.accepted_programs.proofs.Proved.{none_known}
+use Rattle.accepted_programs.proofs.Proved.{none_known, set_known}
 use Rattle.image_store.specs.Namespace.{ZonedNamespace}
-use Rattle.zone_resources.proofs.Proved.{there, users_name_zones}
+use Rattle.zone_resources.proofs.Proved.{users_name_zones}
 use Rattle.pushdown.specs.Admission.{admission_checks, destination_zone}
 use Rattle.pushdown.specs.EventReplies.{Submission}
 use Rattle.pushdown.specs.Happenings.{admitted_place, happens, place_left, turned, why_not_run}
@@ -20,7 +19,6 @@ use Rattle.pushdown.specs.Outcome.{Ending, Turn}
 use Rattle.pushdown.specs.State.{Place, State, destination_of, free_place, holds_at, new_state, program_at}
 use Rattle.device_events.specs.declared.event.Event.{Event}
 use Rattle.pushdown.proofs.Changes.{after_event, after_turn}
-use Rattle.pushdown.proofs.OthersEvents.{free_within}
 
 pub record AreApart (places : List (Option Place)) : Type 0 where
   pub apart : (j k : ℕ) (p q : Place) → get_or places j None ≡ Some p → get_or places k None ≡ Some q
@@ -60,14 +58,11 @@ left_was place later (Some ending) p e = cc
 left_older : (places : List (Option Place)) (run : ℕ) (place : Place) (later : List Turn) (ending : Option Ending)
     → get_or places run None ≡ Some place → AreOlder places (set places run (place_left place later ending))
 left_older places run place later ending at = record {
-  was = λ j p at_j. elim (eqb_tells j run) [
+  was = λ j p at_j. elim (set_known places run j (place_left place later ending) p at_j) [
     | inl is ↦
-        let here : get_or (set places run (place_left place later ending)) j None ≡ place_left place later ending =
-        ap (λ (n : ℕ). get_or (set places run (place_left place later ending)) n None) is.1
-        ∙ get_or-set_same places run (place_left place later ending) None (there places run place at) in
-        let same = left_was place later ending p (sym here ∙ at_j) in
-        (place, ap (λ (n : ℕ). get_or places n None) is.1 ∙ at, ap (λ (x : Place). x.destination) same, ap (λ (x : Place). x.slot) same)
-    | inr not_so ↦ (p, sym (get_or-set_other places run j (place_left place later ending) None not_so.1) ∙ at_j, refl, refl)
+        let same = left_was place later ending p is.1 in
+        (place, ap (λ (n : ℕ). get_or places n None) is.0 ∙ at, ap (λ (x : Place). x.destination) same, ap (λ (x : Place). x.slot) same)
+    | inr other ↦ (p, other.1, refl, refl)
   ];
 }
 
@@ -83,37 +78,26 @@ admitted_free sub s command none =
     not-true (is_destination holds z) (demanded (not (is_destination holds z)) ZONE_HELD (passed checks 11 none))
 
 -- a run to a zone that no other has
-module _ (places : List (Option Place)) (run : ℕ) (new : Place) (h : AreApart places) (inside : run < length places)
+module _ (places : List (Option Place)) (run : ℕ) (new : Place) (h : AreApart places)
     (free : list_any (names new.destination) (map destination_of places) ≡ false) where
-  abbrev after : ℕ → Option Place
-  after j = get_or (set places run (Some new)) j None
-
-  old_there : (j : ℕ) (p : Place) → j ≢ run → after j ≡ Some p → get_or places j None ≡ Some p
-  old_there j p differs at = sym (get_or-set_other places run j (Some new) None differs) ∙ at
-
-  new_there : (j : ℕ) (p : Place) → j ≡ run → after j ≡ Some p → new.destination ≡ p.destination
-  new_there j p is at =
-      let here : Some new ≡ Some p = sym (get_or-set_same places run (Some new) None inside) ∙ ap after (sym is) ∙ at in
-      let same : new ≡ p = cc in
-      ap (λ (x : Place). x.destination) same
-
-  no_other : (j k : ℕ) (p q : Place) → j ≡ run → k ≢ run → after j ≡ Some p → after k ≡ Some q → p.destination ≡ q.destination → ⊥
-  no_other j k p q is differs at_j at_k same =
-      let to : q.destination ≡ new.destination = sym (new_there j p is at_j ∙ same) in
+  no_other : (k : ℕ) (p q : Place) → Some new ≡ Some p → get_or places k None ≡ Some q → p.destination ≡ q.destination → ⊥
+  no_other k p q here at same =
+      let is : new ≡ p = cc here in
+      let to : q.destination ≡ new.destination = sym (ap (λ (x : Place). x.destination) is ∙ same) in
       let held : list_any (names new.destination) (map destination_of places) ≡ true =
-      subst (λ (z : ℕ). list_any (names z) (map destination_of places) ≡ true) to (held_at places k q (old_there k q differs at_k)) in
+      subst (λ (z : ℕ). list_any (names z) (map destination_of places) ≡ true) to (held_at places k q at) in
       cc
 
   pub placed_apart : AreApart (set places run (Some new))
   placed_apart = record {
-    apart = λ j k p q at_j at_k same. elim (eqb_tells j run) [
-      | inl first ↦ elim (eqb_tells k run) [
-        | inl second ↦ first.1 ∙ sym second.1
-        | inr second ↦ absurd (no_other j k p q first.1 second.1 at_j at_k same)
+    apart = λ j k p q at_j at_k same. elim (set_known places run j (Some new) p at_j) [
+      | inl first ↦ elim (set_known places run k (Some new) q at_k) [
+        | inl second ↦ first.0 ∙ sym second.0
+        | inr second ↦ absurd (no_other k p q first.1 second.1 same)
       ]
-      | inr first ↦ elim (eqb_tells k run) [
-        | inl second ↦ absurd (no_other k j q p second.1 first.1 at_k at_j (sym same))
-        | inr second ↦ h.apart j k p q (old_there j p first.1 at_j) (old_there k q second.1 at_k) same
+      | inr first ↦ elim (set_known places run k (Some new) q at_k) [
+        | inl second ↦ absurd (no_other j q p second.1 first.1 (sym same))
+        | inr second ↦ h.apart j k p q first.1 second.1 same
       ]
     ];
   }
@@ -121,10 +105,9 @@ module _ (places : List (Option Place)) (run : ℕ) (new : Place) (h : AreApart 
 -- ---- events
 
 -- a run that starts
-pub started_apart : (sub : Submission) (s : State) (command : RunCommand) (run : ℕ) → why_not_run sub s command ≡ None → free_place s ≡ Some run
+pub started_apart : (sub : Submission) (s : State) (command : RunCommand) (run : ℕ) → why_not_run sub s command ≡ None
     → AreApart s.places → AreApart (set s.places run (Some (admitted_place sub s command)))
-started_apart sub s command run passed free h =
-    placed_apart s.places run (admitted_place sub s command) h (free_within s.places run free) (admitted_free sub s command passed)
+started_apart sub s command run passed h = placed_apart s.places run (admitted_place sub s command) h (admitted_free sub s command passed)
 
 -- a turn
 pub left_apart : (places : List (Option Place)) (run : ℕ) (place : Place) (later : List Turn) (ending : Option Ending)
@@ -146,6 +129,6 @@ module _ {D : Type 0} (operations : Operations D) where
     same = h;
     step = λ step same is. h;
     load = λ sub load t are takes. h;
-    start = λ sub command run passed free some. started_apart sub s command run passed free h;
+    start = λ sub command run passed free some. started_apart sub s command run passed h;
     turn = λ run place turn later is at first. left_apart s.places run place later turn.ending at h;
   })

@@ -1,8 +1,7 @@
 -- What is left of each run fits into its destination.
-use Rattle.std.proofs.Common.{◌≡◌, ℕ, List, ◌∷◌, set, get_or, Option, Some, None, refl, ap, sym, subst, ◌∙◌, inl, inr, get_or-set_other, get_or-set_same}
-use Rattle.std.proofs.lemmas.Bool.Decides.{eqb_tells}
+use Rattle.std.proofs.Common.{◌≡◌, ℕ, List, ◌∷◌, set, get_or, Option, Some, None, refl, ap, sym, subst, ◌∙◌, inl, inr}
+use Rattle.accepted_programs.proofs.Proved.{set_known}
 use Rattle.image_store.specs.Namespace.{ZoneBlocks, ZonedNamespace, zone_at}
-use Rattle.zone_resources.proofs.Proved.{there}
 use Rattle.pushdown.specs.Laws.{RoomIn}
 use Rattle.pushdown.specs.Happenings.{added, place_left}
 use Rattle.pushdown.specs.Outcome.{Ending, Turn}
@@ -45,16 +44,11 @@ module _ (s : State) (run : ℕ) (place : Place) (turn : Turn) (later : List Tur
 
   pub turn_rooms : (j : ℕ) (p : Place) → get_or (set s.places run (place_left place later turn.ending)) j None ≡ Some p
       → RoomIn next.capacity (zone_at next p.destination) p.turns
-  turn_rooms j p at = elim (eqb_tells j run) [
-    | inl is ↦
-        let left = place_left place later turn.ending in
-        let there_is : get_or (set s.places run left) j None ≡ left =
-        ap (λ (n : ℕ). get_or (set s.places run left) n None) is.1 ∙ get_or-set_same s.places run left None (there s.places run place here) in
-        own_room turn.ending p (sym there_is ∙ at)
-    | inr differs ↦
-        let old = sym (get_or-set_other s.places run j (place_left place later turn.ending) None differs.1) ∙ at in
+  turn_rooms j p at = elim (set_known s.places run j (place_left place later turn.ending) p at) [
+    | inl is ↦ own_room turn.ending p is.1
+    | inr other ↦
         moved_room s.namespace.capacity next.capacity (zone_at s.namespace p.destination) (zone_at next p.destination) p.turns
         (added_capacity s.namespace place.destination turn.blocks)
-        (added_leaves s.namespace place.destination p.destination turn.blocks (λ same. differs.1 (apart.apart j run p place old here same)))
-        (rooms j p old)
+        (added_leaves s.namespace place.destination p.destination turn.blocks (λ same. other.0 (apart.apart j run p place other.1 here same)))
+        (rooms j p other.1)
   ]

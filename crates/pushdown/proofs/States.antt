@@ -1,9 +1,8 @@
 -- What holds of each state that events leave.
-use Rattle.std.proofs.Common.{◌≡◌, ◌≢◌, ℕ, ◌+◌, ◌/◌, ◌%◌, ◌≤◌, Bool, true, List, [], ◌∷◌, length, set, get_or, drop, Option, Some, None, refl, ap, sym, subst, ◌∙◌, arith, inl, inr, length-take, length-drop, get_or-set_other, get_or-set_same}
+use Rattle.std.proofs.Common.{◌≡◌, ◌≢◌, ℕ, ◌+◌, ◌/◌, ◌%◌, ◌≤◌, Bool, true, List, [], ◌∷◌, length, drop, Option, Some, None, refl, ap, sym, subst, ◌∙◌, arith, inl, inr, length-take, length-drop}
 use Rattle.std.specs.Prelude.{is_some, nat_le}
 use Rattle.std.specs.List.{AllByRecursion}
 use Rattle.std.proofs.lemmas.Bool.{leb-true}
-use Rattle.std.proofs.lemmas.Bool.Decides.{eqb_tells}
 use Rattle.std.proofs.lemmas.List.{length-map}
 use Rattle.zone_state.specs.State.{is_open}
 use Rattle.zone_state.specs.declared.status.Status.{Status}
@@ -37,7 +36,7 @@ use Rattle.image_store.proofs.Proved.{block_most}
 use Rattle.zns_commands.specs.Left as kept
 use Rattle.zns_commands.specs.Laws.{IsSpelled, NamespaceEvent, after}
 use Rattle.zns_commands.proofs.Proved.{held_destinations_are_left, events_keep_namespaces, events_keep_shapes}
-use Rattle.accepted_programs.proofs.Proved.{none_known}
+use Rattle.accepted_programs.proofs.Proved.{none_known, set_known}
 use Rattle.pushdown.specs.Admission.{Loaded, admission_checks, source_blocks, task_of}
 use Rattle.pushdown.specs.EventReplies.{Submission}
 use Rattle.pushdown.specs.BlockRuns.{Task, block_runs_of, groups_of, no_scratch}
@@ -54,7 +53,6 @@ use Rattle.pushdown.proofs.BlockRuns.{IsDone, IsReady, few_runs, runs_done, some
 use Rattle.pushdown.proofs.Bytes.{AreBlocks, IsBlock, blocks_by_place}
 use Rattle.pushdown.proofs.Changes.{after_event, after_turn}
 use Rattle.pushdown.proofs.FewBlocks.{HasFew, turns_few}
-use Rattle.pushdown.proofs.OthersEvents.{free_within}
 use Rattle.pushdown.proofs.Loads.{TakesSlot}
 use Rattle.pushdown.proofs.Outcomes.{HasWhole, ends_with_last, no_groups, outcome_is_packed, turns_whole}
 use Rattle.pushdown.proofs.Places.{AreApart, held_at, left_apart, new_apart, started_apart}
@@ -264,16 +262,13 @@ module _ {D : Type 0} (operations : Operations D) (never : AcceptedNeverTraps op
           opened = inl (demanded (is_open zone.state) DESTINATION_NOT_OPEN (passed checks 12 none));
         }
 
-  start_rooms : (sub : Submission) (s : State) (command : RunCommand) (run : ℕ) → IsFine s → why_not_run sub s command ≡ None → free_place s ≡ Some run
+  start_rooms : (sub : Submission) (s : State) (command : RunCommand) (run : ℕ) → IsFine s → why_not_run sub s command ≡ None
       → Rooms (with_place s run (Some (admitted_place sub s command)))
-  start_rooms sub s command run h e is j p at = elim (eqb_tells j run) [
+  start_rooms sub s command run h e j p at = elim (set_known s.places run j (Some (admitted_place sub s command)) p at) [
     | inl same ↦
-        let new : Option Place = Some (admitted_place sub s command) in
-        let here : new ≡ Some p =
-        sym (ap (λ (n : ℕ). get_or (set s.places run new) n None) same.1 ∙ get_or-set_same s.places run new None (free_within s.places run is)) ∙ at in
-        let equal : admitted_place sub s command ≡ p = cc in
+        let equal : admitted_place sub s command ≡ p = cc same.1 in
         subst (λ (q : Place). RoomIn s.namespace.capacity (zone_at s.namespace q.destination) q.turns) equal (admitted_room sub s command h e)
-    | inr differs ↦ h.rooms j p (sym (get_or-set_other s.places run j (Some (admitted_place sub s command)) None differs.1) ∙ at)
+    | inr other ↦ h.rooms j p other.1
   ]
 
   start_fine : (sub : Submission) (s : State) (command : RunCommand) (run : ℕ) → IsFine s → why_not_run sub s command ≡ None → free_place s ≡ Some run
@@ -283,8 +278,8 @@ module _ {D : Type 0} (operations : Operations D) (never : AcceptedNeverTraps op
     size = h.size;
     slots = h.slots;
     places = all_set PlaceIsFine s.places run (Some (admitted_place sub s command)) h.places (turns_are sub s command h passed some);
-    apart = started_apart sub s command run passed free h.apart;
-    rooms = start_rooms sub s command run h passed free;
+    apart = started_apart sub s command run passed h.apart;
+    rooms = start_rooms sub s command run h passed;
   }
 
   -- ---- turns

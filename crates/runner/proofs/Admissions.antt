@@ -1,11 +1,12 @@
 -- The checks of a run, of their parts.
 use Rattle.std.proofs.Common.{◌≡◌, ℕ, List, ◌∷◌, ◌++◌, length, get_or, Bool, true, Option, Some, None, refl, ap, sym, ◌∙◌}
+use Rattle.std.specs.Option.{option_or}
 use Rattle.std.specs.Prelude.{◌==◌, is_none, is_some, position}
 use Rattle.std.proofs.Math.ListN.{get_or-map}
 use Rattle.zone_state.specs.declared.status.Status.{Status}
 use Rattle.zone_state.specs.declared.status.TheConstants.Status.{INVALID_FIELD_IN_COMMAND, NO_SUCH_PROGRAM, NO_RUN_FREE}
 use Rattle.zone_resources.specs.declared.holds.Holds.{Holds}
-use Rattle.zone_state.specs.Checks.{demand, first_failed, or_else}
+use Rattle.zone_state.specs.Checks.{demand, first_failed}
 use Rattle.zone_state.proofs.Proved.{joined}
 use Rattle.nvme_entry.specs.declared.command.RunCommand.{RunCommand}
 use Rattle.image_store.specs.Namespace.{ZonedNamespace}
@@ -26,7 +27,7 @@ use Rattle.runner.specs.declared.loaded_program.LoadedProgram.{LoadedProgram}
 use Rattle.runner.proofs.Holding.{holds_are}
 use Rattle.runner.proofs.Numbers.{free_is}
 
-passes : (first rest : Option Status) → first ≡ None → or_else first rest ≡ rest
+passes : (first rest : Option Status) → first ≡ None → option_or first rest ≡ rest
 passes first rest none = rw none refl
 
 -- where no check before those of the destination fails, they decide
@@ -39,23 +40,23 @@ last_decides ns holds place_free slot command input source destination blocks no
     let to = first_failed (destination_checks ns holds (destination_zone ns command) (need command.blocks (sizes_in ns slot))) in
     let from = first_failed (source_checks ns (zone_block_in ns command.lba) command.blocks) in
     let parts : run_refusal ns holds place_free slot command input
-    ≡ or_else (demand (length input == 0) INVALID_FIELD_IN_COMMAND)
-    (or_else (demand (is_some slot) NO_SUCH_PROGRAM)
-    (or_else (first_failed (address_checks ns command)) (or_else (demand place_free NO_RUN_FREE) (or_else from to)))) =
-    ap (λ (rest : Option Status). or_else (demand (length input == 0) INVALID_FIELD_IN_COMMAND) (or_else (demand (is_some slot) NO_SUCH_PROGRAM) rest))
+    ≡ option_or (demand (length input == 0) INVALID_FIELD_IN_COMMAND)
+    (option_or (demand (is_some slot) NO_SUCH_PROGRAM)
+    (option_or (first_failed (address_checks ns command)) (option_or (demand place_free NO_RUN_FREE) (option_or from to)))) =
+    ap (λ (rest : Option Status). option_or (demand (length input == 0) INVALID_FIELD_IN_COMMAND) (option_or (demand (is_some slot) NO_SUCH_PROGRAM) rest))
     (joined (address_checks ns command) (demand place_free NO_RUN_FREE ∷ source_checks ns (zone_block_in ns command.lba) command.blocks
     ++ destination_checks ns holds (destination_zone ns command) (need command.blocks (sizes_in ns slot)))
-    ∙ ap (λ (rest : Option Status). or_else (first_failed (address_checks ns command)) (or_else (demand place_free NO_RUN_FREE) rest))
+    ∙ ap (λ (rest : Option Status). option_or (first_failed (address_checks ns command)) (option_or (demand place_free NO_RUN_FREE) rest))
     (joined (source_checks ns (zone_block_in ns command.lba) command.blocks) (destination_checks ns holds (destination_zone ns command) (need command.blocks (sizes_in ns slot))))) in
     let from_none : from ≡ None = ap (λ (p : ZoneBlock). first_failed (source_checks ns p command.blocks)) (sym zones.reads.is) ∙ sources in
     ap (λ (z : ℕ). first_failed (destination_checks ns holds z blocks)) (ap (λ (b : ZoneBlock). b.zone) zones.appends.is)
     ∙ ap (λ (n : ℕ). first_failed (destination_checks ns holds (destination_zone ns command) n)) enough
     ∙ sym (parts
-    ∙ ap (λ (b : Bool). or_else (demand b INVALID_FIELD_IN_COMMAND) (or_else (demand (is_some slot) NO_SUCH_PROGRAM)
-    (or_else (first_failed (address_checks ns command)) (or_else (demand place_free NO_RUN_FREE) (or_else from to))))) no_input
-    ∙ ap (λ (b : Bool). or_else (demand b NO_SUCH_PROGRAM) (or_else (first_failed (address_checks ns command)) (or_else (demand place_free NO_RUN_FREE) (or_else from to)))) loaded
-    ∙ passes (first_failed (address_checks ns command)) (or_else (demand place_free NO_RUN_FREE) (or_else from to)) addresses
-    ∙ ap (λ (b : Bool). or_else (demand b NO_RUN_FREE) (or_else from to)) free
+    ∙ ap (λ (b : Bool). option_or (demand b INVALID_FIELD_IN_COMMAND) (option_or (demand (is_some slot) NO_SUCH_PROGRAM)
+    (option_or (first_failed (address_checks ns command)) (option_or (demand place_free NO_RUN_FREE) (option_or from to))))) no_input
+    ∙ ap (λ (b : Bool). option_or (demand b NO_SUCH_PROGRAM) (option_or (first_failed (address_checks ns command)) (option_or (demand place_free NO_RUN_FREE) (option_or from to)))) loaded
+    ∙ passes (first_failed (address_checks ns command)) (option_or (demand place_free NO_RUN_FREE) (option_or from to)) addresses
+    ∙ ap (λ (b : Bool). option_or (demand b NO_RUN_FREE) (option_or from to)) free
     ∙ passes from to from_none)
 
 -- what a device tests is what is said of its state

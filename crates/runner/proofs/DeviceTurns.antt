@@ -5,6 +5,7 @@ use Rattle.std.proofs.Math.Seq.{map-set_same}
 use Rattle.std.proofs.lemmas.List.{map-set, set-get_or}
 use Rattle.nvme_entry.specs.declared.command.RunCommand.{RunCommand}
 use Rattle.instruction_set.specs.declared.instruction.Instruction.{Instruction}
+use Rattle.accepted_programs.proofs.Proved.{set_known}
 use Rattle.interval_domain.specs.Intervals.{intervals}
 use Rattle.verifier.specs.Verified.{program_of, sizes_of}
 use Rattle.image_store.specs.Geometry.{Shape}
@@ -31,7 +32,7 @@ use Rattle.pushdown.specs.Reached.{IsReached}
 use Rattle.runner.specs.steps.Turning.{FitsAt, FitsIn, FitsOn, TurnGoesOn, HasEnded, IsTurned, Keeps, SlotTurned}
 use Rattle.runner.specs.declared.active_run.ActiveRun.{ActiveRun}
 use Rattle.runner.specs.declared.loaded_program.LoadedProgram.{LoadedProgram}
-use Rattle.runner.proofs.MayBeThere.{Where, found, still_some, was_set}
+use Rattle.runner.proofs.MayBeThere.{Where, found, still_some}
 use Rattle.runner.proofs.Reached.{reached_is_sound}
 use Rattle.runner.proofs.Staying.{Stays, grows_there, keeps_source, others_stay, place_is, placed_at, still_fits}
 
@@ -127,9 +128,9 @@ module _ (ns : ZonedNamespace) (slots : List (Option LoadedProgram)) (runs : Lis
     }
 
     still_for : (i : ℕ) (x : LoadedProgram) → get_or slots' i None ≡ Some x → IsForBlocks new x
-    still_for i x there = elim (was_set slots a.command.slot i (Some q) x there) [
-      | inl is ↦ subst (Where (IsForBlocks new)) is (ap (λ v. (sizes_of v).block) same ∙ accepted ∙ same_block)
-      | inr was ↦ ready.programs i x was ∙ same_block
+    still_for i x there = elim (set_known slots a.command.slot i (Some q) x there) [
+      | inl is ↦ subst (Where (IsForBlocks new)) is.1 (ap (λ v. (sizes_of v).block) same ∙ accepted ∙ same_block)
+      | inr was ↦ ready.programs i x was.1 ∙ same_block
     ]
 
     -- a run whose program was in its slot, and is
@@ -144,13 +145,13 @@ module _ (ns : ZonedNamespace) (slots : List (Option LoadedProgram)) (runs : Lis
     all_ready : Where OwnFits r → IsReady new slots' (set runs k r)
     all_ready own = record {
       programs = still_for;
-      running = λ j b there. elim (was_set runs k j r b there) [
+      running = λ j b there. elim (set_known runs k j r b there) [
         | inl is ↦
-            let mine : OwnFits b = subst (Where OwnFits) is own in
+            let mine : OwnFits b = subst (Where OwnFits) is.1 own in
             is_running b p (ap (λ (command : RunCommand). get_or slots command.slot None) mine.0 ∙ loaded) mine.1
         | inr was ↦
-            let is = ready.running j b was in
-            is_running b is.program is.loaded (still_fits ns new b is.fits same_shape (grows j b was))
+            let is = ready.running j b was.1 in
+            is_running b is.program is.loaded (still_fits ns new b is.fits same_shape (grows j b was.1))
       ];
     }
 

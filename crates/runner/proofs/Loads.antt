@@ -1,16 +1,16 @@
 -- A program that is put into a slot that no run uses.
-use Rattle.std.proofs.Common.{◌≡◌, ◌≢◌, ℕ, zero, suc, ◌<◌, Bool, false, List, [], ◌∷◌, length, map, set, get_or, Option, Some, None, refl, ap, sym, subst, ◌∙◌, inl, inr, get_or-set_other, get_or-set_same}
+use Rattle.std.proofs.Common.{◌≡◌, ◌≢◌, ℕ, zero, suc, Bool, false, List, [], ◌∷◌, map, set, get_or, Option, Some, None, refl, ap, sym, subst, ◌∙◌, inl, inr, get_or-set_other}
 use Rattle.std.specs.Prelude.{◌==◌, ◌||◌, not}
 use Rattle.std.specs.List.{list_any}
 use Rattle.std.proofs.lemmas.List.{map-set}
 use Rattle.std.proofs.lemmas.Bool.{eqb-false, not-true, or_parts}
-use Rattle.std.proofs.lemmas.Bool.Decides.{eqb_tells}
 use Rattle.zone_state.specs.declared.status.Status.{Status}
 use Rattle.zone_state.specs.declared.status.TheConstants.Status.{PROGRAM_IN_USE, SUCCESS}
 use Rattle.zone_state.specs.Checks.{first_failed}
 use Rattle.zone_state.proofs.Proved.{demanded, passed}
 use Rattle.nvme_entry.specs.declared.command.LoadCommand.{LoadCommand}
 use Rattle.program_interface.specs.RunSizes.{Sizes}
+use Rattle.accepted_programs.proofs.Proved.{set_known}
 use Rattle.interval_domain.specs.Intervals.{intervals}
 use Rattle.verifier.specs.Verified.{program_of, sizes_of}
 use Rattle.image_store.specs.Namespace.{ZonedNamespace}
@@ -64,7 +64,7 @@ module _ (ns : ZonedNamespace) (slots : List (Option Loaded)) (slot : ℕ) (new 
 -- ---- the program is put there
 
 module _ (ns : ZonedNamespace) (slots : List (Option LoadedProgram)) (runs : List (Option ActiveRun)) (load : LoadCommand) (input : List ℕ)
-    (new : LoadedProgram) (ready : IsReady ns slots runs) (inside : load.slot < length slots)
+    (new : LoadedProgram) (ready : IsReady ns slots runs)
     (loadable : IsLoadable load input (device_state ns slots runs) (program_of new.prepared) (sizes_of new.prepared)) where
   abbrev s : State
   s = device_state ns slots runs
@@ -100,13 +100,11 @@ module _ (ns : ZonedNamespace) (slots : List (Option LoadedProgram)) (runs : Lis
 
   pub loaded_ready : IsReady ns (set slots load.slot (Some new)) runs
   loaded_ready = record {
-    programs = λ k p at. elim (eqb_tells k load.slot) [
+    programs = λ k p at. elim (set_known slots load.slot k (Some new) p at) [
       | inl same ↦
-          let here : get_or (set slots load.slot (Some new)) k None ≡ Some new =
-          ap (λ (n : ℕ). get_or (set slots load.slot (Some new)) n None) same.1 ∙ get_or-set_same slots load.slot (Some new) None inside in
-          let this : new ≡ p = cc in
+          let this : new ≡ p = cc same.1 in
           subst (IsForBlocks ns) this (ap (λ (sizes : Sizes). sizes.block) loadable.accepted.kept_is)
-      | inr other ↦ ready.programs k p (sym (get_or-set_other slots load.slot k (Some new) None other.1) ∙ at)
+      | inr other ↦ ready.programs k p other.1
     ];
     running = λ k a at.
         let was = ready.running k a at in

@@ -1,6 +1,5 @@
 -- Lists of what may be there.
-use Rattle.std.proofs.Common.{◌≡◌, ℕ, zero, suc, ◌<◌, List, [], ◌∷◌, length, set, get_or, Option, Some, None, refl, ap, sym, ◌∙◌, inl, inr}
-use Rattle.std.specs.Prelude.{◌⊎◌}
+use Rattle.std.proofs.Common.{◌≡◌, ℕ, zero, suc, ◌<◌, List, [], ◌∷◌, length, set, get_or, Option, Some, None, refl, ap, sym, ◌∙◌}
 use Rattle.std.proofs.lemmas.List.{get_or_default}
 
 -- what the code reads at an index, with a default of its own, is there
@@ -14,14 +13,6 @@ pub found : {X : Type 0} (xs : List (Option X)) (i k : ℕ) (default : Option X)
     → get_or xs i default ≡ Some x
 found xs i k default x same inside at =
     get_or_default xs i default None inside ∙ ap (λ (n : ℕ). get_or xs n None) same ∙ at
-
-pub was_set : {X : Type 0} (xs : List (Option X)) (j i : ℕ) (o : Option X) (x : X) → get_or (set xs j o) i None ≡ Some x
-    → (o ≡ Some x) ⊎ (get_or xs i None ≡ Some x)
-was_set [] j i o x at = cc
-was_set (w ∷ xs) zero zero o x at = inl at
-was_set (w ∷ xs) zero (suc i) o x at = inr at
-was_set (w ∷ xs) (suc j) zero o x at = inr at
-was_set (w ∷ xs) (suc j) (suc i) o x at = was_set xs j i o x at
 
 pub still_some : {X : Type 0} (xs : List (Option X)) (j i : ℕ) (y x : X) → get_or xs i None ≡ Some x
     → (z : X) × (get_or (set xs j (Some y)) i None ≡ Some z)

@@ -1,10 +1,11 @@
 -- The state in which a run has begun.
-use Rattle.std.proofs.Common.{◌≡◌, ℕ, List, length, map, set, get_or, Option, Some, None, refl, ap, sym, ◌∙◌, ◌<◌, true, inl, inr, subst, arith, get_or-set_other, get_or-set_same}
+use Rattle.std.proofs.Common.{◌≡◌, ℕ, List, map, set, get_or, Option, Some, None, ap, sym, ◌∙◌, inl, inr, subst, arith}
 use Rattle.std.specs.Prelude.{is_none, is_some, position}
 use Rattle.std.proofs.lemmas.List.{map-set}
-use Rattle.std.proofs.lemmas.Bool.Decides.{eqb_tells}
 use Rattle.zone_state.specs.declared.status.Status.{Status}
 use Rattle.nvme_entry.specs.declared.command.RunCommand.{RunCommand}
+use Rattle.program_meaning.proofs.Proved.{the_value}
+use Rattle.accepted_programs.proofs.Proved.{set_known}
 use Rattle.image_store.specs.Namespace.{ZonedNamespace}
 use Rattle.image_store.specs.declared.geometry.ZoneBlock.{ZoneBlock}
 use Rattle.pushdown.specs.Admission.{run_refusal}
@@ -60,15 +61,11 @@ module _ (ns : ZonedNamespace) (slots : List (Option LoadedProgram)) (runs : Lis
       let sub = submission_of queue entry input in
       ap (λ (why : Option Status). start_by why (free_place s) sub s command) (why_is ns slots runs sub command ready ∙ sym fails)
 
-  loaded_there : (o : Option LoadedProgram) → is_some o ≡ true → (p : LoadedProgram) × (o ≡ Some p)
-  loaded_there None some = cc
-  loaded_there (Some p) some = (p, refl)
-
   -- a run that has just begun is one of a device
   pub is_running : (command : RunCommand) (queue cid block : ℕ) (admitted : Admitted) → IsReady ns slots runs → IsAdmission ns slots runs command admitted
       → block ≡ ns.block → IsRunning ns slots (new_active queue cid command admitted.source admitted.destination block)
   is_running command queue cid block admitted ready is same =
-      let at = loaded_there (get_or slots command.slot None) is.loaded in
+      let at = the_value (get_or slots command.slot None) is.loaded in
       record {
         program = at.0;
         loaded = at.1;
@@ -89,14 +86,13 @@ module _ (ns : ZonedNamespace) (slots : List (Option LoadedProgram)) (runs : Lis
       }
 
   -- and all is ready with it
-  pub still_ready : (run : ℕ) (a : ActiveRun) → IsReady ns slots runs → IsRunning ns slots a → run < length runs → IsReady ns slots (set runs run (Some a))
-  still_ready run a ready is inside = record {
+  pub still_ready : (run : ℕ) (a : ActiveRun) → IsReady ns slots runs → IsRunning ns slots a → IsReady ns slots (set runs run (Some a))
+  still_ready run a ready is = record {
     programs = ready.programs;
-    running = λ k b at. elim (eqb_tells k run) [
+    running = λ k b at. elim (set_known runs run k (Some a) b at) [
       | inl same ↦
-          let here : get_or (set runs run (Some a)) k None ≡ Some a = ap (λ (n : ℕ). get_or (set runs run (Some a)) n None) same.1 ∙ get_or-set_same runs run (Some a) None inside in
-          let this : a ≡ b = cc in
+          let this : a ≡ b = cc same.1 in
           subst (IsRunning ns slots) this is
-      | inr other ↦ ready.running k b (sym (get_or-set_other runs run k (Some a) None other.1) ∙ at)
+      | inr other ↦ ready.running k b other.1
     ];
   }

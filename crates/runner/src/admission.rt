@@ -1,6 +1,7 @@
 //! Whether a run is admitted.
 
 ghost use Rattle.std.specs.Prelude.{◌≡◌, ◌<◌, ◌+◌, ◌^◌, length, get_or, position, is_some, is_none, None, Option, IfOk, IfErr, OnOk, OnErr};
+ghost use Rattle.std.specs.Result.{result_err};
 ghost use Rattle.zone_state.specs.Checks.{first_failed};
 ghost use Rattle.pushdown.specs.Admission.{address_checks, destination_checks, run_refusal, source_checks};
 ghost use Rattle.runner.specs.steps.Admitting.{AreZonesOf, IsAdmission};
@@ -8,7 +9,6 @@ ghost use Rattle.runner.specs.steps.Answered.{Refuses, Starts};
 ghost use Rattle.runner.specs.DeviceState.{loaded_slot, device_state};
 ghost use Rattle.runner.specs.steps.ActiveRuns.{held_by};
 ghost use Rattle.runner.specs.Ready.{AreWritten, IsReady};
-ghost use Rattle.zns_commands.specs.Resources.{why_not};
 
 use crate::active_run::ActiveRun;
 use crate::loaded_program::LoadedProgram;
@@ -72,7 +72,7 @@ fn admit(
     input: &[u8],
 ) -> Result<Admitted, Status>
     requires { IsReady namespace.now slots.now runs.now }
-    ensures why { why_not result ≡ run_refusal namespace.now (held_by runs.now) (is_some (position is_none runs.now)) (loaded_slot (get_or slots.now command.now.slot None)) command.now input.now }
+    ensures why { result_err result ≡ run_refusal namespace.now (held_by runs.now) (is_some (position is_none runs.now)) (loaded_slot (get_or slots.now command.now.slot None)) command.now input.now }
     ensures admission { IfOk result (IsAdmission namespace.now slots.now runs.now command.now) }
 {
     check_transfer(0, 0, input)?;
@@ -98,7 +98,7 @@ fn source_and_destination(
     namespace: &Namespace,
     command: &RunCommand,
 ) -> Result<(ZoneBlock, u32), Status>
-    ensures why { why_not result ≡ first_failed (address_checks namespace.now command.now) }
+    ensures why { result_err result ≡ first_failed (address_checks namespace.now command.now) }
     ensures zones { IfOk result (λ found. AreZonesOf namespace.now command.now found.0 found.1) }
 {
     let source = first_block(namespace.image(), command.lba, command.blocks)?;
@@ -112,7 +112,7 @@ fn source_and_destination(
 /// Tests the blocks that a run is to read: they lie in one zone, and are written.
 fn check_source(namespace: &Namespace, first: ZoneBlock, blocks: BlockCount) -> Result<(), Status>
     requires { first.zone < length namespace.now.zones }
-    ensures why { why_not result ≡ first_failed (source_checks namespace.now first blocks) }
+    ensures why { result_err result ≡ first_failed (source_checks namespace.now first blocks) }
     ensures written { OnOk result (AreWritten namespace.now first blocks) }
     ensures small { OnOk result (first.offset + blocks < 2 ^ 32) }
 {
@@ -134,7 +134,7 @@ fn check_destination(
     blocks: u32,
 ) -> Result<(), Status>
     requires { zone < length namespace.now.zones }
-    ensures { why_not result ≡ first_failed (destination_checks namespace.now holds.now zone blocks) }
+    ensures { result_err result ≡ first_failed (destination_checks namespace.now holds.now zone blocks) }
 {
     if holds.is_destination(zone) {
         return Err(Status::ZONE_HELD);

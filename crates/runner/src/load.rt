@@ -2,6 +2,7 @@
 
 ghost use Rattle.std.specs.Prelude.{◌≡◌, ◌<◌, List, Option, IfOk, IfErr};
 ghost use Rattle.std.specs.List.{list_any};
+ghost use Rattle.std.specs.Result.{result_err};
 ghost use Rattle.zone_state.specs.Checks.{first_failed};
 ghost use Rattle.pushdown.specs.Happenings.{load_checks};
 ghost use Rattle.runner.specs.steps.Answered.{HasLoaded};
@@ -9,7 +10,6 @@ ghost use Rattle.runner.specs.DeviceState.{device_state};
 ghost use Rattle.runner.specs.steps.Loading.{uses_slot, refused_program, IsAccepted, IsLoadable, IsNotAccepted};
 ghost use Rattle.runner.specs.Ready.{IsReady};
 ghost use Rattle.verifier.specs.Verified.{program_of, sizes_of};
-ghost use Rattle.zns_commands.specs.Resources.{why_not};
 
 use crate::active_run::ActiveRun;
 use crate::loaded_program::LoadedProgram;
@@ -71,7 +71,7 @@ fn check_load(
     command: &LoadCommand,
     input: &[u8],
 ) -> Result<RunSizes, Status>
-    ensures why { (slots : List (Option LoadedProgram)) → why_not result ≡ first_failed (load_checks (device_state namespace.now slots runs.now) command.now input.now) }
+    ensures why { (slots : List (Option LoadedProgram)) → result_err result ≡ first_failed (load_checks (device_state namespace.now slots runs.now) command.now input.now) }
     ensures sizes { IfOk result (λ sizes. sizes ≡ record { block = namespace.now.block; limit = command.now.limit }) }
 {
     let bytes = u64::from(command.bytes);

@@ -1,6 +1,7 @@
 -- What holds of an action that isn't refused.
 use Rattle.std.proofs.Common.{◌≡◌, ℕ, ◌<◌, Bool, true, false, [], ◌∷◌, length, Option, Some, None, Result, Ok, Err, refl, subst}
 use Rattle.std.specs.Prelude.{nat_lt, not, IfOk}
+use Rattle.std.specs.Result.{result_err, result_unwrap_or}
 use Rattle.std.proofs.lemmas.Bool.{ltb-true}
 use Rattle.zone_state.specs.declared.action.Action.{Action}
 use Rattle.zone_state.specs.declared.action.Action.TheVariants as action
@@ -12,9 +13,9 @@ use Rattle.zone_state.specs.Checks.{demand, unless_failed, first_failed}
 use Rattle.zone_state.proofs.Proved.{demanded, passed}
 use Rattle.image_store.specs.Namespace.{ZonedNamespace, zone_at, IsNamespace}
 use Rattle.zns_commands.specs.Address.{zone_number, block_total}
-use Rattle.zns_commands.specs.Resources.{room_for, why_not, closing_of}
+use Rattle.zns_commands.specs.Resources.{room_for, closing_of}
 use Rattle.zns_commands.specs.steps.Accepted.{CanGiveWay}
-use Rattle.zns_commands.specs.Send.{room_of, led_by, zone_checks}
+use Rattle.zns_commands.specs.Send.{room_of, zone_checks}
 use Rattle.zns_commands.specs.steps.Accepted.{CanMove}
 use Rattle.zns_commands.specs.declared.send.ZonePlan.{ZonePlan}
 use Rattle.zns_commands.specs.steps.Plans.{zone_plan}
@@ -28,8 +29,8 @@ pub zone_checked : (address lowest : Option Status) (refused : Bool) (moves : Re
     (from : ZoneState) (z zone : ℕ) (to : ZoneState) (closing : Option ℕ)
     → Ok zone ≡ unless_failed (first_failed (address ∷ lowest ∷ [])) z → refused ≡ false → Ok to ≡ moves → Ok closing ≡ room
     → Ok (let plan : ZonePlan = record { zone = zone; to = to; closing = closing } in plan)
-    ≡ unless_failed (first_failed (address ∷ lowest ∷ demand (not refused) ZONE_HELD ∷ why_not moves ∷ why_not room ∷ []))
-    (let plan : ZonePlan = record { zone = z; to = led_by moves from; closing = closing_of room } in plan)
+    ≡ unless_failed (first_failed (address ∷ lowest ∷ demand (not refused) ZONE_HELD ∷ result_err moves ∷ result_err room ∷ []))
+    (let plan : ZonePlan = record { zone = z; to = result_unwrap_or moves from; closing = closing_of room } in plan)
 zone_checked None None false (Ok s) (Ok gives) from z zone to closing is free moves room = cc
 zone_checked (Some status) lowest refused leads gives from z zone to closing is free moves room = cc
 zone_checked None (Some status) refused leads gives from z zone to closing is free moves room = cc

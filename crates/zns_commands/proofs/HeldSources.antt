@@ -1,6 +1,7 @@
 -- That a zone which a run reads from keeps its blocks, through every command and fault under the run's hold.
 use Rattle.std.proofs.Common.{◌≡◌, ℕ, zero, suc, Bool, true, false, cond, List, [], ◌∷◌, length, map, get_or, Option, None, Result, Ok, Err, refl, sym, subst}
 use Rattle.std.specs.Prelude.{nat_lt, ◌&&◌, ◌||◌}
+use Rattle.std.specs.Result.{result_err}
 use Rattle.std.proofs.lemmas.Bool.{or_parts}
 use Rattle.zone_state.specs.Transition.{transition}
 use Rattle.zone_state.specs.Zone.{fault_refusal, state_of_fault}
@@ -23,7 +24,7 @@ use Rattle.zns_commands.specs.Fault.{zone_fault_refusal, faulted_by}
 use Rattle.zns_commands.specs.Left.{Grows, HeldSourcesKeepBlocks}
 use Rattle.zns_commands.specs.Laws.{Commanded, Faulted}
 use Rattle.zns_commands.specs.Meaning.{checks_of, effect_of}
-use Rattle.zns_commands.specs.Resources.{why_not, closed}
+use Rattle.zns_commands.specs.Resources.{closed}
 use Rattle.zns_commands.specs.Send.{send_checks, send_effect, takes, swept, led_to}
 use Rattle.zns_commands.specs.steps.Plans.{write_plan, zone_plan}
 use Rattle.zns_commands.proofs.HeldZones.{not_taken, not_refused, not_held}
@@ -32,7 +33,7 @@ use Rattle.zns_commands.proofs.Meanings.{after_command}
 use Rattle.zns_commands.proofs.Untouched.{effect_left}
 
 -- an action that forgets nothing clears no zone that it can be taken on
-leads_to : (a : Action) (from : ZoneState) → forgets a ≡ false → why_not (transition a from) ≡ None → is_cleared (led_to a from) ≡ false
+leads_to : (a : Action) (from : ZoneState) → forgets a ≡ false → result_err (transition a from) ≡ None → is_cleared (led_to a from) ≡ false
 leads_to action.Reset from e can = cc
 leads_to action.Offline from e can = cc
 leads_to action.Close Empty e can = cc

@@ -1,6 +1,7 @@
 -- That an open zone wants nothing, and takes blocks as by an Append.
 use Rattle.std.proofs.Common.{◌≡◌, ℕ, zero, suc, ◌+◌, ◌*◌, ◌%◌, ◌≤◌, ◌<◌, Bool, true, List, [], ◌∷◌, length, get_or, Option, None, Result, Ok, refl, ap, sym, subst, ◌∙◌, arith}
 use Rattle.std.specs.Prelude.{nat_eq, nat_le, nat_lt, not}
+use Rattle.std.specs.Result.{result_err}
 use Rattle.std.proofs.lemmas.Bool.{eq-eqb, le-leb, lt-ltb}
 use Rattle.zone_state.specs.Checks.{demand, first_failed}
 use Rattle.zone_state.specs.State.{is_open}
@@ -21,7 +22,7 @@ use Rattle.zns_commands.specs.Address.{block_total, counted_zone_at, zone_number
 use Rattle.zns_commands.specs.Append.{TakesBlocks, append_checks, append_effect}
 use Rattle.zns_commands.specs.Effect.{concluded}
 use Rattle.zns_commands.specs.Laws.{AddedBlocksAreAppended, AddedBlocksKeepNamespacesSound}
-use Rattle.zns_commands.specs.Resources.{room_by, room_for, why_not, closing_of}
+use Rattle.zns_commands.specs.Resources.{room_by, room_for, closing_of}
 use Rattle.zns_commands.specs.declared.write.WritePlan.{WritePlan}
 use Rattle.zns_commands.specs.steps.Plans.{write_plan, written_by}
 use Rattle.zns_commands.proofs.FittingZones.{one_within, open_holds}
@@ -88,12 +89,12 @@ abbrev checked_by : ZonedNamespace → ℕ → Bool → Bool → Bool → Bool �
 checked_by ns n few whole start lowest z =
     first_failed (demand few INVALID_FIELD_IN_COMMAND ∷ demand whole INVALID_FIELD_IN_COMMAND ∷ demand start LBA_OUT_OF_RANGE
     ∷ demand lowest INVALID_FIELD_IN_COMMAND ∷ demand (not (is_destination no_holds z)) ZONE_HELD
-    ∷ why_not (write_check (counted_zone_at ns z) (length (zone_at ns z).blocks) n) ∷ why_not (room_for ns no_holds (zone_at ns z).state) ∷ [])
+    ∷ result_err (write_check (counted_zone_at ns z) (length (zone_at ns z).blocks) n) ∷ result_err (room_for ns no_holds (zone_at ns z).state) ∷ [])
 
 all_pass : (ns : ZonedNamespace) (n z : ℕ) (few whole start lowest : Bool) (fits : Result Unit Status) (room : Result (Option ℕ) Status)
     → few ≡ true → whole ≡ true → start ≡ true → lowest ≡ true → fits ≡ Ok tt → room ≡ Ok None
     → first_failed (demand few INVALID_FIELD_IN_COMMAND ∷ demand whole INVALID_FIELD_IN_COMMAND ∷ demand start LBA_OUT_OF_RANGE
-    ∷ demand lowest INVALID_FIELD_IN_COMMAND ∷ None ∷ why_not fits ∷ why_not room ∷ []) ≡ None
+    ∷ demand lowest INVALID_FIELD_IN_COMMAND ∷ None ∷ result_err fits ∷ result_err room ∷ []) ≡ None
 all_pass ns n z few whole start lowest fits room e1 e2 e3 e4 e5 e6 = rw (e1, e2, e3, e4, e5, e6) refl
 
 -- where a zone takes blocks, of which there are no more than a transfer may be, no check of an Append of them fails

@@ -3,6 +3,8 @@ use Rattle.std.proofs.Common.{◌≡◌, ℕ, suc, ◌+◌, ◌*◌, ◌/◌, �
 use Rattle.std.specs.Prelude.{nat_lt, nat_le, nat_eq, not}
 use Rattle.std.specs.List.{AllByRecursion}
 use Rattle.std.proofs.Math.Nat.{div-lt_iff_lt-mul, mul-div_cancel, mul-le-mul_right, suc-mul}
+use Rattle.std.specs.Option.{option_or}
+use Rattle.std.specs.Result.{result_err}
 use Rattle.std.proofs.lemmas.Bool.{eqb-true, leb-true, ltb-true}
 use Rattle.std.proofs.lemmas.Nat.{mod-mul-add}
 use Rattle.zone_state.specs.Zone.{CountedZone, checks_of_write, write_check, write_refusal}
@@ -19,7 +21,7 @@ use Rattle.zone_resources.specs.declared.admission.Wanted.TheVariants.{OpenOnly,
 use Rattle.zone_resources.specs.declared.holds.Holds.{Holds}
 use Rattle.nvme_entry.specs.declared.command.StandardCommand.TheVariants.{Write, Read, Append}
 use Rattle.nvme_entry.specs.declared.command.TheConstants.{MOST_TRANSFER}
-use Rattle.zone_state.specs.Checks.{demand, or_else, first_failed, unless_failed}
+use Rattle.zone_state.specs.Checks.{demand, first_failed, unless_failed}
 use Rattle.zone_state.proofs.Proved.{demanded, is_allowed, passed}
 use Rattle.program_interface.proofs.Proved.{all_append}
 use Rattle.image_store.specs.Namespace.{ZonedNamespace, zone_at, counted_zones, IsNamespace}
@@ -27,16 +29,16 @@ use Rattle.zns_commands.specs.Address.{counted_zone_at, zone_number, block_total
 use Rattle.zns_commands.specs.Effect.{Effect, concluded}
 use Rattle.zns_commands.specs.Append.{append_address_checks, append_checks, append_effect}
 use Rattle.zns_commands.specs.Read.{read_refusal, read_checks, read_effect}
-use Rattle.zns_commands.specs.Resources.{room_by, room_for, why_not, closing_of}
+use Rattle.zns_commands.specs.Resources.{room_by, room_for, closing_of}
 use Rattle.zns_commands.specs.Write.{write_address_checks, write_checks, write_effect, zone_write_checks}
 use Rattle.zns_commands.specs.Transfer.{transfer_checks}
 use Rattle.zns_commands.specs.Meaning.{meaning}
 
-pub roomed : (room : Result (Option ℕ) Status) → why_not room ≡ None → room ≡ Ok (closing_of room)
+pub roomed : (room : Result (Option ℕ) Status) → result_err room ≡ None → room ≡ Ok (closing_of room)
 roomed (Ok gives) none = refl
 roomed (Err status) none = cc
 
-allowed : (r : Result Unit Status) → why_not r ≡ None → r ≡ Ok tt
+allowed : (r : Result Unit Status) → result_err r ≡ None → r ≡ Ok tt
 allowed (Ok done) none = refl
 allowed (Err status) none = cc
 
@@ -119,7 +121,7 @@ write_writes ns holds lba blocks input sound some none =
 abbrev Fails : Option Status → Type 0
 Fails check = (status : Status) → check ≡ Some status → 1 ≤ status.code
 
-first_fails : (check rest : Option Status) → Fails check → Fails rest → Fails (or_else check rest)
+first_fails : (check rest : Option Status) → Fails check → Fails rest → Fails (option_or check rest)
 first_fails None rest one others = others
 first_fails (Some status) rest one others = one
 
@@ -139,11 +141,11 @@ some_fails : (checks : List (Option Status)) → AllByRecursion Fails checks →
 some_fails [] all = none_fails
 some_fails (check ∷ checks) all = first_fails check (first_failed checks) all.0 (some_fails checks all.1)
 
-cond_fails : {X : Type 0} (test : Bool) (x y : Result X Status) → Fails (why_not x) → Fails (why_not y) → Fails (why_not (cond test x y))
+cond_fails : {X : Type 0} (test : Bool) (x y : Result X Status) → Fails (result_err x) → Fails (result_err y) → Fails (result_err (cond test x y))
 cond_fails true x y left right = left
 cond_fails false x y left right = right
 
-unless_fails : {X : Type 0} (why : Option Status) (x : X) → Fails why → Fails (why_not (unless_failed why x))
+unless_fails : {X : Type 0} (why : Option Status) (x : X) → Fails why → Fails (result_err (unless_failed why x))
 unless_fails None x fails = fails
 unless_fails (Some status) x fails = fails
 
@@ -153,7 +155,7 @@ refusal_fails ReadOnly = err_fails ZONE_IS_READ_ONLY (omega arith)
 refusal_fails Offline = err_fails ZONE_IS_OFFLINE (omega arith)
 refusal_fails state = none_fails
 
-write_check_fails : (z : CountedZone) (at n : ℕ) → Fails (why_not (write_check z at n))
+write_check_fails : (z : CountedZone) (at n : ℕ) → Fails (result_err (write_check z at n))
 write_check_fails z at n =
     unless_fails (first_failed (checks_of_write z at n)) tt
     (some_fails (checks_of_write z at n) (
@@ -164,16 +166,16 @@ write_check_fails z at n =
       ),
     ))
 
-closing_fails : (found : Option ℕ) → Fails (why_not (closing_answer found))
+closing_fails : (found : Option ℕ) → Fails (result_err (closing_answer found))
 closing_fails None = err_fails TOO_MANY_OPEN_ZONES (omega arith)
 closing_fails (Some k) = none_fails
 
-open_fails : (zones : List CountedZone) (limits : Limits) (holds : Holds) → Fails (why_not (open_admission zones limits holds))
+open_fails : (zones : List CountedZone) (limits : Limits) (holds : Holds) → Fails (result_err (open_admission zones limits holds))
 open_fails zones limits holds =
     cond_fails (nat_lt (open_count zones) limits.open_limit) (Ok None) (closing_answer (zone_to_close holds zones))
     none_fails (closing_fails (zone_to_close holds zones))
 
-wanted_fails : (ns : ZonedNamespace) (holds : Holds) (wanted : Option Wanted) → Fails (why_not (room_by ns holds wanted))
+wanted_fails : (ns : ZonedNamespace) (holds : Holds) (wanted : Option Wanted) → Fails (result_err (room_by ns holds wanted))
 wanted_fails ns holds None = none_fails
 wanted_fails ns holds (Some OpenOnly) = open_fails (counted_zones ns) ns.limits holds
 wanted_fails ns holds (Some OpenAndActive) =

@@ -1,6 +1,7 @@
 -- That Select All leaves each zone that it takes as the action on that zone alone does, and what refuses it.
 use Rattle.std.proofs.Common.{◌≡◌, ℕ, zero, suc, ◌+◌, ◌*◌, ◌%◌, ◌<◌, ◌≤◌, Bool, true, false, cond, List, [], ◌∷◌, length, get_or, map, Option, None, Result, Ok, refl, ap, sym, subst, ◌∙◌, arith}
 use Rattle.std.specs.Prelude.{nat_eq, nat_le, nat_lt, not, ◌&&◌, ◌||◌}
+use Rattle.std.specs.Result.{result_err, result_unwrap_or}
 use Rattle.std.proofs.lemmas.Bool.{eq-eqb, leb-true, le-leb, lt-ltb}
 use Rattle.std.proofs.lemmas.List.{get_or-map, get_or-set_same}
 use Rattle.std.proofs.lemmas.List.Sums.{sum_by-cons}
@@ -20,9 +21,9 @@ use Rattle.image_store.specs.Namespace.{ZoneBlocks, ZonedNamespace, no_zone, zon
 use Rattle.zns_commands.specs.Address.{block_total}
 use Rattle.zns_commands.specs.Effect.{Effect, concluded, success_effect}
 use Rattle.zns_commands.specs.Laws.{Commanded}
-use Rattle.zns_commands.specs.Resources.{closed, closing_of, room_for, why_not}
+use Rattle.zns_commands.specs.Resources.{closed, closing_of, room_for}
 use Rattle.zns_commands.specs.SelectAll.{EachHasRoom, NoneIsHeld, SelectAllIsEachAlone, SelectAllIsRefusedByHoldsAndLimits, TakenZonesMove, sent_to_all, sent_to_one}
-use Rattle.zns_commands.specs.Send.{all_effect, all_fit, gives_way_to, held_among, led_by, led_to, room_of, swept, taken_among, takes}
+use Rattle.zns_commands.specs.Send.{all_effect, all_fit, gives_way_to, held_among, led_to, room_of, swept, taken_among, takes}
 use Rattle.nvme_entry.specs.declared.command.StandardCommand.TheVariants.{Send}
 use Rattle.zns_commands.proofs.HeldZones.{held_from, held_is_left}
 use Rattle.zns_commands.proofs.PassedChecks.{lowest_of}
@@ -76,8 +77,8 @@ room_is_free ns holds action.Offline z inside is fit = refl
 -- an action of which the hold, the transition and the room pass, without a zone that gives way
 passes : (ns : ZonedNamespace) (z : ℕ) (refused : Bool) (moves : Result ZoneState Status) (room : Result (Option ℕ) Status) (from to : ZoneState)
     → refused ≡ false → moves ≡ Ok to → room ≡ Ok None
-    → concluded (first_failed (demand (not refused) ZONE_HELD ∷ why_not moves ∷ why_not room ∷ [])) ns
-    (success_effect (with_state (closed ns (closing_of room)) z (led_by moves from)) 0 [])
+    → concluded (first_failed (demand (not refused) ZONE_HELD ∷ result_err moves ∷ result_err room ∷ [])) ns
+    (success_effect (with_state (closed ns (closing_of room)) z (result_unwrap_or moves from)) 0 [])
     ≡ success_effect (with_state ns z to) 0 []
 passes ns z refused moves room from to free leads none = rw (free, leads, none) refl
 
@@ -86,7 +87,7 @@ abbrev by_number : ZonedNamespace → Holds → Action → ℕ → Bool → Bool
 by_number ns holds a k start lowest =
     let from = (zone_at ns k).state in
     concluded (first_failed (demand start LBA_OUT_OF_RANGE ∷ demand lowest INVALID_FIELD_IN_COMMAND
-    ∷ demand (not (refuses holds a k)) ZONE_HELD ∷ why_not (transition a from) ∷ why_not (room_of ns holds a from) ∷ [])) ns
+    ∷ demand (not (refuses holds a k)) ZONE_HELD ∷ result_err (transition a from) ∷ result_err (room_of ns holds a from) ∷ [])) ns
     (success_effect (with_state (closed ns (gives_way_to ns holds a from)) k (led_to a from)) 0 [])
 
 -- a zone's own address names it
@@ -136,7 +137,7 @@ held_where taken false none is =
     let not_taken : taken ≡ false = none refl in absurd cc
 
 moved_by : (taken : Bool) (moves : Result ZoneState Status) (zone : ZoneBlocks) (to : ZoneState) → taken ≡ true → moves ≡ Ok to
-    → cond taken (arrived (led_by moves zone.state) zone) zone ≡ arrived to zone
+    → cond taken (arrived (result_unwrap_or moves zone.state) zone) zone ≡ arrived to zone
 moved_by taken moves zone to is leads = rw (is, leads) refl
 
 module _ (ns : ZonedNamespace) (holds : Holds) (a : Action) (z : ℕ) where

@@ -1,5 +1,6 @@
 -- The open and active resources that a command takes.
-use Rattle.std.specs.Prelude.{ℕ, Option, Some, None, Result, Ok, Err}
+use Rattle.std.specs.Prelude.{ℕ, Option, Some, None, Result, Ok}
+use Rattle.std.specs.Result.{result_unwrap_or}
 use Rattle.zone_state.specs.declared.state.ZoneState.{ZoneState}
 use Rattle.zone_state.specs.declared.state.ZoneState.TheVariants.{Closed}
 use Rattle.zone_state.specs.declared.status.Status.{Status}
@@ -17,15 +18,9 @@ room_by ns holds (Some wanted) = admission (counted_zones ns) ns.limits holds wa
 abbrev pub room_for : ZonedNamespace → Holds → ZoneState → Result (Option ℕ) Status
 room_for ns holds state = room_by ns holds (wanted_of state)
 
--- the status that a result refuses with
-abbrev pub why_not : {X : Type 0} → Result X Status → Option Status
-why_not (Ok x) = None
-why_not (Err status) = Some status
-
 -- the zone that is closed, if one is
 abbrev pub closing_of : Result (Option ℕ) Status → Option ℕ
-closing_of (Ok closing) = closing
-closing_of (Err status) = None
+closing_of room = result_unwrap_or room None
 
 -- the zone that gives way so that one of this state can be open, if one does
 abbrev pub gives_way : ZonedNamespace → Holds → ZoneState → Option ℕ

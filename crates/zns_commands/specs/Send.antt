@@ -1,6 +1,7 @@
 -- Zone Management Send (ZNS 1.1, 3.4.3).
-use Rattle.std.specs.Prelude.{ℕ, Bool, true, false, ◌+◌, ◌++◌, ◌&&◌, not, nat_le, List, [], ◌∷◌, map, Option, None, Result, Ok, Err, if◌then◌else◌}
+use Rattle.std.specs.Prelude.{ℕ, Bool, true, false, ◌+◌, ◌++◌, ◌&&◌, not, nat_le, List, [], ◌∷◌, map, Option, None, Result, Ok, if◌then◌else◌}
 use Rattle.std.specs.List.{enumerate_from, list_any}
+use Rattle.std.specs.Result.{result_err, result_unwrap_or}
 use Rattle.zone_state.specs.State.{is_open, is_active}
 use Rattle.zone_state.specs.Transition.{transition}
 use Rattle.zone_state.specs.Zone.{CountedZone}
@@ -16,7 +17,7 @@ use Rattle.zone_resources.specs.declared.holds.Holds.{Holds}
 use Rattle.zone_state.specs.Checks.{demand}
 use Rattle.image_store.specs.Namespace.{ZoneBlocks, ZonedNamespace, zone_at, counted_zones, arrived, with_state}
 use Rattle.zns_commands.specs.Address.{zone_number, lowest_checks}
-use Rattle.zns_commands.specs.Resources.{room_for, why_not, closing_of, closed}
+use Rattle.zns_commands.specs.Resources.{room_for, closing_of, closed}
 use Rattle.zns_commands.specs.Transfer.{transfer_checks}
 
 -- what an action on a zone of this state needs: only Open takes resources
@@ -30,18 +31,13 @@ zone_checks ns holds lba action =
     let z = zone_number ns lba in
     lowest_checks ns lba
     ++ demand (not (refuses holds action z)) ZONE_HELD
-    ∷ why_not (transition action (zone_at ns z).state)
-    ∷ why_not (room_of ns holds action (zone_at ns z).state)
+    ∷ result_err (transition action (zone_at ns z).state)
+    ∷ result_err (room_of ns holds action (zone_at ns z).state)
     ∷ []
 
--- the state that a transition leads to, or the same one where it is refused
-abbrev pub led_by : Result ZoneState Status → ZoneState → ZoneState
-led_by (Ok to) from = to
-led_by (Err status) from = from
-
--- the state that the action leads to
+-- the state that the action leads to, or the same one where it is refused
 abbrev pub led_to : Action → ZoneState → ZoneState
-led_to action from = led_by (transition action from) from
+led_to action from = result_unwrap_or (transition action from) from
 
 -- the zone that gives way to one of this state that the action opens, if one does
 abbrev pub gives_way_to : ZonedNamespace → Holds → Action → ZoneState → Option ℕ

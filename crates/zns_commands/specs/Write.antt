@@ -1,5 +1,6 @@
 -- Writing to a zone, and Write (NVM Command Set 1.0, 3.2.6; ZNS 1.1, 3.3.6).
 use Rattle.std.specs.Prelude.{ℕ, ◌*◌, ◌++◌, not, List, [], ◌∷◌, Option}
+use Rattle.std.specs.Result.{result_err}
 use Rattle.zone_state.specs.Zone.{write_check}
 use Rattle.zone_state.specs.declared.status.Status.{Status}
 use Rattle.zone_state.specs.declared.status.TheConstants.Status.{ZONE_HELD}
@@ -9,7 +10,7 @@ use Rattle.zone_state.specs.Checks.{demand}
 use Rattle.image_store.specs.Namespace.{ZonedNamespace, zone_at, appended}
 use Rattle.zns_commands.specs.Address.{zone_number, zone_offset, counted_zone_at, range_checks}
 use Rattle.zns_commands.specs.Effect.{Effect, success_effect}
-use Rattle.zns_commands.specs.Resources.{room_for, gives_way, why_not, closed}
+use Rattle.zns_commands.specs.Resources.{room_for, gives_way, closed}
 use Rattle.zns_commands.specs.Transfer.{transfer_checks}
 
 -- the checks of a write to a zone, from one of its blocks on, in order (the order is profile): the
@@ -18,8 +19,8 @@ use Rattle.zns_commands.specs.Transfer.{transfer_checks}
 abbrev pub zone_write_checks : ZonedNamespace → Holds → ℕ → ℕ → ℕ → List (Option Status)
 zone_write_checks ns holds z at blocks =
     demand (not (is_destination holds z)) ZONE_HELD
-    ∷ why_not (write_check (counted_zone_at ns z) at blocks)
-    ∷ why_not (room_for ns holds (zone_at ns z).state)
+    ∷ result_err (write_check (counted_zone_at ns z) at blocks)
+    ∷ result_err (room_for ns holds (zone_at ns z).state)
     ∷ []
 
 -- the bytes go, as blocks, to the zone's write pointer; the zone that gives way is closed first

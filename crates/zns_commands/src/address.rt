@@ -1,9 +1,9 @@
 //! Logical blocks and the zones that contain them.
 
 ghost use Rattle.std.specs.Prelude.{◌≡◌, IfOk};
+ghost use Rattle.std.specs.Result.{result_err};
 ghost use Rattle.zone_state.specs.Checks.{first_failed, unless_failed};
 ghost use Rattle.zns_commands.specs.Address.{address_check, boundary_check, lowest_checks, range_check, range_checks, zone_number, zone_block_in, IsZoneBlock};
-ghost use Rattle.zns_commands.specs.Resources.{why_not};
 
 use image_store::{Image, ZoneBlock};
 use nvme_entry::{BlockCount, Status};
@@ -62,7 +62,7 @@ pub fn first_block(image: &Image, lba: u64, blocks: BlockCount) -> Result<ZoneBl
 ///
 /// [`Status::ZONE_BOUNDARY_ERROR`] where they go on into another zone.
 pub fn check_within_zone(image: &Image, first: ZoneBlock, blocks: BlockCount) -> Result<(), Status>
-    ensures { why_not result ≡ boundary_check image.now first blocks }
+    ensures { result_err result ≡ boundary_check image.now first blocks }
 {
     if u64::from(first.offset) + u64::from(blocks.get()) > u64::from(image.geometry().size()) {
         return Err(Status::ZONE_BOUNDARY_ERROR);

@@ -2,6 +2,7 @@
 
 ghost use Rattle.std.specs.Prelude.{◌≡◌, ◌≤◌, ◌<◌, ◌*◌, ◌+◌, ◌-◌, ◌++◌, ◌^◌, length, take, drop, replicate, List, ℕ, IfOk, OnOk};
 ghost use Rattle.std.specs.List.{concat};
+ghost use Rattle.std.specs.Result.{result_err};
 ghost use Rattle.zone_resources.specs.declared.holds.Holds.{Holds};
 ghost use Rattle.nvme_entry.specs.declared.command.StandardCommand.TheVariants.{Read};
 ghost use Rattle.image_store.specs.Namespace.{ZonedNamespace, zone_at};
@@ -10,7 +11,6 @@ ghost use Rattle.zns_commands.specs.Address.{zone_block_in};
 ghost use Rattle.zns_commands.specs.Effect.{effect_of_answer};
 ghost use Rattle.zns_commands.specs.Meaning.{meaning};
 ghost use Rattle.zns_commands.specs.Read.{read_checks, read_refusal, blocks_read};
-ghost use Rattle.zns_commands.specs.Resources.{why_not};
 
 use crate::address::range;
 use crate::answer::Answer;
@@ -26,7 +26,7 @@ use zone_state::ZoneState;
 /// [`Status::ZONE_IS_OFFLINE`] where the zone is Offline.
 pub fn check_readable(image: &Image, zone: u32) -> Result<(), Status>
     requires { zone < length image.now.zones }
-    ensures { why_not result ≡ read_refusal (zone_at image.now zone).state }
+    ensures { result_err result ≡ read_refusal (zone_at image.now zone).state }
 {
     if image.zone(zone).state() == ZoneState::Offline {
         return Err(Status::ZONE_IS_OFFLINE);

@@ -1,6 +1,7 @@
 -- Ordered lists of checks, and the first that fails.
 use Rattle.std.proofs.Common.{◌≡◌, ℕ, zero, suc, Bool, true, false, List, [], ◌∷◌, ◌++◌, get_or, Option, Some, None, Ok, refl, ap, ◌∙◌}
-use Rattle.zone_state.specs.Checks.{demand, first_failed, or_else, unless_failed}
+use Rattle.std.specs.Option.{option_or}
+use Rattle.zone_state.specs.Checks.{demand, first_failed, unless_failed}
 use Rattle.zone_state.specs.FirstCheck.{FailsFirst, FirstFailedIsFirst, NoneFails, NoFaultWhereNoneFails}
 
 none_fails : {F : Type 0} (checks : List (Option F)) → first_failed checks ≡ None → NoneFails checks
@@ -50,7 +51,7 @@ none_failed None x y given = refl
 none_failed (Some fault) x y given = cc
 
 -- the first check that fails is among the first ones, or it is the first of the others
-pub joined : {F : Type 0} (first rest : List (Option F)) → first_failed (first ++ rest) ≡ or_else (first_failed first) (first_failed rest)
+pub joined : {F : Type 0} (first rest : List (Option F)) → first_failed (first ++ rest) ≡ option_or (first_failed first) (first_failed rest)
 joined [] rest = refl
 joined (None ∷ first) rest = joined first rest
 joined (Some fault ∷ first) rest = refl

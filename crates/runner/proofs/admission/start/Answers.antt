@@ -1,6 +1,4 @@
-use Rattle.std.proofs.Common.{◌<◌, length, None, ap, ◌∙◌}
-use Rattle.std.specs.Prelude.{is_none}
-use Rattle.std.proofs.lemmas.List.Quantifiers.{position-Some}
+use Rattle.std.proofs.Common.{ap, ◌∙◌}
 use Rattle.std.proofs.lemmas.Result.{err_from_is_err_and}
 use Rattle.image_store.specs.Geometry.{Shape}
 use Rattle.runner.proofs.Starting.{is_running, refuses, starts, still_ready}
@@ -23,8 +21,6 @@ returns-clause-ready c =
     let ns = c.args.namespace.now in
     let runs = c.args.runs.now in
     let block = c.block-block.ensures.value ∙ ap (λ (s : Shape). s.block) c.geometry.ensures.value in
-    let inside : c.in_ok-admitted.admitted.run < length runs = (position-Some is_none runs c.in_ok-admitted.admitted.run None c.in_ok-admitted.ensures.admission.free).0 in
     rw (c.from.ensures, c.new.ensures)
     (still_ready ns c.args.slots.now runs c.in_ok-admitted.admitted.run _ c.requires.ready
-    (is_running ns c.args.slots.now runs c.args.command.now c.args.queue c.args.cid c.block-block.result c.in_ok-admitted.admitted c.requires.ready c.in_ok-admitted.ensures.admission block)
-    inside)
+    (is_running ns c.args.slots.now runs c.args.command.now c.args.queue c.args.cid c.block-block.result c.in_ok-admitted.admitted c.requires.ready c.in_ok-admitted.ensures.admission block))
