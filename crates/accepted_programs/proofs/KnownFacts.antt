@@ -28,9 +28,9 @@ use Rattle.accepted_programs.specs.Facts.{after_store, along, area_of, cell_at, 
 use Rattle.accepted_programs.specs.declared.facts.Facts.{Facts}
 
 -- ---- the words of an instruction
-pub low_fits : (width : Width) (w : ℕ) → w < 2 ^ 64 → low_bits width w < 2 ^ 64
-low_fits Bits32 w fits = omega arith
-low_fits Bits64 w fits = fits
+pub low_is_word : (width : Width) (w : ℕ) → w < 2 ^ 64 → low_bits width w < 2 ^ 64
+low_is_word Bits32 w fits = omega arith
+low_is_word Bits64 w fits = fits
 
 pub immediate_fits : (z : ℤ) → immediate_word z < 2 ^ 64
 immediate_fits z = mod-lt _ (lit< tt)
@@ -91,7 +91,7 @@ module _ {D : Type 0} {IsFact : D → Type 0} {operations : Operations D} (give 
       → IsFact (compared_fact operations width facts source)
   compared_is facts width (Register r) are = fact_is facts r are
   compared_is facts width (Immediate z) are =
-      give.constant (low_bits width (immediate_word z)) (low_fits width (immediate_word z) (immediate_fits z))
+      give.constant (low_bits width (immediate_word z)) (low_is_word width (immediate_word z) (immediate_fits z))
 
   -- ---- edges
   with_facts : (facts : Facts D) (r : ℕ) (d : D) → AreFacts IsFact facts → IsFact d

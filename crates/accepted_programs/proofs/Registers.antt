@@ -13,7 +13,7 @@ use Rattle.program_meaning.specs.State.{IsState, State}
 use Rattle.program_meaning.specs.Word.{is_taken, low_bits}
 use Rattle.word_domain.specs.Domain.{Belongs, IsSound, Operations}
 use Rattle.accepted_programs.specs.Facts.{compared_fact, fact, is_register, source_fact}
-use Rattle.accepted_programs.proofs.KnownFacts.{AreFacts, fact_is, immediate_fits, low_fits}
+use Rattle.accepted_programs.proofs.KnownFacts.{AreFacts, fact_is, immediate_fits, low_is_word}
 use Rattle.accepted_programs.specs.Meets.{Belong, Meets}
 use Rattle.accepted_programs.specs.declared.facts.Facts.{Facts}
 
@@ -101,7 +101,7 @@ module _ {D : Type 0} {IsFact : D → Type 0} {contains : D → ℕ → Type 0} 
         → Belongs IsFact contains (compared_fact operations width facts source) (compared ws width source)
     compared_belongs width (Register r) = belongs r
     compared_belongs width (Immediate z) =
-        constant_belongs (low_bits width (immediate_word z)) (low_fits width (immediate_word z) (immediate_fits z))
+        constant_belongs (low_bits width (immediate_word z)) (low_is_word width (immediate_word z) (immediate_fits z))
 
   -- the word of a register, in a state that meets the facts, belongs to its fact
   pub word_of : (facts : Facts D) (s : State) → AreFacts IsFact facts → IsState s → Meets contains facts s → (r : ℕ)

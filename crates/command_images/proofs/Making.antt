@@ -7,8 +7,8 @@ use Rattle.image_store.specs.Geometry.{Shape, shape_checks, tested}
 use Rattle.image_store.specs.Namespace.{ZonedNamespace, all_empty}
 use Rattle.image_store.specs.Reading.{namespace_in}
 use Rattle.image_store.specs.Text.{text}
-use Rattle.image_store.specs.declared.geometry.GeometryRefusal.{GeometryRefusal}
-use Rattle.zone_state.specs.Checks.{first_failed, unless_failed}
+use Rattle.zone_state.specs.Checks.{first_failed}
+use Rattle.zone_state.proofs.Proved.{value_given}
 use Rattle.command_failure.specs.declared.failure.Failure.{Failure}
 use Rattle.command_failure.specs.declared.failure.Failure.TheVariants.{CannotWrite, NoMemory, NotInRange}
 use Rattle.command_files.specs.Made.{Made, then_made}
@@ -17,13 +17,9 @@ use Rattle.command_files.proofs.Proved.{unwritten_holds}
 use Rattle.command_images.specs.Images.{IsAskedFor, MakesEmpty, MakesAnew}
 use Rattle.command_images.specs.UserTold.{FormatFails, LoadingFails, RefusesShape, UpgradeFails, shape_options}
 
-passed : (failed : Option GeometryRefusal) (s g : Shape) → Ok g ≡ unless_failed failed s → s ≡ g
-passed None s g is = cc
-passed (Some fault) s g is = cc
-
 -- the shape that tests give is the one that they are made of
 same_shape : (s g : Shape) → Ok g ≡ tested s → s ≡ g
-same_shape s g is = passed (first_failed (shape_checks s)) s g is
+same_shape s g is = sym (value_given (first_failed (shape_checks s)) s g is)
 
 -- what was asked for and passed the tests passes them again
 pub asked_and_passed : (matches : ArgMatches) (s g : Shape) → IsAskedFor matches s → Ok g ≡ tested s → IsAskedFor matches g × (tested g ≡ Ok g)

@@ -149,8 +149,7 @@ read f next = read_named (opcode_named f.opcode) f next
 
 -- slots with these in front of them, where they have no fault
 abbrev pub with_front : List (Option Instruction) → Result (List (Option Instruction)) Fault → Result (List (Option Instruction)) Fault
-with_front front (Ok slots) = Ok (front ++ slots)
-with_front front (Err fault) = Err fault
+with_front front = result_map_both (λ slots. front ++ slots) (λ fault. fault)
 
 -- what begins at a slot: nothing at a wide instruction's second
 abbrev pub begun : Bool → Fields → Option Fields → Result (Option Instruction) FaultKind

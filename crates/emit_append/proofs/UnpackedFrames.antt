@@ -9,8 +9,8 @@ use Rattle.byteorder.specs.Endian.{little_bytes, little_number}
 use Rattle.program_interface.specs.Frame.{frame, frames}
 use Rattle.program_interface.specs.Readings.{◌>>=◌}
 use Rattle.program_interface.specs.Bytes.{padded}
-use Rattle.program_interface.proofs.Proved.{all_drop, all_take}
-use Rattle.emit_append.proofs.ByteLists.{AllBytes, FitsByte, by_recursion}
+use Rattle.program_interface.proofs.Proved.{all_drop, all_take, front_spelled}
+use Rattle.emit_append.proofs.ByteLists.{AllBytes, FitsByte, by_place, by_recursion}
 use Rattle.emit_append.specs.Unpacking.{AreFrames, Reading, UnpackedIsFrames, after_frame, frame_length, frame_record, frames_at, output_blocks_at, then_read, unpacked, zeros_at}
 use Rattle.emit_append.proofs.FramesRead.{step-frame, step-short, step-zeros}
 use Rattle.emit_append.proofs.GroupsOfBlocks.{parts_fit}
@@ -73,13 +73,6 @@ only-zeros at rest records is =
     let only = zeros-only at rest records is in
     rw only.0 (no_frames (length rest) rest only.1)
 
--- the two bytes in front of a frame spell its length
-two_bytes : (low high : ℕ) (rest : List ℕ) → low < 2 ^ 8 → high < 2 ^ 8 → little_bytes 2 (little_number 2 (low ∷ high ∷ rest)) ≡ low ∷ high ∷ []
-two_bytes low high rest low_fits high_fits =
-    let first : (low + 256 * (high + 256 * 0)) % 256 ≡ low = omega arith in
-    let second : (low + 256 * (high + 256 * 0)) / 256 ^ 1 % 256 ≡ high = omega arith in
-    rw (first, second) refl
-
 pub record_length : (rest : List ℕ) → 2 + frame_length rest ≤ length rest → length (frame_record rest) ≡ frame_length rest
 record_length rest long = length-take-le (frame_length rest) (drop 2 rest) (omega (arith, long, length-drop 2 rest))
 
@@ -91,7 +84,7 @@ framed (low ∷ high ∷ more) are long =
     let rest = low ∷ high ∷ more in
     let n = frame_length rest in
     let front : little_bytes 2 (length (frame_record rest)) ≡ low ∷ high ∷ [] =
-    ap (little_bytes 2) (record_length rest long ∙ front_two low high more) ∙ two_bytes low high more are.0 are.1.0 in
+    ap (little_bytes 2) (record_length rest long ∙ front_two low high more) ∙ front_spelled 2 rest (omega arith) (by_place rest are) in
     let left : after_frame rest ≡ drop n more = sym (drop-drop n 2 rest) in
     ap (λ bytes. low ∷ high ∷ bytes) (sym (take-append-drop n more))
     ∙ ap (λ bytes. low ∷ high ∷ (take n more ++ bytes)) (sym left)

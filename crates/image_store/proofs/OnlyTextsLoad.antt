@@ -23,7 +23,7 @@ use Rattle.image_store.specs.Reading.{total_told, header_told, header_in, total_
 use Rattle.image_store.specs.Text.{header, written_blocks, zone_row, zone_rows, blocks_text, text_of}
 use Rattle.image_store.specs.Version.{HasText}
 use Rattle.image_store.proofs.ReadingCalls.{bind_ok, ok_is, chosen}
-use Rattle.program_interface.proofs.Proved.{front_fit, rest_fit}
+use Rattle.program_interface.proofs.Proved.{bytes_spelled, front_fit, rest_fit}
 use Rattle.image_store.proofs.FilledBuffers.{bytes_parts, bytes_size}
 use Rattle.image_store.proofs.HeaderParts.{header_parts}
 use Rattle.image_store.proofs.Headers.{total_in}
@@ -31,7 +31,7 @@ use Rattle.image_store.proofs.ImageFields.{counted_seen}
 use Rattle.image_store.proofs.LoadStages.{HaveFit, after_header, after_rows, after_total, after_limits, after_blocks, zones_fit}
 use Rattle.image_store.proofs.BlocksOfBytes.{bytes-blocks}
 use Rattle.image_store.proofs.Shapes.{resized}
-use Rattle.image_store.proofs.SpelledParts.{four_bytes_spelled, zeros_spelled, header_spelled, total_or_none}
+use Rattle.image_store.proofs.SpelledParts.{zeros_spelled, header_spelled, total_or_none}
 use Rattle.image_store.proofs.ToldRows.{row_right}
 
 -- a header that is read stands in front
@@ -88,7 +88,7 @@ row_only zone capacity (a ∷ p ∷ q ∷ r ∷ xs) z size fit e =
     let none : drop 4 xs ≡ [] = drop_all 4 xs (omega arith) in
     let spelled : little_bytes 4 (little_number 4 xs) ≡ xs =
     sym (append-nil (little_bytes 4 (little_number 4 xs))) ∙ (ap (λ (rest : List ℕ). little_bytes 4 (little_number 4 xs) ++ rest) (sym none)
-    ∙ four_bytes_spelled xs (omega arith) (rest_fit (a ∷ p ∷ q ∷ r ∷ []) xs fit)) in
+    ∙ bytes_spelled 4 xs (omega arith) (rest_fit (a ∷ p ∷ q ∷ r ∷ []) xs fit)) in
     ap (λ (first : ℕ). first ∷ 0 ∷ 0 ∷ 0 ∷ little_bytes 4 z.written) code
     ∙ (ap (λ (n : ℕ). a ∷ 0 ∷ 0 ∷ 0 ∷ little_bytes 4 n) (sym told.written)
     ∙ (ap (λ (rest : List ℕ). a ∷ 0 ∷ 0 ∷ 0 ∷ rest) spelled

@@ -2,7 +2,6 @@
 use Rattle.std.proofs.Common.{◌≡◌, ℕ, ◌+◌, ◌*◌, ◌≤◌, true, nat_eq, List, [], ◌∷◌, ◌++◌, length, replicate, take, drop, Option, Some, None, refl, ap, sym, ◌∙◌, arith, length-drop}
 use Rattle.std.proofs.lemmas.Bool.{eqb-true, and_parts}
 use Rattle.std.proofs.lemmas.List.{take-append-drop, drop-drop}
-use Rattle.std.proofs.lemmas.Nat.{le_bytes_4, le_bytes_8}
 use Rattle.std.proofs.lemmas.Slice.Eq.{bytes_eq-Decides}
 use Rattle.std.specs.Str.{bytes_eq}
 use Rattle.byteorder.specs.Endian.{little_bytes, little_number}
@@ -12,45 +11,20 @@ use Rattle.program_interface.specs.Bytes.{AreBytes, field}
 use Rattle.image_store.specs.Reading.{are_zeros, shape_told, total_told}
 use Rattle.image_store.specs.Text.{header_end, header}
 use Rattle.image_store.specs.Version.{numbers_of_version}
-use Rattle.program_interface.proofs.Proved.{bytes_from, front_fit}
+use Rattle.program_interface.proofs.Proved.{bytes_from, bytes_spelled}
 use Rattle.image_store.proofs.HeaderParts.{begins}
-
--- four bytes spell the number that they tell
-pub four_bytes_spelled : (xs : List ℕ) → 4 ≤ length xs → AreBytes xs → little_bytes 4 (little_number 4 xs) ++ drop 4 xs ≡ xs
-four_bytes_spelled [] h fit = absurd (omega arith)
-four_bytes_spelled (a ∷ []) h fit = absurd (omega arith)
-four_bytes_spelled (a ∷ b ∷ []) h fit = absurd (omega arith)
-four_bytes_spelled (a ∷ b ∷ c ∷ []) h fit = absurd (omega arith)
-four_bytes_spelled (a ∷ b ∷ c ∷ d ∷ xs) h fit =
-    let number : little_number 4 (a ∷ b ∷ c ∷ d ∷ xs) ≡ a + 256 * (b + 256 * (c + 256 * (d + 256 * 0))) = refl in
-    ap (λ (front : List ℕ). front ++ xs) (le_bytes_4 (a ∷ b ∷ c ∷ d ∷ []) (little_number 4 (a ∷ b ∷ c ∷ d ∷ xs)) refl (front_fit (a ∷ b ∷ c ∷ d ∷ []) xs fit) (omega arith))
 
 -- the number at a place, and what follows
 pub number_spelled : (xs : List ℕ) (at : ℕ) → at + 4 ≤ length xs → AreBytes xs → little_bytes 4 (field xs at 4) ++ drop (at + 4) xs ≡ drop at xs
 number_spelled xs at h fit =
     ap (λ (rest : List ℕ). little_bytes 4 (field xs at 4) ++ rest) (sym (drop-drop 4 at xs))
-    ∙ four_bytes_spelled (drop at xs) (omega (arith, length-drop at xs)) (bytes_from at xs fit)
+    ∙ bytes_spelled 4 (drop at xs) (omega (arith, length-drop at xs)) (bytes_from at xs fit)
 
 pub zeros_spelled : (xs : List ℕ) → are_zeros xs ≡ true → replicate (length xs) 0 ≡ xs
 zeros_spelled [] h = refl
 zeros_spelled (x ∷ xs) h =
     let parts = and_parts (nat_eq x 0) (are_zeros xs) h in
     ap (λ (first : ℕ). first ∷ replicate (length xs) 0) (sym (eqb-true x 0 parts.0)) ∙ ap (λ (rest : List ℕ). x ∷ rest) (zeros_spelled xs parts.1)
-
--- eight bytes spell the number that they tell
-long_spelled : (xs : List ℕ) → 8 ≤ length xs → AreBytes xs → little_bytes 8 (little_number 8 xs) ++ drop 8 xs ≡ xs
-long_spelled [] h fit = absurd (omega arith)
-long_spelled (a ∷ []) h fit = absurd (omega arith)
-long_spelled (a ∷ b ∷ []) h fit = absurd (omega arith)
-long_spelled (a ∷ b ∷ c ∷ []) h fit = absurd (omega arith)
-long_spelled (a ∷ b ∷ c ∷ d ∷ []) h fit = absurd (omega arith)
-long_spelled (a ∷ b ∷ c ∷ d ∷ e ∷ []) h fit = absurd (omega arith)
-long_spelled (a ∷ b ∷ c ∷ d ∷ e ∷ f ∷ []) h fit = absurd (omega arith)
-long_spelled (a ∷ b ∷ c ∷ d ∷ e ∷ f ∷ g ∷ []) h fit = absurd (omega arith)
-long_spelled (a ∷ b ∷ c ∷ d ∷ e ∷ f ∷ g ∷ i ∷ xs) h fit =
-    let front = a ∷ b ∷ c ∷ d ∷ e ∷ f ∷ g ∷ i ∷ [] in
-    let number : little_number 8 (front ++ xs) ≡ a + 256 * (b + 256 * (c + 256 * (d + 256 * (e + 256 * (f + 256 * (g + 256 * (i + 256 * 0))))))) = refl in
-    ap (λ (bytes : List ℕ). bytes ++ xs) (le_bytes_8 front (little_number 8 (front ++ xs)) refl (front_fit front xs fit) (omega arith))
 
 zeros_behind : (n k : ℕ) (xs : List ℕ) → length xs ≡ k + n → are_zeros (drop k xs) ≡ true → replicate n 0 ≡ drop k xs
 zeros_behind n k xs size zeros =
@@ -75,7 +49,7 @@ end_spelled One xs size fit zeros = zeros_behind 32 32 xs size zeros
 end_spelled Two xs size fit zeros =
     let number = little_bytes 8 (little_number 8 (drop 32 xs)) in
     ap (λ (rest : List ℕ). number ++ rest) (zeros_behind 24 40 xs size zeros ∙ sym (drop-drop 8 32 xs))
-    ∙ long_spelled (drop 32 xs) (omega (arith, length-drop 32 xs)) (bytes_from 32 xs fit)
+    ∙ bytes_spelled 8 (drop 32 xs) (omega (arith, length-drop 32 xs)) (bytes_from 32 xs fit)
 
 -- 64 bytes that pass the tests are the header of the shape that they tell
 pub header_spelled : (version : Version) (xs : List ℕ) → length xs ≡ 64 → AreBytes xs → begins xs version ≡ true → are_zeros (drop (numbers_of_version version).zeros_from xs) ≡ true

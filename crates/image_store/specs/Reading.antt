@@ -3,6 +3,7 @@
 use Rattle.std.specs.Prelude.{ℕ, zero, suc, Bool, ◌+◌, ◌*◌, ◌==◌, ◌&&◌, nat_le, List, [], ◌∷◌, length, get_or, take, drop, Option, Some, None, Result, Ok, Err, if◌then◌else◌}
 use Rattle.std.specs.List.{find, list_all, starts_with}
 use Rattle.std.specs.Option.{ok_or}
+use Rattle.std.specs.Result.{result_map_both}
 use Rattle.program_interface.specs.Readings.{◌>>=◌}
 use Rattle.zone_state.specs.declared.state.ZoneState.{ZoneState}
 use Rattle.zone_state.specs.State.{state_of}
@@ -53,8 +54,7 @@ numbers_fault refusal = fault.Header (header_fault.Numbers refusal)
 
 -- what the tests of a geometry give, of the numbers of a header
 abbrev pub numbers_tested : Result Shape GeometryRefusal → Result Shape LoadFault
-numbers_tested (Ok s) = Ok s
-numbers_tested (Err refusal) = Err (numbers_fault refusal)
+numbers_tested = result_map_both (λ s. s) numbers_fault
 
 -- the shape of a header's numbers, or those of them that have a fault
 abbrev pub numbers_in : Shape → Result Shape LoadFault

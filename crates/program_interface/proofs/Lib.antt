@@ -5,3 +5,4 @@ mod FirstPassed
 pub mod Proved
 mod Readings
 mod SameFronts
+mod SpelledBytes

@@ -4,3 +4,4 @@ pub use Rattle.program_interface.proofs.ByteParts.{both_fit, bytes_from, bytes_t
 pub use Rattle.program_interface.proofs.FirstPassed.{AreNumbered, all_fail, found_passes, less_fails}
 pub use Rattle.program_interface.proofs.Readings.{found_where_ok}
 pub use Rattle.program_interface.proofs.SameFronts.{agree_before, agree_behind}
+pub use Rattle.program_interface.proofs.SpelledBytes.{bytes_spelled, front_spelled}

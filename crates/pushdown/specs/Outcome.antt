@@ -1,6 +1,6 @@
 -- The outcome of a run: what each of its turns appends, and how it ends. It is fixed when the run is
 -- admitted, by the program and the source blocks of then.
-use Rattle.std.specs.Prelude.{ℕ, ◌+◌, List, [], ◌∷◌, ◌++◌, length, drop, Option, Some, None}
+use Rattle.std.specs.Prelude.{ℕ, ◌+◌, List, [], ◌∷◌, ◌++◌, length, drop, flat_map, Option, Some, None}
 use Rattle.zone_state.specs.declared.status.Status.{Status}
 use Rattle.zone_state.specs.declared.status.TheConstants.Status.{SUCCESS, PROGRAM_TRAPPED}
 use Rattle.program_meaning.specs.Cause.{cause_number}
@@ -94,8 +94,7 @@ outcome task blocks = turns_after task.sizes.block nothing_emitted (block_runs_o
 
 -- the blocks that turns append
 abbrev pub appended_by : List Turn → List (List ℕ)
-appended_by [] = []
-appended_by (turn ∷ turns) = turn.blocks ++ appended_by turns
+appended_by = flat_map (λ turn. turn.blocks)
 
 -- how the last of some turns ends the run
 abbrev pub ending_of : List Turn → Option Ending

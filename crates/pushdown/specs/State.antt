@@ -1,5 +1,5 @@
 -- The state of a device: its namespace, its programs and its active runs.
-use Rattle.std.specs.Prelude.{ℕ, Bool, false, ◌==◌, List, map, set, get_or, replicate, position, is_none, Option, Some, None}
+use Rattle.std.specs.Prelude.{ℕ, Bool, false, ◌==◌, List, map, set, get_or, replicate, position, is_none, option_map, Option, Some, None}
 use Rattle.std.specs.List.{list_any}
 use Rattle.zone_resources.specs.declared.holds.Holds.{Holds}
 use Rattle.zone_resources.specs.declared.holds.TheConstants.{RUNS}
@@ -44,13 +44,11 @@ free_place s = position is_none s.places
 
 -- the zone that the run at a place reads from
 abbrev pub source_of : Option Place → Option ℕ
-source_of None = None
-source_of (Some place) = Some place.source
+source_of = option_map (λ place. place.source)
 
 -- the zone that it appends to
 abbrev pub destination_of : Option Place → Option ℕ
-destination_of None = None
-destination_of (Some place) = Some place.destination
+destination_of = option_map (λ place. place.destination)
 
 -- the zones that the active runs read from and append to
 abbrev pub holds_at : State → Holds

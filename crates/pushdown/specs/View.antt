@@ -1,5 +1,5 @@
 -- What a device keeps of its runs, seen as the places of a state.
-use Rattle.std.specs.Prelude.{ℕ, ◌≡◌, ◌≤◌, ◌+◌, ◌-◌, List, length, get_or, map, Option, Some, None}
+use Rattle.std.specs.Prelude.{ℕ, ◌≡◌, ◌≤◌, ◌+◌, ◌-◌, List, length, get_or, map, option_map, Option, None}
 use Rattle.nvme_entry.specs.Entry.{identifier_of}
 use Rattle.nvme_entry.specs.declared.command.RunCommand.{RunCommand}
 use Rattle.instruction_set.specs.declared.instruction.Instruction.{Instruction}
@@ -41,8 +41,7 @@ place_of ns slots a = record {
 
 -- what is seen of what a device keeps at a place
 abbrev pub seen : ZonedNamespace → List (Option Loaded) → Option Active → Option Place
-seen ns slots None = None
-seen ns slots (Some a) = Some (place_of ns slots a)
+seen ns slots = option_map (place_of ns slots)
 
 -- the state that is seen of a device
 abbrev pub view_of : ZonedNamespace → List (Option Loaded) → List (Option Active) → State

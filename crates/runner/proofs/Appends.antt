@@ -1,13 +1,13 @@
 -- Blocks that are written to a zone one after another.
-use Rattle.std.proofs.Common.{◌≡◌, ℕ, ◌+◌, ◌<◌, ◌≤◌, ◌/◌, Bool, true, false, cond, List, [], ◌∷◌, ◌++◌, length, refl, ap, ◌∙◌, arith, length-append, get_or-set_same, append_assoc}
+use Rattle.std.proofs.Common.{◌≡◌, ℕ, ◌+◌, ◌<◌, ◌≤◌, ◌/◌, Bool, false, cond, List, [], ◌∷◌, ◌++◌, length, refl, ap, ◌∙◌, arith, length-append, get_or-set_same, append_assoc}
 use Rattle.std.specs.Prelude.{nat_eq}
 use Rattle.std.proofs.Math.Nat.{div_self}
 use Rattle.std.proofs.lemmas.List.{take_all, set-set}
 use Rattle.std.proofs.lemmas.Bool.{ne_eqb}
-use Rattle.zone_state.specs.State.{is_open}
 use Rattle.zone_state.specs.Zone.{written_state}
+use Rattle.zone_state.proofs.Proved.{written_twice}
 use Rattle.zone_state.specs.declared.state.ZoneState.{ZoneState}
-use Rattle.zone_state.specs.declared.state.ZoneState.TheVariants.{Empty, ImplicitlyOpened, ExplicitlyOpened, Closed, ReadOnly, Full, Offline}
+use Rattle.zone_state.specs.declared.state.ZoneState.TheVariants.{Full}
 use Rattle.program_interface.specs.Bytes.{pieces}
 use Rattle.image_store.specs.Blocks.{as_blocks, block_count}
 use Rattle.image_store.specs.Namespace.{ZoneBlocks, ZonedNamespace, appended, grown, no_zone, with_zone, zone_at}
@@ -29,21 +29,10 @@ one_appended ns z bytes some same =
 
 -- ---- some blocks and then others
 
-state_by : (s : ZoneState) (part whole : Bool) → is_open s ≡ true → part ≡ false
-    → cond whole Full (written_state (cond part Full (written_state s))) ≡ cond whole Full (written_state s)
-state_by s true whole is e = cc
-state_by ImplicitlyOpened false whole is e = refl
-state_by ExplicitlyOpened false whole is e = refl
-state_by Empty false whole is e = cc
-state_by Closed false whole is e = cc
-state_by ReadOnly false whole is e = cc
-state_by Full false whole is e = cc
-state_by Offline false whole is e = cc
-
-pub added_both : (ns : ZonedNamespace) (z : ℕ) (b c : List ℕ) (bs cs : List (List ℕ)) → is_open (zone_at ns z).state ≡ true → z < length ns.zones
+pub added_both : (ns : ZonedNamespace) (z : ℕ) (b c : List ℕ) (bs cs : List (List ℕ)) → z < length ns.zones
     → length (zone_at ns z).blocks + length ((b ∷ bs) ++ (c ∷ cs)) ≤ ns.capacity
     → added (added ns z (b ∷ bs)) z (c ∷ cs) ≡ added ns z ((b ∷ bs) ++ (c ∷ cs))
-added_both ns z b c bs cs is inside room =
+added_both ns z b c bs cs inside room =
     let zone = zone_at ns z in
     let n = length zone.blocks in
     let first = grown ns.capacity zone (b ∷ bs) in
@@ -52,9 +41,11 @@ added_both ns z b c bs cs is inside room =
     let size : length (zone.blocks ++ (b ∷ bs)) + length (c ∷ cs) ≡ n + length ((b ∷ bs) ++ (c ∷ cs)) = omega (arith, length-append zone.blocks (b ∷ bs), both) in
     let part : nat_eq (n + length (b ∷ bs)) ns.capacity ≡ false =
     ne_eqb (n + length (b ∷ bs)) ns.capacity (λ same. omega (arith, room, both)) in
+    let whole = nat_eq (n + length ((b ∷ bs) ++ (c ∷ cs))) ns.capacity in
     let state : second.state ≡ (grown ns.capacity zone ((b ∷ bs) ++ (c ∷ cs))).state =
     ap (λ (k : ℕ). cond (nat_eq k ns.capacity) Full (written_state first.state)) size
-    ∙ state_by zone.state (nat_eq (n + length (b ∷ bs)) ns.capacity) (nat_eq (n + length ((b ∷ bs) ++ (c ∷ cs))) ns.capacity) is part in
+    ∙ ap (λ (full : Bool). cond whole Full (written_state (cond full Full (written_state zone.state)))) part
+    ∙ ap (cond whole Full) (written_twice zone.state) in
     let zones_with : List ZoneBlocks → ZonedNamespace = λ zones. record { block = ns.block; size = ns.size; capacity = ns.capacity; limits = ns.limits; zones = zones } in
     ap (λ (x : ZoneBlocks). with_zone (with_zone ns z first) z (grown ns.capacity x (c ∷ cs))) (get_or-set_same ns.zones z first no_zone inside)
     ∙ ap zones_with (set-set ns.zones z first second)

@@ -130,7 +130,7 @@ module _ (ns : ZonedNamespace) (z : ℕ) (ending : Option Ending) (turns : List 
   added_twice (b ∷ bs) [] h = ap (added ns z) (sym (append-nil (b ∷ bs)))
   added_twice (b ∷ bs) (c ∷ cs) h =
       let opened = room_is_open ns.capacity (zone_at ns z) b (bs ++ (c ∷ cs)) ending turns h in
-      added_both ns z b c bs cs opened (open_is_there ns.zones z opened) (omega (arith, h.room, length-append ((b ∷ bs) ++ (c ∷ cs)) (appended_by turns)))
+      added_both ns z b c bs cs (open_is_there ns.zones z opened) (omega (arith, h.room, length-append ((b ∷ bs) ++ (c ∷ cs)) (appended_by turns)))
 
 module _ (ns : ZonedNamespace) (z : ℕ) (ending : Option Ending) (turns : List Turn) (some : 1 ≤ ns.block) where
   room_second : (bs more : List (List ℕ)) → Room ns z ending turns some (bs ++ more) → HasRoom (added ns z bs) z more

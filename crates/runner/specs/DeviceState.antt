@@ -1,5 +1,5 @@
 -- What a device has, seen as a state: each run has the turns that are left of it.
-use Rattle.std.specs.Prelude.{List, map, Option, Some, None}
+use Rattle.std.specs.Prelude.{List, map, option_map, Option}
 use Rattle.image_store.specs.Namespace.{ZonedNamespace}
 use Rattle.verifier.specs.Verified.{program_of, sizes_of}
 use Rattle.pushdown.specs.Admission.{Loaded}
@@ -19,8 +19,7 @@ active_of a = record {
 
 -- what is at a place for a run
 abbrev pub running : Option ActiveRun → Option Active
-running None = None
-running (Some a) = Some (active_of a)
+running = option_map active_of
 
 -- a program in its slot, with its limit and its result
 abbrev pub loaded_of : LoadedProgram → Loaded
@@ -28,8 +27,7 @@ loaded_of p = record { program = program_of p.prepared; limit = (sizes_of p.prep
 
 -- what is in a slot
 abbrev pub loaded_slot : Option LoadedProgram → Option Loaded
-loaded_slot None = None
-loaded_slot (Some p) = Some (loaded_of p)
+loaded_slot = option_map loaded_of
 
 -- the state of a device, in which each run has the turns that are left of it
 abbrev pub device_state : ZonedNamespace → List (Option LoadedProgram) → List (Option ActiveRun) → State

@@ -46,11 +46,6 @@ if_allowed P None x (Ok y) e holds =
 if_allowed P (Some status) x (Ok y) e holds = absurd cc
 if_allowed P refusal x (Err status) e holds = tt
 
--- so what is given is what was to be given
-pub allowed_ok : {X : Type 0} (refusal : Option Status) (x y : X) → Ok y ≡ unless_failed refusal x → y ≡ x
-allowed_ok None x y e = cc
-allowed_ok (Some status) x y e = cc
-
 room_given : (ns : ZonedNamespace) (holds : Holds) (z : ℕ) (a : Action) → IsNamespace ns → z < length ns.zones
     → room_of ns holds a (zone_at ns z).state ≡ Ok (closing_of (room_of ns holds a (zone_at ns z).state))
     → CanGiveWay ns z (closing_of (room_of ns holds a (zone_at ns z).state))

@@ -8,7 +8,7 @@ use Rattle.zone_state.specs.declared.action.Action.TheVariants as action
 use Rattle.zone_state.specs.declared.state.ZoneState.{ZoneState}
 use Rattle.zone_state.specs.declared.state.ZoneState.TheVariants.{ImplicitlyOpened, Closed}
 use Rattle.zone_state.specs.declared.status.TheConstants.Status.{TOO_MANY_ACTIVE_ZONES}
-use Rattle.zone_resources.specs.Admission.{admission, open_admission, closing_answer, zone_to_close, wanted_of, IsClosable, IsWithin, HoldsNoMore, after_closing, closed_in}
+use Rattle.zone_resources.specs.Admission.{admission, open_admission, closing_or_refusal, zone_to_close, wanted_of, IsClosable, IsWithin, HoldsNoMore, after_closing, closed_in}
 use Rattle.zone_resources.specs.Counts.{open_count, active_count}
 use Rattle.zone_resources.specs.declared.admission.Limits.{Limits}
 use Rattle.zone_resources.specs.declared.admission.Wanted.{Wanted}
@@ -33,7 +33,7 @@ lowest_closable zones holds lowest e =
 
 -- the zone that gives way may be closed
 closing_closable : (zones : List CountedZone) (holds : Holds) (free : Bool) (found closed : Option ℕ)
-    → zone_to_close holds zones ≡ found → cond free (Ok None) (closing_answer found) ≡ Ok closed → ForSome closed (IsClosable holds zones)
+    → zone_to_close holds zones ≡ found → cond free (Ok None) (closing_or_refusal found) ≡ Ok closed → ForSome closed (IsClosable holds zones)
 closing_closable zones holds true found closed is_found admitted = λ k is. cc
 closing_closable zones holds false None closed is_found admitted = cc
 closing_closable zones holds false (Some lowest) closed is_found admitted = λ k is.

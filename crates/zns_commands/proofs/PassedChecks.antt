@@ -12,7 +12,7 @@ use Rattle.zone_state.specs.declared.state.ZoneState.{ZoneState}
 use Rattle.zone_state.specs.declared.state.ZoneState.TheVariants.{ReadOnly, Full, Offline}
 use Rattle.zone_state.specs.declared.status.Status.{Status}
 use Rattle.zone_state.specs.declared.status.TheConstants.Status.{SUCCESS, INVALID_FIELD_IN_COMMAND, LBA_OUT_OF_RANGE, ZONE_BOUNDARY_ERROR, ZONE_INVALID_WRITE, ZONE_IS_FULL, ZONE_IS_READ_ONLY, ZONE_IS_OFFLINE, ZONE_HELD, TOO_MANY_OPEN_ZONES, TOO_MANY_ACTIVE_ZONES}
-use Rattle.zone_resources.specs.Admission.{open_admission, closing_answer, zone_to_close, wanted_of}
+use Rattle.zone_resources.specs.Admission.{open_admission, closing_or_refusal, zone_to_close, wanted_of}
 use Rattle.zone_resources.specs.Counts.{open_count, active_count}
 use Rattle.zone_resources.specs.Holds.{is_destination}
 use Rattle.zone_resources.specs.declared.admission.Limits.{Limits}
@@ -166,13 +166,13 @@ write_check_fails z at n =
       ),
     ))
 
-closing_fails : (found : Option ℕ) → Fails (result_err (closing_answer found))
+closing_fails : (found : Option ℕ) → Fails (result_err (closing_or_refusal found))
 closing_fails None = err_fails TOO_MANY_OPEN_ZONES (omega arith)
 closing_fails (Some k) = none_fails
 
 open_fails : (zones : List CountedZone) (limits : Limits) (holds : Holds) → Fails (result_err (open_admission zones limits holds))
 open_fails zones limits holds =
-    cond_fails (nat_lt (open_count zones) limits.open_limit) (Ok None) (closing_answer (zone_to_close holds zones))
+    cond_fails (nat_lt (open_count zones) limits.open_limit) (Ok None) (closing_or_refusal (zone_to_close holds zones))
     none_fails (closing_fails (zone_to_close holds zones))
 
 wanted_fails : (ns : ZonedNamespace) (holds : Holds) (wanted : Option Wanted) → Fails (result_err (room_by ns holds wanted))

@@ -12,7 +12,7 @@ use Rattle.zone_state.specs.declared.status.Status.{Status}
 use Rattle.zone_state.specs.declared.status.TheConstants.Status.{TOO_MANY_ACTIVE_ZONES}
 use Rattle.zone_resources.proofs.AdmissionLemmas.{closes_at}
 use Rattle.zone_resources.proofs.CountLemmas.{counts_follow_one}
-use Rattle.zone_resources.specs.Admission.{admission, open_admission, closing_answer, zone_to_close, wanted_of, IsClosable, IsWithin, after_closing, AdmissionKeepsLimits, ReleaseKeepsLimits, IdleHoldsNoMore}
+use Rattle.zone_resources.specs.Admission.{admission, open_admission, closing_or_refusal, zone_to_close, wanted_of, IsClosable, IsWithin, after_closing, AdmissionKeepsLimits, ReleaseKeepsLimits, IdleHoldsNoMore}
 use Rattle.zone_resources.specs.Counts.{open_count, active_count, one_if}
 use Rattle.zone_resources.specs.declared.admission.Limits.{Limits}
 use Rattle.zone_resources.specs.declared.admission.Wanted.{Wanted}
@@ -54,7 +54,7 @@ room_of_closed zones limits holds k within h =
 
 room_in : (zones : List CountedZone) (limits : Limits) (holds : Holds) (closed : Option ℕ) (free : Bool) (found : Option ℕ)
     → IsWithin zones limits → nat_lt (open_count zones) limits.open_limit ≡ free → zone_to_close holds zones ≡ found
-    → cond free (Ok None) (closing_answer found) ≡ Ok closed
+    → cond free (Ok None) (closing_or_refusal found) ≡ Ok closed
     → HasRoom zones (after_closing closed zones) limits
 room_in zones limits holds closed true found within is_free is_found admitted =
     let same : closed ≡ None = cc in

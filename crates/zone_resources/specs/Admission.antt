@@ -34,15 +34,15 @@ may_close holds number zone = is_implicitly_opened zone.state && not (is_destina
 abbrev pub zone_to_close : Holds → List CountedZone → Option ℕ
 zone_to_close holds zones = position (λ p. may_close holds p.0 p.1) (enumerate_from 0 zones)
 
--- what is answered where no open resource is free
-abbrev pub closing_answer : Option ℕ → Result (Option ℕ) Status
-closing_answer None = Err TOO_MANY_OPEN_ZONES
-closing_answer (Some number) = Ok (Some number)
+-- the zone to be closed, where there is one, or why no open resource can be had
+abbrev pub closing_or_refusal : Option ℕ → Result (Option ℕ) Status
+closing_or_refusal None = Err TOO_MANY_OPEN_ZONES
+closing_or_refusal (Some number) = Ok (Some number)
 
 -- whether an open resource can be had, and the zone to be closed for it, if one has to be
 abbrev pub open_admission : List CountedZone → Limits → Holds → Result (Option ℕ) Status
 open_admission zones limits holds =
-    if nat_lt (open_count zones) limits.open_limit then Ok None else closing_answer (zone_to_close holds zones)
+    if nat_lt (open_count zones) limits.open_limit then Ok None else closing_or_refusal (zone_to_close holds zones)
 
 -- whether what is wanted can be had: an active resource first (ZNS 1.1, 2.1.1;
 -- the order: profile)

@@ -50,6 +50,11 @@ pub none_failed : {X F : Type 0} (why : Option F) (x y : X) → unless_failed wh
 none_failed None x y given = refl
 none_failed (Some fault) x y given = cc
 
+-- and the value is the one that was to be given
+pub value_given : {X F : Type 0} (why : Option F) (x y : X) → Ok y ≡ unless_failed why x → y ≡ x
+value_given None x y given = cc
+value_given (Some fault) x y given = cc
+
 -- the first check that fails is among the first ones, or it is the first of the others
 pub joined : {F : Type 0} (first rest : List (Option F)) → first_failed (first ++ rest) ≡ option_or (first_failed first) (first_failed rest)
 joined [] rest = refl

@@ -1,4 +1,5 @@
 mod FirstChecks
 mod AllowedWrites
 mod Codes
+mod WrittenStates
 pub mod Proved

@@ -49,7 +49,7 @@ pub struct Status {
     pub code: u8,
 }
 
-/// Generic command status (NVMe Base 2.0, 3.3.3.2; LBA Out of Range: NVM Command Set 1.0, Generic Command Status Values).
+/// Generic command status (NVMe Base 2.0, 3.3.3.2; LBA Out of Range is of the NVM Command Set).
 impl Status {
     /// The command is done.
     pub const SUCCESS: Status = Status {
@@ -82,7 +82,7 @@ impl Status {
     };
 }
 
-/// Command specific status (ZNS 1.1, Command Specific Status Values).
+/// Command specific status (NVMe Base 2.0, 3.3.3.2), of zones.
 impl Status {
     /// A Read or the source of a Run passes its zone's end, or a write its zone's capacity.
     pub const ZONE_BOUNDARY_ERROR: Status = Status {

@@ -38,7 +38,7 @@ pub const FULL: ZoneState = ZoneState::Full;
 /// Its blocks are lost.
 pub const OFFLINE: ZoneState = ZoneState::Offline;
 
-/// The words of 8 bytes that a descriptor begins with, of which the other four are zeros.
+/// The numbers of 8 bytes that a descriptor begins with, of which the other four are zeros.
 pub type Descriptor = [u64; 4];
 
 /// No descriptor, but zeros.
@@ -258,10 +258,10 @@ impl Stage {
         let given = self.output.get(..self.last.length).unwrap_or(&[]);
         assert_eq!(rt; given.len(), length, "step {}", self.number);
         for (index, byte) in given.iter().enumerate() {
-            let word = report_word(number, zones, index / 8);
+            let expected = report_number(number, zones, index / 8);
             assert_eq!(rt;
                 *byte,
-                word.to_le_bytes()[index % 8],
+                expected.to_le_bytes()[index % 8],
                 "step {}",
                 self.number
             );
@@ -290,14 +290,14 @@ fn report(
     })
 }
 
-/// The word of 8 bytes of a report with this index.
-fn report_word(number: u64, zones: [Descriptor; 4], index: usize) -> u64 {
+/// The number of 8 bytes of a report with this index.
+fn report_number(number: u64, zones: [Descriptor; 4], index: usize) -> u64 {
     match (index / 8, index % 8) {
         (0, 0) => number,
         (0, _) => 0,
-        (zone, word) => {
+        (zone, place) => {
             let descriptor = zones.get(zone - 1).copied().unwrap_or(NONE);
-            descriptor.get(word).copied().unwrap_or(0)
+            descriptor.get(place).copied().unwrap_or(0)
         }
     }
 }

@@ -4,13 +4,14 @@ use Rattle.zone_state.specs.Zone.{CountedZone}
 use Rattle.zone_state.specs.declared.state.ZoneState.{ZoneState}
 use Rattle.zone_resources.specs.Holds.{refuses}
 use Rattle.zone_state.specs.Checks.{first_failed}
+use Rattle.zone_state.proofs.Proved.{value_given}
 use Rattle.image_store.specs.Namespace.{zone_at}
 use Rattle.zns_commands.specs.Address.{zone_number, address_check, lowest_check, lowest_checks}
 use Rattle.zns_commands.specs.Send.{room_of, zone_checks}
 use Rattle.zns_commands.specs.steps.Accepted.{CanMove}
 use Rattle.zns_commands.specs.declared.send.ZonePlan.{ZonePlan}
 use Rattle.zns_commands.specs.steps.Plans.{zone_plan}
-use Rattle.zns_commands.proofs.AcceptedActions.{allowed_ok, zone_checked, if_allowed, can_move}
+use Rattle.zns_commands.proofs.AcceptedActions.{zone_checked, if_allowed, can_move}
 use Rattle.zns_commands.proofs.send.check_action.Goals as goal
 
 pub returns-clause-value : goal.returns-clause-value
@@ -22,7 +23,7 @@ returns-clause-value c =
     let z = zone_number ns lba in
     let from = (zone_at ns z).state in
     let zone = c.in_ok-zone.zone in
-    let same : zone ≡ z = allowed_ok (first_failed (lowest_checks ns lba)) z zone c.in_ok-zone.ensures.value in
+    let same : zone ≡ z = value_given (first_failed (lowest_checks ns lba)) z zone c.in_ok-zone.ensures.value in
     let free : refuses holds a z ≡ false = ap (λ (n : ℕ). refuses holds a n) (sym same) ∙ (sym c.refuses.ensures ∙ c.if-refuses.false) in
     let state : c.zone.result.state ≡ from = ap (λ (r : CountedZone). r.state) c.zone.ensures ∙ ap (λ (n : ℕ). (zone_at ns n).state) same in
     zone_checked (address_check ns lba) (lowest_check ns lba) (refuses holds a z) (transition a from) (room_of ns holds a from) from z
