@@ -1,5 +1,5 @@
 -- What is known at each slot of a program, by the operations of a domain (profile).
-use Rattle.std.specs.Prelude.{ℕ, ℤ, zero, suc, Bool, true, false, ◌+◌, ◌%◌, ◌^◌, ◌==◌, ◌&&◌, ◌++◌, nat_le, List, [], ◌∷◌, drop, replicate, get_or, set, max, Option, Some, None, unwrap_or, if◌then◌else◌, pos}
+use Rattle.std.specs.Prelude.{ℕ, ℤ, zero, suc, Bool, true, false, ◌+◌, ◌%◌, ◌^◌, ◌==◌, ◌&&◌, ◌++◌, nat_le, List, [], ◌∷◌, drop, replicate, get_or, set, max, Option, Some, None, option_map, unwrap_or, if◌then◌else◌, pos}
 use Rattle.std.specs.Option.{option_or}
 use Rattle.std.specs.Ordering.{int_eq}
 use Rattle.instruction_set.specs.Instruction.{distance_of, immediate_word, size_of, target}
@@ -78,8 +78,7 @@ module _ {D : Type 0} (operations : Operations D) where
 
   -- the facts with others about the destination and the source of a compare, if there is such an edge
   abbrev pub with_both : Facts D → ℕ → Source → Option (D × D) → Option (Facts D)
-  with_both facts dst source None = None
-  with_both facts dst source (Some both) = Some (with_source (with_fact facts dst both.0) source both.1)
+  with_both facts dst source = option_map (λ both. with_source (with_fact facts dst both.0) source both.1)
 
   -- along an edge of a compare, which is taken or not; none where there is no such edge
   abbrev pub along : Bool → Width → Relation → ℕ → Source → Facts D → Option (Facts D)
@@ -149,8 +148,7 @@ module _ {D : Type 0} (operations : Operations D) where
 
   -- after a word is left in its register
   abbrev pub with_word : Facts D → Option (ℕ × D) → Option (Facts D)
-  with_word facts None = None
-  with_word facts (Some word) = Some (with_fact facts word.0 word.1)
+  with_word facts = option_map (λ word. with_fact facts word.0 word.1)
 
   -- ---- joins
 

@@ -1,5 +1,6 @@
 -- The shape of a namespace.
 use Rattle.std.specs.Prelude.{ℕ, Bool, ◌≤◌, ◌*◌, ◌/◌, ◌%◌, ◌&&◌, nat_le, nat_lt, List, [], ◌∷◌, Option, Some, None, Result, if◌then◌else◌}
+use Rattle.std.specs.Int.{is_in_range}
 use Rattle.program_interface.specs.BlockSize.{is_block_size, IsBlockSize}
 use Rattle.zone_resources.specs.declared.admission.Limits.{Limits}
 use Rattle.image_store.specs.declared.geometry.ZoneBlock.{ZoneBlock}
@@ -19,7 +20,7 @@ pub record Shape : Type 0 where
 
 -- a number from 1 to a most
 abbrev pub is_counted : ℕ → ℕ → Bool
-is_counted n most = nat_le 1 n && nat_le n most
+is_counted n most = is_in_range 1 most n
 
 -- some zone may be open, an open zone is active, and there are no more active zones than zones
 abbrev pub are_limits : Limits → ℕ → Bool

@@ -1,5 +1,5 @@
 -- The facts of the slots, each in a box of its own.
-use Rattle.std.specs.Prelude.{ℕ, Bool, true, false, Box, List, get_or, Option, Some, None}
+use Rattle.std.specs.Prelude.{ℕ, Bool, true, false, Box, List, get_or, option_map, Option, Some, None}
 use Rattle.accepted_programs.specs.declared.facts.Facts.{Facts}
 use Rattle.accepted_programs.specs.declared.reason.Refusal.{Refusal}
 use Rattle.verifier.specs.declared.rows.Refused.{Refused}
@@ -12,8 +12,7 @@ where_it_goes_on false facts = None
 module _ {D Z : Type 0} where
   -- the facts in a box, if there is one
   abbrev pub held : Option (Box (Facts D) Z) → Option (Facts D)
-  held None = None
-  held (Some facts) = Some facts.value
+  held = option_map (λ facts. facts.value)
 
   -- what a slot was given so far
   abbrev pub held_at : List (Option (Box (Facts D) Z)) → ℕ → Option (Facts D)
@@ -21,5 +20,4 @@ module _ {D Z : Type 0} where
 
 -- the refusal that a visit found, if it did
 abbrev pub refusal_in : {D : Type 0} → Option (Refused D) → Option Refusal
-refusal_in None = None
-refusal_in (Some refused) = Some refused.refusal
+refusal_in = option_map (λ refused. refused.refusal)
