@@ -7,7 +7,7 @@ use Rattle.emit_append.specs.Need.{NeedGrows, NeedIsEnough}
 use Rattle.emit_append.specs.OutputBlocks.{OutputBlocksAreBytes, OutputBlocksAreWhole}
 use Rattle.emit_append.specs.PackedLaw.{PackedAsDescribed}
 use Rattle.emit_append.specs.Packer.{LendingIsFinishing, LendingIsPutting, PuttingIsPacking}
-pub use Rattle.emit_append.proofs.ByteLists.{AllBytes, by_place, by_recursion}
+pub use Rattle.emit_append.proofs.ByteLists.{AllBytes, FitsByte, by_place, by_recursion}
 use Rattle.emit_append.proofs.Continuing as continuing
 use Rattle.emit_append.proofs.LowestRefused as lowest_refused
 use Rattle.emit_append.proofs.Needs as needs

@@ -1,13 +1,11 @@
 -- The lines of files that are joined, and the events that they tell.
 use Rattle.std.proofs.Common.{◌≡◌, ℕ, ◌+◌, ◌<◌, ◌==◌, Bool, true, false, cond, List, [], ◌∷◌, ◌++◌, length, map, Option, Some, None, Result, Ok, Err, refl, sym, ap, ◌∙◌, append_assoc, append-nil, arith}
+use Rattle.std.specs.Char.{is_newline}
 use Rattle.std.specs.List.{slice_split, onto_first}
 use Rattle.std.specs.Str.Lines.{lines, lines_of_parts, strip_carriage_return}
 use Rattle.std.proofs.lemmas.List.Splits.{length-slice_split}
 use Rattle.event_text.specs.CommandFile.{ToldEvent, line_told, line_before, event_before, events_from}
 use Rattle.event_text.specs.Laws.{EventsAreByLine, ended, told_by_both}
-
-abbrev pub is_newline : ℕ → Bool
-is_newline b = b == 10
 
 -- ---- lines
 

@@ -1,5 +1,6 @@
 -- Files of one line, and what it tells.
 use Rattle.std.proofs.Common.{◌≡◌, ℕ, ◌-◌, ◌==◌, not, Bool, true, false, cond, List, [], ◌∷◌, ◌++◌, length, take, get_or, Option, Some, Ok, refl, sym, ap, ◌∙◌, append_assoc, append-nil, arith, length-append}
+use Rattle.std.specs.Char.{is_newline}
 use Rattle.std.specs.List.{All, AllPass}
 use Rattle.std.specs.Str.Lines.{lines, lines_of_parts, strip_carriage_return}
 use Rattle.std.proofs.Math.Dec.{eqb-suc-zero}
@@ -9,7 +10,6 @@ use Rattle.std.proofs.lemmas.List.Elements.{All-append, All-cons, All-nil, All-w
 use Rattle.std.proofs.lemmas.List.Splits.{slice_split_at, slice_split_none}
 use Rattle.event_text.specs.CommandFile.{ToldEvent, line_told, line_before, events_from, events_in}
 use Rattle.event_text.specs.Laws.{LineEnd, EndOfFile, Newline, ReturnNewline, ReadsBack, end_text}
-use Rattle.event_text.proofs.JoinedFiles.{is_newline}
 use Rattle.event_text.proofs.PlainLines.{InLine, IsSpelled, in_one_line, no_return}
 
 unended : (line : List ℕ) → AllPass (λ b. not (b == 10)) line → All (λ b. is_newline b ≡ false) line

@@ -6,7 +6,7 @@ use Rattle.zone_state.specs.declared.state.ZoneState.TheVariants as zone
 use Rattle.nvme_entry.specs.declared.command.RunCommand.{RunCommand}
 use Rattle.word_domain.specs.Domain.{Operations}
 use Rattle.program_interface.proofs.Proved.{all_append, all_same}
-use Rattle.emit_append.proofs.Proved.{AllBytes, by_place}
+use Rattle.emit_append.proofs.Proved.{AllBytes, FitsByte, by_place}
 use Rattle.image_store.specs.Geometry.{IsShape, Shape}
 use Rattle.image_store.specs.Namespace.{all_empty, shape}
 use Rattle.program_interface.specs.Bytes.{AreBytes}
@@ -44,18 +44,15 @@ is_shape = record {
 abbrev program : List ℕ
 program = move ++ leave
 
-abbrev IsByte : ℕ → Type 0
-IsByte n = n < 2 ^ 8
-
 -- a byte, and zeros behind it
-then_zeros : (byte zeros : ℕ) → IsByte byte → AllBytes (byte ∷ replicate zeros 0)
-then_zeros byte zeros is = (is, all_same IsByte zeros 0 (lit< tt))
+then_zeros : (byte zeros : ℕ) → FitsByte byte → AllBytes (byte ∷ replicate zeros 0)
+then_zeros byte zeros is = (is, all_same FitsByte zeros 0 (lit< tt))
 
 block_is : AreBytes (block_of 7)
 block_is = by_place (block_of 7) (then_zeros 7 511 (lit< tt))
 
 program_is : AreBytes program
-program_is = by_place program (all_append IsByte move leave (then_zeros 0xb7 7 (lit< tt)) (then_zeros 0x95 7 (lit< tt)))
+program_is = by_place program (all_append FitsByte move leave (then_zeros 0xb7 7 (lit< tt)) (then_zeros 0x95 7 (lit< tt)))
 
 none_is : AreBytes []
 none_is = by_place [] tt

@@ -1,11 +1,11 @@
 //! What an instruction leaves known along its edges.
 
 ghost use Rattle.std.specs.Prelude.{◌≡◌, ◌+◌, ◌<◌, ◌^◌, None};
+ghost use Rattle.std.specs.Bool.{then_some};
 ghost use Rattle.instruction_set.specs.Instruction.{distance_of};
 ghost use Rattle.accepted_programs.specs.Facts.{source_fact, compared_fact, after_emit, after_store, computed_word, enters_stack as area_is_stack, fact, facts_behind, is_register as source_is, kept_fact, loaded_fact, loaded_word, with_fact, with_source};
 ghost use Rattle.accepted_programs.specs.Accepted.{greatest_length};
 ghost use Rattle.verifier.specs.steps.Instructions.{HasRoom};
-ghost use Rattle.verifier.specs.steps.Rows.{where_it_goes_on};
 
 use crate::cells::{cell_of, is_stack, known, store_into};
 use accepted_programs::Facts;
@@ -199,7 +199,7 @@ fn computed<D: Domain>(instruction: &Instruction, facts: &Facts<D>) -> Option<(R
 pub fn step<D: Domain>(instruction: &Instruction, block: BlockSize, facts: &mut Facts<D>) -> bool
     requires straight { distance_of instruction.now ≡ None }
     requires room { HasRoom D.operations instruction.now facts.old }
-    ensures { where_it_goes_on result facts.new ≡ facts_behind D.operations block instruction.now facts.old }
+    ensures { then_some result facts.new ≡ facts_behind D.operations block instruction.now facts.old }
 {
     match *instruction {
         Instruction::StoreImmediate {

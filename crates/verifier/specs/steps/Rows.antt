@@ -4,11 +4,6 @@ use Rattle.accepted_programs.specs.declared.facts.Facts.{Facts}
 use Rattle.accepted_programs.specs.declared.reason.Refusal.{Refusal}
 use Rattle.verifier.specs.declared.rows.Refused.{Refused}
 
--- the facts, where the program goes on with them
-abbrev pub where_it_goes_on : {D : Type 0} → Bool → Facts D → Option (Facts D)
-where_it_goes_on true facts = Some facts
-where_it_goes_on false facts = None
-
 module _ {D Z : Type 0} where
   -- the facts in a box, if there is one
   abbrev pub held : Option (Box (Facts D) Z) → Option (Facts D)
