@@ -132,8 +132,8 @@ pub behind_err : (records : List (List ℕ)) (reading : Reading) (at : ℕ) → 
 behind_err records (Ok more) at is = absurd cc
 behind_err records (Err place) at is = is
 
-refused_byte : (steps place : ℕ) (rest : List ℕ) (at : ℕ) → frame_length rest ≡ 0 → zeros_at place rest ≡ Err at → IsRefused (suc steps) place rest at
-refused_byte steps place rest at none is =
+byte_refused : (steps place : ℕ) (rest : List ℕ) (at : ℕ) → frame_length rest ≡ 0 → zeros_at place rest ≡ Err at → IsRefused (suc steps) place rest at
+byte_refused steps place rest at none is =
     let d = is_byte place rest at is in
     let size : d.offset + (length rest - d.offset) ≡ length rest = omega (arith, d.inside) in
     let all : cut_off d.offset rest ≡ replicate (length rest) 0 =
@@ -208,5 +208,5 @@ is_refused (suc steps) place rest at few are is =
     refused_behind steps place rest at are some long
     (is_refused steps (place + (2 + frame_length rest)) (after_frame rest) at (omega (arith, few, long, left)) (all_drop FitsByte (2 + frame_length rest) rest are) behind))
     (cases_lt (length rest) (2 + frame_length rest)))
-    (λ none. let zero_length : frame_length rest ≡ 0 = omega arith in refused_byte steps place rest at zero_length (sym (step-zeros steps place rest zero_length) ∙ is))
+    (λ none. let zero_length : frame_length rest ≡ 0 = omega arith in byte_refused steps place rest at zero_length (sym (step-zeros steps place rest zero_length) ∙ is))
     (cases_lt 0 (frame_length rest))

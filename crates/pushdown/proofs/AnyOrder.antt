@@ -80,11 +80,11 @@ record Seen : Type 0 where
   state : State
   replies : List ReplyWithData
 
-abbrev seen : State → List ReplyWithData → Seen
-seen s replies = record { state = s; replies = replies }
+abbrev seen_with : State → List ReplyWithData → Seen
+seen_with s replies = record { state = s; replies = replies }
 
-same_seen : (s t : State) (xs ys : List ReplyWithData) → s ≡ t → xs ≡ ys → seen s xs ≡ seen t ys
-same_seen s t xs ys same_state same_replies = ap (λ (s : State). seen s xs) same_state ∙ ap (seen t) same_replies
+same_seen : (s t : State) (xs ys : List ReplyWithData) → s ≡ t → xs ≡ ys → seen_with s xs ≡ seen_with t ys
+same_seen s t xs ys same_state same_replies = ap (λ (s : State). seen_with s xs) same_state ∙ ap (seen_with t) same_replies
 
 abbrev told_if : Bool → ReplyWithData → List ReplyWithData
 told_if true reply = reply ∷ []
@@ -104,7 +104,7 @@ replies_both false false before x y differs = refl
 
 module _ (watched : ℕ) where
   abbrev step : ℕ → Seen → Seen
-  step run x = seen (turned x.state run).state (x.replies ++ told_if (run == watched) (turned x.state run).reply)
+  step run x = seen_with (turned x.state run).state (x.replies ++ told_if (run == watched) (turned x.state run).reply)
 
   abbrev Own : Seen → Type 0
   Own x = OwnAll x.state
@@ -123,25 +123,25 @@ module _ (watched : ℕ) where
 
   module _ (view : List (Option Loaded) → List (Option Loaded)) (is : IsView view) where
     turns_seen : (runs : List ℕ) (s : State) (replies : List ReplyWithData)
-        → after step runs (seen (with_view view s) replies)
-        ≡ seen (with_view view (state_after_turns runs s)) (replies ++ own_replies watched runs (replies_to_turns runs s))
-    turns_seen [] s replies = ap (seen (with_view view s)) (sym (append-nil replies))
+        → after step runs (seen_with (with_view view s) replies)
+        ≡ seen_with (with_view view (state_after_turns runs s)) (replies ++ own_replies watched runs (replies_to_turns runs s))
+    turns_seen [] s replies = ap (seen_with (with_view view s)) (sym (append-nil replies))
     turns_seen (run ∷ runs) s replies =
         let t = (turned s run).state in
         let mine = told_if (run == watched) (turned s run).reply in
         let rest = own_replies watched runs (replies_to_turns runs t) in
-        ap (λ (h : Happening). after step runs (seen h.state (replies ++ told_if (run == watched) h.reply)))
+        ap (λ (h : Happening). after step runs (seen_with h.state (replies ++ told_if (run == watched) h.reply)))
         (sym (turned_seen view is s run (place_at s run)))
         ∙ turns_seen runs t (replies ++ mine)
-        ∙ ap (seen (with_view view (state_after_turns runs t))) (append_assoc replies mine rest ∙ ap (λ (xs : List ReplyWithData). replies ++ xs)
+        ∙ ap (seen_with (with_view view (state_after_turns runs t))) (append_assoc replies mine rest ∙ ap (λ (xs : List ReplyWithData). replies ++ xs)
         (one_more (run == watched) (run, (turned s run).reply) (filter (λ x. x.0 == watched) (zip runs (replies_to_turns runs t)))))
 
     same_after : (first second : List ℕ) (s : State) → OwnAll (with_view view s) → AreSameTurns first second
-        → seen (with_view view (state_after_turns first s)) (own_replies watched first (replies_to_turns first s))
-        ≡ seen (with_view view (state_after_turns second s)) (own_replies watched second (replies_to_turns second s))
+        → seen_with (with_view view (state_after_turns first s)) (own_replies watched first (replies_to_turns first s))
+        ≡ seen_with (with_view view (state_after_turns second s)) (own_replies watched second (replies_to_turns second s))
     same_after first second s own same =
         sym (turns_seen first s [])
-        ∙ in_any_order step Own (λ x run. stays_own x.state run) in_either_order first second (seen (with_view view s) []) own same
+        ∙ in_any_order step Own (λ x run. stays_own x.state run) in_either_order first second (seen_with (with_view view s) []) own same
         ∙ turns_seen second s []
 
 -- ---- the law

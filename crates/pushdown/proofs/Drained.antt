@@ -24,11 +24,11 @@ left_after (p ∷ ps) zero place new at less = omega (arith, less, ap turns_left
 left_after (p ∷ ps) (suc run) place new at less =
     let rest = left_after ps run place new at less in omega (arith, rest)
 
-abbrev Ends : State → Type 0
-Ends s = (runs : List ℕ) × Drains s runs
+abbrev CanDrain : State → Type 0
+CanDrain s = (runs : List ℕ) × Drains s runs
 
 one_more : (s : State) (run : ℕ) → lowest_run s ≡ Some run → turns_left (turned s run).state.places + 1 ≤ turns_left s.places
-    → Ends (turned s run).state → Ends s
+    → CanDrain (turned s run).state → CanDrain s
 one_more s run is less rest =
     (run ∷ rest.0, record { lowest = (is, rest.1.lowest); none_left = rest.1.none_left; few = omega (arith, less, rest.1.few) })
 
@@ -53,13 +53,13 @@ module _ {D : Type 0} (operations : Operations D) (never : AcceptedNeverTraps op
       taken_less s run place place.turns here refl (subst (PlaceIsFine operations never block) here (place_fine operations never block s run h))
 
   by_lowest : (n : ℕ) (s : State) (low : Option ℕ) → Fine s → turns_left s.places ≤ n → lowest_run s ≡ low
-      → ((t : State) → Fine t → turns_left t.places + 1 ≤ n → Ends t) → Ends s
+      → ((t : State) → Fine t → turns_left t.places + 1 ≤ n → CanDrain t) → CanDrain s
   by_lowest n s None h few is more = ([], record { lowest = tt; none_left = is; few = omega arith })
   by_lowest n s (Some run) h few is more =
       let less = found_less s run (place_at s run) h refl ((position-Some is_some s.places run None is).1) in
       one_more s run is less (more (turned s run).state (turn_fine operations never block s run h) (omega (arith, less, few)))
 
-  drains : (n : ℕ) (s : State) → Fine s → turns_left s.places ≤ n → Ends s
+  drains : (n : ℕ) (s : State) → Fine s → turns_left s.places ≤ n → CanDrain s
   drains zero s h few = by_lowest zero s (lowest_run s) h few refl (λ t fine none. absurd (omega (arith, none)))
   drains (suc n) s h few = by_lowest (suc n) s (lowest_run s) h few refl (λ t fine less. drains n t fine (omega (arith, less)))
 

@@ -10,8 +10,8 @@ use Rattle.pushdown.specs.Pushdown.{no_turn}
 use Rattle.pushdown.proofs.Examples.{block_of, frame, loops, passes, sevens, sums, tells, traps, twice}
 
 -- a program over so many blocks from address 0 on
-abbrev task_of : List (Option Instruction) → ℕ → ℕ → Task
-task_of program limit count = record { program = program; sizes = record { block = 512; limit = limit }; argument = 0; lba = 0; count = count }
+abbrev task_over : List (Option Instruction) → ℕ → ℕ → Task
+task_over program limit count = record { program = program; sizes = record { block = 512; limit = limit }; argument = 0; lba = 0; count = count }
 
 -- the last turn of a run that succeeds
 abbrev ends : List (List ℕ) → ℕ → ℕ → List ℕ → Turn
@@ -24,7 +24,7 @@ steps_of task blocks = map (λ (run : BlockRun). run.steps) (block_runs_of task 
 -- a program that does nothing: three turns of two steps, of which the last ends the run, whatever the blocks are
 module _ (x y z : List ℕ) where
   abbrev idle : Task
-  idle = task_of passes 0 3
+  idle = task_over passes 0 3
 
   pub passes_turns : outcome idle (x ∷ y ∷ z ∷ []) ≡ no_turn ∷ no_turn ∷ ends [] 0 0 no_scratch ∷ []
   unfolding block_run_of
@@ -38,7 +38,7 @@ module _ (x y z : List ℕ) where
 -- turn, which appends two
 module _ where
   abbrev matching : Task
-  matching = task_of sevens 10 52
+  matching = task_over sevens 10 52
 
   pub sevens_need : need 52 matching.sizes ≡ 2
   sevens_need = refl
@@ -49,18 +49,18 @@ module _ where
   sevens_turns = refl
 
   -- a block that begins with 7 takes seven steps, and another four
-  pub sevens_steps : steps_of (task_of sevens 10 2) (block_of 7 ∷ block_of 8 ∷ []) ≡ 7 ∷ 4 ∷ []
+  pub sevens_steps : steps_of (task_over sevens 10 2) (block_of 7 ∷ block_of 8 ∷ []) ≡ 7 ∷ 4 ∷ []
   unfolding block_run_of
   sevens_steps = refl
 
 -- ten blocks, of which three are read: the sum of their first bytes is the result
-pub sums_turns : outcome (task_of sums 0 10) (map block_of (1 ∷ 2 ∷ 3 ∷ 4 ∷ 5 ∷ 6 ∷ 7 ∷ 8 ∷ 9 ∷ 10 ∷ []))
+pub sums_turns : outcome (task_over sums 0 10) (map block_of (1 ∷ 2 ∷ 3 ∷ 4 ∷ 5 ∷ 6 ∷ 7 ∷ 8 ∷ 9 ∷ 10 ∷ []))
     ≡ no_turn ∷ no_turn ∷ ends [] 0 0 (6 ∷ replicate 1023 0) ∷ []
 unfolding block_run_of
 sums_turns = refl
 
 -- frames are told, not groups: two of each block
-pub twice_turns : outcome (task_of twice 6 2) (block_of 4 ∷ block_of 5 ∷ [])
+pub twice_turns : outcome (task_over twice 6 2) (block_of 4 ∷ block_of 5 ∷ [])
     ≡ no_turn ∷ ends ((1 ∷ 0 ∷ 4 ∷ 1 ∷ 0 ∷ 4 ∷ 1 ∷ 0 ∷ 5 ∷ 1 ∷ 0 ∷ 5 ∷ replicate 500 0) ∷ []) 4 1 no_scratch ∷ []
 unfolding block_run_of
 twice_turns = refl
@@ -88,11 +88,11 @@ module _ where
 
 -- a run whose program can't go on: the block that was filled stands, the pending one is dropped
 module _ where
-  pub traps_turns : outcome (task_of traps 512 3) (block_of 1 ∷ block_of 1 ∷ block_of 9 ∷ [])
+  pub traps_turns : outcome (task_over traps 512 3) (block_of 1 ∷ block_of 1 ∷ block_of 9 ∷ [])
       ≡ no_turn ∷ record { blocks = (0xfe ∷ 0x01 ∷ 1 ∷ replicate 509 0) ∷ []; ending = None } ∷ trapped 7 4 ∷ []
   unfolding block_run_of
   traps_turns = refl
 
-  pub loops_turns : outcome (task_of loops 0 1) (block_of 0 ∷ []) ≡ trapped 0 9 ∷ []
+  pub loops_turns : outcome (task_over loops 0 1) (block_of 0 ∷ []) ≡ trapped 0 9 ∷ []
   unfolding block_run_of
   loops_turns = refl

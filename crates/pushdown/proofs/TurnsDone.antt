@@ -156,10 +156,10 @@ left_other s place (Some ending) slot differs =
 
 -- ---- the turns that a place had don't matter for what is left
 
-place_of : (place : Place) (turns later : List Turn) (ending : Option Ending)
+same_place : (place : Place) (turns later : List Turn) (ending : Option Ending)
     → place_left (with_turns place turns) later ending ≡ place_left place later ending
-place_of place turns later None = refl
-place_of place turns later (Some ending) = refl
+same_place place turns later None = refl
+same_place place turns later (Some ending) = refl
 
 slots_of : (s : State) (place : Place) (turns : List Turn) (ending : Option Ending)
     → slots_left s (with_turns place turns) ending ≡ slots_left s place ending
@@ -199,7 +199,7 @@ next_is s now run place turns k stands less =
           ∙ ap (λ (xs : List (List ℕ)). blocks_at s d ++ xs) (take_next turns k less);
       then_left = ap (λ (h : Happening). place_at h.state run) took
           ∙ get_or-set_same now.places run (place_left here later turn.ending) None (there now.places run here stands.left)
-          ∙ place_of place (drop k turns) later turn.ending;
+          ∙ same_place place (drop k turns) later turn.ending;
       then_slots = ap (λ (h : Happening). h.state.slots) took ∙ slots_of now place (drop k turns) turn.ending;
       other_runs = λ other differs.
           ap (λ (h : Happening). place_at h.state other) took
