@@ -5,7 +5,8 @@ use Rattle.std.specs.Prelude.{if◌then◌else◌}
 use Rattle.byteorder.specs.Endian.{little_bytes, little_number}
 use Rattle.byteorder.specs.Numbers.{length-bytes_low_first, little_from-lt, little_number-reads_back}
 use Rattle.program_meaning.proofs.Proved.{same_number, writes_read_back}
-use Rattle.program_interface.specs.Bytes.{spliced}
+use Rattle.program_interface.proofs.Proved.{bytes_from}
+use Rattle.program_interface.specs.Bytes.{AreBytes, spliced}
 use Rattle.accepted_programs.specs.Cells.{forgotten, has_byte, join_cell, joined_each}
 use Rattle.accepted_programs.specs.Meets.{word_in}
 
@@ -85,9 +86,9 @@ module _ {D : Type 0} where
 
 -- ---- words
 -- a word of the stack is one of 64 bits
-pub word_fits : (stack : List ℕ) (j : ℕ) → ((k : ℕ) → get_or stack k 0 < 2 ^ 8) → word_in stack j < 2 ^ 64
+pub word_fits : (stack : List ℕ) (j : ℕ) → AreBytes stack → word_in stack j < 2 ^ 64
 word_fits stack j bytes =
-    little_from-lt 0 8 (drop (8 * j) stack) (λ k. rw (get_or-drop (8 * j) stack k 0) (bytes (8 * j + k)))
+    little_from-lt 0 8 (drop (8 * j) stack) (bytes_from (8 * j) stack bytes)
 
 -- the eight bytes of a cell that no store reaches stay
 pub word_kept : (stack bytes : List ℕ) (at j : ℕ) → at + length bytes ≤ length stack

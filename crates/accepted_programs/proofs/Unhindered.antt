@@ -15,7 +15,7 @@ use Rattle.instruction_set.specs.declared.operation.SignedSize.TheVariants as si
 use Rattle.instruction_set.specs.declared.operation.Size.{Size}
 use Rattle.instruction_set.specs.declared.operation.Size.TheVariants.{Byte, HalfWord, Word, DoubleWord}
 use Rattle.program_meaning.specs.Cause as machine
-use Rattle.program_meaning.specs.Cause.{causes_of_effect, emits_badly, emits_outside, hinders, is_inside_wide, is_nowhere, is_unwritable, is_unwritable_at, least_cause, slot_in}
+use Rattle.program_meaning.specs.Cause.{causes, emits_badly, emits_outside, hinders, is_inside_wide, is_nowhere, is_unwritable, is_unwritable_at, least_cause, slot_in}
 use Rattle.program_meaning.specs.Effect.{address_from, operand, register}
 use Rattle.program_meaning.specs.Memory.{lies_in, area_offset_of}
 use Rattle.program_interface.specs.Area.{address_of, length_of}
@@ -225,5 +225,5 @@ module _ {D : Type 0} {IsFact : D → Type 0} {contains : D → ℕ → Type 0} 
       → FitsSigned w16 (first_slot i).offset → ((r : Reason) → fails operations program sizes s.slot facts i r ≡ false)
       → least_cause program sizes.limit s i ≡ None
   unhindered program sizes i facts s are_sizes is long are meets near passed =
-      none_passes (hinders program sizes.limit s i) (cause.NextOutside ∷ cause.NextInsideWide ∷ causes_of_effect)
+      none_passes (hinders program sizes.limit s i) causes
       (free sizes facts s are_sizes is long are meets program i near passed)

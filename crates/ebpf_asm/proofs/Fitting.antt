@@ -42,9 +42,10 @@ then_fits : {A B : Type 0} (m : Result A FaultKind) (f : A → Result B FaultKin
 then_fits (Ok x) f P Q h next = next x h
 then_fits (Err fault) f P Q h next = tt
 
-any : {A : Type 0} (m : Result A FaultKind) → IfOk m (λ _. Unit {0})
-any (Ok x) = tt
-any (Err fault) = tt
+-- where nothing is known of the first reading
+pub after : {A B : Type 0} (m : Result A FaultKind) (f : A → Result B FaultKind) (Q : B → Type 0) → ((x : A) → IfOk (f x) Q) → IfOk (m >>= f) Q
+after (Ok x) f Q next = next x
+after (Err fault) f Q next = tt
 
 both_fit : {A B : Type 0} (a : Result A FaultKind) (b : Result B FaultKind) (P : A → Type 0) (Q : B → Type 0)
     → IfOk a P → IfOk b Q → IfOk (read_both a b) (λ p. P p.0 × Q p.1)
@@ -113,14 +114,14 @@ word_in_range (negsuc n) = by_test (leb n 2147483647) refl
 immediate_fits : (text : List ℕ) → IfOk (immediate_told text) (FitsSigned w32)
 unfolding immediate_told
 immediate_fits text =
-    then_fits (literal_of text) _ (λ _. Unit {0}) (FitsSigned w32) (any (literal_of text)) (λ number known.
+    after (literal_of text) _ _ (λ number.
     then_fits (in_range (negsuc 2147483647) (pos 4294967295) number) _ (λ x. cast_unsigned w32 x < 2 ^ 32) (FitsSigned w32) (word_in_range number) (λ x small.
     fits-32 (cast_unsigned w32 x) small))
 
 wide_fits : (text : List ℕ) → IfOk (wide_of text) (λ value. value < 2 ^ 64)
 unfolding wide_of
 wide_fits text =
-    then_fits (literal_of text) _ (λ _. Unit {0}) (λ value. value < 2 ^ 64) (any (literal_of text)) (λ number known.
+    after (literal_of text) _ _ (λ number.
     then_fits (in_range (negsuc 9223372036854775807) (pos 18446744073709551615) number) _ (λ x. cast_unsigned w64 x < 2 ^ 64) (λ value. value < 2 ^ 64) (wide_in_range number) (λ x small. small))
 
 -- ---- operands
@@ -153,7 +154,7 @@ offset_fits text = by_length (eqb (length text) 0)
   where
     by_length : (b : Bool) → IfOk (cond b (Ok (pos 0)) (signed_of text >>= short_of)) (FitsSigned w16)
     by_length true = omega arith
-    by_length false = then_fits (signed_of text) short_of (λ _. Unit {0}) (FitsSigned w16) (any (signed_of text)) (λ z known. short_fits z)
+    by_length false = after (signed_of text) short_of _ short_fits
 
 -- a memory operand's register and offset fit
 abbrev IsPlace : ℕ × ℤ → Type 0
@@ -162,7 +163,7 @@ IsPlace place = (place.0 < 11) × FitsSigned w16 place.1
 memory_fits : (text : List ℕ) → IfOk (memory_told text) IsPlace
 unfolding memory_told
 memory_fits text =
-    then_fits (inside_brackets text) _ (λ _. Unit {0}) IsPlace (any (inside_brackets text)) (λ inside known.
+    after (inside_brackets text) _ _ (λ inside.
     both_fit (register_of (before_first is_sign_byte inside)) (offset_of (drop (position_or_len is_sign_byte inside) inside)) (λ n. n < 11) (FitsSigned w16)
     (register_fits (before_first is_sign_byte inside)) (offset_fits (drop (position_or_len is_sign_byte inside) inside)))
 
@@ -171,7 +172,7 @@ unfolding distance_told
 distance_fits in_field P none fit text = by_tests (is_sign_byte (get_or text 0 0)) (is_label_name text)
   where
     by_tests : (sign name : Bool) → IfOk (cond sign (signed_of text >>= in_field) (cond name (Ok (pos 0)) (Err Operand))) P
-    by_tests true name = then_fits (signed_of text) in_field (λ _. Unit {0}) P (any (signed_of text)) (λ z known. fit z)
+    by_tests true name = after (signed_of text) in_field _ fit
     by_tests false true = none
     by_tests false false = tt
 
@@ -220,76 +221,76 @@ kept_fits kept.Bits64 = omega arith
 statement_with_fits : (mnemonic : Mnemonic) (texts : List (List ℕ)) → IfOk (statement_with mnemonic texts) StatementFits
 unfolding statement_with
 statement_with_fits LoadImmediate texts =
-    then_fits (two_of texts) _ (λ _. Unit {0}) StatementFits (any (two_of texts)) (λ t known.
+    after (two_of texts) _ _ (λ t.
     then_fits (read_both (register_of t.0) (wide_of t.1)) _ (λ x. (x.0 < 11) × (x.1 < 2 ^ 64)) StatementFits
     (both_fit (register_of t.0) (wide_of t.1) (λ n. n < 11) (λ v. v < 2 ^ 64) (register_fits t.0) (wide_fits t.1))
     (λ x h. record { dst = h.0; src = no_register; offset = no_offset; immediate = low_half x.1; value = h.1 }))
 statement_with_fits (Load size) texts =
-    then_fits (two_of texts) _ (λ _. Unit {0}) StatementFits (any (two_of texts)) (λ t known.
+    after (two_of texts) _ _ (λ t.
     then_fits (read_both (register_of t.0) (memory_told t.1)) _ (λ x. (x.0 < 11) × IsPlace x.1) StatementFits
     (both_fit (register_of t.0) (memory_told t.1) (λ n. n < 11) IsPlace (register_fits t.0) (memory_fits t.1))
     (λ x h. record { dst = h.0; src = h.1.0; offset = h.1.1; immediate = no_immediate; value = tt }))
 statement_with_fits (LoadSigned size) texts =
-    then_fits (two_of texts) _ (λ _. Unit {0}) StatementFits (any (two_of texts)) (λ t known.
+    after (two_of texts) _ _ (λ t.
     then_fits (read_both (register_of t.0) (memory_told t.1)) _ (λ x. (x.0 < 11) × IsPlace x.1) StatementFits
     (both_fit (register_of t.0) (memory_told t.1) (λ n. n < 11) IsPlace (register_fits t.0) (memory_fits t.1))
     (λ x h. record { dst = h.0; src = h.1.0; offset = h.1.1; immediate = no_immediate; value = tt }))
 statement_with_fits (StoreImmediate size) texts =
-    then_fits (two_of texts) _ (λ _. Unit {0}) StatementFits (any (two_of texts)) (λ t known.
+    after (two_of texts) _ _ (λ t.
     then_fits (read_both (memory_told t.0) (immediate_told t.1)) _ (λ x. IsPlace x.0 × FitsSigned w32 x.1) StatementFits
     (both_fit (memory_told t.0) (immediate_told t.1) IsPlace (FitsSigned w32) (memory_fits t.0) (immediate_fits t.1))
     (λ x h. record { dst = h.0.0; src = no_register; offset = h.0.1; immediate = h.1; value = tt }))
 statement_with_fits (StoreRegister size) texts =
-    then_fits (two_of texts) _ (λ _. Unit {0}) StatementFits (any (two_of texts)) (λ t known.
+    after (two_of texts) _ _ (λ t.
     then_fits (read_both (memory_told t.0) (register_of t.1)) _ (λ x. IsPlace x.0 × (x.1 < 11)) StatementFits
     (both_fit (memory_told t.0) (register_of t.1) IsPlace (λ n. n < 11) (memory_fits t.0) (register_fits t.1))
     (λ x h. record { dst = h.0.0; src = h.1; offset = h.0.1; immediate = no_immediate; value = tt }))
 statement_with_fits (Arithmetic width operation) texts =
-    then_fits (two_of texts) _ (λ _. Unit {0}) StatementFits (any (two_of texts)) (λ t known.
+    after (two_of texts) _ _ (λ t.
     then_fits (read_both (register_of t.0) (source_told t.1)) _ (λ x. (x.0 < 11) × IsSource x.1) StatementFits
     (both_fit (register_of t.0) (source_told t.1) (λ n. n < 11) IsSource (register_fits t.0) (source_fits t.1))
     (λ x h. record { dst = h.0; src = source_low x.1 h.1; offset = operation_fits operation; immediate = source_number x.1 h.1; value = tt }))
 statement_with_fits (Negate width) texts =
-    then_fits (one_of texts) _ (λ _. Unit {0}) StatementFits (any (one_of texts)) (λ t known.
+    after (one_of texts) _ _ (λ t.
     then_fits (register_of t) _ (λ n. n < 11) StatementFits (register_fits t)
     (λ x h. record { dst = h; src = no_register; offset = no_offset; immediate = no_immediate; value = tt }))
 statement_with_fits (MoveSigned extension) texts =
-    then_fits (two_of texts) _ (λ _. Unit {0}) StatementFits (any (two_of texts)) (λ t known.
+    after (two_of texts) _ _ (λ t.
     then_fits (read_both (register_of t.0) (register_of t.1)) _ (λ x. (x.0 < 11) × (x.1 < 11)) StatementFits
     (both_fit (register_of t.0) (register_of t.1) (λ n. n < 11) (λ n. n < 11) (register_fits t.0) (register_fits t.1))
     (λ x h. record { dst = h.0; src = h.1; offset = extension_fits extension; immediate = no_immediate; value = tt }))
 statement_with_fits (SwapBytes swap size) texts =
-    then_fits (one_of texts) _ (λ _. Unit {0}) StatementFits (any (one_of texts)) (λ t known.
+    after (one_of texts) _ _ (λ t.
     then_fits (register_of t) _ (λ n. n < 11) StatementFits (register_fits t)
     (λ x h. record { dst = h; src = no_register; offset = no_offset; immediate = kept_fits size; value = tt }))
 statement_with_fits Jump texts =
-    then_fits (one_of texts) _ (λ _. Unit {0}) StatementFits (any (one_of texts)) (λ t known.
+    after (one_of texts) _ _ (λ t.
     then_fits (distance_told short_of t) _ (FitsSigned w16) StatementFits (distance_fits short_of (FitsSigned w16) no_offset short_fits t)
     (λ z h. record { dst = no_register; src = no_register; offset = h; immediate = no_immediate; value = tt }))
 statement_with_fits JumpLong texts =
-    then_fits (one_of texts) _ (λ _. Unit {0}) StatementFits (any (one_of texts)) (λ t known.
+    after (one_of texts) _ _ (λ t.
     then_fits (distance_told long_of t) _ (FitsSigned w32) StatementFits (distance_fits long_of (FitsSigned w32) no_immediate long_fits t)
     (λ z h. record { dst = no_register; src = no_register; offset = no_offset; immediate = h; value = tt }))
 statement_with_fits (Branch width relation) texts =
-    then_fits (three_of texts) _ (λ _. Unit {0}) StatementFits (any (three_of texts)) (λ t known.
+    after (three_of texts) _ _ (λ t.
     then_fits (read_both (read_both (register_of t.0) (source_told t.1)) (distance_told short_of t.2)) _ (λ x. ((x.0.0 < 11) × IsSource x.0.1) × FitsSigned w16 x.1) StatementFits
     (both_fit (read_both (register_of t.0) (source_told t.1)) (distance_told short_of t.2) (λ y. (y.0 < 11) × IsSource y.1) (FitsSigned w16)
     (both_fit (register_of t.0) (source_told t.1) (λ n. n < 11) IsSource (register_fits t.0) (source_fits t.1))
     (distance_fits short_of (FitsSigned w16) no_offset short_fits t.2))
     (λ x h. record { dst = h.0.0; src = source_low x.0.1 h.0.1; offset = h.1; immediate = source_number x.0.1 h.0.1; value = tt }))
 statement_with_fits Call texts =
-    then_fits (one_of texts) _ (λ _. Unit {0}) StatementFits (any (one_of texts)) (λ t known.
+    after (one_of texts) _ _ (λ t.
     then_fits (immediate_told t) _ (FitsSigned w32) StatementFits (immediate_fits t)
     (λ z h. record { dst = no_register; src = no_register; offset = no_offset; immediate = h; value = tt }))
 statement_with_fits Exit texts =
-    then_fits (none_of texts) _ (λ _. Unit {0}) StatementFits (any (none_of texts))
-    (λ none known. record { dst = no_register; src = no_register; offset = no_offset; immediate = no_immediate; value = tt })
+    after (none_of texts) _ _
+    (λ none. record { dst = no_register; src = no_register; offset = no_offset; immediate = no_immediate; value = tt })
 
 statement_fits : (text : List ℕ) → IfOk (statement_of text) StatementFits
 unfolding statement_of
 statement_fits text =
     let named = ok_or (mnemonic_named (before_first is_blank_byte text)) UnknownMnemonic in
-    then_fits named _ (λ _. Unit {0}) StatementFits (any named) (λ mnemonic known.
+    after named _ _ (λ mnemonic.
     statement_with_fits mnemonic (operands_of (drop (position_or_len is_blank_byte text) text)))
 
 -- ---- lines

@@ -8,7 +8,6 @@ use Rattle.ebpf_asm.specs.declared.mnemonic.Mnemonic.{Mnemonic}
 use Rattle.ebpf_asm.specs.declared.mnemonic.Mnemonic.TheVariants.{LoadImmediate, Load, LoadSigned, StoreImmediate, StoreRegister, Arithmetic, Negate, MoveSigned, SwapBytes, Jump, JumpLong, Branch, Call, Exit}
 use Rattle.ebpf_asm.specs.declared.fault.FaultKind.{FaultKind}
 use Rattle.ebpf_asm.specs.declared.fault.FaultKind.TheVariants.{UnknownMnemonic, OutOfRange}
-use Rattle.program_interface.specs.Readings.{◌>>=◌}
 use Rattle.ebpf_asm.specs.Fault.{read_both}
 use Rattle.ebpf_asm.specs.Mnemonic.{mnemonic_named}
 use Rattle.ebpf_asm.specs.Operand.{distance_told, immediate_told, in_range, label_of, long_of, memory_told, register_of, short_of, source_told, wide_of}
@@ -17,6 +16,7 @@ use Rattle.ebpf_asm.specs.Line.{Line, line_of}
 use Rattle.ebpf_asm.specs.Assembly.{fitting, jump_by}
 use Rattle.ebpf_asm.specs.Assembled.{with_distance}
 use Rattle.ebpf_asm.proofs.EachLine.{LineHas, lines_have}
+use Rattle.ebpf_asm.proofs.Fitting.{after}
 use Rattle.text_lines.specs.Cut.{is_blank_byte}
 
 -- ---- jumps
@@ -49,39 +49,35 @@ long_made jump distance made e =
 abbrev StatementJumps : Statement → Type 0
 StatementJumps s = IfSome s.1 (λ (label : List ℕ). Jumps s.0)
 
-after : {A : Type 0} (m : Result A FaultKind) (f : A → Result Statement FaultKind) → ((x : A) → IfOk (f x) StatementJumps) → IfOk (m >>= f) StatementJumps
-after (Ok x) f next = next x
-after (Err fault) f next = tt
-
 to_label : (instruction : Instruction) (label : Option (List ℕ)) → Jumps instruction → StatementJumps (instruction, label)
 to_label instruction None jumps = tt
 to_label instruction (Some label) jumps = jumps
 
 statement_with_jumps : (mnemonic : Mnemonic) (texts : List (List ℕ)) → IfOk (statement_with mnemonic texts) StatementJumps
 unfolding statement_with
-statement_with_jumps LoadImmediate texts = after (two_of texts) _ (λ t. after (read_both (register_of t.0) (wide_of t.1)) _ (λ x. tt))
-statement_with_jumps (Load size) texts = after (two_of texts) _ (λ t. after (read_both (register_of t.0) (memory_told t.1)) _ (λ x. tt))
-statement_with_jumps (LoadSigned size) texts = after (two_of texts) _ (λ t. after (read_both (register_of t.0) (memory_told t.1)) _ (λ x. tt))
-statement_with_jumps (StoreImmediate size) texts = after (two_of texts) _ (λ t. after (read_both (memory_told t.0) (immediate_told t.1)) _ (λ x. tt))
-statement_with_jumps (StoreRegister size) texts = after (two_of texts) _ (λ t. after (read_both (memory_told t.0) (register_of t.1)) _ (λ x. tt))
-statement_with_jumps (Arithmetic width operation) texts = after (two_of texts) _ (λ t. after (read_both (register_of t.0) (source_told t.1)) _ (λ x. tt))
-statement_with_jumps (Negate width) texts = after (one_of texts) _ (λ t. after (register_of t) _ (λ dst. tt))
-statement_with_jumps (MoveSigned extension) texts = after (two_of texts) _ (λ t. after (read_both (register_of t.0) (register_of t.1)) _ (λ x. tt))
-statement_with_jumps (SwapBytes swap size) texts = after (one_of texts) _ (λ t. after (register_of t) _ (λ dst. tt))
+statement_with_jumps LoadImmediate texts = after (two_of texts) _ _ (λ t. after (read_both (register_of t.0) (wide_of t.1)) _ _ (λ x. tt))
+statement_with_jumps (Load size) texts = after (two_of texts) _ _ (λ t. after (read_both (register_of t.0) (memory_told t.1)) _ _ (λ x. tt))
+statement_with_jumps (LoadSigned size) texts = after (two_of texts) _ _ (λ t. after (read_both (register_of t.0) (memory_told t.1)) _ _ (λ x. tt))
+statement_with_jumps (StoreImmediate size) texts = after (two_of texts) _ _ (λ t. after (read_both (memory_told t.0) (immediate_told t.1)) _ _ (λ x. tt))
+statement_with_jumps (StoreRegister size) texts = after (two_of texts) _ _ (λ t. after (read_both (memory_told t.0) (register_of t.1)) _ _ (λ x. tt))
+statement_with_jumps (Arithmetic width operation) texts = after (two_of texts) _ _ (λ t. after (read_both (register_of t.0) (source_told t.1)) _ _ (λ x. tt))
+statement_with_jumps (Negate width) texts = after (one_of texts) _ _ (λ t. after (register_of t) _ _ (λ dst. tt))
+statement_with_jumps (MoveSigned extension) texts = after (two_of texts) _ _ (λ t. after (read_both (register_of t.0) (register_of t.1)) _ _ (λ x. tt))
+statement_with_jumps (SwapBytes swap size) texts = after (one_of texts) _ _ (λ t. after (register_of t) _ _ (λ dst. tt))
 statement_with_jumps Jump texts =
-    after (one_of texts) _ (λ t. after (distance_told short_of t) _ (λ z. to_label (instructions.Jump z) (label_of t) (short_made instructions.Jump)))
+    after (one_of texts) _ _ (λ t. after (distance_told short_of t) _ _ (λ z. to_label (instructions.Jump z) (label_of t) (short_made instructions.Jump)))
 statement_with_jumps JumpLong texts =
-    after (one_of texts) _ (λ t. after (distance_told long_of t) _ (λ z. to_label (instructions.JumpLong z) (label_of t) (long_made instructions.JumpLong)))
+    after (one_of texts) _ _ (λ t. after (distance_told long_of t) _ _ (λ z. to_label (instructions.JumpLong z) (label_of t) (long_made instructions.JumpLong)))
 statement_with_jumps (Branch width relation) texts =
-    after (three_of texts) _ (λ t. after (read_both (read_both (register_of t.0) (source_told t.1)) (distance_told short_of t.2)) _
+    after (three_of texts) _ _ (λ t. after (read_both (read_both (register_of t.0) (source_told t.1)) (distance_told short_of t.2)) _ _
     (λ x. to_label (instructions.Branch width relation x.0.0 x.0.1 x.1) (label_of t.2) (short_made (instructions.Branch width relation x.0.0 x.0.1))))
-statement_with_jumps Call texts = after (one_of texts) _ (λ t. after (immediate_told t) _ (λ helper. tt))
-statement_with_jumps Exit texts = after (none_of texts) _ (λ none. tt)
+statement_with_jumps Call texts = after (one_of texts) _ _ (λ t. after (immediate_told t) _ _ (λ helper. tt))
+statement_with_jumps Exit texts = after (none_of texts) _ _ (λ none. tt)
 
 statement_jumps : (text : List ℕ) → IfOk (statement_of text) StatementJumps
 unfolding statement_of
 statement_jumps text =
-    after (ok_or (mnemonic_named (before_first is_blank_byte text)) UnknownMnemonic) _
+    after (ok_or (mnemonic_named (before_first is_blank_byte text)) UnknownMnemonic) _ _
     (λ mnemonic. statement_with_jumps mnemonic (operands_of (drop (position_or_len is_blank_byte text) text)))
 
 -- ---- lines

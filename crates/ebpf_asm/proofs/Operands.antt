@@ -27,7 +27,7 @@ pub one_at_end : (text first : List ℕ) → None ≡ cut_at 44 text → first �
 unfolding one_of
 one_at_end text first e f = rw (operands_of-one text (sym e), f) refl
 
-one_of-more : (first : List ℕ) (texts : List (List ℕ)) → (x : List ℕ) × (xs : List (List ℕ)) × (texts ≡ x ∷ xs) → one_of (first ∷ texts) ≡ Err Operand
+one_of-more : (first : List ℕ) (texts : List (List ℕ)) → HasFirst texts → one_of (first ∷ texts) ≡ Err Operand
 unfolding one_of
 one_of-more first texts more = rw (more.2) refl
 

@@ -1,7 +1,7 @@
 -- The lines of a listing are read again.
-use Rattle.std.proofs.Common.{◌≡◌, ℕ, ℤ, pos, negsuc, zero, suc, ◌+◌, ◌-◌, ◌<◌, ◌^◌, Bool, true, false, not, ◌&&◌, ◌||◌, cond, ltb, eqb, List, [], ◌∷◌, ◌++◌, length, drop, take, map, replicate, Some, None, refl, sym, ap, ◌∙◌, subst, append_assoc, arith}
+use Rattle.std.proofs.Common.{◌≡◌, ℕ, ℤ, pos, negsuc, zero, suc, ◌+◌, ◌-◌, ◌<◌, ◌≤◌, ◌^◌, Bool, true, false, not, ◌&&◌, ◌||◌, cond, ltb, eqb, List, [], ◌∷◌, ◌++◌, length, drop, take, map, replicate, Some, None, refl, sym, ap, ◌∙◌, subst, append_assoc, arith}
 use lib.Signed.{mag}
-use Rattle.std.specs.List.{list_all, before_first, after_first, position_or_len, slice_split}
+use Rattle.std.specs.List.{AllByRecursion, list_all, before_first, after_first, position_or_len}
 use Rattle.std.specs.Char.{digit_value, is_ascii}
 use Rattle.std.specs.Str.Parse.{AllDigits}
 use Rattle.std.specs.Fmt.{decimal, signed_decimal, digits}
@@ -10,77 +10,71 @@ use Rattle.std.proofs.lemmas.Bool.Decides.{nat_tests}
 use Rattle.std.proofs.lemmas.List.{take_at, drop_at, append-nil, length-append}
 use Rattle.std.proofs.lemmas.List.Folds.{list_all-append}
 use Rattle.std.proofs.lemmas.Fmt.{decimal_is_IsNumeral, digits_is_IsNumeral}
-use Rattle.std.proofs.lemmas.Str.Parse.{digit_from_value}
 use Rattle.text_lines.specs.Cut.{cut_at, is_blank_byte, without_first_blanks, without_end_blanks, trimmed}
+use Rattle.text_lines.specs.Laws.{parts_at}
 use Rattle.ebpf_asm.specs.Statement.{operands_of}
 use Rattle.ebpf_asm.specs.Listing.{further_texts, operands_text, register_text, signed_text, memory_text, wide_text}
 use Rattle.text_lines.proofs.Proved.{cut_is_after_first_part, first_is_kept, kept_first, uncut_is_one_part}
 use Rattle.ebpf_asm.proofs.RoundOperands.{place_behind, signed_text-parts}
 
 -- bytes of mnemonics and operands
-abbrev pub plain : ℕ → Bool
-plain b = ltb 42 b && (ltb b 127 && (not (eqb b 44) && (not (eqb b 58) && not (eqb b 59))))
+abbrev pub is_plain : ℕ → Bool
+is_plain b = ltb 42 b && (ltb b 127 && (not (eqb b 44) && (not (eqb b 58) && not (eqb b 59))))
 
 -- and the blanks and commas between them
-abbrev pub inline : ℕ → Bool
-inline b = plain b || (eqb b 32 || eqb b 44)
+abbrev pub is_inline : ℕ → Bool
+is_inline b = is_plain b || (eqb b 32 || eqb b 44)
 
 pub weaker : (p q : ℕ → Bool) → ((b : ℕ) → p b ≡ true → q b ≡ true) → (xs : List ℕ) → list_all p xs ≡ true → list_all q xs ≡ true
 weaker p q imp [] h = refl
 weaker p q imp (x ∷ xs) h = let parts = and_parts (p x) (list_all p xs) h in rw (imp x parts.0, weaker p q imp xs parts.1) refl
 
-pub plain_inline : (b : ℕ) → plain b ≡ true → inline b ≡ true
+pub plain_inline : (b : ℕ) → is_plain b ≡ true → is_inline b ≡ true
 plain_inline b h = rw h refl
 
-plain_no_comma : (b : ℕ) → plain b ≡ true → not (eqb b 44) ≡ true
+plain_no_comma : (b : ℕ) → is_plain b ≡ true → not (eqb b 44) ≡ true
 plain_no_comma b h = grind (arith, nat_tests)
 
-pub plain_no_blank : (b : ℕ) → plain b ≡ true → not (is_blank_byte b) ≡ true
+pub plain_no_blank : (b : ℕ) → is_plain b ≡ true → not (is_blank_byte b) ≡ true
 plain_no_blank b h = grind (arith, nat_tests)
 
-pub inline_ascii : (b : ℕ) → inline b ≡ true → is_ascii b ≡ true
+pub inline_ascii : (b : ℕ) → is_inline b ≡ true → is_ascii b ≡ true
 inline_ascii b h = grind (arith, nat_tests)
 
-pub inline_no_semicolon : (b : ℕ) → inline b ≡ true → not (eqb b 59) ≡ true
+pub inline_no_semicolon : (b : ℕ) → is_inline b ≡ true → not (eqb b 59) ≡ true
 inline_no_semicolon b h = grind (arith, nat_tests)
 
-pub inline_no_colon : (b : ℕ) → inline b ≡ true → not (eqb b 58) ≡ true
+pub inline_no_colon : (b : ℕ) → is_inline b ≡ true → not (eqb b 58) ≡ true
 inline_no_colon b h = grind (arith, nat_tests)
 
-pub inline_no_newline : (b : ℕ) → inline b ≡ true → not (eqb b 10) ≡ true
+pub inline_no_newline : (b : ℕ) → is_inline b ≡ true → not (eqb b 10) ≡ true
 inline_no_newline b h = grind (arith, nat_tests)
 
-pub inline_no_return : (b : ℕ) → inline b ≡ true → not (eqb b 13) ≡ true
+pub inline_no_return : (b : ℕ) → is_inline b ≡ true → not (eqb b 13) ≡ true
 inline_no_return b h = grind (arith, nat_tests)
 
 -- ---- the operands are plain
 
 abbrev pub IsPlain : List ℕ → Type 0
-IsPlain text = list_all plain text ≡ true
+IsPlain text = list_all is_plain text ≡ true
 
-plain_digit : (d : ℕ) → digit_value d < 10 → plain d ≡ true
-plain_digit d h = let range = digit_from_value d h in grind (arith, nat_tests)
+plain_digit : (d : ℕ) → digit_value d < 16 → is_plain d ≡ true
+plain_digit d h = grind (arith, nat_tests)
 
-plain_digits : (ds : List ℕ) → AllDigits 10 ds → IsPlain ds
-plain_digits [] h = refl
-plain_digits (d ∷ ds) h = rw (plain_digit d h.0, plain_digits ds h.1) refl
+plain_digits : (radix : ℕ) (ds : List ℕ) → radix ≤ 16 → AllDigits radix ds → IsPlain ds
+plain_digits radix [] most h = refl
+plain_digits radix (d ∷ ds) most h = rw (plain_digit d (omega (arith, most, h.0)), plain_digits radix ds most h.1) refl
 
 pub plain_decimal : (n : ℕ) → n < 2 ^ 64 → IsPlain (decimal n)
-plain_decimal n small = plain_digits (decimal n) (decimal_is_IsNumeral n small).0.1
-
-plain_hex : (d : ℕ) → digit_value d < 16 → plain d ≡ true
-plain_hex d h = grind (arith, nat_tests)
-
-plain_hex_digits : (ds : List ℕ) → AllDigits 16 ds → IsPlain ds
-plain_hex_digits [] h = refl
-plain_hex_digits (d ∷ ds) h = rw (plain_hex d h.0, plain_hex_digits ds h.1) refl
+plain_decimal n small = plain_digits 10 (decimal n) (omega arith) (decimal_is_IsNumeral n small).0.1
 
 plain_zeros : (k : ℕ) → IsPlain (replicate k 48)
 plain_zeros zero = refl
 plain_zeros (suc k) = plain_zeros k
 
-plain_append : (xs ys : List ℕ) → IsPlain xs → IsPlain ys → IsPlain (xs ++ ys)
-plain_append xs ys h g = list_all-append plain xs ys ∙ rw (h, g) refl
+-- bytes that pass a test, behind others that pass it
+pub append_passes : (test : ℕ → Bool) (xs ys : List ℕ) → list_all test xs ≡ true → list_all test ys ≡ true → list_all test (xs ++ ys) ≡ true
+append_passes test xs ys h g = list_all-append test xs ys ∙ rw (h, g) refl
 
 -- a text that is not empty, of bytes that no blank or separator is
 pub record IsText (text : List ℕ) : Type 0 where
@@ -101,13 +95,13 @@ signed_text_is_text (negsuc n) small = record { bytes = plain_decimal (suc n) (o
 pub memory_is_text : (base : ℕ) (z : ℤ) → base < 11 → mag z + 1 < 2 ^ 64 → IsText (memory_text base z)
 memory_is_text base z lt small =
     let inside = register_text base ++ signed_text z in
-    record { bytes = plain_append (91 ∷ inside) (93 ∷ []) (plain_append (register_text base) (signed_text z) (register_is_text base lt).bytes (signed_text_is_text z small).bytes) refl; some = omega arith }
+    record { bytes = append_passes is_plain (91 ∷ inside) (93 ∷ []) (append_passes is_plain (register_text base) (signed_text z) (register_is_text base lt).bytes (signed_text_is_text z small).bytes) refl; some = omega arith }
 
 pub wide_is_text : (value : ℕ) → value < 2 ^ 64 → IsText (wide_text value)
 wide_is_text value small =
     let ds = digits 16 false value in
     let d = digits_is_IsNumeral 16 false (omega arith) (omega arith) value (omega arith) in
-    record { bytes = plain_append (replicate (16 - length ds) 48) ds (plain_zeros (16 - length ds)) (plain_hex_digits ds d.0.1); some = omega arith }
+    record { bytes = append_passes is_plain (replicate (16 - length ds) 48) ds (plain_zeros (16 - length ds)) (plain_digits 16 ds (omega arith) d.0.1); some = omega arith }
 
 -- ---- places
 
@@ -135,17 +129,17 @@ cut_some byte front rest same h =
 
 -- ---- blanks
 
-no_blank : (b : ℕ) → plain b ≡ true → is_blank_byte b ≡ false
+no_blank : (b : ℕ) → is_plain b ≡ true → is_blank_byte b ≡ false
 no_blank b h = not-true (is_blank_byte b) (plain_no_blank b h)
 
 pub first_text : (text rest : List ℕ) → IsText text → without_first_blanks (text ++ rest) ≡ text ++ rest
 first_text [] rest h = absurd (omega (arith, h.some))
-first_text (b ∷ text) rest h = first_is_kept b (text ++ rest) (no_blank b (and_parts (plain b) (list_all plain text) h.bytes).0)
+first_text (b ∷ text) rest h = first_is_kept b (text ++ rest) (no_blank b (and_parts (is_plain b) (list_all is_plain text) h.bytes).0)
 
 pub end_plain : (text : List ℕ) → IsPlain text → without_end_blanks text ≡ text
 end_plain [] h = refl
 end_plain (b ∷ text) h =
-    let parts = and_parts (plain b) (list_all plain text) h in
+    let parts = and_parts (is_plain b) (list_all is_plain text) h in
     kept_first b text (no_blank b parts.0) ∙ ap (λ t. b ∷ t) (end_plain text parts.1)
 
 trimmed_behind_blank : (text : List ℕ) → IsText text → trimmed (32 ∷ text) ≡ text
@@ -154,21 +148,17 @@ trimmed_behind_blank text h =
 
 -- ---- operands
 
-abbrev pub AreTexts : List (List ℕ) → Type 0
-AreTexts [] = Unit {0}
-AreTexts (text ∷ texts) = IsText text × AreTexts texts
-
 no_comma_text : (text : List ℕ) → IsText text → list_all (λ b. not (eqb b 44)) (32 ∷ text) ≡ true
-no_comma_text text h = weaker plain (λ b. not (eqb b 44)) plain_no_comma text h.bytes
+no_comma_text text h = weaker is_plain (λ b. not (eqb b 44)) plain_no_comma text h.bytes
 
-split_texts : (first : List ℕ) (others : List (List ℕ)) → IsText first → AreTexts others → map trimmed (slice_split (λ b. eqb b 44) (32 ∷ (first ++ further_texts others))) ≡ first ∷ others
+split_texts : (first : List ℕ) (others : List (List ℕ)) → IsText first → AllByRecursion IsText others → map trimmed (parts_at 44 (32 ∷ (first ++ further_texts others))) ≡ first ∷ others
 split_texts first [] h hs =
-    ap (λ t. map trimmed (slice_split (λ b. eqb b 44) (32 ∷ t))) (append-nil first) ∙ ap (map trimmed) (uncut_is_one_part 44 (32 ∷ first) (cut_none 44 (32 ∷ first) (no_comma_text first h))) ∙ ap (λ t. t ∷ []) (trimmed_behind_blank first h)
+    ap (λ t. map trimmed (parts_at 44 (32 ∷ t))) (append-nil first) ∙ ap (map trimmed) (uncut_is_one_part 44 (32 ∷ first) (cut_none 44 (32 ∷ first) (no_comma_text first h))) ∙ ap (λ t. t ∷ []) (trimmed_behind_blank first h)
 split_texts first (o ∷ os) h hs =
     ap (map trimmed) (cut_is_after_first_part 44 (32 ∷ (first ++ further_texts (o ∷ os))) (32 ∷ first) (32 ∷ (o ++ further_texts os)) (cut_some 44 (32 ∷ first) (32 ∷ (o ++ further_texts os)) refl (no_comma_text first h)))
-    ∙ ap (λ t. t ∷ map trimmed (slice_split (λ b. eqb b 44) (32 ∷ (o ++ further_texts os)))) (trimmed_behind_blank first h)
+    ∙ ap (λ t. t ∷ map trimmed (parts_at 44 (32 ∷ (o ++ further_texts os)))) (trimmed_behind_blank first h)
     ∙ ap (λ ts. first ∷ ts) (split_texts o os hs.0 hs.1)
 
-pub operands_again : (first : List ℕ) (others : List (List ℕ)) → IsText first → AreTexts others → operands_of (operands_text (first ∷ others)) ≡ first ∷ others
+pub operands_again : (first : List ℕ) (others : List (List ℕ)) → IsText first → AllByRecursion IsText others → operands_of (operands_text (first ∷ others)) ≡ first ∷ others
 unfolding operands_of
 operands_again first others h hs = split_texts first others h hs

@@ -1,5 +1,5 @@
 -- Operands that are listed are read again.
-use Rattle.std.proofs.Common.{◌≡◌, ℕ, ℤ, pos, negsuc, neg_ℤ, suc, ◌+◌, ◌-◌, ◌<◌, ◌^◌, Bool, true, false, not, ◌&&◌, cond, ltb, eqb, List, [], ◌∷◌, ◌++◌, length, get_or, drop, take, Some, None, Result, Ok, Err, refl, ap, ◌∙◌, arith}
+use Rattle.std.proofs.Common.{◌≡◌, ℕ, ℤ, pos, negsuc, neg_ℤ, nat_abs, suc, ◌+◌, ◌-◌, ◌<◌, ◌^◌, Bool, true, false, not, ◌&&◌, cond, ltb, eqb, List, [], ◌∷◌, ◌++◌, length, get_or, drop, take, Some, None, Result, Ok, Err, refl, ap, ◌∙◌, arith}
 use lib.Signed.{mag}
 use Rattle.std.specs.Prelude.{FitsSigned}
 use Rattle.std.specs.Int.{w16, w32}
@@ -38,14 +38,10 @@ abbrev pub sign_of : ℤ → ℕ
 sign_of (pos n) = 43
 sign_of (negsuc n) = 45
 
-abbrev pub magnitude : ℤ → ℕ
-magnitude (pos n) = n
-magnitude (negsuc n) = suc n
-
 not_below_zero : (n : ℕ) → ltb n 0 ≡ false
 not_below_zero n = grind (arith, nat_tests)
 
-pub signed_text-parts : (z : ℤ) → signed_text z ≡ sign_of z ∷ decimal (magnitude z)
+pub signed_text-parts : (z : ℤ) → signed_text z ≡ sign_of z ∷ decimal (nat_abs z)
 signed_text-parts (pos n) = rw (not_below_zero n) refl
 signed_text-parts (negsuc n) = refl
 
@@ -71,7 +67,7 @@ sign_is_no_label (pos n) rest = refl
 sign_is_no_label (negsuc n) rest = refl
 
 pub no_label : (z : ℤ) → label_of (signed_text z) ≡ None
-no_label z = ap label_of (signed_text-parts z) ∙ ap (λ b. cond b (Some (sign_of z ∷ decimal (magnitude z))) None) (sign_is_no_label z (decimal (magnitude z)))
+no_label z = ap label_of (signed_text-parts z) ∙ ap (λ b. cond b (Some (sign_of z ∷ decimal (nat_abs z))) None) (sign_is_no_label z (decimal (nat_abs z)))
 
 pub distance_again : (in_field : ℤ → Result ℤ FaultKind) (z : ℤ) → mag z + 1 < 2 ^ 64 → in_field z ≡ Ok z → distance_told in_field (signed_text z) ≡ Ok z
 unfolding distance_told
@@ -88,7 +84,7 @@ long_distance_again z fits = distance_again long_of z (omega (arith, fits.sfits)
 pub offset_again : (z : ℤ) → FitsSigned w16 z → offset_of (signed_text z) ≡ Ok z
 unfolding offset_of
 offset_again z fits =
-    ap (λ b. cond b (Ok (pos 0)) (signed_of (signed_text z) >>= short_of)) (ap (λ t. eqb (length t) 0) (signed_text-parts z) ∙ eqb-suc-zero (length (decimal (magnitude z))))
+    ap (λ b. cond b (Ok (pos 0)) (signed_of (signed_text z) >>= short_of)) (ap (λ t. eqb (length t) 0) (signed_text-parts z) ∙ eqb-suc-zero (length (decimal (nat_abs z))))
     ∙ ap (λ r. r >>= short_of) (signed_again z (omega (arith, fits.sfits))) ∙ short_again z fits
 
 -- ---- registers and sources
@@ -135,8 +131,8 @@ unfolding memory_told
 memory_again base z lt fits =
     let d = decimal_is_IsNumeral base (omega arith) in
     let no_sign : list_all (λ b. not (is_sign_byte b)) (register_text base) ≡ true = no_sign_in (decimal base) d.0.1 in
-    let split : register_text base ++ signed_text z ≡ register_text base ++ sign_of z ∷ decimal (magnitude z) = ap (λ t. register_text base ++ t) (signed_text-parts z) in
-    let place : position_or_len is_sign_byte (register_text base ++ signed_text z) ≡ length (register_text base) = ap (position_or_len is_sign_byte) split ∙ place_behind is_sign_byte (register_text base) (sign_of z) (decimal (magnitude z)) no_sign (sign_is_sign z) in
+    let split : register_text base ++ signed_text z ≡ register_text base ++ sign_of z ∷ decimal (nat_abs z) = ap (λ t. register_text base ++ t) (signed_text-parts z) in
+    let place : position_or_len is_sign_byte (register_text base ++ signed_text z) ≡ length (register_text base) = ap (position_or_len is_sign_byte) split ∙ place_behind is_sign_byte (register_text base) (sign_of z) (decimal (nat_abs z)) no_sign (sign_is_sign z) in
     let front : before_first is_sign_byte (register_text base ++ signed_text z) ≡ register_text base = ap (λ n. take n (register_text base ++ signed_text z)) place ∙ take_at (register_text base) (signed_text z) _ refl in
     let back : drop (position_or_len is_sign_byte (register_text base ++ signed_text z)) (register_text base ++ signed_text z) ≡ signed_text z = ap (λ n. drop n (register_text base ++ signed_text z)) place ∙ drop_at (register_text base) (signed_text z) _ refl in
     ap (λ r. r >>= λ inside. read_both (register_of (before_first is_sign_byte inside)) (offset_of (drop (position_or_len is_sign_byte inside) inside))) (inside_again (register_text base ++ signed_text z))

@@ -6,7 +6,6 @@ use Rattle.std.specs.Char.{is_ascii}
 use Rattle.std.specs.Str.Lines.{lines, strip_carriage_return}
 use Rattle.std.proofs.lemmas.Bool.{and_parts, le-ltb, ne_eqb, not-true}
 use Rattle.std.proofs.lemmas.List.{take_at, drop_at, append-nil, length-append}
-use Rattle.std.proofs.lemmas.List.Folds.{list_all-append}
 use Rattle.std.proofs.lemmas.List.Sums.{AllPass-from_list_all}
 use Rattle.instruction_set.specs.declared.instruction.Instruction.{Instruction}
 use Rattle.instruction_set.specs.declared.instruction.Instruction.TheVariants.{LoadImmediate, Load, LoadSigned, StoreImmediate, StoreRegister, Arithmetic, Negate, MoveSigned, SwapBytes, Jump, JumpLong, Branch, Call, Exit}
@@ -17,6 +16,7 @@ use Rattle.instruction_set.specs.Spelling.{Fits, spelling, instructions_of, prog
 use Rattle.ebpf_asm.specs.declared.mnemonic.Mnemonic.{Mnemonic}
 use Rattle.ebpf_asm.specs.declared.fault.FaultKind.{FaultKind}
 use Rattle.ebpf_asm.specs.declared.fault.FaultKind.TheVariants.{UnknownMnemonic, NotAscii, TooLong}
+use Rattle.program_interface.proofs.Proved.{all_from}
 use Rattle.program_interface.specs.Readings.{◌>>=◌, unless_fault}
 use Rattle.ebpf_asm.specs.Mnemonic.{mnemonic_text, mnemonic_named}
 use Rattle.ebpf_asm.specs.Operand.{source_told, short_of, long_of}
@@ -32,7 +32,7 @@ use Rattle.ebpf_asm.proofs.Programs.{counted_more}
 use Rattle.ebpf_asm.proofs.Names.{mnemonic_again, mnemonic_plain}
 use Rattle.ebpf_asm.proofs.Round.{register_again, immediate_again, wide_again}
 use Rattle.ebpf_asm.proofs.RoundOperands.{IsSource, place_behind, immediate_source_again, register_source_again, memory_again, distance_again, short_again, long_again, no_label}
-use Rattle.ebpf_asm.proofs.RoundLines.{IsPlain, IsText, AreTexts, plain, inline, weaker, plain_inline, plain_no_blank, inline_ascii, inline_no_semicolon, inline_no_colon, inline_no_newline, inline_no_return, cut_none, cut_some, first_text, end_plain, operands_again, register_is_text, signed_decimal_is_text, signed_text_is_text, memory_is_text, wide_is_text}
+use Rattle.ebpf_asm.proofs.RoundLines.{IsPlain, IsText, append_passes, is_plain, is_inline, weaker, plain_inline, plain_no_blank, inline_ascii, inline_no_semicolon, inline_no_colon, inline_no_newline, inline_no_return, cut_none, cut_some, first_text, end_plain, operands_again, register_is_text, signed_decimal_is_text, signed_text_is_text, memory_is_text, wide_is_text}
 
 -- ---- an instruction's text
 
@@ -43,7 +43,7 @@ Again instruction (first ∷ others) = statement_with (mnemonic_of instruction) 
 
 -- the operands are texts, and are read as the instruction
 pub record IsListed (instruction : Instruction) : Type 0 where
-  pub texts : AreTexts (operand_texts instruction)
+  pub texts : AllByRecursion IsText (operand_texts instruction)
   pub again : Again instruction (operand_texts instruction)
 
 source_is_text : (source : Source) → IsSource source → IsText (source_text source)
@@ -62,55 +62,55 @@ is_branch_source : (width : _) (relation : _) (dst : ℕ) (source : Source) (dis
 is_branch_source width relation dst (sources.Immediate z) distance fits = fits.immediate
 is_branch_source width relation dst (sources.Register n) distance fits = fits.src
 
-pub listed : (instruction : Instruction) → Fits instruction → IsListed instruction
+pub is_listed : (instruction : Instruction) → Fits instruction → IsListed instruction
 unfolding statement_of operands_of statement_with one_of two_of three_of none_of
-listed (LoadImmediate dst value) fits = record {
+is_listed (LoadImmediate dst value) fits = record {
   texts = (register_is_text dst fits.dst, (wide_is_text value fits.value, tt));
   again = rw (register_again dst fits.dst, wide_again value fits.value) refl;
 }
-listed (Load size dst src offset) fits = record {
+is_listed (Load size dst src offset) fits = record {
   texts = (register_is_text dst fits.dst, (memory_is_text src offset fits.src (omega (arith, fits.offset.sfits)), tt));
   again = rw (register_again dst fits.dst, memory_again src offset fits.src fits.offset) refl;
 }
-listed (LoadSigned size dst src offset) fits = record {
+is_listed (LoadSigned size dst src offset) fits = record {
   texts = (register_is_text dst fits.dst, (memory_is_text src offset fits.src (omega (arith, fits.offset.sfits)), tt));
   again = rw (register_again dst fits.dst, memory_again src offset fits.src fits.offset) refl;
 }
-listed (StoreImmediate size dst offset value) fits = record {
+is_listed (StoreImmediate size dst offset value) fits = record {
   texts = (memory_is_text dst offset fits.dst (omega (arith, fits.offset.sfits)), (signed_decimal_is_text value (omega (arith, fits.immediate.sfits)), tt));
   again = rw (memory_again dst offset fits.dst fits.offset, immediate_again value fits.immediate) refl;
 }
-listed (StoreRegister size dst src offset) fits = record {
+is_listed (StoreRegister size dst src offset) fits = record {
   texts = (memory_is_text dst offset fits.dst (omega (arith, fits.offset.sfits)), (register_is_text src fits.src, tt));
   again = rw (memory_again dst offset fits.dst fits.offset, register_again src fits.src) refl;
 }
-listed (Arithmetic width operation dst source) fits = record {
+is_listed (Arithmetic width operation dst source) fits = record {
   texts = (register_is_text dst fits.dst, (source_is_text source (is_source width operation dst source fits), tt));
   again = rw (register_again dst fits.dst, source_again source (is_source width operation dst source fits)) refl;
 }
-listed (Negate width dst) fits = record { texts = (register_is_text dst fits.dst, tt); again = rw (register_again dst fits.dst) refl }
-listed (MoveSigned extension dst src) fits = record {
+is_listed (Negate width dst) fits = record { texts = (register_is_text dst fits.dst, tt); again = rw (register_again dst fits.dst) refl }
+is_listed (MoveSigned extension dst src) fits = record {
   texts = (register_is_text dst fits.dst, (register_is_text src fits.src, tt));
   again = rw (register_again dst fits.dst, register_again src fits.src) refl;
 }
-listed (SwapBytes swap size dst) fits = record { texts = (register_is_text dst fits.dst, tt); again = rw (register_again dst fits.dst) refl }
-listed (Jump distance) fits = record {
+is_listed (SwapBytes swap size dst) fits = record { texts = (register_is_text dst fits.dst, tt); again = rw (register_again dst fits.dst) refl }
+is_listed (Jump distance) fits = record {
   texts = (signed_text_is_text distance (omega (arith, fits.offset.sfits)), tt);
   again = rw (distance_again short_of distance (omega (arith, fits.offset.sfits)) (short_again distance fits.offset), no_label distance) refl;
 }
-listed (JumpLong distance) fits = record {
+is_listed (JumpLong distance) fits = record {
   texts = (signed_text_is_text distance (omega (arith, fits.immediate.sfits)), tt);
   again = rw (distance_again long_of distance (omega (arith, fits.immediate.sfits)) (long_again distance fits.immediate), no_label distance) refl;
 }
-listed (Branch width relation dst source distance) fits = record {
+is_listed (Branch width relation dst source distance) fits = record {
   texts = (register_is_text dst fits.dst, (source_is_text source (is_branch_source width relation dst source distance fits), (signed_text_is_text distance (omega (arith, fits.offset.sfits)), tt)));
   again = rw (register_again dst fits.dst, source_again source (is_branch_source width relation dst source distance fits), distance_again short_of distance (omega (arith, fits.offset.sfits)) (short_again distance fits.offset), no_label distance) refl;
 }
-listed (Call helper) fits = record {
+is_listed (Call helper) fits = record {
   texts = (signed_decimal_is_text helper (omega (arith, fits.immediate.sfits)), tt);
   again = rw (immediate_again helper fits.immediate) refl;
 }
-listed Exit fits = record { texts = tt; again = refl }
+is_listed Exit fits = record { texts = tt; again = refl }
 
 -- ---- a line
 
@@ -121,21 +121,18 @@ text_is_some m = record { bytes = mnemonic_plain m; some = some (mnemonic_text m
     some [] e = absurd cc
     some (b ∷ text) e = omega arith
 
-plain_is_inline : (text : List ℕ) → IsPlain text → list_all inline text ≡ true
-plain_is_inline text h = weaker plain inline plain_inline text h
+plain_is_inline : (text : List ℕ) → IsPlain text → list_all is_inline text ≡ true
+plain_is_inline text h = weaker is_plain is_inline plain_inline text h
 
-inline_append : (xs ys : List ℕ) → list_all inline xs ≡ true → list_all inline ys ≡ true → list_all inline (xs ++ ys) ≡ true
-inline_append xs ys h g = list_all-append inline xs ys ∙ rw (h, g) refl
-
-inline_further : (texts : List (List ℕ)) → AreTexts texts → list_all inline (further_texts texts) ≡ true
+inline_further : (texts : List (List ℕ)) → AllByRecursion IsText texts → list_all is_inline (further_texts texts) ≡ true
 inline_further [] h = refl
-inline_further (t ∷ ts) h = inline_append (44 ∷ 32 ∷ t) (further_texts ts) (plain_is_inline t h.0.bytes) (inline_further ts h.1)
+inline_further (t ∷ ts) h = append_passes is_inline (44 ∷ 32 ∷ t) (further_texts ts) (plain_is_inline t h.0.bytes) (inline_further ts h.1)
 
-inline_operands : (texts : List (List ℕ)) → AreTexts texts → list_all inline (operands_text texts) ≡ true
+inline_operands : (texts : List (List ℕ)) → AllByRecursion IsText texts → list_all is_inline (operands_text texts) ≡ true
 inline_operands [] h = refl
-inline_operands (t ∷ ts) h = inline_append t (further_texts ts) (plain_is_inline t h.0.bytes) (inline_further ts h.1)
+inline_operands (t ∷ ts) h = append_passes is_inline t (further_texts ts) (plain_is_inline t h.0.bytes) (inline_further ts h.1)
 
-end_further : (xs first : List ℕ) (others : List (List ℕ)) → IsText first → AreTexts others → without_end_blanks (xs ++ (first ++ further_texts others)) ≡ xs ++ (first ++ further_texts others)
+end_further : (xs first : List ℕ) (others : List (List ℕ)) → IsText first → AllByRecursion IsText others → without_end_blanks (xs ++ (first ++ further_texts others)) ≡ xs ++ (first ++ further_texts others)
 end_further xs first [] h hs =
     ap (λ t. without_end_blanks (xs ++ t)) (append-nil first) ∙ end_stays xs first h.some (end_plain first h.bytes) ∙ ap (λ t. xs ++ t) (sym (append-nil first))
 end_further xs first (o ∷ os) h hs =
@@ -143,7 +140,7 @@ end_further xs first (o ∷ os) h hs =
     ap (λ t. xs ++ t) (sym (append_assoc first (44 ∷ 32 ∷ []) (o ++ further_texts os))) ∙ sym (append_assoc xs (first ++ 44 ∷ 32 ∷ []) (o ++ further_texts os)) in
     ap without_end_blanks regroup ∙ end_further (xs ++ (first ++ 44 ∷ 32 ∷ [])) o os hs.0 hs.1 ∙ sym regroup
 
-end_operands : (m : List ℕ) (texts : List (List ℕ)) → IsText m → AreTexts texts → without_end_blanks (m ++ operands_text texts) ≡ m ++ operands_text texts
+end_operands : (m : List ℕ) (texts : List (List ℕ)) → IsText m → AllByRecursion IsText texts → without_end_blanks (m ++ operands_text texts) ≡ m ++ operands_text texts
 end_operands m [] h hs = ap without_end_blanks (append-nil m) ∙ end_plain m h.bytes ∙ sym (append-nil m)
 end_operands m (t ∷ ts) h hs =
     let regroup : m ++ operands_text (t ∷ ts) ≡ (m ++ 32 ∷ []) ++ (t ++ further_texts ts) = sym (append_assoc m (32 ∷ []) (t ++ further_texts ts)) in
@@ -153,7 +150,7 @@ end_operands m (t ∷ ts) h hs =
 word_again : (m : Mnemonic) (rest : List ℕ) → (before_first is_blank_byte (mnemonic_text m ++ 32 ∷ rest) ≡ mnemonic_text m) × (drop (position_or_len is_blank_byte (mnemonic_text m ++ 32 ∷ rest)) (mnemonic_text m ++ 32 ∷ rest) ≡ 32 ∷ rest)
 word_again m rest =
     let text = mnemonic_text m in
-    let place = place_behind is_blank_byte text 32 rest (weaker plain (λ b. not (is_blank_byte b)) plain_no_blank text (mnemonic_plain m)) refl in
+    let place = place_behind is_blank_byte text 32 rest (weaker is_plain (λ b. not (is_blank_byte b)) plain_no_blank text (mnemonic_plain m)) refl in
     (ap (λ n. take n (text ++ 32 ∷ rest)) place ∙ take_at text (32 ∷ rest) (length text) refl, ap (λ n. drop n (text ++ 32 ∷ rest)) place ∙ drop_at text (32 ∷ rest) (length text) refl)
 
 abbrev named : Option Mnemonic → List (List ℕ) → Result Statement FaultKind
@@ -168,7 +165,7 @@ statement_is text = at (mnemonic_named (before_first is_blank_byte text))
     at None = refl
     at (Some m) = refl
 
-statement_again : (m : Mnemonic) (first : List ℕ) (others : List (List ℕ)) → AreTexts (first ∷ others) → statement_of (mnemonic_text m ++ operands_text (first ∷ others)) ≡ statement_with m (first ∷ others)
+statement_again : (m : Mnemonic) (first : List ℕ) (others : List (List ℕ)) → AllByRecursion IsText (first ∷ others) → statement_of (mnemonic_text m ++ operands_text (first ∷ others)) ≡ statement_with m (first ∷ others)
 statement_again m first others h =
     let words = word_again m (first ++ further_texts others) in
     statement_is (mnemonic_text m ++ operands_text (first ∷ others))
@@ -178,27 +175,27 @@ statement_again m first others h =
     ∙ ap (statement_with m) (operands_again first others h.0 h.1)
 
 -- a text of such bytes, without blanks at its ends, is a line with that statement
-line_again : (text : List ℕ) → list_all inline text ≡ true → trimmed text ≡ text → 0 < length text → line_of text ≡ with_statement None (statement_of text)
+line_again : (text : List ℕ) → list_all is_inline text ≡ true → trimmed text ≡ text → 0 < length text → line_of text ≡ with_statement None (statement_of text)
 unfolding line_of
 line_again text h ends some =
     let empty : Line = record { label = None; instruction = Ok None; target = None } in
-    let no_semicolon = AllPass-from_list_all (λ b. not (eqb b 59)) text (weaker inline (λ b. not (eqb b 59)) inline_no_semicolon text h) in
+    let no_semicolon = AllPass-from_list_all (λ b. not (eqb b 59)) text (weaker is_inline (λ b. not (eqb b 59)) inline_no_semicolon text h) in
     let clean : uncommented text ≡ text = uncommented-same text (λ k d inside. not-true _ (no_semicolon k d inside)) in
-    ap (λ b. cond b (line_in (trimmed (uncommented text))) (record { label = None; instruction = Err NotAscii; target = None })) (weaker inline is_ascii inline_ascii text h)
+    ap (λ b. cond b (line_in (trimmed (uncommented text))) (record { label = None; instruction = Err NotAscii; target = None })) (weaker is_inline is_ascii inline_ascii text h)
     ∙ ap (λ t. line_in (trimmed t)) clean ∙ ap line_in ends
-    ∙ ap (λ c. behind_label (split_label text c)) (cut_none 58 text (weaker inline (λ b. not (eqb b 58)) inline_no_colon text h))
+    ∙ ap (λ c. behind_label (split_label text c)) (cut_none 58 text (weaker is_inline (λ b. not (eqb b 58)) inline_no_colon text h))
     ∙ ap (labelled None) ends ∙ ap (λ c. cond c empty (with_statement None (statement_of text))) (ne_eqb (length text) 0 (omega (arith, some)))
 
 abbrev pub line_with : Instruction → Line
 line_with instruction = record { label = None; instruction = Ok (Some instruction); target = None }
 
-statement_listed : (instruction : Instruction) (texts : List (List ℕ)) → AreTexts texts → Again instruction texts → statement_of (mnemonic_text (mnemonic_of instruction) ++ operands_text texts) ≡ Ok (instruction, None)
+statement_listed : (instruction : Instruction) (texts : List (List ℕ)) → AllByRecursion IsText texts → Again instruction texts → statement_of (mnemonic_text (mnemonic_of instruction) ++ operands_text texts) ≡ Ok (instruction, None)
 statement_listed instruction [] h again = again
 statement_listed instruction (first ∷ others) h again = statement_again (mnemonic_of instruction) first others h ∙ again
 
-inline_instruction : (instruction : Instruction) → IsListed instruction → list_all inline (text_of_instruction instruction) ≡ true
+inline_instruction : (instruction : Instruction) → IsListed instruction → list_all is_inline (text_of_instruction instruction) ≡ true
 inline_instruction instruction h =
-    inline_append (mnemonic_text (mnemonic_of instruction)) (operands_text (operand_texts instruction)) (plain_is_inline (mnemonic_text (mnemonic_of instruction)) (mnemonic_plain (mnemonic_of instruction))) (inline_operands (operand_texts instruction) h.texts)
+    append_passes is_inline (mnemonic_text (mnemonic_of instruction)) (operands_text (operand_texts instruction)) (plain_is_inline (mnemonic_text (mnemonic_of instruction)) (mnemonic_plain (mnemonic_of instruction))) (inline_operands (operand_texts instruction) h.texts)
 
 instruction_line : (instruction : Instruction) → IsListed instruction → line_of (text_of_instruction instruction) ≡ line_with instruction
 instruction_line instruction h =
@@ -221,9 +218,9 @@ lines_again (instruction ∷ instructions) h =
     let text = text_of_instruction instruction in
     let rest = flat_map line_text instructions in
     let bytes = inline_instruction instruction h.0 in
-    let stripped : strip_carriage_return text ≡ text = ap (λ c. cond c (take (length text - 1) text) text) (no_return_at text (length text - 1) (weaker inline (λ b. not (eqb b 13)) inline_no_return text bytes)) in
+    let stripped : strip_carriage_return text ≡ text = ap (λ c. cond c (take (length text - 1) text) text) (no_return_at text (length text - 1) (weaker is_inline (λ b. not (eqb b 13)) inline_no_return text bytes)) in
     ap lines (append_assoc text (10 ∷ []) rest)
-    ∙ lines_are_cut (text ++ 10 ∷ rest) text rest (cut_some 10 text rest refl (weaker inline (λ b. not (eqb b 10)) inline_no_newline text bytes))
+    ∙ lines_are_cut (text ++ 10 ∷ rest) text rest (cut_some 10 text rest refl (weaker is_inline (λ b. not (eqb b 10)) inline_no_newline text bytes))
     ∙ ap (λ l. l ∷ lines rest) stripped
     ∙ ap (λ ls. text ∷ ls) (lines_again instructions h.1)
 
@@ -233,11 +230,11 @@ read_again (instruction ∷ instructions) h = rw (instruction_line instruction h
 
 -- ---- the passes
 
-no_fault : (before : List Line) (instructions : List Instruction) → slot_count before + slot_count (map line_with instructions) ≤ 4096 → first_fault before (map line_with instructions) ≡ None
-no_fault before [] h = refl
-no_fault before (instruction ∷ instructions) h =
+listed_faultless : (before : List Line) (instructions : List Instruction) → slot_count before + slot_count (map line_with instructions) ≤ 4096 → first_fault before (map line_with instructions) ≡ None
+listed_faultless before [] h = refl
+listed_faultless before (instruction ∷ instructions) h =
     let line = line_with instruction in
-    let later = no_fault (before ++ line ∷ []) instructions (omega (arith, h, slot_count-push before line)) in
+    let later = listed_faultless (before ++ line ∷ []) instructions (omega (arith, h, slot_count-push before line)) in
     ap (λ c. told_first (length before + 1) (cond c (Some TooLong) None) (first_fault (before ++ line ∷ []) (map line_with instructions))) (le-ltb 4096 (slot_count before + slots_in line) (omega (arith, h))) ∙ later
 
 bytes_again : (labels : LabelMap) (number slot : ℕ) (instructions : List Instruction) → bytes_from labels number slot (map line_with instructions) ≡ Ok (flat_map spelling instructions)
@@ -248,16 +245,12 @@ slots_counted : (instructions : List Instruction) → slot_count (map line_with 
 slots_counted [] = refl
 slots_counted (instruction ∷ instructions) = omega (arith, slots_counted instructions, counted_more instruction instructions)
 
-all_listed : (instructions : List Instruction) → AllByRecursion Fits instructions → AllByRecursion IsListed instructions
-all_listed [] h = tt
-all_listed (instruction ∷ instructions) h = (listed instruction h.0, all_listed instructions h.1)
-
 lines_assemble : (instructions : List Instruction) → AllByRecursion Fits instructions → length (slots_of instructions) ≤ 4096 → assembled (flat_map line_text instructions) ≡ Ok (flat_map spelling instructions)
 lines_assemble instructions fits most =
-    let good = all_listed instructions fits in
+    let good = all_from Fits IsListed is_listed instructions fits in
     let all : lines_of (flat_map line_text instructions) ≡ map line_with instructions = ap (map line_of) (lines_again instructions good) ∙ read_again instructions good in
     ap assembled_lines all
-    ∙ ap (λ f. unless_fault f (bytes_from (label_map (map line_with instructions)) 1 0 (map line_with instructions))) (no_fault [] instructions (omega (arith, most, slots_counted instructions)))
+    ∙ ap (λ f. unless_fault f (bytes_from (label_map (map line_with instructions)) 1 0 (map line_with instructions))) (listed_faultless [] instructions (omega (arith, most, slots_counted instructions)))
     ∙ bytes_again (label_map (map line_with instructions)) 1 0 instructions
 
 pub listing_again : (slots : List (Option Instruction)) → IsProgram slots → assembled (listing slots) ≡ Ok (program_bytes slots)

@@ -9,13 +9,13 @@ use Rattle.ebpf_asm.specs.Listing.{line_with_slot, lines_from, listing_with_slot
 use Rattle.ebpf_asm.specs.steps.Listed.{listed, listed_line}
 use Rattle.ebpf_asm.proofs.Listings.{listing-instruction, listing-no_instruction}
 
-line_in : ℕ → Option Instruction → List ℕ
-line_in slot None = []
-line_in slot (Some instruction) = line_with_slot slot instruction
+slot_line : ℕ → Option Instruction → List ℕ
+slot_line slot None = []
+slot_line slot (Some instruction) = line_with_slot slot instruction
 
 lines-suc : (first : ℕ) (slots : List (Option Instruction)) (i : ℕ) → i < length slots
-    → lines_from first (take (suc i) slots) ≡ lines_from first (take i slots) ++ line_in (first + i) (instruction_at slots i)
-unfolding line_in
+    → lines_from first (take (suc i) slots) ≡ lines_from first (take i slots) ++ slot_line (first + i) (instruction_at slots i)
+unfolding slot_line
 lines-suc first [] i lt = absurd (omega (arith, lt))
 lines-suc first (Some instruction ∷ rest) zero lt =
     append-nil (line_with_slot first instruction) ∙ ap (λ n. line_with_slot n instruction) (sym (add-zero first))
@@ -24,31 +24,31 @@ lines-suc first (Some instruction ∷ rest) (suc i) lt =
     let shifted : first + 1 + i ≡ first + suc i = omega arith in
     let front = line_with_slot first instruction in
     ap (λ t. front ++ t) (lines-suc (first + 1) rest i (omega (arith, lt)))
-    ∙ sym (append_assoc front (lines_from (first + 1) (take i rest)) (line_in (first + 1 + i) (instruction_at rest i)))
-    ∙ ap (λ n. front ++ lines_from (first + 1) (take i rest) ++ line_in n (instruction_at rest i)) shifted
+    ∙ sym (append_assoc front (lines_from (first + 1) (take i rest)) (slot_line (first + 1 + i) (instruction_at rest i)))
+    ∙ ap (λ n. front ++ lines_from (first + 1) (take i rest) ++ slot_line n (instruction_at rest i)) shifted
 lines-suc first (None ∷ rest) (suc i) lt =
     let shifted : first + 1 + i ≡ first + suc i = omega arith in
     lines-suc (first + 1) rest i (omega (arith, lt))
-    ∙ ap (λ n. lines_from (first + 1) (take i rest) ++ line_in n (instruction_at rest i)) shifted
+    ∙ ap (λ n. lines_from (first + 1) (take i rest) ++ slot_line n (instruction_at rest i)) shifted
 
 lines-more : (slots : List (Option Instruction)) (i : ℕ) → i < length slots
-    → listing_with_slots (take (i + 1) slots) ≡ listing_with_slots (take i slots) ++ line_in i (instruction_at slots i)
+    → listing_with_slots (take (i + 1) slots) ≡ listing_with_slots (take i slots) ++ slot_line i (instruction_at slots i)
 lines-more slots i lt =
     let first : 0 + i ≡ i = omega arith in
     ap (λ n. listing_with_slots (take n slots)) (add-one i) ∙ lines-suc 0 slots i lt
-    ∙ ap (λ n. listing_with_slots (take i slots) ++ line_in n (instruction_at slots i)) first
+    ∙ ap (λ n. listing_with_slots (take i slots) ++ slot_line n (instruction_at slots i)) first
 
 lines-instruction : (slots : List (Option Instruction)) (i : ℕ) (instruction : Instruction) → i < length slots → Some instruction ≡ instruction_at slots i
     → listing_with_slots (take (i + 1) slots) ≡ listing_with_slots (take i slots) ++ line_with_slot i instruction
-unfolding line_in
+unfolding slot_line
 lines-instruction slots i instruction lt e =
-    lines-more slots i lt ∙ ap (λ o. listing_with_slots (take i slots) ++ line_in i o) (sym e)
+    lines-more slots i lt ∙ ap (λ o. listing_with_slots (take i slots) ++ slot_line i o) (sym e)
 
 lines-no_instruction : (slots : List (Option Instruction)) (i : ℕ) → i < length slots → None ≡ instruction_at slots i
     → listing_with_slots (take (i + 1) slots) ≡ listing_with_slots (take i slots)
-unfolding line_in
+unfolding slot_line
 lines-no_instruction slots i lt e =
-    lines-more slots i lt ∙ ap (λ o. listing_with_slots (take i slots) ++ line_in i o) (sym e)
+    lines-more slots i lt ∙ ap (λ o. listing_with_slots (take i slots) ++ slot_line i o) (sym e)
     ∙ append-nil (listing_with_slots (take i slots))
 
 -- ---- both listings

@@ -1,6 +1,6 @@
 -- Statements (profile): a mnemonic and its operands.
-use Rattle.std.specs.Prelude.{ℕ, ◌==◌, List, [], ◌∷◌, drop, map, Option, None, ok_or, Result, Ok, Err}
-use Rattle.std.specs.List.{slice_split, before_first, position_or_len}
+use Rattle.std.specs.Prelude.{ℕ, List, [], ◌∷◌, drop, map, Option, None, ok_or, Result, Ok, Err}
+use Rattle.std.specs.List.{before_first, position_or_len}
 use Rattle.instruction_set.specs.declared.instruction.Instruction.{Instruction}
 use Rattle.instruction_set.specs.declared.instruction.Instruction.TheVariants as instructions
 use Rattle.ebpf_asm.specs.declared.mnemonic.Mnemonic.{Mnemonic}
@@ -12,11 +12,12 @@ use Rattle.ebpf_asm.specs.Fault.{read_both}
 use Rattle.ebpf_asm.specs.Mnemonic.{mnemonic_named}
 use Rattle.ebpf_asm.specs.Operand.{register_of, source_told, immediate_told, wide_of, memory_told, distance_told, label_of, short_of, long_of}
 use Rattle.text_lines.specs.Cut.{is_blank_byte, trimmed}
+use Rattle.text_lines.specs.Laws.{parts_at}
 use Rattle.text_lines.specs.Texts as lists
 
 -- the operands: what stands between commas, without the blanks around
 unfoldable pub operands_of : List ℕ → List (List ℕ)
-operands_of text = map trimmed (slice_split (λ byte. byte == 44) text)
+operands_of text = map trimmed (parts_at 44 text)
 
 -- the operands of a mnemonic that takes none
 unfoldable pub none_of : List (List ℕ) → Result (Option ℕ) FaultKind

@@ -53,7 +53,7 @@ fn labelled<'a>(label: Option<&'a [u8]>, text: &'a [u8]) -> Line<'a>
         Ok(statement) => Line {
             label,
             instruction: Ok(Some(statement.instruction)),
-            target: statement.label,
+            target: statement.target,
         },
         Err(kind) => Line {
             label,

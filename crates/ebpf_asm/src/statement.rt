@@ -21,16 +21,16 @@ pub struct Statement<'a> {
     /// The instruction.
     pub instruction: Instruction,
     /// The label that it jumps to, if its text names one.
-    pub label: Option<&'a [u8]>,
+    pub target: Option<&'a [u8]>,
 }
 
 fn plain<'a>(instruction: Instruction) -> Statement<'a>
     ensures instruction { result.instruction ≡ instruction }
-    ensures label { option_copied result.label ≡ None }
+    ensures target { option_copied result.target ≡ None }
 {
     Statement {
         instruction,
-        label: None,
+        target: None,
     }
 }
 
@@ -185,7 +185,7 @@ fn jump(operands: &[u8]) -> Result<Statement<'_>, FaultKind>
     let distance = short_distance(target)?;
     Ok(Statement {
         instruction: Instruction::Jump { distance },
-        label: label(target),
+        target: label(target),
     })
 }
 
@@ -197,7 +197,7 @@ fn jump_long(operands: &[u8]) -> Result<Statement<'_>, FaultKind>
     let distance = long_distance(target)?;
     Ok(Statement {
         instruction: Instruction::JumpLong { distance },
-        label: label(target),
+        target: label(target),
     })
 }
 
@@ -218,7 +218,7 @@ fn branch(width: Width, relation: Relation, operands: &[u8]) -> Result<Statement
             source,
             distance,
         },
-        label: label(target),
+        target: label(target),
     })
 }
 

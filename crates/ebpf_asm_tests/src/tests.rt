@@ -6,7 +6,8 @@ use std::alloc::Global;
 use std::process::Abort;
 use std::test::*;
 
-/// Lines with each mnemonic once, and in the comment its bytes (RFC 9669, 3 to 5).
+/// Lines of arithmetic and byte swaps, with the bytes of each in its comment (RFC 9669, 4.1 and 4.2). This table and the
+/// next two have each mnemonic once.
 const ARITHMETIC: &str = "\
 add r1, r2 ; 0f21000000000000\n\
 addw r3, -7 ; 04030000f9ffffff\n\
@@ -43,8 +44,18 @@ movsx16 r5, r6 ; bf65100000000000\n\
 movsx32 r5, r6 ; bf65200000000000\n\
 movsx8w r5, r6 ; bc65080000000000\n\
 movsx16w r5, r6 ; bc65100000000000\n\
+le16 r7 ; d407000010000000\n\
+le32 r7 ; d407000020000000\n\
+le64 r7 ; d407000040000000\n\
+be16 r7 ; dc07000010000000\n\
+be32 r7 ; dc07000020000000\n\
+be64 r7 ; dc07000040000000\n\
+swap16 r7 ; d707000010000000\n\
+swap32 r7 ; d707000020000000\n\
+swap64 r7 ; d707000040000000\n\
 ";
 
+/// Lines of jumps, a call and an exit, with their bytes (RFC 9669, 4.3).
 const JUMPS: &str = "\
 ja +5 ; 0500050000000000\n\
 jaw -70000 ; 0600000090eefeff\n\
@@ -74,16 +85,8 @@ call 1 ; 8500000001000000\n\
 exit ; 9500000000000000\n\
 ";
 
+/// Lines of loads and stores, with their bytes (RFC 9669, 5).
 const MEMORY: &str = "\
-le16 r7 ; d407000010000000\n\
-le32 r7 ; d407000020000000\n\
-le64 r7 ; d407000040000000\n\
-be16 r7 ; dc07000010000000\n\
-be32 r7 ; dc07000020000000\n\
-be64 r7 ; dc07000040000000\n\
-swap16 r7 ; d707000010000000\n\
-swap32 r7 ; d707000020000000\n\
-swap64 r7 ; d707000040000000\n\
 ldxb r1, [r2+8] ; 7121080000000000\n\
 ldxh r1, [r2+8] ; 6921080000000000\n\
 ldxw r1, [r2+8] ; 6121080000000000\n\
@@ -163,16 +166,12 @@ const ACCEPTED: [(&str, &str); 8] = [
     ),
 ];
 
-fn bytes_of_hex(alloc: Global, digits: &str) -> Result<Vec<u8>, hex::FromHexError> {
-    hex::decode(alloc, digits)
-}
-
 /// The bytes that stand behind the lines of a text.
 fn told_bytes(alloc: Global, text: &str) -> Result<Vec<u8>, Fail> {
     let mut bytes = Vec::new(alloc);
     for line in text.lines() {
         let (_, digits) = line.split_once(" ; ").ok_or("the bytes of each line")?;
-        bytes.extend_from_slice(&bytes_of_hex(alloc, digits)?)?;
+        bytes.extend_from_slice(&hex::decode(alloc, digits)?)?;
     }
     Ok(bytes)
 }
@@ -191,7 +190,7 @@ fn mnemonics_assemble_to_their_bytes(rt: HostRuntime) -> Result<(), Fail> {
 fn texts_assemble_to_their_bytes(rt: HostRuntime) -> Result<(), Fail> {
     for (text, digits) in ACCEPTED {
         let bytes = assemble(rt.alloc(), text.as_bytes())?;
-        let wanted = bytes_of_hex(rt.alloc(), digits)?;
+        let wanted = hex::decode(rt.alloc(), digits)?;
         assert_eq!(rt; bytes.as_slice(), wanted.as_slice(), "{text}");
     }
     Ok(())
@@ -255,7 +254,7 @@ fn check_listing(
     digits: &str,
     listing: &str,
 ) -> Result<(), Fail> {
-    let bytes = bytes_of_hex(rt.alloc(), digits)?;
+    let bytes = hex::decode(rt.alloc(), digits)?;
     let program = decode(rt.alloc(), &bytes)?;
     let mut text = String::from_str(rt.alloc(), "; a program\n")?;
     disassemble(&program, &mut text)?;

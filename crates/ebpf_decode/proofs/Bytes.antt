@@ -1,14 +1,13 @@
 -- The bytes of slots.
-use Rattle.std.proofs.Common.{◌≡◌, ℕ, zero, suc, ℤ, ◌+◌, ◌*◌, ◌%◌, ◌/◌, ◌^◌, ◌<◌, FitsSigned, List, [], ◌∷◌, ◌++◌, length, get_or, drop, refl, ap, ◌∙◌, arith}
+use Rattle.std.proofs.Common.{◌≡◌, ℕ, zero, suc, ℤ, ◌+◌, ◌*◌, ◌%◌, ◌/◌, ◌^◌, ◌<◌, FitsSigned, List, [], ◌∷◌, ◌++◌, length, drop, refl, ap, ◌∙◌, arith}
 use Rattle.std.specs.Int.{w16, w32, cast_signed, cast_unsigned}
 use Rattle.std.specs.List.{AllByRecursion, flat_map}
 use Rattle.std.proofs.lemmas.Int.{ints, of_z-to_z, to_z-of_z}
-use Rattle.std.proofs.lemmas.List.{get_or-drop}
 use Rattle.std.proofs.lemmas.Nat.{le_bytes_2, le_bytes_4}
 use Rattle.byteorder.specs.Endian.{little_bytes, little_number}
 use Rattle.instruction_set.specs.declared.fields.Fields.{Fields}
 use Rattle.program_interface.specs.Bytes.{AreBytes}
-use Rattle.program_interface.proofs.Proved.{front_fit, rest_fit}
+use Rattle.program_interface.proofs.Proved.{bytes_from, front_fit, rest_fit}
 use Rattle.ebpf_decode.specs.Reading.{fields_at, slots_at}
 use Rattle.instruction_set.specs.Spelling.{slot_bytes}
 use Rattle.ebpf_decode.proofs.ReadAreSpelled.{AreFields, below-32}
@@ -46,14 +45,14 @@ slots-bytes (suc count) bytes fits len = absurd (omega arith)
 pub slots-fields : (count : ℕ) (bytes : List ℕ) → AreBytes bytes → AllByRecursion AreFields (slots_at count bytes)
 slots-fields zero bytes fits = tt
 slots-fields (suc count) bytes fits =
-    let two : (i : ℕ) → get_or (drop 2 bytes) i 0 < 256 = λ i. rw get_or-drop (fits (2 + i)) in
-    let four : (i : ℕ) → get_or (drop 4 bytes) i 0 < 256 = λ i. rw get_or-drop (fits (4 + i)) in (
+    let two = bytes_from 2 bytes fits in
+    let four = bytes_from 4 bytes fits in (
       record {
         opcode = fits 0;
         offset = fits-16 _ (omega (arith, two 0, two 1));
         immediate = fits-32 _ (omega (arith, four 0, four 1, four 2, four 3));
       },
-      slots-fields count (drop 8 bytes) (λ i. rw get_or-drop (fits (8 + i))),
+      slots-fields count (drop 8 bytes) (bytes_from 8 bytes fits),
     )
 
 -- ---- the slots that bytes spell

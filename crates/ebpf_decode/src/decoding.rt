@@ -284,7 +284,7 @@ fn begun_at(bytes: &[u8], slot: usize, second: bool) -> Result<Option<Instructio
     Ok(Some(instruction))
 }
 
-/// Is the slot behind a wide instruction's second?
+/// Is the slot behind this one a wide instruction's second?
 fn begins_wide(begun: &Option<Instruction>) -> bool
     ensures { result ≡ begins_wide begun.now }
 {

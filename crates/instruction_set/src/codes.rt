@@ -242,7 +242,7 @@ impl SwapSize {
         }
     }
 
-    /// The width of this many bits, or `None` if no byte swap has it (RFC 9669, 4.2).
+    /// The size that keeps this many bits, or `None` if no byte swap has it (RFC 9669, 4.2).
     pub fn with_bits(bits: i32) -> Option<SwapSize>
         ensures { result ≡ swap_size_with bits }
     {
@@ -276,7 +276,7 @@ impl Relation {
         }
     }
 
-    /// The condition with this code, or `None` for any other (RFC 9669, 4.3).
+    /// The relation with this code, or `None` for any other (RFC 9669, 4.3).
     pub fn with_code(code: u8) -> Option<Relation>
         ensures { result ≡ relation_with code }
     {

@@ -1,19 +1,16 @@
 -- The least cause that holds.
-use Rattle.std.proofs.Common.{ℕ, suc, zero, ◌-◌, ◌<◌, ◌≡◌, Bool, true, false, List, ◌∷◌, Option, Some, None, slice_get, refl, ap, lit<}
+use Rattle.std.proofs.Common.{ℕ, suc, zero, ◌-◌, ◌<◌, ◌≡◌, Bool, true, false, List, Option, Some, None, slice_get, refl, ap, lit<}
 use Rattle.std.specs.List.{find}
 use Rattle.std.specs.Prelude.{if◌then◌else◌}
 use Rattle.instruction_set.specs.declared.instruction.Instruction.{Instruction}
 use Rattle.program_interface.proofs.Proved.{AreNumbered, all_fail, found_passes, less_fails}
-use Rattle.program_meaning.specs.Cause.{causes_of_effect, hinders, is_exit, least_cause, cause_number}
+use Rattle.program_meaning.specs.Cause.{causes, hinders, is_exit, least_cause, cause_number}
 use Rattle.program_meaning.specs.Effect.{register}
 use Rattle.program_meaning.specs.Laws.{StuckByLeast}
 use Rattle.program_meaning.specs.State.{State}
 use Rattle.program_meaning.specs.Step.{Ends, Goes, Stuck, after, decided, step_of}
 use Rattle.program_meaning.specs.declared.cause.Cause.{Cause}
 use Rattle.program_meaning.specs.declared.cause.Cause.TheVariants.{NextOutside, NextInsideWide, WriteToFramePointer, LoadOutside, StoreOutside, UnknownHelper, EmitOutside, EmitLength}
-
-abbrev pub causes : List Cause
-causes = NextOutside ∷ NextInsideWide ∷ causes_of_effect
 
 -- the place of a cause in the list
 numbered : (k : ℕ) (cause : Cause) → slice_get causes k ≡ Some cause → cause_number cause ≡ suc k

@@ -144,7 +144,7 @@ pub fn alu(arithmetic: Arithmetic, x: u64, y: u64) -> u64
     }
 }
 
-/// Does a relation hold between two words, of which the last two are the signed values?
+/// Does a relation hold between two words, where `signed_x` and `signed_y` are their signed values?
 #[inline(always)]
 fn relate(relation: Relation, x: u64, y: u64, signed_x: i64, signed_y: i64) -> bool
     ensures { result ≡ relates relation x y signed_x signed_y }

@@ -4,10 +4,10 @@ use Rattle.std.specs.List.{slice_split}
 use Rattle.std.specs.Str.Lines.{lines, lines_of_parts, strip_carriage_return}
 use Rattle.std.proofs.Math.Dec.{eqb-suc-zero}
 use Rattle.text_lines.specs.Cut.{cut_at}
-use Rattle.text_lines.specs.Laws.{LinesAreCut}
+use Rattle.text_lines.specs.Laws.{HasFirst, LinesAreCut}
 use Rattle.text_lines.proofs.PartLemmas.{split_some, split_whole, split_more}
 
-behind_first : (line : List ℕ) (parts : List (List ℕ)) → (first : List ℕ) × (rest : List (List ℕ)) × (parts ≡ first ∷ rest) → lines_of_parts (line ∷ parts) ≡ strip_carriage_return line ∷ lines_of_parts parts
+behind_first : (line : List ℕ) (parts : List (List ℕ)) → HasFirst parts → lines_of_parts (line ∷ parts) ≡ strip_carriage_return line ∷ lines_of_parts parts
 behind_first line parts h = ap (λ ps. lines_of_parts (line ∷ ps)) h.2 ∙ ap (λ ps. strip_carriage_return line ∷ lines_of_parts ps) (sym h.2)
 
 pub cut_line : LinesAreCut

@@ -1,4 +1,4 @@
--- The laws of this crate, proved, and lemmas: all that the proofs of other crates cite of it.
+-- The laws of this crate that the proofs of other crates cite, proved, and the lemmas that they cite.
 use Rattle.text_lines.specs.Laws.{CutIsAfterFirstPart, LinesAreCut, SomePartIsThere, UncutIsOnePart}
 pub use Rattle.text_lines.proofs.Blanks.{ascii_behind, blank_is_ascii, blank_is_code, end_stays}
 pub use Rattle.text_lines.proofs.Comments.{uncommented-comment, uncommented-cons, uncommented-same}

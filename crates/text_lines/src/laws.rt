@@ -10,7 +10,8 @@ pub fn parts_are_cut()
     ensures some { SomePartIsThere }
 {}
 
-/// A text is cut into lines one newline at a time; a carriage return at a line's end is no part of it.
+/// A text is cut into lines one newline at a time; a carriage return in front of the newline is
+/// no part of the line.
 pub fn lines_are_cut()
     ensures { LinesAreCut }
 {}

@@ -7,9 +7,9 @@ use Rattle.ebpf_asm.specs.declared.statement.Statement.{Statement}
 use Rattle.ebpf_asm.specs.Line as lines
 use Rattle.ebpf_asm.specs.Statement as statements
 
--- a statement, with its label as bytes alone, or what is wrong with it
+-- a statement, with its target as bytes alone, or what is wrong with it
 abbrev pub statement_view : Result Statement FaultKind → Result statements.Statement FaultKind
-statement_view result = result_map_both (λ statement. (statement.instruction, option_copied statement.label)) (λ fault. fault) result
+statement_view result = result_map_both (λ statement. (statement.instruction, option_copied statement.target)) (λ fault. fault) result
 
 -- a line, with its label and its target as bytes alone
 abbrev pub line_view : Line → lines.Line

@@ -345,7 +345,7 @@ fn columns(alloc: Global, lines: &str) -> Result<(String, String), Fail> {
 }
 
 #[test]
-fn programs_from_outside_are_listed_as_their_makers_say(rt: HostRuntime) -> Result<(), Fail> {
+fn programs_from_outside_are_listed_and_assembled_again(rt: HostRuntime) -> Result<(), Fail> {
     for (name, lines) in PROGRAMS {
         let (digits, listing) = columns(rt.alloc(), lines)?;
         check_listing(&rt, name, digits.as_str(), listing.as_str())?;
