@@ -30,12 +30,12 @@ block_whole b n i xs h long =
     let product : suc i * b ≤ n * b = mul-le-mul_right b below in
     ap length (block-at b n i xs h) ∙ omega (arith, suc-mul i b, length-take b (drop (i * b) xs), length-drop (i * b) xs)
 
--- where something holds at a number that wouldn't hold of no zone, there is one of the zones,
+-- what has a property that `no_zone` lacks is one of the zones,
 pub is_one_of : (P : ZoneBlocks → Type 0) → (P no_zone → ⊥) → (zones : List ZoneBlocks) (z : ℕ) → P (get_or zones z no_zone) → z < length zones
 is_one_of P none zones z holds =
     ⊎_elim (λ inside. inside) (λ past. absurd (none (subst P (get_or_past zones z no_zone past) holds))) (cases_lt z (length zones))
 
--- as where a block stands
+-- and so is what has blocks
 pub zone_with_blocks : (zones : List ZoneBlocks) (z i : ℕ) → i < length (get_or zones z no_zone).blocks → z < length zones
 zone_with_blocks zones z i h = is_one_of (λ zone. i < length zone.blocks) (λ some. omega arith) zones z h
 

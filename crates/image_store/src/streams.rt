@@ -22,8 +22,8 @@ pub trait Source {
     /// How many calls have failed.
     ghost failures: { Self → ℕ };
 
-    /// Reads some bytes to the front of `to`, and says how many. From a source over memory none come
-    /// only at the end, or where `to` is empty.
+    /// Reads some bytes to the front of `to`, and says how many. A source over memory gives none only
+    /// at the end, or where `to` is empty.
     ///
     /// # Errors
     ///
