@@ -7,7 +7,7 @@ use Rattle.std.proofs.lemmas.Nat.{le_bytes_2, le_bytes_4}
 use Rattle.byteorder.specs.Endian.{little_bytes, little_number}
 use Rattle.instruction_set.specs.declared.fields.Fields.{Fields}
 use Rattle.program_interface.specs.Bytes.{AreBytes}
-use Rattle.program_interface.proofs.Proved.{bytes_from, front_fit, rest_fit}
+use Rattle.program_interface.proofs.Proved.{bytes_from, front_fit, length-flat_map-each, rest_fit}
 use Rattle.ebpf_decode.specs.Reading.{fields_at, slots_at}
 use Rattle.instruction_set.specs.Spelling.{slot_bytes}
 use Rattle.ebpf_decode.proofs.ReadAreSpelled.{AreFields, below-32}
@@ -81,8 +81,7 @@ fields-slot f bytes fits =
     rw (dst, src, offset, immediate) refl
 
 pub length-slots_bytes : (fs : List Fields) → length (flat_map slot_bytes fs) ≡ 8 * length fs
-length-slots_bytes [] = refl
-length-slots_bytes (f ∷ fs) = omega (arith, length-slots_bytes fs)
+length-slots_bytes fs = omega (arith, length-flat_map-each slot_bytes 8 (λ f. refl) fs)
 
 -- the slots of the bytes of slots
 pub slots-again : (fs : List Fields) → AllByRecursion FitSlot fs → slots_at (length fs) (flat_map slot_bytes fs) ≡ fs

@@ -2,6 +2,7 @@
 use Rattle.std.proofs.Common.{ℕ, zero, suc, ◌^◌, ◌<◌, List, [], ◌∷◌, lit<}
 use Rattle.std.specs.List.{AllByRecursion}
 use Rattle.program_interface.specs.Bytes.{AreBytes}
+use Rattle.program_interface.proofs.Proved.{all_at}
 use Rattle.emit_append.specs.OutputBlocks.{AreAllBytes}
 
 abbrev pub FitsByte : ℕ → Type 0
@@ -11,9 +12,7 @@ abbrev pub AllBytes : List ℕ → Type 0
 AllBytes bytes = AllByRecursion FitsByte bytes
 
 pub by_place : (bytes : List ℕ) → AllBytes bytes → AreBytes bytes
-by_place [] all k = lit< tt
-by_place (x ∷ xs) all zero = all.0
-by_place (x ∷ xs) all (suc k) = by_place xs all.1 k
+by_place bytes all k = all_at FitsByte bytes k 0 all (lit< tt)
 
 pub by_recursion : (bytes : List ℕ) → AreBytes bytes → AllBytes bytes
 by_recursion [] are = tt

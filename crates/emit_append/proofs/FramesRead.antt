@@ -7,10 +7,6 @@ use Rattle.std.proofs.lemmas.List.{drop-take, length-take-le, take-take}
 use Rattle.program_interface.specs.Readings.{◌>>=◌}
 use Rattle.emit_append.specs.Unpacking.{Reading, after_frame, output_block_at, output_blocks_at, frame_length, frame_record, frames_at, then_read, zeros_at}
 
-pub then_read-none : (reading : Reading) → then_read [] reading ≡ reading
-then_read-none (Ok records) = refl
-then_read-none (Err at) = refl
-
 pub then_read-append : (first second : List (List ℕ)) (reading : Reading) → then_read (first ++ second) reading ≡ then_read first (then_read second reading)
 then_read-append first second (Ok records) = ap Ok (append_assoc first second records)
 then_read-append first second (Err at) = refl

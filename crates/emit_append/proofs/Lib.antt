@@ -6,7 +6,6 @@ mod Layouts
 mod LowestRefused
 mod Needs
 mod UnpackedFrames
-mod Padding
 mod GroupsOfBlocks
 mod Puts
 mod ReadBack

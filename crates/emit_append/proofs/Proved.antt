@@ -1,4 +1,4 @@
--- The laws of this crate, proved, and lemmas: all that the proofs of other crates cite of it.
+-- Laws of this crate, proved, and lemmas: all that the proofs of other crates cite of it.
 use Rattle.std.specs.Prelude.{◌≡◌, ℕ, List, [], ◌∷◌}
 use Rattle.emit_append.specs.Packing.{pending_of, released}
 use Rattle.emit_append.specs.Unpacking.{PackedFramesReadBack, RefusedIsLowest, UnpackedIsFrames}

@@ -11,11 +11,10 @@ use Rattle.byteorder.specs.Numbers.{little_number-reads_back}
 use Rattle.program_interface.specs.Frame.{frame, frames}
 use Rattle.emit_append.specs.PackedLaw.{FitBlock}
 use Rattle.program_interface.specs.Bytes.{padded}
-use Rattle.program_interface.proofs.Proved.{all_append}
+use Rattle.program_interface.proofs.Proved.{all_append, length-padded}
 use Rattle.emit_append.specs.Packing.{Layout, behind, beginning, laid_out, packed}
 use Rattle.emit_append.specs.Unpacking.{PackedFramesReadBack, output_block_at, output_blocks_at, frame_length, then_read, unpacked, zeros_at}
 use Rattle.emit_append.proofs.Layouts.{laid-behind, laid-beginning}
-use Rattle.emit_append.proofs.Padding.{length-padded}
 use Rattle.emit_append.proofs.FramesRead.{block-frame, block-zeros}
 
 -- a record that a frame can hold

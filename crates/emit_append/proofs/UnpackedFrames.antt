@@ -1,11 +1,11 @@
 -- What reads as records is blocks of their frames and zeros, and such blocks read so.
-use Rattle.std.proofs.Common.{◌≡◌, ℕ, zero, suc, ◌+◌, ◌-◌, ◌*◌, ◌/◌, ◌%◌, ◌^◌, ◌≤◌, ◌<◌, List, [], ◌∷◌, ◌++◌, length, map, take, drop, replicate, Ok, Err, refl, ap, sym, subst, ◌∙◌, arith, length-append, length-drop, append_assoc, take-append-drop, inl, inr, ⊎_elim}
+use Rattle.std.proofs.Common.{◌≡◌, ℕ, zero, suc, ◌+◌, ◌-◌, ◌*◌, ◌/◌, ◌^◌, ◌≤◌, ◌<◌, List, [], ◌∷◌, ◌++◌, length, map, take, drop, replicate, Ok, Err, refl, ap, sym, subst, ◌∙◌, arith, length-append, length-drop, append_assoc, take-append-drop, inl, inr, ⊎_elim}
 use Rattle.std.specs.List.{AllByRecursion, concat}
 use Rattle.std.proofs.Math.Nat.{div-add-mod', mul-div_cancel, suc-mul}
 use Rattle.std.proofs.lemmas.Bool.{cases_lt}
 use Rattle.std.proofs.lemmas.Bool.Decides.{eqb_tells}
 use Rattle.std.proofs.lemmas.List.{drop-drop, length-replicate, length-take-le}
-use Rattle.byteorder.specs.Endian.{little_bytes, little_number}
+use Rattle.byteorder.specs.Endian.{little_bytes}
 use Rattle.program_interface.specs.Frame.{frame, frames}
 use Rattle.program_interface.specs.Readings.{◌>>=◌}
 use Rattle.program_interface.specs.Bytes.{padded}

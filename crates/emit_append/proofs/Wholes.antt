@@ -3,13 +3,12 @@ use Rattle.std.proofs.Common.{◌≡◌, ℕ, ◌-◌, ◌≤◌, List, [], ◌�
 use Rattle.std.specs.List.{AllByRecursion}
 use Rattle.std.proofs.lemmas.Bool.{cases_lt}
 use Rattle.program_interface.specs.Bytes.{AreBytes, padded}
-use Rattle.program_interface.proofs.Proved.{all_append, all_same}
+use Rattle.program_interface.proofs.Proved.{all_append, all_same, length-padded}
 use Rattle.emit_append.specs.OutputBlocks.{AreWhole, OutputBlocksAreBytes, OutputBlocksAreWhole}
 use Rattle.emit_append.specs.PackedLaw.{FitBlock}
 use Rattle.emit_append.specs.Packing.{all_but_last, block_fillings, laid_out, last_or_empty}
 use Rattle.emit_append.proofs.ByteLists.{AllBytes, FitsByte, by_place, lists_by_place, lists_by_recursion}
 use Rattle.emit_append.proofs.Layouts.{laid-behind, laid-beginning}
-use Rattle.emit_append.proofs.Padding.{length-padded}
 use Rattle.emit_append.proofs.GroupsOfBlocks.{filled_fits}
 
 -- what holds of each in a list holds of all but the last, and of the last

@@ -17,9 +17,6 @@ use Rattle.image_store.specs.Version.{HasText, numbers_of_version}
 use Rattle.image_store.proofs.FilledBuffers.{Split, bytes_whole}
 use Rattle.image_store.proofs.Shapes.{block_most, shape_passes}
 
-pub word_again : (n : ℕ) (rest : List ℕ) → n < 2 ^ 32 → little_number 4 (little_bytes 4 n ++ rest) ≡ n
-word_again n rest h = little_number-reads_back 4 n rest (omega arith)
-
 abbrev shape_with : ℕ → ℕ → ℕ → ℕ → ℕ → ℕ → Shape
 shape_with block zones size capacity opened active = shape_of block zones size capacity (record { open_limit = opened; active_limit = active })
 
@@ -31,12 +28,12 @@ numbers_again : (digit : ℕ) (s : Shape) (last : List ℕ) → IsShape s → sh
 numbers_again digit s last known =
     let bytes = with_digit digit s last in
     let most : s.zones < 2 ^ 32 = let h = known.zones_most in omega arith in
-    let e1 : little_number 4 (drop 8 bytes) ≡ s.block = let h = block_most known in word_again s.block (drop 12 bytes) (omega arith) in
-    let e2 : little_number 4 (drop 12 bytes) ≡ s.zones = word_again s.zones (drop 16 bytes) most in
-    let e3 : little_number 4 (drop 16 bytes) ≡ s.size = let h = known.size_most in word_again s.size (drop 20 bytes) (omega arith) in
-    let e4 : little_number 4 (drop 20 bytes) ≡ s.capacity = let h = known.size_most in let k = known.capacity_most in word_again s.capacity (drop 24 bytes) (omega arith) in
-    let e5 : little_number 4 (drop 24 bytes) ≡ s.limits.open_limit = let h = known.open_most in let k = known.active_most in word_again s.limits.open_limit (drop 28 bytes) (omega arith) in
-    let e6 : little_number 4 (drop 28 bytes) ≡ s.limits.active_limit = let h = known.active_most in word_again s.limits.active_limit last (omega arith) in
+    let e1 : little_number 4 (drop 8 bytes) ≡ s.block = let h = block_most known in little_number-reads_back 4 s.block (drop 12 bytes) (omega arith) in
+    let e2 : little_number 4 (drop 12 bytes) ≡ s.zones = little_number-reads_back 4 s.zones (drop 16 bytes) most in
+    let e3 : little_number 4 (drop 16 bytes) ≡ s.size = let h = known.size_most in little_number-reads_back 4 s.size (drop 20 bytes) (omega arith) in
+    let e4 : little_number 4 (drop 20 bytes) ≡ s.capacity = let h = known.size_most in let k = known.capacity_most in little_number-reads_back 4 s.capacity (drop 24 bytes) (omega arith) in
+    let e5 : little_number 4 (drop 24 bytes) ≡ s.limits.open_limit = let h = known.open_most in let k = known.active_most in little_number-reads_back 4 s.limits.open_limit (drop 28 bytes) (omega arith) in
+    let e6 : little_number 4 (drop 28 bytes) ≡ s.limits.active_limit = let h = known.active_most in little_number-reads_back 4 s.limits.active_limit last (omega arith) in
     ap (λ (n : ℕ). shape_with n (little_number 4 (drop 12 bytes)) (little_number 4 (drop 16 bytes)) (little_number 4 (drop 20 bytes)) (little_number 4 (drop 24 bytes)) (little_number 4 (drop 28 bytes))) e1
     ∙ (ap (λ (n : ℕ). shape_with s.block n (little_number 4 (drop 16 bytes)) (little_number 4 (drop 20 bytes)) (little_number 4 (drop 24 bytes)) (little_number 4 (drop 28 bytes))) e2
     ∙ (ap (λ (n : ℕ). shape_with s.block s.zones n (little_number 4 (drop 20 bytes)) (little_number 4 (drop 24 bytes)) (little_number 4 (drop 28 bytes))) e3

@@ -1,7 +1,7 @@
 -- What is read as a namespace is one that an image can have.
 use Rattle.std.proofs.Common.{◌≡◌, ℕ, ◌*◌, ◌<◌, zero, suc, List, [], ◌∷◌, length, get_or, map, Ok, ap, sym, subst, ◌∙◌, arith}
 use Rattle.std.proofs.lemmas.Bool.{leb-true, and_parts}
-use Rattle.std.proofs.lemmas.List.{length-map}
+use Rattle.std.proofs.lemmas.List.{get_or-map, length-map}
 use Rattle.std.specs.Prelude.{nat_le, ◌&&◌}
 use Rattle.zone_state.specs.Zone.{CountedZone, IsZone}
 use Rattle.zone_resources.specs.Admission.{IsWithin}
@@ -15,7 +15,6 @@ use Rattle.image_store.specs.Laws.{LoadedTextsAreNamespaces}
 use Rattle.image_store.specs.Namespace.{ZoneBlocks, no_zone, counted, IsNamespace, namespace_with}
 use Rattle.program_interface.specs.Readings.{◌>>=◌}
 use Rattle.image_store.specs.Reading.{bytes_in, limits_kept, blocks_in}
-use Rattle.image_store.proofs.TextsReadBack.{at-counted}
 use Rattle.image_store.proofs.ReadingCalls.{bind_ok, ok_is, chosen}
 use Rattle.program_interface.proofs.Proved.{front_fit, rest_fit}
 use Rattle.image_store.proofs.ByteParts.{blocks_fit}
@@ -72,7 +71,7 @@ zone_allowed : (c : ℕ) (zs : List CountedZone) (zones : List ZoneBlocks) → m
     → (z : ℕ) → z < length zones → IsZone (get_or zones z no_zone).state (length (get_or zones z no_zone).blocks) c
 zone_allowed c zs zones same each z h =
     let there : z < length zs = omega (arith, ap length same, length-map zones (counted c)) in
-    let read = ap (λ (all : List CountedZone). get_or all z no_counted_zone) (sym same) ∙ at-counted c zones z h in
+    let read = ap (λ (all : List CountedZone). get_or all z no_counted_zone) (sym same) ∙ get_or-map (counted c) zones z no_zone no_counted_zone h in
     subst (λ (r : CountedZone). IsZone r.state r.written c) read (each z there)
 
 -- the parts of a text make a namespace

@@ -17,6 +17,7 @@ use Rattle.image_store.proofs.BlocksOfBytes.{bytes-blocks, length-blocks}
 use Rattle.image_store.proofs.SoundImages.{block_whole, zone_with_blocks}
 use Rattle.image_store.proofs.ReplacedZones.{after_write_zone}
 pub use Rattle.image_store.proofs.ReplacedZones.{each_set}
+pub use Rattle.image_store.proofs.SoundImages.{is_one_of}
 use Rattle.image_store.proofs.Shapes as shapes
 pub use Rattle.image_store.proofs.Shapes.{resized}
 

@@ -1,8 +1,8 @@
 -- What calls that read answer, one after another.
-use Rattle.std.proofs.Common.{◌≡◌, Bool, true, false, cond, Result, Ok, Err, refl, ap, sym, subst}
+use Rattle.std.proofs.Common.{◌≡◌, Bool, true, false, cond, Result, Ok, Err, refl, ap, subst}
 use Rattle.image_store.specs.declared.fault.LoadFault.{LoadFault}
 use Rattle.image_store.specs.declared.fault.LoadFault.TheVariants.{Stream, Memory}
-use Rattle.image_store.specs.Loading.{LoadFails, LoadGives}
+use Rattle.image_store.specs.Loading.{LoadFails}
 use Rattle.program_interface.specs.Readings.{◌>>=◌}
 
 -- a fault of the first call is one of both
@@ -10,11 +10,6 @@ pub fails_then : {X Y : Type 0} (wanted may : Type 0) (fault : LoadFault) (read 
 fails_then wanted may Stream read next up h = tt
 fails_then wanted may Memory read next up h = up h
 fails_then wanted may fault read next up h = ap (λ r. r >>= next) h
-
--- the second call's answer is that of both
-pub gives_then : {X Y Z : Type 0} (may : Type 0) (view : Z → Y) (result : Result Z LoadFault) (read : Result X LoadFault) (x : X) (next : X → Result Y LoadFault) → read ≡ Ok x → LoadGives may view result (next x) → LoadGives may view result (read >>= next)
-gives_then may view result read x next e h =
-    subst (λ r. LoadGives may view result r) (sym (ap (λ r. r >>= next) e)) h
 
 -- what never fails itself has the fault of what it follows
 pub fails_before : {X Y : Type 0} (fault : LoadFault) (read : Result X LoadFault) (f : X → Y) → LoadFails ⊥ fault (read >>= λ x. Ok (f x)) → LoadFails ⊥ fault read

@@ -1,6 +1,7 @@
 -- What holds of the namespace that an image stands for, and its blocks by address.
-use Rattle.std.proofs.Common.{◌≡◌, ℕ, ◌*◌, ◌<◌, ◌≤◌, zero, suc, List, [], ◌∷◌, length, get_or, take, drop, refl, ap, sym, subst, ◌∙◌, arith, length-take, length-drop}
-use Rattle.std.proofs.lemmas.List.{drop-drop}
+use Rattle.std.proofs.Common.{◌≡◌, ℕ, ◌*◌, ◌<◌, ◌≤◌, zero, suc, List, [], length, get_or, take, drop, refl, ap, sym, subst, ◌∙◌, arith, length-take, length-drop, ⊎_elim}
+use Rattle.std.proofs.lemmas.Bool.{cases_lt}
+use Rattle.std.proofs.lemmas.List.{drop-drop, get_or_past}
 use Rattle.std.proofs.Math.Nat.{suc-mul, mul-le-mul_right}
 use Rattle.zone_state.specs.Zone.{CountedZone, IsZone}
 use Rattle.zone_resources.specs.declared.counts.Counts.{Counts}
@@ -29,11 +30,14 @@ block_whole b n i xs h long =
     let product : suc i * b ≤ n * b = mul-le-mul_right b below in
     ap length (block-at b n i xs h) ∙ omega (arith, suc-mul i b, length-take b (drop (i * b) xs), length-drop (i * b) xs)
 
--- a zone with blocks is one of the zones
+-- what has a property that `no_zone` lacks is one of the zones,
+pub is_one_of : (P : ZoneBlocks → Type 0) → (P no_zone → ⊥) → (zones : List ZoneBlocks) (z : ℕ) → P (get_or zones z no_zone) → z < length zones
+is_one_of P none zones z holds =
+    ⊎_elim (λ inside. inside) (λ past. absurd (none (subst P (get_or_past zones z no_zone past) holds))) (cases_lt z (length zones))
+
+-- and so is what has blocks
 pub zone_with_blocks : (zones : List ZoneBlocks) (z i : ℕ) → i < length (get_or zones z no_zone).blocks → z < length zones
-zone_with_blocks [] z i h = absurd (omega arith)
-zone_with_blocks (zone ∷ zones) zero i h = omega arith
-zone_with_blocks (zone ∷ zones) (suc z) i h = let rest = zone_with_blocks zones z i h in omega arith
+zone_with_blocks zones z i h = is_one_of (λ zone. i < length zone.blocks) (λ some. omega arith) zones z h
 
 zone_block_whole : (s : Shape) (zs : List CountedZone) (xs : List ℕ) (z i : ℕ) → IsFlat s zs xs → z < length zs → i < (get_or zs z no_counted_zone).written
     → length (get_or (zone_at (namespace_of s zs xs) z).blocks i []) ≡ s.block

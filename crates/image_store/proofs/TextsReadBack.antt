@@ -1,11 +1,12 @@
 -- A text of a namespace is read as that namespace.
-use Rattle.std.proofs.Common.{◌≡◌, ℕ, ◌+◌, ◌*◌, ◌^◌, ◌<◌, ◌≤◌, zero, suc, Bool, cond, List, [], ◌∷◌, ◌++◌, length, get_or, map, drop, Result, Ok, Err, refl, ap, sym, subst, ◌∙◌, append_assoc, arith, length-append}
+use Rattle.std.proofs.Common.{◌≡◌, ℕ, ◌+◌, ◌*◌, ◌^◌, ◌<◌, ◌≤◌, suc, Bool, cond, List, [], ◌∷◌, ◌++◌, length, get_or, map, drop, Result, Ok, Err, refl, ap, sym, subst, ◌∙◌, append_assoc, arith, length-append}
 use Rattle.std.specs.List.{concat}
 use Rattle.std.proofs.lemmas.Bool.{eq-eqb, le-leb}
-use Rattle.std.proofs.lemmas.List.{append-nil, take_at, drop_at, length-map}
+use Rattle.std.proofs.lemmas.List.{append-nil, take_at, drop_at, get_or-map, length-map}
 use Rattle.std.proofs.lemmas.List.Elements.{All-from_get_or}
 use Rattle.std.proofs.lemmas.List.Sums.{sum_by-le}
 use Rattle.std.proofs.Math.Nat.{mul-le-mul, suc-mul}
+use Rattle.byteorder.specs.Numbers.{little_number-reads_back}
 use Rattle.zone_state.specs.State.{code_of, state_of}
 use Rattle.zone_state.specs.Zone.{CountedZone, IsZone}
 use Rattle.zone_state.proofs.Proved.{codes_are_distinct}
@@ -13,6 +14,7 @@ use Rattle.zone_resources.specs.Admission.{IsWithin}
 use Rattle.zone_resources.specs.Counts.{open_count, active_count}
 use Rattle.zone_resources.specs.declared.admission.Limits.{Limits}
 use Rattle.program_interface.specs.Bytes.{pieces}
+use Rattle.program_interface.proofs.Proved.{length-flat_map-each}
 use Rattle.image_store.specs.declared.fault.LoadFault.{LoadFault}
 use Rattle.image_store.specs.declared.fault.LoadFault.TheVariants as fault
 use Rattle.image_store.specs.declared.fault.ZoneRowFault.TheVariants as row_fault
@@ -28,7 +30,7 @@ use Rattle.image_store.specs.Reading.{zone_told, zone_in, zones_in, zone_rows_in
 use Rattle.image_store.specs.Text.{header, written_blocks, zone_row, zone_rows, blocks_text, text, text_of}
 use Rattle.image_store.specs.Version.{HasText}
 use Rattle.image_store.proofs.FilledBuffers.{Split, bytes_whole}
-use Rattle.image_store.proofs.Headers.{word_again, header_read, header_seen, total_in}
+use Rattle.image_store.proofs.Headers.{header_read, header_seen, total_in}
 use Rattle.image_store.proofs.ImageFields.{within_capacity}
 use Rattle.image_store.proofs.LoadStages.{after_limits, past_header, past_rows, past_total, past_limits, past_blocks, past_end}
 
@@ -42,7 +44,7 @@ row_again : (zone capacity : ℕ) (z : CountedZone) → CanSpell capacity z → 
 row_again zone capacity z can =
     let most = within_capacity z.state z.written capacity can.fits in
     let small = can.small in
-    let number = word_again z.written [] (omega arith) in
+    let number = little_number-reads_back 4 z.written [] (omega arith) in
     ap (λ (n : ℕ). zone_told zone (code_of z.state) (state_of (code_of z.state)) n capacity) number
     ∙ (ap (λ state. zone_told zone (code_of z.state) state z.written capacity) (codes_are_distinct.there z.state)
     ∙ (ap (λ (test : Bool). let r : Result CountedZone LoadFault = cond test (Ok (record { state = z.state; written = z.written; capacity = capacity })) (Err (fault.ZoneRow zone (row_fault.Blocks z.state z.written capacity))) in r) can.fits.1
@@ -55,8 +57,7 @@ rows_again zone capacity (z ∷ zs) can =
     ∙ ap (λ (r : Result (List CountedZone) LoadFault). r >>= λ more. Ok (z ∷ more)) (rows_again (zone + 1) capacity zs (λ k h. can (suc k) (omega arith)))
 
 pub length-rows : (zs : List CountedZone) → length (zone_rows zs) ≡ length zs * 8
-length-rows [] = refl
-length-rows (z ∷ zs) = omega (arith, length-rows zs, suc-mul (length zs) 8, length-append (zone_row z) (zone_rows zs))
+length-rows zs = length-flat_map-each zone_row 8 (λ z. refl) zs
 
 pub rows_read : (s : Shape) (zs : List CountedZone) (rest : List ℕ) → length zs ≡ s.zones → ((k : ℕ) → k < length zs → CanSpell s.capacity (get_or zs k no_counted_zone))
     → zone_rows_in s (zone_rows zs ++ rest) ≡ Ok (zs, rest)
@@ -93,17 +94,12 @@ blocks_read b c (zone ∷ zones) rest whole =
     ∙ (ap (λ (r : Result (List ZoneBlocks × List ℕ) LoadFault). r >>= λ more. Ok (zone_seen b (counted c zone) (concat zone.blocks) ∷ more.0, more.1)) (blocks_read b c zones rest (λ z i h. whole (suc z) i h))
     ∙ ap (λ (bs : List (List ℕ)). let seen : ZoneBlocks = record { state = zone.state; blocks = bs } in let r : Result (List ZoneBlocks × List ℕ) LoadFault = Ok (seen ∷ zones, rest) in r) (blocks_again b zone.blocks (whole 0))))
 
-pub at-counted : (c : ℕ) (zones : List ZoneBlocks) (k : ℕ) → k < length zones → get_or (map (counted c) zones) k no_counted_zone ≡ counted c (get_or zones k no_zone)
-at-counted c [] k h = absurd (omega arith)
-at-counted c (zone ∷ zones) zero h = refl
-at-counted c (zone ∷ zones) (suc k) h = at-counted c zones k (omega arith)
-
 pub can_spell : (ns : ZonedNamespace) → IsNamespace ns → (k : ℕ) → k < length (counted_zones ns) → CanSpell ns.capacity (get_or (counted_zones ns) k no_counted_zone)
 can_spell ns sound k h =
     let there : k < length ns.zones = omega (arith, length-map ns.zones (counted ns.capacity)) in
     let most = sound.shape.capacity_most in
     let size = sound.shape.size_most in
-    subst (CanSpell ns.capacity) (sym (at-counted ns.capacity ns.zones k there)) (record { same = refl; fits = sound.fits k there; small = omega arith })
+    subst (CanSpell ns.capacity) (sym (get_or-map (counted ns.capacity) ns.zones k no_zone no_counted_zone there)) (record { same = refl; fits = sound.fits k there; small = omega arith })
 
 -- no namespace has more written blocks than can be told
 pub total_small : (ns : ZonedNamespace) → IsNamespace ns → written_blocks (counted_zones ns) < 2 ^ 64

@@ -22,12 +22,12 @@ pub trait Source {
     /// How many calls have failed.
     ghost failures: { Self → ℕ };
 
-    /// Reads some bytes to the front of `to`, and says how many. None come only at the end, or
-    /// where `to` is empty.
+    /// Reads some bytes to the front of `to`, and says how many. A source over memory gives none only
+    /// at the end, or where `to` is empty.
     ///
     /// # Errors
     ///
-    /// [`StreamFault`] where the stream fails, which is counted. No byte is lost by it.
+    /// [`StreamFault`] where the stream fails, which is counted. A source over memory has lost no byte then.
     fn read(&mut self, to: &mut [u8]) -> Result<usize, StreamFault>
         requires { failures self.old < 2 ^ 64 - 1 }
         ensures bound { IfOk result (λ n. n ≤ length to.new) }

@@ -51,7 +51,9 @@ bytes_have first code cid opcode d is_first byte half is_opcode fit =
     let second : fuse_of entry ≡ 0 = ap (λ (n : ℕ). n % 4) (byte_is 1 first) ∙ omega arith in
     let high : identifier_of entry ≡ cid = little_from-bytes 2 2 first (drop 4 entry) ∙ omega arith in
     record {
-      command = decoded_is entry opcode (ap opcode_of lowest ∙ is_opcode) second (little_number-reads_back 4 1 (drop 8 entry) (omega arith));
+      code = ap opcode_of lowest ∙ is_opcode;
+      fuse = second;
+      namespace = little_number-reads_back 4 1 (drop 8 entry) (omega arith);
       identifier = high;
       second_byte = little_from-bytes 1 1 first (drop 2 entry) ∙ omega arith;
       pointers = refl;

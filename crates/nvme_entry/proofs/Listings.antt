@@ -1,11 +1,11 @@
 -- Zone by zone, the descriptors that fit are put one behind the other.
-use Rattle.std.proofs.Common.{◌≡◌, ℕ, zero, suc, ◌+◌, ◌-◌, ◌*◌, ◌/◌, ◌≤◌, ◌<◌, Bool, true, false, cond, List, [], ◌∷◌, ◌++◌, length, take, drop, replicate, get_or, refl, ap, sym, ◌∙◌, arith, append_assoc, length-append, ⊎_elim}
+use Rattle.std.proofs.Common.{◌≡◌, ℕ, suc, ◌+◌, ◌-◌, ◌*◌, ◌/◌, ◌≤◌, ◌<◌, Bool, true, cond, List, ◌∷◌, ◌++◌, length, take, drop, replicate, get_or, refl, ap, sym, ◌∙◌, arith, append_assoc, length-append, ⊎_elim}
 use Rattle.std.specs.List.{enumerate_from, flat_map}
-use Rattle.std.proofs.Math.Seq.{take-nil}
 use Rattle.std.proofs.lemmas.Bool.{cases_lt}
-use Rattle.std.proofs.lemmas.List.{take_at, drop_all, drop_more, length-take-le, length-replicate}
+use Rattle.std.proofs.lemmas.List.{take_at, drop_more, length-take, length-take-le}
 use Rattle.zone_state.specs.Zone.{CountedZone}
 use Rattle.program_interface.specs.Bytes.{padded}
+use Rattle.program_interface.proofs.Proved.{length-flat_map-each, length-padded}
 use Rattle.nvme_entry.specs.Filter.{lists}
 use Rattle.nvme_entry.specs.declared.filter.ZoneFilter.{ZoneFilter}
 use Rattle.nvme_entry.specs.Report.{descriptor, descriptor_at, report_header, listed, listed_zones}
@@ -39,17 +39,10 @@ whole-more f n x xs size h =
     ∙ (ap (λ (m : ℕ). (f x ++ pieces) ++ replicate m 0) left
     ∙ append_assoc (f x) pieces (replicate (n - 64 - length pieces) 0))
 
-pub length-pieces : {X : Type 0} (f : X → List ℕ) → ((x : X) → length (f x) ≡ 64) → (k : ℕ) (xs : List X) → length (flat_map f (take k xs)) ≤ 64 * k
-length-pieces f each zero xs = omega arith
-length-pieces f each (suc k) [] = omega arith
-length-pieces f each (suc k) (x ∷ xs) =
-    let rest = flat_map f (take k xs) in
-    omega (arith, length-append (f x) rest, each x, length-pieces f each k xs)
-
 pub length-whole : {X : Type 0} (f : X → List ℕ) → ((x : X) → length (f x) ≡ 64) → (n : ℕ) (xs : List X) → length (whole f n xs) ≡ n
 length-whole f each n xs =
-    let pieces = flat_map f (take (n / 64) xs) in
-    omega (arith, length-append pieces (replicate (n - length pieces) 0), length-replicate {A = ℕ} (n - length pieces) 0, length-pieces f each (n / 64) xs)
+    let shown = take (n / 64) xs in
+    length-padded n (flat_map f shown) (omega (arith, length-flat_map-each f 64 each shown, length-take (n / 64) xs))
 
 -- a piece put at a place, where it fits
 pub piece-fits : (old piece rest : List ℕ) (at : ℕ) → at ≤ length old → length piece ≡ 64 → take (at + 64) (take at old ++ (piece ++ rest)) ≡ take at old ++ piece
@@ -87,37 +80,19 @@ step-more f x xs old new at place size same_length fits full =
     (λ enough. step-fits f x xs old new at place size same_length enough (fits enough).0 (fits enough).1)
     (cases_lt (length old) (at + 64))
 
--- where no piece is left, zeros are
-pub whole-none : {X : Type 0} (f : X → List ℕ) (n : ℕ) → whole f n [] ≡ replicate n 0
-whole-none {X = X} f n =
-    let same : n - 0 ≡ n = omega arith in
-    ap (λ (xs : List X). padded n (flat_map f xs)) (take-nil (n / 64)) ∙ ap (λ (m : ℕ). replicate m 0) same
-
 cut : (zones : List CountedZone) (index : ℕ) (zone : CountedZone) → index < length zones → zone ≡ get_or zones index zone → drop index zones ≡ zone ∷ drop (index + 1) zones
 cut zones index zone inside is = drop_more zones index zone inside ∙ ap (λ (z : CountedZone). z ∷ drop (index + 1) zones) (sym is)
 
-listed_zones-cut : (filter : ZoneFilter) (first index : ℕ) (zones : List CountedZone) (zone : CountedZone) (test : Bool) → index < length zones → zone ≡ get_or zones index zone
-    → lists filter zone.state ≡ test
-    → listed_zones filter (enumerate_from (first + index) (drop index zones))
-    ≡ cond test ((first + index, zone) ∷ listed_zones filter (enumerate_from (first + (index + 1)) (drop (index + 1) zones))) (listed_zones filter (enumerate_from (first + (index + 1)) (drop (index + 1) zones)))
-listed_zones-cut filter first index zones zone test inside is tested =
+-- a zone that the filter lists is the first of those that are left
+listed_zones-next : (filter : ZoneFilter) (first index : ℕ) (zones : List CountedZone) (zone : CountedZone) → index < length zones → zone ≡ get_or zones index zone
+    → lists filter zone.state ≡ true
+    → listed_zones filter (enumerate_from (first + index) (drop index zones)) ≡ (first + index, zone) ∷ listed_zones filter (enumerate_from (first + (index + 1)) (drop (index + 1) zones))
+listed_zones-next filter first index zones zone inside is tested =
     let behind = drop (index + 1) zones in
     let next : first + index + 1 ≡ first + (index + 1) = omega arith in
     ap (λ (zs : List CountedZone). listed_zones filter (enumerate_from (first + index) zs)) (cut zones index zone inside is)
     ∙ (ap (λ (b : Bool). cond b ((first + index, zone) ∷ listed_zones filter (enumerate_from (first + index + 1) behind)) (listed_zones filter (enumerate_from (first + index + 1) behind))) tested
-    ∙ ap (λ (n : ℕ). cond test ((first + index, zone) ∷ listed_zones filter (enumerate_from n behind)) (listed_zones filter (enumerate_from n behind))) next)
-
--- a zone that the filter lists is the first of those that are left
-pub listed_zones-next : (filter : ZoneFilter) (first index : ℕ) (zones : List CountedZone) (zone : CountedZone) → index < length zones → zone ≡ get_or zones index zone
-    → lists filter zone.state ≡ true
-    → listed_zones filter (enumerate_from (first + index) (drop index zones)) ≡ (first + index, zone) ∷ listed_zones filter (enumerate_from (first + (index + 1)) (drop (index + 1) zones))
-listed_zones-next filter first index zones zone inside is tested = listed_zones-cut filter first index zones zone true inside is tested
-
--- a zone that it doesn't take is none of them
-pub listed_zones-not : (filter : ZoneFilter) (first index : ℕ) (zones : List CountedZone) (zone : CountedZone) → index < length zones → zone ≡ get_or zones index zone
-    → lists filter zone.state ≡ false
-    → listed_zones filter (enumerate_from (first + index) (drop index zones)) ≡ listed_zones filter (enumerate_from (first + (index + 1)) (drop (index + 1) zones))
-listed_zones-not filter first index zones zone inside is tested = listed_zones-cut filter first index zones zone false inside is tested
+    ∙ ap (λ (n : ℕ). (first + index, zone) ∷ listed_zones filter (enumerate_from n behind)) next)
 
 -- so far: what the loop over the zones has found and put before one of them
 pub record HasListed (filter : ZoneFilter) (first size : ℕ) (zones : List CountedZone) (start output : List ℕ) (index found at : ℕ) : Type 0 where
@@ -125,31 +100,6 @@ pub record HasListed (filter : ZoneFilter) (first size : ℕ) (zones : List Coun
   pub few : found ≤ index
   pub number : found + length (listed_zones filter (enumerate_from (first + index) (drop index zones))) ≡ length (listed_zones filter (enumerate_from first zones))
   pub bytes : take at output ++ listed size (length output - at) (listed_zones filter (enumerate_from (first + index) (drop index zones))) ≡ listed size (length start) (listed_zones filter (enumerate_from first zones))
-
-pub listed-begins : (filter : ZoneFilter) (first size : ℕ) (zones : List CountedZone) (output : List ℕ) → HasListed filter first size zones output output 0 0 0
-listed-begins filter first size zones output =
-    let same : first + 0 ≡ first = omega arith in
-    let long : length output - 0 ≡ length output = omega arith in
-    record {
-      inside = omega arith;
-      few = omega arith;
-      number = omega (arith, ap (λ (n : ℕ). length (listed_zones filter (enumerate_from n zones))) same);
-      bytes =
-          ap (λ (n : ℕ). listed size (length output - 0) (listed_zones filter (enumerate_from n zones))) same
-          ∙ ap (λ (n : ℕ). listed size n (listed_zones filter (enumerate_from first zones))) long;
-    }
-
-pub listed-not : (filter : ZoneFilter) (first size : ℕ) (zones : List CountedZone) (start output : List ℕ) (index found at : ℕ) (zone : CountedZone)
-    → index < length zones → zone ≡ get_or zones index zone → lists filter zone.state ≡ false
-    → HasListed filter first size zones start output index found at → HasListed filter first size zones start output (index + 1) found at
-listed-not filter first size zones start output index found at zone inside is tested has =
-    let next = listed_zones-not filter first index zones zone inside is tested in
-    record {
-      inside = has.inside;
-      few = omega (arith, has.few);
-      number = ap (λ (zs : List (ℕ × CountedZone)). found + length zs) (sym next) ∙ has.number;
-      bytes = ap (λ (zs : List (ℕ × CountedZone)). take at output ++ listed size (length output - at) zs) (sym next) ∙ has.bytes;
-    }
 
 pub listed-next : (filter : ZoneFilter) (first size : ℕ) (zones : List CountedZone) (start output new : List ℕ) (index found at place lowest : ℕ) (zone : CountedZone)
     → index < length zones → zone ≡ get_or zones index zone → lists filter zone.state ≡ true
@@ -171,21 +121,3 @@ listed-next filter first size zones start output new index found at place lowest
           (λ h. ((fits h).0, (fits h).1 ∙ ap (λ (n : ℕ). take at output ++ descriptor zone n) is_lowest)) full
           ∙ (ap (λ (zs : List (ℕ × CountedZone)). take at output ++ listed size (length output - at) zs) (sym next) ∙ has.bytes);
     }
-
--- behind the last zone nothing is left to list
-listed_zones-last : (filter : ZoneFilter) (first index : ℕ) (zones : List CountedZone) → length zones ≤ index → listed_zones filter (enumerate_from (first + index) (drop index zones)) ≡ []
-listed_zones-last filter first index zones past = ap (λ (zs : List CountedZone). listed_zones filter (enumerate_from (first + index) zs)) (drop_all index zones past)
-
-pub listed-number : (filter : ZoneFilter) (first size : ℕ) (zones : List CountedZone) (start output : List ℕ) (index found at : ℕ) → length zones ≤ index
-    → HasListed filter first size zones start output index found at → found ≡ length (listed_zones filter (enumerate_from first zones))
-listed-number filter first size zones start output index found at past has =
-    let none = ap (λ (zs : List (ℕ × CountedZone)). length zs) (listed_zones-last filter first index zones past) in
-    omega (arith, has.number, none)
-
-pub listed-bytes : (filter : ZoneFilter) (first size : ℕ) (zones : List CountedZone) (start output new : List ℕ) (index found at : ℕ) → length zones ≤ index
-    → new ≡ take at output ++ replicate (length output - at) 0
-    → HasListed filter first size zones start output index found at → new ≡ listed size (length start) (listed_zones filter (enumerate_from first zones))
-listed-bytes filter first size zones start output new index found at past is has =
-    is
-    ∙ (ap (λ (ys : List ℕ). take at output ++ ys) (sym (whole-none (descriptor_at size) (length output - at)))
-    ∙ (ap (λ (zs : List (ℕ × CountedZone)). take at output ++ listed size (length output - at) zs) (sym (listed_zones-last filter first index zones past)) ∙ has.bytes))

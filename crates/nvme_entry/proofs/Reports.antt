@@ -8,6 +8,7 @@ use Rattle.byteorder.specs.Endian.{little_bytes}
 use Rattle.byteorder.specs.Numbers.{little_number-reads_back}
 use Rattle.zone_state.specs.Zone.{CountedZone}
 use Rattle.program_interface.specs.Bytes.{pieces}
+use Rattle.program_interface.proofs.Proved.{length-flat_map-each}
 use Rattle.nvme_entry.specs.Filter.{lists}
 use Rattle.nvme_entry.specs.declared.filter.ZoneFilter.{ZoneFilter}
 use Rattle.nvme_entry.specs.Report.{descriptor_at, fitting, report_header, listed, matching, report, listed_zones}
@@ -99,10 +100,6 @@ number-in-header number rest small =
     ap (λ (ys : List ℕ). number_in ys) (append_assoc (little_bytes 8 number) (replicate 56 0) rest)
     ∙ little_number-reads_back 8 number (replicate 56 0 ++ rest) small
 
-length-flat : {X : Type 0} (f : X → List ℕ) → ((x : X) → length (f x) ≡ 64) → (xs : List X) → length (flat_map f xs) ≡ 64 * length xs
-length-flat f each [] = omega arith
-length-flat f each (x ∷ xs) = omega (arith, length-append (f x) (flat_map f xs), each x, length-flat f each xs)
-
 pieces-flat : {X : Type 0} (f : X → List ℕ) → ((x : X) → length (f x) ≡ 64) → (xs : List X) (rest : List ℕ) → pieces 64 (length xs) (flat_map f xs ++ rest) ≡ map f xs
 pieces-flat f each [] rest = refl
 pieces-flat f each (x ∷ xs) rest =
@@ -128,7 +125,7 @@ told-few : {X : Type 0} (partial : Bool) (room : ℕ) (xs : List X) → length (
 told-few true room xs = omega (arith, length-take room xs)
 told-few false room xs = omega arith
 
--- what a host reads behind a report_header of the zones found
+-- what a host reads behind the header of a report of the zones found
 tells : (bytes : ℕ) (partial : Bool) (size : ℕ) (found : List (ℕ × CountedZone)) (given : List ℕ) → 64 ≤ bytes → length found < 2 ^ 64
     → given ≡ report_header (told_by bytes found partial) ++ whole (descriptor_at size) (bytes - 64) found
     → length given ≡ bytes
@@ -142,7 +139,7 @@ tells bytes partial size found given long few parts same_length =
     let small : number < 2 ^ 64 = omega (arith, told-few partial room found) in
     let back : drop 64 given ≡ flat_map f shown ++ zeros = ap (λ (ys : List ℕ). drop 64 ys) parts ∙ drop_at (report_header number) (whole f (bytes - 64) found) 64 (length-header number) in
     let count : length shown ≡ min room (length found) = length-take room found in
-    let size_shown : length (flat_map f shown) ≡ 64 * min room (length found) = omega (arith, length-flat f (length-each size) shown, count) in
+    let size_shown : length (flat_map f shown) ≡ 64 * min room (length found) = omega (arith, length-flat_map-each f 64 (length-each size) shown, count) in
     let left : bytes - 64 - length (flat_map f shown) ≡ length given - (64 + 64 * min room (length found)) = omega arith in
     record {
       number = ap number_in parts ∙ (number-in-header number (whole f (bytes - 64) found) small ∙ sym (told partial room found));
@@ -157,8 +154,11 @@ tells bytes partial size found given long few parts same_length =
     }
 
 pub reports_give_what_matches : ReportsGiveWhatMatches
-reports_give_what_matches bytes zones first size filter partial long few =
+reports_give_what_matches bytes zones first size filter partial =
     let found = matching zones first filter in
-    let same_length = length-report bytes zones first size filter partial in
-    let few_found : length found < 2 ^ 64 = omega (arith, length-matching zones first filter) in
-    (same_length, tells bytes partial size found (report bytes zones first size filter partial) long few_found (report-parts bytes zones first size filter partial long) same_length)
+    let same_length = length-report bytes zones first size filter partial in (
+      same_length,
+      λ long few.
+          let few_found : length found < 2 ^ 64 = omega (arith, length-matching zones first filter) in
+          tells bytes partial size found (report bytes zones first size filter partial) long few_found (report-parts bytes zones first size filter partial long) same_length,
+    )

@@ -2,7 +2,7 @@
 use Rattle.std.proofs.Common.{◌≡◌, ℕ, ◌+◌, ◌*◌, ◌%◌, ◌==◌, nat_le, nat_lt, Bool, true, false, cond, List, [], ◌∷◌, Option, Some, None, Ok, slice_index, refl, ap, sym, subst, ◌∙◌, ◌≤◌, ◌<◌, arith}
 use Rattle.std.specs.Prelude.{Result}
 use Rattle.std.specs.Option.{ok_or, option_and_then, option_map}
-use Rattle.std.proofs.lemmas.Bool.{eqb-true, leb-true, le-leb, ltb-true}
+use Rattle.std.proofs.lemmas.Bool.{eqb-true, leb-true, le-leb, lt-ltb, ltb-true}
 use Rattle.zone_state.specs.declared.action.Action.{Action}
 use Rattle.zone_state.specs.declared.status.Status.{Status}
 use Rattle.zone_state.specs.declared.status.TheConstants.Status.{INVALID_FIELD_IN_COMMAND, INVALID_NAMESPACE_OR_FORMAT}
@@ -23,10 +23,9 @@ use Rattle.nvme_entry.specs.declared.command.Opcode.TheVariants as opcode
 use Rattle.nvme_entry.specs.declared.command.StandardCommand.TheVariants.{Write, Read, Send, Receive, Append}
 use Rattle.nvme_entry.specs.declared.command.TheConstants.{MOST_TRANSFER}
 use Rattle.nvme_entry.specs.declared.filter.ZoneFilter.{ZoneFilter}
-use Rattle.nvme_entry.proofs.Commands.{reported, slot_back}
 use Rattle.nvme_entry.proofs.Encodings.{decoded_is}
 
-abbrev code : Opcode → ℕ
+abbrev pub code : Opcode → ℕ
 code opcode.Write = 0x01
 code opcode.Read = 0x02
 code opcode.ZoneManagementSend = 0x79
@@ -88,7 +87,7 @@ slot_told number slot e =
     let few = ltb-true number 8 told.1 in (told.0, omega (arith, told.0, few))
 
 -- a number of dwords that one command moves
-count_told : (count dwords : ℕ) → dwords_of count ≡ Some dwords → (dwords ≡ count + 1) × (4 * dwords ≤ MOST_TRANSFER)
+pub count_told : (count dwords : ℕ) → dwords_of count ≡ Some dwords → (dwords ≡ count + 1) × (4 * dwords ≤ MOST_TRANSFER)
 count_told count dwords e =
     let told = within (nat_le (4 * (count + 1)) MOST_TRANSFER) (count + 1) dwords e in
     let few = leb-true (4 * (count + 1)) MOST_TRANSFER told.1 in (told.0, omega (arith, told.0, few))
@@ -155,7 +154,11 @@ count_back count dwords is few =
 
 -- the slot of a field, where it is one that there is
 slot_is : (number slot : ℕ) → slot ≡ number → slot < 8 → program_slot_of number ≡ Some slot
-slot_is number slot is few = ap program_slot_of (sym is) ∙ slot_back slot few
+slot_is number slot is few = ap program_slot_of (sym is) ∙ ap (λ (b : Bool). cond b (Some slot) None) (lt-ltb slot 8 few)
+
+-- the report that is asked for, of so many dwords and with a filter, if there is one
+abbrev reported : List ℕ → ℕ → Option ZoneFilter → Option Command
+reported entry dwords told = option_map (λ (filter : ZoneFilter). command.Standard (Receive (starting_lba entry) dwords filter (slice_index entry 54 % 2 == 1))) told
 
 -- what an entry spells is what its fields name
 pub named_by : (c : Command) (entry : List ℕ) → Spells entry c → Names entry c

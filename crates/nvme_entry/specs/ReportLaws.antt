@@ -32,7 +32,7 @@ pub record ReportsZones (bytes : List ℕ) (partial : Bool) (size given : ℕ) (
 abbrev pub ReportsGiveWhatMatches : Type 0
 ReportsGiveWhatMatches =
     (bytes : ℕ) (zones : List CountedZone) (first size : ℕ) (filter : ZoneFilter) (partial : Bool)
-    → 64 ≤ bytes → length zones < 2 ^ 64
     → let given = report bytes zones first size filter partial in
     let found = matching zones first filter in
-    (length given ≡ bytes) × ReportsZones given partial size (min (descriptor_room bytes) (length found)) found
+    (length given ≡ bytes)
+    × (64 ≤ bytes → length zones < 2 ^ 64 → ReportsZones given partial size (min (descriptor_room bytes) (length found)) found)

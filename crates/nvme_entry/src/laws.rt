@@ -28,8 +28,8 @@ pub fn completions_tell()
     ensures { CompletionsTell }
 {}
 
-/// A report with room for its header tells how many zones match, or with Partial how many are given, and gives the
-/// descriptors of the zones that match, in order, as many as fit whole, with zeros behind them.
+/// A report has the length of its transfer. One with room for its header tells how many zones match, or with Partial how
+/// many are given, and gives the descriptors of the zones that match, in order, as many as fit whole, with zeros behind them.
 pub fn reports_give_what_matches()
     ensures { ReportsGiveWhatMatches }
 {}

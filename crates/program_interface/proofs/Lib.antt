@@ -2,6 +2,7 @@ mod AllOf
 mod ByteParts
 mod ContextFields
 mod FirstPassed
+mod Lengths
 pub mod Proved
 mod Readings
 mod SameFronts

@@ -1,5 +1,5 @@
 -- What is added to a zone.
-use Rattle.std.proofs.Common.{◌≡◌, ◌≢◌, ℕ, zero, suc, ◌+◌, ◌*◌, ◌/◌, ◌<◌, ◌≤◌, Bool, true, false, cond, List, [], ◌∷◌, ◌++◌, length, get_or, refl, ap, sym, subst, ◌∙◌, arith, get_or-set_other, get_or-set_same}
+use Rattle.std.proofs.Common.{◌≡◌, ◌≢◌, ℕ, ◌+◌, ◌*◌, ◌/◌, ◌<◌, ◌≤◌, Bool, true, false, cond, List, [], ◌∷◌, ◌++◌, length, get_or, refl, ap, sym, subst, ◌∙◌, arith, get_or-set_other, get_or-set_same}
 use Rattle.std.specs.Prelude.{nat_eq}
 use Rattle.std.specs.List.{concat}
 use Rattle.std.proofs.lemmas.List.{append-nil}
@@ -15,7 +15,7 @@ use Rattle.image_store.specs.Blocks.{as_blocks, block_count}
 use Rattle.image_store.specs.Geometry.{Shape}
 use Rattle.image_store.specs.Namespace.{ZoneBlocks, ZonedNamespace, appended, grown, no_zone, shape, with_zone, zone_at}
 use Rattle.zns_commands.specs.Left.{Grows}
-use Rattle.image_store.proofs.Proved.{blocks_are_cut_again, blocks_have_bytes}
+use Rattle.image_store.proofs.Proved.{blocks_are_cut_again, blocks_have_bytes, is_one_of}
 use Rattle.zns_commands.proofs.Proved.{grows_by_none, replaced_grows, with_zone_shape}
 use Rattle.pushdown.specs.Laws.{BlocksLeaveOthers}
 use Rattle.pushdown.specs.Happenings.{added}
@@ -23,9 +23,7 @@ use Rattle.pushdown.proofs.Bytes.{AreBlocks, whole_at}
 
 -- a zone that isn't Offline is one of the namespace
 pub inside : (zones : List ZoneBlocks) (z : ℕ) → (get_or zones z no_zone).state ≢ Offline → z < length zones
-inside [] z is = absurd (is refl)
-inside (x ∷ xs) zero is = omega arith
-inside (x ∷ xs) (suc z) is = let less = inside xs z is in omega (arith, less)
+inside zones z is = is_one_of (λ zone. zone.state ≢ Offline) (λ on. on refl) zones z is
 
 pub open_on : (s : ZoneState) → is_open s ≡ true → s ≢ Offline
 open_on s is off = let none = ap is_open off in cc

@@ -1,5 +1,5 @@
 -- That an open zone wants nothing, and takes blocks as by an Append.
-use Rattle.std.proofs.Common.{◌≡◌, ℕ, zero, suc, ◌+◌, ◌*◌, ◌%◌, ◌≤◌, ◌<◌, Bool, true, List, [], ◌∷◌, length, get_or, Option, None, Result, Ok, refl, ap, sym, subst, ◌∙◌, arith}
+use Rattle.std.proofs.Common.{◌≡◌, ℕ, ◌+◌, ◌*◌, ◌%◌, ◌≤◌, ◌<◌, Bool, true, List, [], ◌∷◌, length, get_or, Option, None, Result, Ok, refl, ap, sym, subst, ◌∙◌, arith}
 use Rattle.std.specs.Prelude.{nat_eq, nat_le, nat_lt, not}
 use Rattle.std.specs.Result.{result_err}
 use Rattle.std.proofs.lemmas.Bool.{eq-eqb, le-leb, lt-ltb}
@@ -17,6 +17,7 @@ use Rattle.zone_resources.specs.declared.admission.Wanted.{Wanted}
 use Rattle.zone_resources.specs.declared.holds.Holds.{Holds}
 use Rattle.image_store.specs.Blocks.{as_blocks, block_count}
 use Rattle.image_store.specs.Namespace.{ZoneBlocks, ZonedNamespace, no_zone, zone_at, grown, appended, IsNamespace, IsWithinLimits}
+use Rattle.image_store.proofs.Proved.{is_one_of}
 use Rattle.nvme_entry.specs.declared.command.TheConstants.{MOST_TRANSFER}
 use Rattle.zns_commands.specs.Address.{block_total, counted_zone_at, zone_number}
 use Rattle.zns_commands.specs.Append.{TakesBlocks, append_checks, append_effect}
@@ -36,10 +37,7 @@ open_wants_none s is = refl
 
 -- an open zone is one of the zones
 pub open_is_there : (zones : List ZoneBlocks) (z : ℕ) → is_open (get_or zones z no_zone).state ≡ true → z < length zones
-open_is_there [] z is = cc
-open_is_there (x ∷ xs) zero is = omega arith
-open_is_there (x ∷ xs) (suc z) is =
-    let rest = open_is_there xs z is in omega arith
+open_is_there zones z is = is_one_of (λ zone. is_open zone.state ≡ true) (λ off. cc) zones z is
 
 -- no zone gives way to an open one
 open_plan : (ns : ZonedNamespace) (holds : Holds) (z : ℕ) → IsNamespace ns → is_open (zone_at ns z).state ≡ true

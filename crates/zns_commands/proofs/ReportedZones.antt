@@ -41,7 +41,7 @@ reports_what_matches ns holds lba dwords filter partial sound inside room most =
     let given = report (4 * dwords) zones first ns.size filter partial in
     let is : meaning ns holds (Receive lba dwords filter partial) [] ≡ success_effect ns 0 given =
     ap (λ (refusal : Option Status). concluded refusal ns (receive_effect ns lba dwords filter partial)) none in
-    let tells = (reports_give_what_matches (4 * dwords) zones first ns.size filter partial room (omega (arith, count, sound.shape.zones_most))).1 in
+    let tells = (reports_give_what_matches (4 * dwords) zones first ns.size filter partial).1 room (omega (arith, count, sound.shape.zones_most)) in
     subst (λ (done : Effect). (done.status ≡ SUCCESS)
     × ReportsZones done.output partial ns.size (min (descriptor_room (4 * dwords)) (length found)) found)
     (sym is) (refl, tells)

@@ -1,4 +1,4 @@
--- Which zone gives way, and that admission keeps the limits.
+-- Which zone gives way.
 use Rattle.std.proofs.Common.{◌≡◌, ℕ, ◌<◌, ◌≤◌, Bool, true, false, cond, List, length, get_or, arith, Option, Some, None, refl, sym, ◌∙◌, zero-add}
 use Rattle.std.specs.Prelude.{◌&&◌, not, position, slice_get, MatchOption}
 use Rattle.std.specs.List.{enumerate_from, position_or_len}
