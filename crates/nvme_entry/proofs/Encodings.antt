@@ -1,11 +1,11 @@
 -- What the dwords of an entry tell a decoder.
-use Rattle.std.proofs.Common.{◌≡◌, ℕ, ◌+◌, ◌*◌, ◌/◌, ◌%◌, ◌^◌, ◌<◌, ◌==◌, List, [], ◌∷◌, ◌++◌, drop, Option, Some, slice_index, refl, sym, ap, subst, ◌∙◌, arith}
+use Rattle.std.proofs.Common.{◌≡◌, ℕ, ◌+◌, ◌*◌, ◌%◌, ◌^◌, ◌<◌, ◌==◌, List, [], ◌∷◌, ◌++◌, drop, Option, Some, slice_index, refl, sym, ap, subst, ◌∙◌, arith}
 use Rattle.std.specs.List.{flat_map}
-use Rattle.std.specs.Int.{byte_at}
 use Rattle.byteorder.specs.Endian.{little_bytes, little_number}
 use Rattle.byteorder.specs.Numbers.{little_from-bytes, little_number-reads_back}
 use Rattle.zone_state.specs.declared.status.TheConstants.Status.{INVALID_FIELD_IN_COMMAND, INVALID_NAMESPACE_OR_FORMAT}
 use Rattle.program_interface.specs.Readings.{unless_fault}
+use Rattle.program_interface.proofs.Proved.{byte_is}
 use Rattle.zone_state.specs.Checks.{demand, first_failed}
 use Rattle.nvme_entry.specs.steps.EntryFields.{HasFields}
 use Rattle.nvme_entry.specs.Entry.{asked, decoded, decoded_by, fuse_of, identifier_of, namespace_identifier, opcode_of}
@@ -22,9 +22,6 @@ two_again low high rest small large =
     let first = little_number-reads_back 4 low (little_bytes 4 high ++ rest) (omega (arith, small)) in
     let second = little_number-reads_back 4 high rest (omega (arith, large)) in
     omega (arith, first, second)
-
-byte_is : (place n : ℕ) → byte_at place n ≡ n / 256 ^ place % 256
-byte_is place n = omega (arith, little_from-bytes 1 place n [])
 
 -- no check of all entries fails
 pub decoded_is : (entry : List ℕ) (opcode : Opcode) → opcode_of (slice_index entry 0) ≡ Some opcode → fuse_of entry ≡ 0 → namespace_identifier entry ≡ 1

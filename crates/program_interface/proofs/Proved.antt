@@ -5,4 +5,4 @@ pub use Rattle.program_interface.proofs.FirstPassed.{AreNumbered, all_fail, foun
 pub use Rattle.program_interface.proofs.Lengths.{length-flat_map-each, length-padded}
 pub use Rattle.program_interface.proofs.Readings.{found_where_ok}
 pub use Rattle.program_interface.proofs.SameFronts.{agree_before, agree_behind}
-pub use Rattle.program_interface.proofs.SpelledBytes.{bytes_spelled, front_spelled}
+pub use Rattle.program_interface.proofs.SpelledBytes.{byte_is, bytes_spelled, front_spelled}

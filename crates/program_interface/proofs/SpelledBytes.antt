@@ -1,15 +1,14 @@
 -- Bytes are those of the number that they spell.
 use Rattle.std.proofs.Common.{◌≡◌, ℕ, zero, suc, ◌+◌, ◌*◌, ◌/◌, ◌%◌, ◌^◌, ◌<◌, ◌≤◌, List, [], ◌∷◌, ◌++◌, length, take, drop, refl, ap, sym, ◌∙◌, arith}
-use Rattle.std.proofs.Math.Nat.{div-div-eq-div-mul, div-one, pow-succ'}
+use Rattle.std.proofs.Math.Nat.{div-div-eq-div-mul, pow-succ'}
 use Rattle.std.proofs.lemmas.List.{take-append-drop}
 use Rattle.std.specs.Int.{byte_at, bytes_low_first}
 use Rattle.byteorder.specs.Endian.{little_bytes, little_number}
-use Rattle.byteorder.specs.Numbers.{little_from-cons}
+use Rattle.byteorder.specs.Numbers.{little_from-bytes, little_from-cons}
 use Rattle.program_interface.specs.Bytes.{AreBytes}
 
-shifted : (i x : ℕ) → x / 256 ^ i % 256 ≡ byte_at i x
-shifted zero x = ap (λ (y : ℕ). y % 256) (div-one x)
-shifted (suc i) x = refl
+pub byte_is : (place n : ℕ) → byte_at place n ≡ n / 256 ^ place % 256
+byte_is place n = omega (arith, little_from-bytes 1 place n [])
 
 -- a byte above the lowest is one of the number without that
 byte_above : (i low rest : ℕ) → low < 256 → byte_at (suc i) (low + 256 * rest) ≡ byte_at i rest
@@ -18,7 +17,7 @@ byte_above i low rest fits =
     ap (λ (power : ℕ). (low + 256 * rest) / power % 256) (pow-succ' 256 i)
     ∙ ap (λ (x : ℕ). x % 256) (sym (div-div-eq-div-mul (low + 256 * rest) 256 (256 ^ i)))
     ∙ ap (λ (x : ℕ). x / 256 ^ i % 256) above
-    ∙ shifted i rest
+    ∙ sym (byte_is i rest)
 
 bytes_above : (i n low rest : ℕ) → low < 256 → bytes_low_first (suc i) n (low + 256 * rest) ≡ bytes_low_first i n rest
 bytes_above i zero low rest fits = refl
