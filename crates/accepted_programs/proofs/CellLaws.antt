@@ -1,10 +1,12 @@
 -- What is known in a cell after a change of cells, and the words of the stack after a store.
 use Rattle.std.proofs.Common.{ℕ, ℤ, zero, suc, ◌≡◌, ◌≢◌, ◌+◌, ◌*◌, ◌<◌, ◌≤◌, ◌^◌, ◌⊎◌, inl, inr, Bool, true, false, List, [], ◌∷◌, ◌++◌, drop, length, replicate, set, get_or, Option, Some, None, refl, sym, ap, ◌∙◌, arith, subst}
+use Rattle.std.proofs.NetLemmas.Options.{cond_none}
 use Rattle.std.proofs.lemmas.List.{append-nil, get_or-drop}
 use Rattle.std.specs.Prelude.{if◌then◌else◌}
 use Rattle.byteorder.specs.Endian.{little_bytes, little_number}
 use Rattle.byteorder.specs.Numbers.{length-bytes_low_first, little_from-lt, little_number-reads_back}
 use Rattle.program_meaning.proofs.Proved.{same_number, writes_read_back}
+use Rattle.program_interface.proofs.Proved.{bytes_from}
 use Rattle.program_interface.specs.Bytes.{spliced}
 use Rattle.accepted_programs.specs.Cells.{forgotten, has_byte, join_cell, joined_each}
 use Rattle.accepted_programs.specs.Meets.{word_in}
@@ -24,11 +26,6 @@ module _ {D : Type 0} where
   none_known (suc n) zero d e = cc
   none_known (suc n) (suc k) d e = none_known n k d e
 
-  if_left : (is : Bool) (cell : Option D) (d : D) → (if is then None else cell) ≡ Some d
-      → (is ≡ false) × (cell ≡ Some d)
-  if_left true cell d e = cc
-  if_left false cell d e = (refl, e)
-
   -- what is known in a cell that may be forgotten was known, and the cell has none of the bytes
   left_from : (first last : ℤ) (i k : ℕ) (cells : List (Option D)) (d : D)
       → get_or (forgotten first last i cells) k None ≡ Some d
@@ -36,7 +33,7 @@ module _ {D : Type 0} where
   left_from first last i k [] d e = cc
   left_from first last i zero (c ∷ cs) d e =
       let here : i + 0 ≡ i = omega arith in
-      let left = if_left (has_byte i first last) c d e in
+      let left = cond_none (has_byte i first last) c d e in
       (rw here left.0, left.1)
   left_from first last i (suc k) (c ∷ cs) d e =
       let there : i + suc k ≡ suc i + k = omega arith in
@@ -87,7 +84,7 @@ module _ {D : Type 0} where
 -- a word of the stack is one of 64 bits
 pub word_fits : (stack : List ℕ) (j : ℕ) → ((k : ℕ) → get_or stack k 0 < 2 ^ 8) → word_in stack j < 2 ^ 64
 word_fits stack j bytes =
-    little_from-lt 0 8 (drop (8 * j) stack) (λ k. rw (get_or-drop (8 * j) stack k 0) (bytes (8 * j + k)))
+    little_from-lt 0 8 (drop (8 * j) stack) (bytes_from (8 * j) stack bytes)
 
 -- the eight bytes of a cell that no store reaches stay
 pub word_kept : (stack bytes : List ℕ) (at j : ℕ) → at + length bytes ≤ length stack
