@@ -1,5 +1,6 @@
 -- What is known in a cell after a change of cells, and the words of the stack after a store.
 use Rattle.std.proofs.Common.{ℕ, ℤ, zero, suc, ◌≡◌, ◌≢◌, ◌+◌, ◌*◌, ◌<◌, ◌≤◌, ◌^◌, ◌⊎◌, inl, inr, Bool, true, false, List, [], ◌∷◌, ◌++◌, drop, length, replicate, set, get_or, Option, Some, None, refl, sym, ap, ◌∙◌, arith, subst}
+use Rattle.std.proofs.NetLemmas.Options.{cond_none}
 use Rattle.std.proofs.lemmas.List.{append-nil, get_or-drop}
 use Rattle.std.specs.Prelude.{if◌then◌else◌}
 use Rattle.byteorder.specs.Endian.{little_bytes, little_number}
@@ -25,11 +26,6 @@ module _ {D : Type 0} where
   none_known (suc n) zero d e = cc
   none_known (suc n) (suc k) d e = none_known n k d e
 
-  if_left : (is : Bool) (cell : Option D) (d : D) → (if is then None else cell) ≡ Some d
-      → (is ≡ false) × (cell ≡ Some d)
-  if_left true cell d e = cc
-  if_left false cell d e = (refl, e)
-
   -- what is known in a cell that may be forgotten was known, and the cell has none of the bytes
   left_from : (first last : ℤ) (i k : ℕ) (cells : List (Option D)) (d : D)
       → get_or (forgotten first last i cells) k None ≡ Some d
@@ -37,7 +33,7 @@ module _ {D : Type 0} where
   left_from first last i k [] d e = cc
   left_from first last i zero (c ∷ cs) d e =
       let here : i + 0 ≡ i = omega arith in
-      let left = if_left (has_byte i first last) c d e in
+      let left = cond_none (has_byte i first last) c d e in
       (rw here left.0, left.1)
   left_from first last i (suc k) (c ∷ cs) d e =
       let there : i + suc k ≡ suc i + k = omega arith in

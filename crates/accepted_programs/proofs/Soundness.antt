@@ -5,14 +5,14 @@ use Rattle.std.proofs.lemmas.Bool.{cases_lt}
 use Rattle.instruction_set.proofs.Proved.{begins_inside}
 use Rattle.instruction_set.specs.Program.{instruction_at, instruction_count}
 use Rattle.instruction_set.specs.declared.instruction.Instruction.{Instruction}
-use Rattle.program_meaning.proofs.Proved.{begins_at_instruction, decided_goes, keeps_group_limit, keeps_read_only, keeps_state, leads_to_instruction}
+use Rattle.program_meaning.proofs.Proved.{begins_at_instruction, decided_goes, keeps_group_limit, keeps_read_only, keeps_state, leads_to_instruction, runs_by_outcome}
 use Rattle.program_meaning.specs.Cause.{is_exit, least_cause}
 use Rattle.program_meaning.specs.Effect.{register}
 use Rattle.program_meaning.specs.BlockRun.{BlockRun, block_run_of, continued, ran}
 use Rattle.program_meaning.specs.State.{IsState, State, at_start}
 use Rattle.program_meaning.specs.Step.{Ends, Goes, IsAt, after, decided, step_at, step_of}
 use Rattle.program_meaning.specs.declared.cause.Cause.{Cause}
-use Rattle.program_meaning.specs.declared.end.End.TheVariants.{Exit, OutOfFuel}
+use Rattle.program_meaning.specs.declared.end.End.TheVariants.{Exit}
 use Rattle.program_interface.specs.declared.area.Area.TheVariants.{Context, Block, Stack, Scratch}
 use Rattle.program_interface.specs.RunSizes.{AreSizes, Sizes}
 use Rattle.word_domain.specs.Domain.{IsSound, Operations}
@@ -139,10 +139,6 @@ module _ {D : Type 0} {IsFact : D → Type 0} {contains : D → ℕ → Type 0} 
     abbrev run : ℕ → ℕ → State → BlockRun
     run fuel n s = block_run_of program sizes.limit fuel n s
 
-    without_fuel : (n : ℕ) (s : State) → run 0 n s ≡ ran OutOfFuel n s
-    unfolding block_run_of
-    without_fuel n s = refl
-
     ended : (fuel n : ℕ) (s : State)
         → step_at program sizes.limit s (instruction_at program s.slot) ≡ Some (Ends (register s 0) s)
         → run (suc fuel) n s ≡ ran (Exit (register s 0)) (n + 1) s
@@ -157,10 +153,10 @@ module _ {D : Type 0} {IsFact : D → Type 0} {contains : D → ℕ → Type 0} 
     -- a state that a run comes to by slots that are passed
     comes : (fuel n : ℕ) (s : State) → Holds s → ((k : ℕ) → k < fuel → IsPassedAt (run k n s).state.slot)
         → Holds (run fuel n s).state
-    comes zero n s holds passed = rw (without_fuel n s) holds
+    comes zero n s holds passed = rw (runs_by_outcome program sizes.limit n s).0 holds
     comes (suc fuel) n s holds passed =
         let P : BlockRun → Type 0 = λ r. IsPassedAt r.state.slot in
-        elim (steps s holds (subst P (without_fuel n s) (passed 0 (omega arith)))) [
+        elim (steps s holds (subst P (runs_by_outcome program sizes.limit n s).0 (passed 0 (omega arith)))) [
           | inl ends ↦ rw (ended fuel n s ends) holds
           | inr leads ↦ rw (led fuel n s leads.to leads.goes)
               (comes fuel (n + 1) leads.to leads.holds

@@ -81,9 +81,6 @@ pub record HasRead (before rest all : List Line) (labels : LabelMap) (slots : �
   pub room : slots ≤ 4096
   pub fault : first_fault before rest ≡ first_fault [] all
 
-pub HasRead-start : (all : List Line) (labels : LabelMap) → ((name : List ℕ) → labels name ≡ None) → HasRead [] all all labels 0
-HasRead-start all labels empty = record { named = empty; counted = refl; room = omega arith; fault = refl }
-
 pub fits_if : (slots n : ℕ) (instruction : Result (Option Instruction) FaultKind) (twice : Bool) → line_fault twice slots instruction ≡ None → n ≡ slots_of_instruction instruction → (twice ≡ false) × (slots + n ≤ 4096)
 fits_if slots n instruction true e same = absurd cc
 fits_if slots n (Err kind) false e same = absurd cc
@@ -146,16 +143,9 @@ pub record HasMade (left all : List Line) (labels : LabelMap) (number slot : ℕ
   pub so_far : joined bytes (bytes_from labels number slot left) ≡ bytes_from labels 1 0 all
   pub room : slot + slot_count left ≤ 4096
 
-joined-nothing : (r : Result (List ℕ) Fault) → joined [] r ≡ r
-joined-nothing (Ok bytes) = refl
-joined-nothing (Err fault) = refl
-
 joined-joined : (front : List ℕ) (number : ℕ) (instruction : Instruction) (later : Result (List ℕ) Fault) → joined front (before_later number (Ok instruction) later) ≡ joined (front ++ spelling instruction) later
 joined-joined front number instruction (Ok bytes) = ap (λ (b : List ℕ). Ok b) (sym (append_assoc front (spelling instruction) bytes))
 joined-joined front number instruction (Err fault) = refl
-
-pub HasMade-start : (all : List Line) (labels : LabelMap) → slot_count all ≤ 4096 → HasMade all all labels 1 0 []
-HasMade-start all labels h = record { so_far = joined-nothing (bytes_from labels 1 0 all); room = omega (arith, h) }
 
 -- a line without an instruction
 pub HasMade-nothing : (left all : List Line) (line : Line) (labels : LabelMap) (number slot : ℕ) (bytes : List ℕ) → ((instruction : Instruction) → line.instruction ≡ Ok (Some instruction) → ⊥)
@@ -185,9 +175,6 @@ pub HasMade-fault : (left all : List Line) (line : Line) (labels : LabelMap) (nu
 HasMade-fault left all line labels number slot bytes instruction kind e r h =
     let later = bytes_from labels (number + 1) (slot + slots_in line) left in
     sym h.so_far ∙ ap (λ i. joined bytes (bytes_in_front labels number slot i line.target later)) e ∙ ap (λ i. joined bytes (before_later number i later)) (sym r)
-
-pub HasMade-end : (all : List Line) (labels : LabelMap) (number slot : ℕ) (bytes : List ℕ) → HasMade [] all labels number slot bytes → bytes_from labels 1 0 all ≡ Ok bytes
-HasMade-end all labels number slot bytes h = sym h.so_far ∙ ap (λ (b : List ℕ). Ok b) (append-nil bytes)
 
 -- ---- both, over the lines that the assembler holds
 

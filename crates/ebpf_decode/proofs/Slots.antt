@@ -40,10 +40,6 @@ read-at fs s f second h =
     ∙ ap (λ n. then_read (begun second f n) s (λ wide. read_slots wide (s + 1) (drop (suc s) fs))) (get-drop fs (suc s))
     ∙ ap (λ n. then_read (begun second f (slice_get fs n)) s (λ wide. read_slots wide (s + 1) (drop n fs))) (sym (add-one s))
 
-pub with_front-nil : (read : Result (List (Option Instruction)) Fault) → with_front [] read ≡ read
-with_front-nil (Ok slots) = refl
-with_front-nil (Err fault) = refl
-
 pub with_front-more : (front : List (Option Instruction)) (found : Option Instruction) (read : Result (List (Option Instruction)) Fault)
     → with_front front (with_front (found ∷ []) read) ≡ with_front (front ++ found ∷ []) read
 with_front-more front found (Ok slots) = ap (λ xs. Ok xs) (sym (append_assoc front (found ∷ []) slots))

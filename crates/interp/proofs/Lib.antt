@@ -1,7 +1,6 @@
-mod AreaOffsets
 mod FirstBytes
+mod NewMachines
 mod Running
 mod Statements
 mod Stepping
-mod Verified
 pub mod Proved

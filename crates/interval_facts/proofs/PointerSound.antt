@@ -1,7 +1,8 @@
 -- Pointers: where they lead, moved by words, how far from their area, and which bytes they reach.
-use Rattle.std.proofs.Common.{ℕ, ℤ, suc, pos, negsuc, ◌≡◌, ◌+◌, ◌-◌, ◌%◌, ◌^◌, ◌<◌, ◌≤◌, ◌+ℤ◌, ◌-ℤ◌, Bool, true, false, cond, Some, None, inl, inr, refl, subst, arith, lit<}
+use Rattle.std.proofs.Common.{ℕ, ℤ, suc, pos, negsuc, ◌≡◌, ◌+◌, ◌-◌, ◌%◌, ◌^◌, ◌<◌, ◌≤◌, ◌+ℤ◌, ◌-ℤ◌, true, Some, inl, inr, refl, subst, arith, lit<}
 use Rattle.std.proofs.lemmas.Bool.{cond_both, and_parts, and_from, le-leb, le-ltb, or_cases, ltb-true, leb-true}
 use Rattle.std.proofs.lemmas.Int.{ints}
+use Rattle.std.proofs.lemmas.Option.{cond_some}
 use Rattle.std.proofs.Math.Nat.{mod-lt}
 use Rattle.std.specs.Int.{w64, cast_signed, cast_unsigned}
 use Rattle.std.specs.Prelude.{◌&&◌, ◌||◌, ◌≤ℤ◌, int_le, nat_lt, nat_le}
@@ -137,16 +138,12 @@ reached : (address length size w : ℕ) (low high offset : ℤ) → IsFarIn addr
 reached address length size w low high (pos n) far short fits from to first last = (omega (arith, ints), omega (arith, ints))
 reached address length size w low high (negsuc n) far short fits from to first last = (omega (arith, ints), omega (arith, ints))
 
-some_area : {test : Bool} {area area' : Area} → cond test (Some area) None ≡ Some area' → (test ≡ true) × (area ≡ area')
-some_area {test = true} e = (refl, (cc))
-some_area {test = false} e = (cc)
-
 pub access_law : (block : ℕ) (f : Fact) (offset : ℤ) (size : ℕ) (area : Area) (w : ℕ) → block < 2 ^ 32
     → area_accessed block f offset size ≡ Some area → ContainsWord f w
     → lies_in block area ((w + cast_unsigned w64 offset) % 2 ^ 64) size ≡ true
 access_law block (Words b) offset size area w fits told is = cc
 access_law block (Pointer area' low high) offset size area w fits told is =
-    let named = some_area {test = int_le (pos 0) (low +ℤ offset) && int_le ((high +ℤ offset) +ℤ pos size) (pos (length_of block area'))} {area = area'} told in
+    let named = cond_some (int_le (pos 0) (low +ℤ offset) && int_le ((high +ℤ offset) +ℤ pos size) (pos (length_of block area'))) area' area told in
     let both = and_parts (int_le (pos 0) (low +ℤ offset)) (int_le ((high +ℤ offset) +ℤ pos size) (pos (length_of block area'))) named.0 in
     let inside = reached (address_of area') (length_of block area') size w low high offset (far_in area') (areas_are_short block area' fits)
     is.1 is.0.0 is.0.1 (int_le-true _ _ both.0) (int_le-true _ _ both.1) in
