@@ -24,7 +24,7 @@ for file in "$work"/*.bin; do
         continue
     fi
     if [ "$wanted" != "$("$ours" "$file" "$work/block.bin" 0 0 checked)" ]; then
-        echo "$name: the answers differ" >&2
+        echo "$name: what is printed differs" >&2
         exit 1
     fi
     checked=$(least 2 "$ours" "$file" "$work/block.bin" $rounds $repeats checked)

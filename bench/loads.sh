@@ -16,7 +16,7 @@ repeats=20
 for name in straight-1000 straight-4000 branchy-1000 branchy-4000 spilling-4000; do
     wanted=$("$work/dpdk" time $name 1 1 | sed -n 1p)
     if [ "$wanted" != "$("$loads" "$work/$name.bin" "$work/block.bin" 0 0 | sed -n 1p)" ]; then
-        echo "$name: the answers differ" >&2
+        echo "$name: what is printed differs" >&2
         exit 1
     fi
     ours=$(least 2 "$loads" "$work/$name.bin" "$work/block.bin" $rounds $repeats)

@@ -18,7 +18,7 @@ for name in straight branchy; do
     steps=$(echo "$wanted" | cut -d ' ' -f 2)
     if [ "$wanted" != "$("$ours" "$work/$name.bin" "$work/block.bin" 0 0 checked)" ] ||
         [ "$wanted" != "$("$work/dpdk" time $name "$steps" 0 1 | sed -n 1p) 0 0" ]; then
-        echo "$name: the answers differ" >&2
+        echo "$name: what is printed differs" >&2
         exit 1
     fi
     theirs=$(least 2 "$work/dpdk" time $name "$steps" $rounds $repeats)

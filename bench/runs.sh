@@ -17,7 +17,7 @@ bench=$here/../crates/bench_runs/out/bench_runs
 (cd "$here/../crates/bench_runs" && rt run -- "$work/filter.bin") > "$work/completion"
 matches=$("$work/dpdk" time 4096 1 1 | sed -n 1p)
 if [ "$(sed 's/ .*//' "$work/completion")" != "${matches% *}" ]; then
-    echo "the answers differ" >&2
+    echo "what is printed differs" >&2
     exit 1
 fi
 turn=$(least 1 "$bench" "$work/filter.bin" 10)

@@ -59,7 +59,7 @@ line_behind number = codes "line " ++ decimal number ++ codes " refused"
 abbrev pub at_line : List ℕ → ℕ → List ℕ → List ℕ
 at_line path number words = line_front path number ++ words ++ 10 ∷ line_behind number ++ 10 ∷ []
 
--- a line of a command file that has no event
+-- a line of a command file that is refused
 abbrev pub line_failure_text : List ℕ → ℕ → Text
 line_failure_text path number = sentence (line_front path number) (line_behind number)
 

@@ -26,7 +26,7 @@ told_of_kind error _ = CommandLine error
 abbrev pub told_of_command_line : Error → Failure
 told_of_command_line error = told_of_kind error (kind_of error)
 
--- a file that is no command file: its name, the number of its lowest line that has no event, and why it has none
+-- a file that is no command file: its name, the number of its lowest line that is refused, and why it is refused
 abbrev pub told_of_commands : Bor (List ℕ) → ParseFault → Failure
 told_of_commands path (Line number fault) = LineRefused path number fault
 told_of_commands path Memory = NoMemory

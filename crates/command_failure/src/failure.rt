@@ -40,7 +40,7 @@ pub enum Failure<'a> {
     CannotPrint,
     /// Memory is wanting.
     NoMemory,
-    /// A line of a command file that has no event.
+    /// A line of a command file that is refused.
     LineRefused {
         path: &'a str,
         line: usize,

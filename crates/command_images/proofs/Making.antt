@@ -1,5 +1,5 @@
 -- What is known of the images that commands make.
-use Rattle.std.proofs.Common.{◌≡◌, ℕ, List, Option, Some, None, Result, Ok, Err, OnOk, IfErr, IsErrAnd, IfSome, ap, sym, subst, ◌∙◌}
+use Rattle.std.proofs.Common.{◌≡◌, ℕ, List, Option, Some, None, Result, Ok, Err, OnOk, IfSome, ap, sym, subst, ◌∙◌}
 use Rattle.std.specs.Borrow.{Bor}
 use Rattle.std.specs.List.{Contains}
 use Rattle.clap.specs.declared.parser.matches.ArgMatches.{ArgMatches}
@@ -50,11 +50,6 @@ makes_anew reads writes (Ok done) contents image path wanted before loaded after
   held = λ read. subst (λ (p : List ℕ). IfSome (contents p) (λ bytes. namespace_in bytes ≡ Ok image)) same (held read);
   made = λ write. saved write ∙ ap (λ (made : Option (List Made)). then_made made path (text image)) kept ∙ ap (λ (p : List ℕ). then_made before p (text image)) same;
 }
-
--- what holds of a call's failure holds where that is passed on
-pub passed_on : {T : Type 0} (P : Failure → Type 0) (failure : Failure) (r : Result T Failure) → IsErrAnd r (λ other. other ≡ failure) → P failure → IfErr r P
-passed_on P failure (Ok done) passed is = absurd passed
-passed_on P failure (Err other) passed is = subst P (sym passed) is
 
 -- the word of an option of a shape spells no number
 pub spells_none : (matches : ArgMatches) (option : Bor (List ℕ)) (failure : Failure) → Contains shape_options option.now → SpellsNone matches option 0 4294967295 failure → RefusesShape matches failure

@@ -1,5 +1,5 @@
 -- Replies with their data.
-use Rattle.std.specs.Prelude.{ℕ, List, ◌++◌}
+use Rattle.std.specs.Prelude.{ℕ, List, [], ◌++◌}
 use Rattle.device_events.specs.declared.reply.Reply.{Reply}
 use Rattle.device_events.specs.declared.reply.Reply.TheVariants as reply
 
@@ -7,6 +7,10 @@ use Rattle.device_events.specs.declared.reply.Reply.TheVariants as reply
 pub record ReplyWithData : Type 0 where
   pub reply : Reply
   pub bytes : List ℕ
+
+-- a reply without data
+abbrev pub without_data : Reply → ReplyWithData
+without_data r = record { reply = r; bytes = [] }
 
 -- how much data goes with a reply
 abbrev pub data_length : Reply → ℕ

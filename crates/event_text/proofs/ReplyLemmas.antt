@@ -1,7 +1,7 @@
 -- Files of replies, one line after the other.
 use Rattle.std.proofs.Common.{◌≡◌, ℕ, List, [], ◌∷◌, ◌++◌, length, map, sym, ap, ◌∙◌, append_assoc, append-nil, arith}
 use Rattle.std.proofs.lemmas.List.{map-append}
-use Rattle.std.proofs.lemmas.List.Elements.{All-append, All-cons, All-nil}
+use Rattle.std.proofs.lemmas.List.Elements.{All-push}
 use Rattle.std.specs.List.{All}
 use Rattle.std.specs.Str.Lines.{lines}
 use Rattle.event_text.specs.declared.reply_file.ToldReply.{ToldReply}
@@ -23,4 +23,4 @@ replies_read all before (b ∷ rest) read e = absurd (omega (arith, e))
 
 -- one more reply has its data
 pub one_more_whole : (before : List ToldReply) (told : ToldReply) → All HasItsData before → HasItsData told → All HasItsData (before ++ told ∷ [])
-one_more_whole before told whole has = All-append HasItsData before (told ∷ []) whole (All-cons HasItsData told [] has (All-nil HasItsData))
+one_more_whole before told whole has = All-push HasItsData before told whole has

@@ -8,7 +8,7 @@ use Rattle.std.specs.Str.{bytes_eq}
 use Rattle.std.proofs.lemmas.Fmt.{decimal_nonempty}
 use Rattle.hex.specs.Hex.{IsBytes, decode_of, decode_pairs, encode_lower}
 use Rattle.hex.proofs.HexLemmas.{decode_of-encode_lower}
-use Rattle.device_events.specs.Replies.{ReplyWithData}
+use Rattle.device_events.specs.Replies.{ReplyWithData, without_data}
 use Rattle.device_events.specs.declared.reply.Reply.{Reply}
 use Rattle.device_events.specs.declared.reply.Reply.TheVariants.{Complete, Pending, Idle, FaultTaken, FaultRefused}
 use Rattle.text_lines.specs.Number.{decimal_of}
@@ -25,9 +25,6 @@ use Rattle.event_text.proofs.WordLemmas.{word_last}
 abbrev completed : Option ℕ → Option (List ℕ) → Option (List ℕ) → Option ReplyWithData
 completed (Some queue) (Some entry) (Some bytes) = Some (record { reply = Complete queue entry (length bytes); bytes = bytes })
 completed _ _ _ = None
-
-abbrev without_data : Reply → ReplyWithData
-without_data reply = record { reply = reply; bytes = [] }
 
 abbrev reply_named : List ℕ → List (List ℕ) → Option ReplyWithData
 reply_named name words =
@@ -49,11 +46,11 @@ complete_again : (number digits behind entry bytes : List ℕ) (queue size : ℕ
     → completed (decimal_of number) (result_ok (decode_of digits)) (result_ok (decode_of behind)) ≡ Some (record { reply = Complete queue entry size; bytes = bytes })
 complete_again number digits behind entry bytes queue size is_queue is_entry is_data is_size = rw (is_queue, is_entry, is_data, is_size) refl
 
-words_again : (number digits entry bytes : List ℕ) (queue size : ℕ) → decimal_of number ≡ Some queue → decode_of digits ≡ Ok entry → IsBytes bytes → size ≡ length bytes
+reply_again : (number digits entry bytes : List ℕ) (queue size : ℕ) → decimal_of number ≡ Some queue → decode_of digits ≡ Ok entry → IsBytes bytes → size ≡ length bytes
     → told_by (codes "cpl" ∷ number ∷ digits ∷ data_words bytes) ≡ Some (record { reply = Complete queue entry size; bytes = bytes })
 unfolding decode_pairs
-words_again number digits entry [] queue size is_queue is_entry small is_size = complete_again number digits [] entry [] queue size is_queue is_entry refl is_size
-words_again number digits entry (b ∷ rest) queue size is_queue is_entry small is_size =
+reply_again number digits entry [] queue size is_queue is_entry small is_size = complete_again number digits [] entry [] queue size is_queue is_entry refl is_size
+reply_again number digits entry (b ∷ rest) queue size is_queue is_entry small is_size =
     complete_again number digits (encode_lower (b ∷ rest)) entry (b ∷ rest) queue size is_queue is_entry (decode_of-encode_lower (b ∷ rest) small) is_size
 
 -- no data goes with such a reply
@@ -74,7 +71,7 @@ told_again (Complete queue entry size) bytes is =
     (not_empty entry (omega (arith, whole)))
     (hex_in_word entry numbers.2)
     is.are_bytes)
-    ∙ words_again (decimal queue) (encode_lower entry) entry bytes queue size (decimal_again queue (omega (arith, numbers.0))) (decode_of-encode_lower entry numbers.2) is.are_bytes is.told
+    ∙ reply_again (decimal queue) (encode_lower entry) entry bytes queue size (decimal_again queue (omega (arith, numbers.0))) (decode_of-encode_lower entry numbers.2) is.are_bytes is.told
 told_again (Pending run) bytes is =
     let small = is.numbers in
     ap told_by (words_of-numbered (codes "pending") run (omega arith) refl (omega (arith, small)))

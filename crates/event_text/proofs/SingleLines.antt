@@ -6,7 +6,7 @@ use Rattle.std.specs.Str.Lines.{lines, lines_of_parts, strip_carriage_return}
 use Rattle.std.proofs.Math.Dec.{eqb-suc-zero}
 use Rattle.std.proofs.Math.Seq.{take-append_seam, get_or-append_seam}
 use Rattle.std.proofs.lemmas.Bool.{not-true}
-use Rattle.std.proofs.lemmas.List.Elements.{All-append, All-cons, All-nil, All-weaker}
+use Rattle.std.proofs.lemmas.List.Elements.{All-push, All-weaker}
 use Rattle.std.proofs.lemmas.List.Splits.{slice_split_at, slice_split_none}
 use Rattle.event_text.specs.CommandFile.{ToldEvent, line_told, line_before, events_from, events_in}
 use Rattle.event_text.specs.Laws.{LineEnd, EndOfFile, Newline, ReturnNewline, ReadsBack, end_text}
@@ -43,7 +43,7 @@ told_alone line told whole is stripped_is Newline =
     ap (events_from 1) (lines-one line whole) ∙ ap (λ (o : Option (Option ToldEvent)). line_before 1 o (Ok [])) stripped_is
 told_alone line told whole is stripped_is ReturnNewline =
     let return = line ++ 13 ∷ [] in
-    let alone : AllPass (λ b. not (b == 10)) return = All-append (λ b. not (b == 10) ≡ true) line (13 ∷ []) whole (All-cons (λ b. not (b == 10) ≡ true) 13 [] refl (All-nil (λ b. not (b == 10) ≡ true))) in
+    let alone : AllPass (λ b. not (b == 10)) return = All-push (λ b. not (b == 10) ≡ true) line 13 whole refl in
     ap events_in (sym (append_assoc line (13 ∷ []) (10 ∷ [])))
     ∙ ap (events_from 1) (lines-one return alone)
     ∙ ap (λ (l : List ℕ). line_before 1 (line_told l) (Ok [])) (stripped line)

@@ -1,20 +1,18 @@
--- The lines of turns and of zones' faults are read back.
-use Rattle.std.proofs.Common.{◌≡◌, ℕ, ◌^◌, ◌<◌, List, [], ◌∷◌, ◌++◌, length, Option, Some, refl, ap, subst, sym, ◌∙◌, codes, append_assoc, arith}
+-- The lines of submissions, turns and zones' faults are read back.
+use Rattle.std.proofs.Common.{◌≡◌, ℕ, ◌^◌, ◌<◌, List, [], ◌∷◌, ◌++◌, length, Option, Some, refl, ap, subst, sym, ◌∙◌, codes, append-nil, arith}
 use Rattle.std.specs.Fmt.{decimal}
 use Rattle.std.specs.List.{All}
 use Rattle.std.specs.Option.{option_map}
 use Rattle.std.proofs.lemmas.Fmt.{decimal_nonempty}
-use Rattle.std.proofs.lemmas.List.Elements.{All-append}
+use Rattle.std.proofs.lemmas.List.Elements.{All-append, All-nil}
 use Rattle.zone_state.specs.Words.{fault_word}
 use Rattle.zone_state.specs.declared.state.FaultState.{FaultState}
 use Rattle.zone_state.specs.declared.state.FaultState.TheVariants.{ReadOnly, Offline}
 use Rattle.event_text.specs.CommandFile.{Turned, Faulted, fault_told, line_told, state_named, words_told}
 use Rattle.event_text.specs.Laws.{FaultsReadBack, SubmissionsReadBack, TurnsReadBack, fault_text, turn_text}
-use Rattle.event_text.specs.Words.{words_of}
-use Rattle.event_text.proofs.PlainLines.{InLine, InWord, IsSpelled, as_line, decimal_again, decimal_below, decimal_in_word, line_told-words, space_before, spelled_in_word, unblank, words_of-numbered}
+use Rattle.event_text.proofs.PlainLines.{InLine, InWord, IsSpelled, as_line, decimal_again, decimal_below, decimal_in_word, line_told-words, space_before, spelled_in_word, words_of-numbered}
 use Rattle.event_text.proofs.SingleLines.{spelled_reads_back}
-use Rattle.event_text.proofs.SubmissionLemmas.{submission_spelled}
-use Rattle.event_text.proofs.WordLemmas.{word_first, word_last}
+use Rattle.event_text.proofs.SubmissionLemmas.{number_spaced, spaced, spaced_in_line, submission_spelled, words_of-spaced}
 
 pub submissions_read_back : SubmissionsReadBack
 submissions_read_back queue entry input small size entry_bytes input_bytes =
@@ -51,31 +49,23 @@ state_again : (state : FaultState) → state_named (fault_word state) ≡ Some s
 state_again ReadOnly = refl
 state_again Offline = refl
 
--- the words of a line, one behind the other
-abbrev spaced : List ℕ → List ℕ → List ℕ
-spaced number state = codes "fault" ++ 32 ∷ (number ++ 32 ∷ state)
-
-fault_text-spaced : (zone : ℕ) (state : FaultState) → fault_text zone state ≡ spaced (decimal zone) (fault_word state)
-fault_text-spaced zone state = ap (λ (ys : List ℕ). codes "fault " ++ ys) (append_assoc (decimal zone) (codes " ") (fault_word state))
-
-words_of-fault : (number state : List ℕ) → 0 < length number → All InWord number → 0 < length state → All InWord state → words_of (spaced number state) ≡ codes "fault" ∷ number ∷ state ∷ []
-words_of-fault number state some is_number any is_state =
-    word_first (codes "fault") (number ++ 32 ∷ state) (omega arith) (unblank (codes "fault") (spelled_in_word (codes "fault") refl))
-    ∙ ap (λ (ws : List (List ℕ)). codes "fault" ∷ ws) (word_first number state some (unblank number is_number) ∙ ap (λ (ws : List (List ℕ)). number ∷ ws) (word_last state any (unblank state is_state)))
+fault_text-spaced : (zone : ℕ) (state : FaultState) → fault_text zone state ≡ spaced (codes "fault") (decimal zone) (fault_word state) []
+fault_text-spaced zone state =
+    ap (λ (ys : List ℕ). codes "fault " ++ ys) (sym (append-nil (decimal zone ++ codes " " ++ fault_word state)) ∙ number_spaced (decimal zone) (fault_word state) [])
 
 fault_spelled : (zone : ℕ) (state : FaultState) → zone < 2 ^ 32 → IsSpelled (fault_text zone state) (Faulted zone state)
 fault_spelled zone state small =
     let number = decimal zone in
-    let name = fault_word state in
+    let word = fault_word state in
+    let is_name = spelled_in_word (codes "fault") refl in
     let is_number = decimal_in_word zone (omega arith) in
-    let is_name = state_in_word state in
-    let line = spaced number name in
-    let behind = space_before (number ++ 32 ∷ name) (All-append InLine number (32 ∷ name) (as_line number is_number) (space_before name (as_line name is_name))) in
-    let in_a_line : All InLine line = All-append InLine (codes "fault") (32 ∷ (number ++ 32 ∷ name)) (as_line (codes "fault") (spelled_in_word (codes "fault") refl)) behind in
+    let is_word = state_in_word state in
+    let line = spaced (codes "fault") number word [] in
+    let in_a_line = spaced_in_line (codes "fault") number word [] is_name is_number is_word (All-nil InLine) in
     let told : line_told line ≡ Some (Some (Faulted zone state)) =
     line_told-words line in_a_line
-    ∙ ap words_told (words_of-fault number name (decimal_nonempty zone (omega arith)) is_number (state_some state) is_name)
-    ∙ ap (λ (n : Option ℕ). option_map Some (fault_told n (state_named name))) (decimal_again zone small)
+    ∙ ap words_told (words_of-spaced (codes "fault") number word [] (omega arith) is_name (decimal_nonempty zone (omega arith)) is_number (state_some state) is_word (λ i. omega arith))
+    ∙ ap (λ (n : Option ℕ). option_map Some (fault_told n (state_named word))) (decimal_again zone small)
     ∙ ap (λ (s : Option FaultState). option_map Some (fault_told (Some zone) s)) (state_again state) in
     let whole : IsSpelled line (Faulted zone state) = record { plain = in_a_line; told = told } in
     subst (λ (text : List ℕ). IsSpelled text (Faulted zone state)) (sym (fault_text-spaced zone state)) whole

@@ -80,11 +80,11 @@ data_in_line [] small = All-nil InLine
 data_in_line (b ∷ rest) small =
     subst (λ (text : List ℕ). All InLine text) (sym (data_text-cons b rest)) (space_before (encode_lower (b ∷ rest)) (as_line (encode_lower (b ∷ rest)) (hex_in_word (b ∷ rest) small)))
 
-spaced_in_line : (number digits behind : List ℕ) → All InWord number → All InWord digits → All InLine behind → All InLine (spaced (codes "submit") number digits behind)
-spaced_in_line number digits behind is_number is_digits is_behind =
+pub spaced_in_line : (name number digits behind : List ℕ) → All InWord name → All InWord number → All InWord digits → All InLine behind → All InLine (spaced name number digits behind)
+spaced_in_line name number digits behind is_name is_number is_digits is_behind =
     let tail = space_before (digits ++ behind) (All-append InLine digits behind (as_line digits is_digits) is_behind) in
     let middle = space_before (number ++ 32 ∷ (digits ++ behind)) (All-append InLine number (32 ∷ (digits ++ behind)) (as_line number is_number) tail) in
-    All-append InLine (codes "submit") (32 ∷ (number ++ 32 ∷ (digits ++ behind))) (as_line (codes "submit") (spelled_in_word (codes "submit") refl)) middle
+    All-append InLine name (32 ∷ (number ++ 32 ∷ (digits ++ behind))) (as_line name is_name) middle
 
 -- ---- the event
 
@@ -102,14 +102,15 @@ words_again number digits entry (b ∷ rest) queue is_queue is_entry small =
 pub submission_spelled : (queue : ℕ) (entry input : List ℕ) → queue < 2 ^ 16 → length entry ≡ 64 → IsBytes entry → IsBytes input → IsSpelled (submission_text queue entry input) (Submitted queue entry input)
 submission_spelled queue entry input small size entry_bytes input_bytes =
     let number = decimal_nonempty queue (omega arith) in
+    let is_name = spelled_in_word (codes "submit") refl in
     let is_number = decimal_in_word queue (omega arith) in
     let is_digits = hex_in_word entry entry_bytes in
     let line = spaced (codes "submit") (decimal queue) (encode_lower entry) (data_text input) in
-    let in_a_line = spaced_in_line (decimal queue) (encode_lower entry) (data_text input) is_number is_digits (data_in_line input input_bytes) in
+    let in_a_line = spaced_in_line (codes "submit") (decimal queue) (encode_lower entry) (data_text input) is_name is_number is_digits (data_in_line input input_bytes) in
     let found = decimal_below (2 ^ 16) queue small (omega arith) in
     let told : line_told line ≡ Some (Some (Submitted queue entry input)) =
     line_told-words line in_a_line
-    ∙ (ap words_told (words_of-spaced (codes "submit") (decimal queue) (encode_lower entry) input (omega arith) (spelled_in_word (codes "submit") refl) number is_number (not_empty entry (omega arith)) is_digits input_bytes)
+    ∙ (ap words_told (words_of-spaced (codes "submit") (decimal queue) (encode_lower entry) input (omega arith) is_name number is_number (not_empty entry (omega arith)) is_digits input_bytes)
     ∙ words_again (decimal queue) (encode_lower entry) entry input queue found (decode_sized-encode_lower entry 64 size entry_bytes) input_bytes) in
     let whole : IsSpelled line (Submitted queue entry input) = record { plain = in_a_line; told = told } in
     subst (λ (text : List ℕ). IsSpelled text (Submitted queue entry input)) (sym (submission_text-spaced queue entry input)) whole

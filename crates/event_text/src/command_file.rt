@@ -26,15 +26,15 @@ use text_lines::{Excerpt, decimal, first_line, is_all_ascii, without_comment};
 use thiserror::Error;
 use zone_state::FaultState;
 
-/// Why a command file has no events.
+/// Why a command file isn't read.
 #[derive(Clone, Copy, Debug, PartialEq, Eq, Error)]
 pub enum ParseFault {
-    /// A line has no event.
+    /// A line is refused.
     #[error("line {number}: {fault}")]
     Line {
         /// The line's number, the first being 1.
         number: usize,
-        /// Why it has none.
+        /// Why it is refused.
         fault: LineFault,
     },
     /// No memory for the events.
@@ -42,7 +42,7 @@ pub enum ParseFault {
     Memory,
 }
 
-/// Why there is no event of a line.
+/// Why a line isn't read.
 #[derive(Clone, Copy, Debug, PartialEq, Eq)]
 enum EventFault {
     Refused(LineFault),

@@ -1,9 +1,9 @@
-//! Why a line of a command file has no event.
+//! Why a line of a command file is refused.
 
 use text_lines::Excerpt;
 use thiserror::Error;
 
-/// Why a line has no event: what stands there, and what was expected.
+/// Why a line is refused: what stands there, and what was expected.
 #[derive(Clone, Copy, Debug, PartialEq, Eq, Error)]
 pub enum LineFault {
     /// The line from its first byte over 127 on, which may stand in the comment.

@@ -22,7 +22,7 @@ const EVENTS: &[(&str, &str)] = &[
     ),
 ];
 
-/// Command files, and what is said of the line that has no event.
+/// Command files, and what is said of the lowest line that is refused.
 const REFUSED: &[(&str, &str)] = &[
     (
         "; x\n\nturn 0\nturn 256\nturn 257\n",
@@ -131,7 +131,7 @@ const SUBMISSIONS: &[(&str, &str)] = &[
     ),
 ];
 
-/// The events of a command file as Rust shows them, or the line that has none and what is said of it.
+/// The events of a command file as Rust shows them, or the line that is refused and what is said of it.
 fn told(alloc: Global, file: &str) -> Result<String, Fail> {
     let file = repeated(alloc, file, '|')?;
     let told = match parse(alloc, file.as_bytes()) {

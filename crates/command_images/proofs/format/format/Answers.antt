@@ -1,6 +1,5 @@
-use Rattle.std.proofs.lemmas.Result.{IfErr-weaker}
-use Rattle.command_images.specs.UserTold.{FormatFails}
-use Rattle.command_images.proofs.Making.{format_of_shape, format_of_writing, makes_empty, passed_on}
+use Rattle.std.proofs.lemmas.Result.{err_from_is_err_and, IfErr-weaker}
+use Rattle.command_images.proofs.Making.{format_of_shape, format_of_writing, makes_empty}
 use Rattle.command_images.proofs.format.format.Goals as goal
 
 pub returns-clause-empty : goal.returns-clause-empty
@@ -11,7 +10,8 @@ returns-clause-empty g c =
 
 pub returns-in_err-geometry-clause-failed : goal.returns-in_err-geometry-clause-failed
 returns-in_err-geometry-clause-failed g c =
-    passed_on (FormatFails c.args.matches.now _) _ c.from_residual.result c.from_residual.ensures.1 (format_of_shape c.args.matches.now _ _ c.in_err-geometry.ensures.refused)
+    let p = err_from_is_err_and c.from_residual.result c.from_residual.ensures.1 in
+    rw (p.1, p.2) (format_of_shape c.args.matches.now _ _ c.in_err-geometry.ensures.refused)
 
 pub returns-clause-failed : goal.returns-clause-failed
 returns-clause-failed g c =
