@@ -2,7 +2,7 @@
 use Rattle.std.proofs.Common.{ℕ, ℤ, zero, suc, ◌≡◌, ◌≢◌, ◌+◌, ◌*◌, ◌<◌, ◌≤◌, ◌^◌, ◌⊎◌, inl, inr, Bool, true, false, List, [], ◌∷◌, ◌++◌, drop, length, replicate, set, get_or, Option, Some, None, refl, sym, ap, ◌∙◌, arith, subst}
 use Rattle.std.proofs.NetLemmas.Options.{cond_none}
 use Rattle.std.proofs.lemmas.List.{append-nil, get_or-drop}
-use Rattle.std.specs.Prelude.{if◌then◌else◌}
+use Rattle.std.specs.Prelude.{is_some, if◌then◌else◌}
 use Rattle.byteorder.specs.Endian.{little_bytes, little_number}
 use Rattle.byteorder.specs.Numbers.{length-bytes_low_first, little_from-lt, little_number-reads_back}
 use Rattle.program_meaning.proofs.Proved.{same_number, writes_read_back}
@@ -59,6 +59,15 @@ module _ {D : Type 0} where
     | inl here ↦ inl (ap suc here.0, here.1)
     | inr there ↦ inr (λ same. there.0 cc, there.1)
   ]
+
+  -- where something is known in a cell, something is after another thing was learned
+  pub set_some : (cells : List (Option D)) (j k : ℕ) (d : D) → is_some (get_or cells k None) ≡ true
+      → is_some (get_or (set cells j (Some d)) k None) ≡ true
+  set_some [] j k d is = is
+  set_some (c ∷ cs) zero zero d is = refl
+  set_some (c ∷ cs) zero (suc k) d is = is
+  set_some (c ∷ cs) (suc j) zero d is = is
+  set_some (c ∷ cs) (suc j) (suc k) d is = set_some cs j k d is
 
   -- what is known in a joined cell is the join of what is known in both
   pub record IsJoined (join : D → D → D) (c d : Option D) (x : D) : Type 0 where

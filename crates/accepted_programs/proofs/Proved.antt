@@ -3,7 +3,7 @@ use Rattle.std.specs.Prelude.{ℕ}
 use Rattle.word_domain.specs.Domain.{IsSound, Operations}
 use Rattle.accepted_programs.specs.Laws.{AcceptedNeverTraps, RefusalIsInside}
 use Rattle.accepted_programs.proofs.Statements.{AcceptedSlotsNeverTrap, NoReasonHolds, OffsetsAreShort, RefusalIsAtItsSlot}
-pub use Rattle.accepted_programs.proofs.CellLaws.{none_known, set_known}
+pub use Rattle.accepted_programs.proofs.CellLaws.{none_known, set_known, set_some}
 use Rattle.accepted_programs.proofs.FirstRefusals as first_refusals
 use Rattle.accepted_programs.proofs.Fitting as fitting
 use Rattle.accepted_programs.proofs.Refusals as refusals

@@ -1,9 +1,8 @@
 -- What is added to a zone.
-use Rattle.std.proofs.Common.{◌≡◌, ◌≢◌, ℕ, ◌+◌, ◌*◌, ◌/◌, ◌<◌, ◌≤◌, Bool, true, false, cond, List, [], ◌∷◌, ◌++◌, length, get_or, refl, ap, sym, subst, ◌∙◌, arith, get_or-set_other, get_or-set_same}
+use Rattle.std.proofs.Common.{◌≡◌, ◌≢◌, ℕ, ◌+◌, ◌*◌, ◌/◌, ◌<◌, ◌≤◌, Bool, true, false, cond, List, [], ◌∷◌, ◌++◌, length, get_or, refl, ap, sym, subst, ◌∙◌, arith, get_or-set_other, get_or-set_same, zero, suc}
 use Rattle.std.specs.Prelude.{nat_eq}
 use Rattle.std.specs.List.{concat}
 use Rattle.std.proofs.lemmas.List.{append-nil}
-use Rattle.std.proofs.Math.Nat.{mul-div_cancel}
 use Rattle.zone_state.specs.State.{is_open}
 use Rattle.zone_state.specs.Zone.{written_state}
 use Rattle.zone_state.specs.declared.state.ZoneState.{ZoneState}
@@ -16,7 +15,7 @@ use Rattle.image_store.specs.Geometry.{Shape}
 use Rattle.image_store.specs.Namespace.{ZoneBlocks, ZonedNamespace, appended, grown, no_zone, shape, with_zone, zone_at}
 use Rattle.zns_commands.specs.Left.{Grows}
 use Rattle.image_store.proofs.Proved.{blocks_are_cut_again, blocks_have_bytes, is_one_of}
-use Rattle.zns_commands.proofs.Proved.{grows_by_none, replaced_grows, with_zone_shape}
+use Rattle.zns_commands.proofs.Proved.{grows_by_none, replaced_grows, with_zone_shape, count_of}
 use Rattle.pushdown.specs.Laws.{BlocksLeaveOthers}
 use Rattle.pushdown.specs.Happenings.{added}
 use Rattle.pushdown.proofs.Bytes.{AreBlocks, whole_at}
@@ -85,8 +84,7 @@ module _ (block : ℕ) where
   bytes_are blocks h = by_place (concat blocks) (all_bytes blocks h)
 
   pub bytes_count : (blocks : List (List ℕ)) → 1 ≤ block → AreBlocks block blocks → block_count block (concat blocks) ≡ length blocks
-  bytes_count blocks some h =
-      ap (λ (n : ℕ). n / block) (bytes_long blocks h) ∙ mul-div_cancel (length blocks) (omega (arith, some))
+  bytes_count blocks some h = count_of (length blocks) block (concat blocks) some (bytes_long blocks h)
 
   pub bytes_cut : (blocks : List (List ℕ)) → 1 ≤ block → AreBlocks block blocks → as_blocks block (concat blocks) ≡ blocks
   bytes_cut blocks some h =

@@ -12,7 +12,7 @@ use Rattle.zone_state.proofs.Proved.{demanded, passed}
 use Rattle.nvme_entry.specs.declared.command.LoadCommand.{LoadCommand}
 use Rattle.word_domain.specs.Domain.{Operations}
 use Rattle.image_store.specs.Namespace.{zone_at}
-use Rattle.zns_commands.proofs.Proved.{grows_by_none, held_sources_keep_blocks, events_keep_shapes}
+use Rattle.zns_commands.proofs.Proved.{grows_by_none, held_sources_keep_blocks, shapes_are_kept}
 use Rattle.zone_resources.proofs.Proved.{there, users_name_zones}
 use Rattle.pushdown.specs.Admission.{Loaded, SameProgram}
 use Rattle.pushdown.specs.Laws.{EventsKeepForRuns, KeepsFor}
@@ -82,7 +82,7 @@ module _ {D : Type 0} (operations : Operations D) where
       source = held_sources_keep_blocks step s.namespace place.source
           (subst (λ (holds : Holds). is_source holds place.source ≡ true) (sym same) (source_at s.places run place at));
       program = same_program (program_at s place.slot);
-      shape_kept = events_keep_shapes step s.namespace;
+      shape_kept = shapes_are_kept step s.namespace;
     };
     load = λ sub load t are takes.
         let new = Some (just_loaded takes.program load.limit) in

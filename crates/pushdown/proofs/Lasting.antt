@@ -4,9 +4,7 @@ use Rattle.word_domain.specs.Domain.{Operations}
 use Rattle.image_store.specs.Namespace.{ZonedNamespace, shape, zone_at}
 use Rattle.zone_state.specs.State.{is_cleared}
 use Rattle.zns_commands.specs.Laws.{NamespaceEvent, after}
-use Rattle.zns_commands.proofs.Proved.{grows_on, events_keep_zones, uncleared_is_readable}
-use Rattle.zns_commands.proofs.Proved as commands
-use Rattle.zns_commands.proofs.Proved.{KeepsZone}
+use Rattle.zns_commands.proofs.Proved.{KeepsZone, events_keep_zones, grows_on, shapes_are_kept, uncleared_is_readable}
 use Rattle.pushdown.specs.Events.{Occurrence, state_after}
 use Rattle.pushdown.specs.Happenings.{added, happens}
 use Rattle.pushdown.specs.ReadBack.{EventsKeepShapes, NoEventClears, UnclearedZonesKeepBlocks}
@@ -66,7 +64,7 @@ module _ {D : Type 0} (operations : Operations D) where
   event_shape : (s : State) (starved : Bool) (e : Event) → shape (happens operations s starved e).state.namespace ≡ shape s.namespace
   event_shape s starved e = after_event operations (λ (t : State). shape t.namespace ≡ shape s.namespace) s starved e (record {
     same = refl;
-    step = λ step same is. commands.events_keep_shapes step s.namespace;
+    step = λ step same is. shapes_are_kept step s.namespace;
     load = λ sub load t are takes. refl;
     start = λ sub command run passed free some. refl;
     turn = λ run place turn later is at first. added_shape s.namespace place.destination turn.blocks;

@@ -13,6 +13,7 @@ use Rattle.nvme_entry.specs.declared.command.Command.TheVariants as commands
 use Rattle.nvme_entry.specs.declared.command.RunCommand.{RunCommand}
 use Rattle.word_domain.specs.Domain.{Operations}
 use Rattle.accepted_programs.specs.Laws.{AcceptedNeverTraps}
+use Rattle.accepted_programs.proofs.Proved.{set_some}
 use Rattle.program_meaning.specs.BlockRun.{BlockRun}
 use Rattle.zns_commands.specs.Effect.{success_effect}
 use Rattle.zns_commands.specs.Transfer.{transfer_checks}
@@ -39,14 +40,6 @@ use Rattle.pushdown.proofs.States.{reached_fine, runs_all_done, some_run}
 use Rattle.pushdown.proofs.TurnsDone.{left_other}
 
 -- ---- a slot that has a program has one
-
-set_some : (slots : List (Option Loaded)) (i j : ℕ) (new : Loaded) → is_some (get_or slots j None) ≡ true
-    → is_some (get_or (set slots i (Some new)) j None) ≡ true
-set_some [] i j new is = is
-set_some (x ∷ xs) zero zero new is = refl
-set_some (x ∷ xs) zero (suc j) new is = is
-set_some (x ∷ xs) (suc i) zero new is = is
-set_some (x ∷ xs) (suc i) (suc j) new is = set_some xs i j new is
 
 module _ {D : Type 0} (operations : Operations D) where
   event_leaves_some : (s : State) (starved : Bool) (e : Event) (slot : ℕ) → is_some (program_at s slot) ≡ true

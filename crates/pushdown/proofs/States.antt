@@ -1,6 +1,6 @@
 -- What holds of each state that events leave.
 use Rattle.std.proofs.Common.{◌≡◌, ◌≢◌, ℕ, ◌+◌, ◌/◌, ◌%◌, ◌≤◌, Bool, true, List, [], ◌∷◌, length, drop, Option, Some, None, refl, ap, sym, subst, ◌∙◌, arith, inl, inr, length-take, length-drop}
-use Rattle.std.specs.Prelude.{is_some, nat_le}
+use Rattle.std.specs.Prelude.{IfSome, is_some, nat_le}
 use Rattle.std.specs.List.{AllByRecursion}
 use Rattle.std.proofs.lemmas.Bool.{leb-true}
 use Rattle.std.proofs.lemmas.List.{length-map}
@@ -35,7 +35,7 @@ use Rattle.image_store.specs.Namespace.{ZonedNamespace, IsNamespace, zone_at}
 use Rattle.image_store.proofs.Proved.{block_most}
 use Rattle.zns_commands.specs.Left as kept
 use Rattle.zns_commands.specs.Laws.{IsSpelled, NamespaceEvent, after}
-use Rattle.zns_commands.proofs.Proved.{held_destinations_are_left, events_keep_namespaces, events_keep_shapes}
+use Rattle.zns_commands.proofs.Proved.{held_destinations_are_left, events_keep_namespaces, shapes_are_kept}
 use Rattle.accepted_programs.proofs.Proved.{none_known, set_known}
 use Rattle.pushdown.specs.Admission.{Loaded, admission_checks, source_blocks, task_of}
 use Rattle.pushdown.specs.EventReplies.{Submission}
@@ -101,8 +101,7 @@ module _ {D : Type 0} (operations : Operations D) (never : AcceptedNeverTraps op
     pub accepted : refusal operations loaded.program (granted loaded.limit) ≡ None
 
   abbrev pub SlotIsFine : Option Loaded → Type 0
-  SlotIsFine None = Unit {0}
-  SlotIsFine (Some loaded) = ProgramIsFine loaded
+  SlotIsFine slot = IfSome slot ProgramIsFine
 
   -- turns that append whole blocks, few each, and of which the last ends the run
   pub record AppendWhole (turns : List Turn) : Type 0 where
@@ -111,8 +110,7 @@ module _ {D : Type 0} (operations : Operations D) (never : AcceptedNeverTraps op
     pub ends : EndsWithLast turns
 
   abbrev pub PlaceIsFine : Option Place → Type 0
-  PlaceIsFine None = Unit {0}
-  PlaceIsFine (Some place) = AppendWhole place.turns
+  PlaceIsFine at = IfSome at (λ place. AppendWhole place.turns)
 
   pub record IsFine (s : State) : Type 0 where
     pub is : IsNamespace s.namespace
@@ -137,7 +135,7 @@ module _ {D : Type 0} (operations : Operations D) (never : AcceptedNeverTraps op
   step_fine : (s : State) (step : NamespaceEvent) → IsFine s → kept.holds_of step ≡ holds_at s → IsSpelled step
       → IsFine (with_namespace s (after step s.namespace))
   step_fine s step h same is_spelled =
-      let kept_shape = events_keep_shapes step s.namespace in
+      let kept_shape = shapes_are_kept step s.namespace in
       record {
         is = events_keep_namespaces (step ∷ []) s.namespace h.is (just_one step is_spelled);
         size = ap (λ (x : Shape). x.block) kept_shape ∙ h.size;

@@ -41,12 +41,12 @@ pub record SameProgram (before after : Option Loaded) : Type 0 where
   pub limit : limit_in after ≡ limit_in before
 
 -- the sizes of a block of a namespace, and of what may be emitted for one
-abbrev pub sizes_with : ZonedNamespace → ℕ → Sizes
-sizes_with ns limit = record { block = ns.block; limit = limit }
+abbrev pub granted_sizes : ZonedNamespace → ℕ → Sizes
+granted_sizes ns limit = record { block = ns.block; limit = limit }
 
 -- the sizes that the program of a slot is granted in a namespace
 abbrev pub sizes_in : ZonedNamespace → Option Loaded → Sizes
-sizes_in ns slot = sizes_with ns (limit_in slot)
+sizes_in ns slot = granted_sizes ns (limit_in slot)
 
 -- the zone that a run reads from
 abbrev pub source_zone : ZonedNamespace → RunCommand → ℕ
@@ -108,7 +108,7 @@ source_blocks ns command = written_from ns (source_zone ns command) (zone_offset
 abbrev pub task_by : ZonedNamespace → List (Option Instruction) → ℕ → RunCommand → Task
 task_by ns program limit command = record {
   program = program;
-  sizes = sizes_with ns limit;
+  sizes = granted_sizes ns limit;
   argument = command.argument;
   lba = command.lba;
   count = command.blocks;

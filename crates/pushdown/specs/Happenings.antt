@@ -23,7 +23,7 @@ use Rattle.zns_commands.specs.Effect.{Effect}
 use Rattle.zns_commands.specs.Fault.{zone_fault_refusal, faulted}
 use Rattle.zns_commands.specs.Meaning.{meaning}
 use Rattle.zns_commands.specs.Transfer.{transfer_checks}
-use Rattle.pushdown.specs.Admission.{Loaded, run_refusal, sizes_with, source_blocks, task_of, source_zone, destination_zone}
+use Rattle.pushdown.specs.Admission.{Loaded, run_refusal, granted_sizes, source_blocks, task_of, source_zone, destination_zone}
 use Rattle.device_events.specs.Replies.{ReplyWithData}
 use Rattle.pushdown.specs.EventReplies.{Happening, Submission, plain, completion, completed, refused, idle, submission_of}
 use Rattle.pushdown.specs.BlockRuns.{no_scratch}
@@ -59,7 +59,7 @@ judged sub s load program None = completed sub SUCCESS 0 0 [] (with_slot s load.
 
 -- the sizes that a program is judged for
 abbrev pub sizes_for : State → LoadCommand → Sizes
-sizes_for s load = sizes_with s.namespace load.limit
+sizes_for s load = granted_sizes s.namespace load.limit
 
 module _ {D : Type 0} (operations : Operations D) where
   -- what the bytes of a program come to: they are decoded, and then judged

@@ -7,7 +7,7 @@
 -- 4. each turn is the one that is fixed at admission: the blocks that it appends, the completion, and all that
 --    it leaves: the namespace, the run's place and the slots;
 -- 5. the completion tells how many frames were emitted and how many blocks were appended; both fit into its 32 bits.
-use Rattle.std.specs.Prelude.{ℕ, Bool, false, ◌≡◌, ◌≢◌, ◌≤◌, ◌<◌, ◌+◌, ◌^◌, ◌==◌, List, [], ◌∷◌, ◌++◌, length, take, drop, get_or, Option, Some, None, Ok, Vec}
+use Rattle.std.specs.Prelude.{ℕ, Bool, false, ◌≡◌, ◌≢◌, ◌≤◌, ◌<◌, ◌+◌, ◌^◌, ◌==◌, List, [], ◌∷◌, ◌++◌, length, take, drop, get_or, Option, Some, None, IsSomeAnd, Ok, Vec}
 use Rattle.std.specs.List.{AllByRecursion}
 use Rattle.std.specs.declared.alloc.Global.{Global}
 use Rattle.zone_state.specs.declared.status.TheConstants.Status.{SUCCESS}
@@ -62,8 +62,7 @@ no_turn = record { blocks = []; ending = None }
 
 -- the ending is a success
 abbrev pub Succeeds : Option Ending → Type 0
-Succeeds None = ⊥
-Succeeds (Some ending) = ending.status ≡ SUCCESS
+Succeeds ending = IsSomeAnd ending (λ e. e.status ≡ SUCCESS)
 
 -- the last turn ends the run with success, and no other does
 abbrev pub EndsWithLast : List Turn → Type 0

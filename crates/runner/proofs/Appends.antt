@@ -1,7 +1,6 @@
 -- Blocks that are written to a zone one after another.
-use Rattle.std.proofs.Common.{◌≡◌, ℕ, ◌+◌, ◌<◌, ◌≤◌, ◌/◌, Bool, false, cond, List, [], ◌∷◌, ◌++◌, length, refl, ap, ◌∙◌, arith, length-append, get_or-set_same, append_assoc}
+use Rattle.std.proofs.Common.{◌≡◌, ℕ, ◌+◌, ◌<◌, ◌≤◌, Bool, false, cond, List, [], ◌∷◌, ◌++◌, length, ap, ◌∙◌, arith, length-append, get_or-set_same, append_assoc}
 use Rattle.std.specs.Prelude.{nat_eq}
-use Rattle.std.proofs.Math.Nat.{div_self}
 use Rattle.std.proofs.lemmas.List.{take_all, set-set}
 use Rattle.std.proofs.lemmas.Bool.{ne_eqb}
 use Rattle.zone_state.specs.Zone.{written_state}
@@ -9,18 +8,16 @@ use Rattle.zone_state.proofs.Proved.{written_twice}
 use Rattle.zone_state.specs.declared.state.ZoneState.{ZoneState}
 use Rattle.zone_state.specs.declared.state.ZoneState.TheVariants.{Full}
 use Rattle.program_interface.specs.Bytes.{pieces}
-use Rattle.image_store.specs.Blocks.{as_blocks, block_count}
+use Rattle.image_store.specs.Blocks.{as_blocks}
 use Rattle.image_store.specs.Namespace.{ZoneBlocks, ZonedNamespace, appended, grown, no_zone, with_zone, zone_at}
+use Rattle.zns_commands.proofs.Proved.{count_of}
 use Rattle.pushdown.specs.Happenings.{added}
 
 -- ---- one block
 
-one_count : (block : ℕ) (bytes : List ℕ) → 1 ≤ block → length bytes ≡ block → block_count block bytes ≡ 1
-one_count block bytes some same = ap (λ (n : ℕ). n / block) same ∙ div_self {n = block} some
-
 one_block : (block : ℕ) (bytes : List ℕ) → 1 ≤ block → length bytes ≡ block → as_blocks block bytes ≡ bytes ∷ []
 one_block block bytes some same =
-    ap (λ (n : ℕ). pieces block n bytes) (one_count block bytes some same)
+    ap (λ (n : ℕ). pieces block n bytes) (count_of 1 block bytes some (omega (arith, same)))
     ∙ ap (λ (b : List ℕ). b ∷ []) (take_all block bytes (omega (arith, same)))
 
 pub one_appended : (ns : ZonedNamespace) (z : ℕ) (bytes : List ℕ) → 1 ≤ ns.block → length bytes ≡ ns.block → appended ns z bytes ≡ added ns z (bytes ∷ [])

@@ -13,7 +13,7 @@ use Rattle.zns_commands.specs.Fault.{faulted}
 use Rattle.zns_commands.specs.Laws.{Commanded, Faulted, NamespaceEvent, after}
 use Rattle.zns_commands.specs.Meaning.{meaning}
 use Rattle.zns_commands.specs.declared.answer.Answer.{Answer}
-use Rattle.zns_commands.proofs.Proved.{held_sources_keep_blocks, events_keep_shapes}
+use Rattle.zns_commands.proofs.Proved.{held_sources_keep_blocks, shapes_are_kept}
 use Rattle.pushdown.specs.EventReplies.{Submission}
 use Rattle.pushdown.specs.Happenings.{commanded, faulting}
 use Rattle.pushdown.specs.State.{Place, holds_at, with_namespace}
@@ -69,7 +69,7 @@ source_there runs k a at = users_name_zones source_held a.source.zone runs k a a
 event_leaves : (ns : ZonedNamespace) (slots : List (Option LoadedProgram)) (runs : List (Option ActiveRun)) (event : NamespaceEvent) → IsReady ns slots runs
     → holds_of event ≡ held_by runs → IsLeft ns (after event ns) slots runs
 event_leaves ns slots runs event ready heeds =
-    is_left ns (after event ns) slots runs ready (events_keep_shapes event ns)
+    is_left ns (after event ns) slots runs ready (shapes_are_kept event ns)
     (λ k a at.
     held_sources_keep_blocks event ns a.source.zone
     (ap (λ (holds : Holds). is_source holds a.source.zone) heeds ∙ source_there runs k a at))

@@ -1,11 +1,13 @@
 -- A turn, over all that a device has.
-use Rattle.std.proofs.Common.{◌≡◌, ℕ, ◌<◌, ◌≤◌, false, List, [], ◌∷◌, length, map, set, get_or, Option, Some, None, refl, ap, sym, subst, ◌∙◌, arith, inl, inr}
+use Rattle.std.proofs.Common.{◌≡◌, ℕ, ◌<◌, ◌≤◌, false, List, [], ◌∷◌, length, map, set, get_or, Option, Some, None, IfSome, refl, ap, sym, subst, ◌∙◌, arith, inl, inr}
+use Rattle.std.specs.Prelude.{is_some}
 use Rattle.std.proofs.Math.ListN.{get_or-map}
 use Rattle.std.proofs.Math.Seq.{map-set_same}
 use Rattle.std.proofs.lemmas.List.{map-set, set-get_or}
 use Rattle.nvme_entry.specs.declared.command.RunCommand.{RunCommand}
 use Rattle.instruction_set.specs.declared.instruction.Instruction.{Instruction}
-use Rattle.accepted_programs.proofs.Proved.{set_known}
+use Rattle.program_meaning.proofs.Proved.{the_value}
+use Rattle.accepted_programs.proofs.Proved.{set_known, set_some}
 use Rattle.interval_domain.specs.Intervals.{intervals}
 use Rattle.verifier.specs.Verified.{program_of, sizes_of}
 use Rattle.image_store.specs.Geometry.{Shape}
@@ -32,7 +34,7 @@ use Rattle.pushdown.specs.Reached.{IsReached}
 use Rattle.runner.specs.steps.Turning.{FitsAt, FitsIn, FitsOn, TurnGoesOn, HasEnded, IsTurned, Keeps, SlotTurned}
 use Rattle.runner.specs.declared.active_run.ActiveRun.{ActiveRun}
 use Rattle.runner.specs.declared.loaded_program.LoadedProgram.{LoadedProgram}
-use Rattle.runner.proofs.MayBeThere.{Where, found, still_some}
+use Rattle.runner.proofs.MayBeThere.{found}
 use Rattle.runner.proofs.Reached.{reached_is_sound}
 use Rattle.runner.proofs.Staying.{Stays, grows_there, keeps_source, others_stay, place_is, placed_at, still_fits}
 
@@ -129,25 +131,25 @@ module _ (ns : ZonedNamespace) (slots : List (Option LoadedProgram)) (runs : Lis
 
     still_for : (i : ℕ) (x : LoadedProgram) → get_or slots' i None ≡ Some x → IsForBlocks new x
     still_for i x there = elim (set_known slots a.command.slot i (Some q) x there) [
-      | inl is ↦ subst (Where (IsForBlocks new)) is.1 (ap (λ v. (sizes_of v).block) same ∙ accepted ∙ same_block)
+      | inl is ↦ subst (λ o. IfSome o (IsForBlocks new)) is.1 (ap (λ v. (sizes_of v).block) same ∙ accepted ∙ same_block)
       | inr was ↦ ready.programs i x was.1 ∙ same_block
     ]
 
     -- a run whose program was in its slot, and is
     is_running : (b : ActiveRun) (x : LoadedProgram) → get_or slots b.command.slot None ≡ Some x → Fits new b → IsRunning new slots' b
     is_running b x was fit =
-        let z = still_some slots a.command.slot b.command.slot q x was in
+        let z = the_value _ (set_some slots a.command.slot b.command.slot q (ap is_some was)) in
         record { program = z.0; loaded = z.1; accepted = still_for b.command.slot z.0 z.1; fits = fit }
 
     abbrev OwnFits : ActiveRun → Type 0
     OwnFits b = (b.command ≡ a.command) × Fits new b
 
-    all_ready : Where OwnFits r → IsReady new slots' (set runs k r)
+    all_ready : IfSome r OwnFits → IsReady new slots' (set runs k r)
     all_ready own = record {
       programs = still_for;
       running = λ j b there. elim (set_known runs k j r b there) [
         | inl is ↦
-            let mine : OwnFits b = subst (Where OwnFits) is.1 own in
+            let mine : OwnFits b = subst (λ o. IfSome o OwnFits) is.1 own in
             is_running b p (ap (λ (command : RunCommand). get_or slots command.slot None) mine.0 ∙ loaded) mine.1
         | inr was ↦
             let is = ready.running j b was.1 in
@@ -156,7 +158,7 @@ module _ (ns : ZonedNamespace) (slots : List (Option LoadedProgram)) (runs : Lis
     }
 
     is_turned : (given : Reply) → given ≡ (turn_reply k place turn.ending).reply
-        → seen new (map loaded_slot slots') (running r) ≡ place_left place later turn.ending → Where OwnFits r
+        → seen new (map loaded_slot slots') (running r) ≡ place_left place later turn.ending → IfSome r OwnFits
         → IsTurned s k new slots' (set runs k r) given
     is_turned given told left own =
         let with_places : List (Option Place) → State = λ places. record { namespace = new; slots = map loaded_slot slots'; places = places } in

@@ -1,6 +1,7 @@
 //! Laws of a device, which judges programs by intervals, in the states that events leave from an image on.
-//! Each function does nothing: what it ensures is the law. They are those laws of `pushdown` that a device's
-//! user asks for, of intervals; the others hold of a device too, by the trait `Domain`.
+//! Each function does nothing: what it ensures is the law. Three are of its own: where a device begins, and that what
+//! is saved loads again. The others are those laws of `pushdown` that a device's user asks for, of intervals; the rest
+//! hold of a device too, by the trait `Domain`.
 
 ghost use Rattle.interval_domain.specs.Intervals.{intervals};
 ghost use Rattle.pushdown.specs.AnyOrder.{TurnsInAnyOrder};

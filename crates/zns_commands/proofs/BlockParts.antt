@@ -4,8 +4,7 @@ use Rattle.std.proofs.lemmas.Nat.{div-mul-add, mod-mul-add}
 use Rattle.std.proofs.Math.Nat.{mod-add-div'}
 use Rattle.image_store.specs.Namespace.{ZonedNamespace, zone_at, block_at, IsNamespace}
 use Rattle.image_store.proofs.Proved.{blocks_lie_in_zones, written_is_within}
-use Rattle.zns_commands.specs.Address.{blocks_from}
-use Rattle.zns_commands.specs.Left.{ConsecutiveBlocksAreAPart}
+use Rattle.zns_commands.specs.Laws.{ConsecutiveBlocksAreAPart, blocks_from}
 
 -- the block of a zone that lies so many blocks from its lowest one
 block_there : (ns : ZonedNamespace) (z o : ℕ) → o < ns.size → block_at ns (z * ns.size + o) ≡ get_or (zone_at ns z).blocks o []

@@ -206,14 +206,16 @@ read_refusal_fails : (state : ZoneState) → Fails (read_refusal state)
 read_refusal_fails Offline = err_fails ZONE_IS_OFFLINE (omega arith)
 read_refusal_fails state = none_fails
 
+pub no_success : (status : Status) → 1 ≤ status.code → status ≡ SUCCESS → ⊥
+no_success status some is =
+    let none : status.code ≡ 0 = ap (λ (s : Status). s.code) is in
+    omega (arith, some, none)
+
 -- a command that succeeds is one of which no check fails
 none_failed : (refusal : Option Status) (ns : ZonedNamespace) (effect : Effect)
     → Fails refusal → (concluded refusal ns effect).status ≡ SUCCESS → refusal ≡ None
 none_failed None ns effect fails done = refl
-none_failed (Some status) ns effect fails done =
-    let some = fails status refl in
-    let zero_code : status.code ≡ 0 = ap (λ (s : Status). s.code) done in
-    absurd (omega arith)
+none_failed (Some status) ns effect fails done = absurd (no_success status (fails status refl) done)
 
 pub append_passed : (ns : ZonedNamespace) (holds : Holds) (lba blocks : ℕ) (input : List ℕ)
     → (meaning ns holds (Append lba blocks) input).status ≡ SUCCESS → first_failed (append_checks ns holds lba blocks input) ≡ None

@@ -12,6 +12,7 @@ pub use Rattle.zns_commands.proofs.OpenZones.{blocks_are_the_effect, open_is_the
 pub use Rattle.zns_commands.proofs.ReadBack.{BlocksLieAt, appended_stays, lying_is_read, written_stays}
 use Rattle.zns_commands.proofs.Refusals as refusals
 use Rattle.zns_commands.proofs.SoundEvents as sound_events
+pub use Rattle.zns_commands.proofs.WrittenZones.{count_of}
 
 pub events_keep_namespaces : EventsKeepNamespaces
 events_keep_namespaces = sound_events.events_keep_namespaces
@@ -31,8 +32,8 @@ held_destinations_are_left = held_zones.held_destinations_are_left
 pub held_sources_keep_blocks : HeldSourcesKeepBlocks
 held_sources_keep_blocks = held_sources.held_sources_keep_blocks
 
-pub events_keep_shapes : ShapesAreKept
-events_keep_shapes = event_shape
+pub shapes_are_kept : ShapesAreKept
+shapes_are_kept = event_shape
 
 pub held_commands_are_refused : HeldCommandsAreRefused
 held_commands_are_refused = held.held_commands_are_refused

@@ -26,7 +26,7 @@ use Rattle.zns_commands.specs.SelectAll.{EachHasRoom, NoneIsHeld, SelectAllIsEac
 use Rattle.zns_commands.specs.Send.{all_effect, all_fit, gives_way_to, held_among, led_to, room_of, swept, taken_among, takes}
 use Rattle.nvme_entry.specs.declared.command.StandardCommand.TheVariants.{Send}
 use Rattle.zns_commands.proofs.HeldZones.{held_from, held_is_left}
-use Rattle.zns_commands.proofs.PassedChecks.{lowest_of}
+use Rattle.zns_commands.proofs.PassedChecks.{lowest_of, no_success}
 use Rattle.zns_commands.proofs.SweptZones.{opened_count}
 use Rattle.zns_commands.proofs.Untouched.{other_zones_are_left}
 
@@ -114,11 +114,6 @@ done_alone ns holds a z to sound inside is leads free fit =
 abbrev decided : ZonedNamespace → Action → Bool → Bool → Effect
 decided ns a held fit =
     concluded (first_failed (demand (not held) ZONE_HELD ∷ demand fit TOO_MANY_OPEN_ZONES ∷ [])) ns (success_effect (all_effect ns a) 0 [])
-
-no_success : (status : Status) → 1 ≤ status.code → status ≡ SUCCESS → ⊥
-no_success status some is =
-    let none : status.code ≡ 0 = ap (λ (s : Status). s.code) is in
-    omega (arith, some, none)
 
 succeeded : (ns : ZonedNamespace) (a : Action) (held fit : Bool) → (decided ns a held fit).status ≡ SUCCESS → (held ≡ false) × (fit ≡ true)
 succeeded ns a false true is = (refl, refl)

@@ -2,29 +2,19 @@
 use Rattle.zone_state.specs.declared.action.Action.{Action}
 use Rattle.image_store.specs.Namespace.{ZoneBlocks, ZonedNamespace, no_zone, zone_at, with_zone}
 use Rattle.zns_commands.specs.Send.{swept}
-use Rattle.std.proofs.Common.{◌≡◌, ℕ, ◌+◌, ◌<◌, zero, suc, List, [], ◌∷◌, ◌++◌, length, get_or, set, take, drop, map, refl, ap, ◌∙◌, arith}
+use Rattle.std.proofs.Common.{◌≡◌, ℕ, ◌+◌, ◌<◌, zero, suc, List, [], ◌∷◌, ◌++◌, length, get_or, take, drop, map, refl, ap, arith}
+use Rattle.std.proofs.lemmas.List.{get_or_default}
+use Rattle.std.proofs.lemmas.List.Edits.{map_over_more}
 
 -- the list with f applied to its first elements
 abbrev pub mapped : {X : Type 0} → (X → X) → ℕ → List X → List X
 mapped f n xs = map f (take n xs) ++ drop n xs
 
-pub length-mapped : {X : Type 0} (f : X → X) (n : ℕ) (xs : List X) → length (mapped f n xs) ≡ length xs
+length-mapped : {X : Type 0} (f : X → X) (n : ℕ) (xs : List X) → length (mapped f n xs) ≡ length xs
 length-mapped f zero [] = refl
 length-mapped f (suc n) [] = refl
 length-mapped f zero (x ∷ xs) = refl
 length-mapped f (suc n) (x ∷ xs) = ap suc (length-mapped f n xs)
-
--- the next element is as it was
-pub get_or-mapped : {X : Type 0} (f : X → X) (n : ℕ) (xs : List X) (d : X) → n < length xs → get_or (mapped f n xs) n d ≡ get_or xs n d
-get_or-mapped f n [] d h = absurd (omega arith)
-get_or-mapped f zero (x ∷ xs) d h = refl
-get_or-mapped f (suc n) (x ∷ xs) d h = get_or-mapped f n xs d (omega arith)
-
--- with f applied to it, one more is done
-pub set-mapped : {X : Type 0} (f : X → X) (n : ℕ) (xs : List X) (d : X) → n < length xs → set (mapped f n xs) n (f (get_or xs n d)) ≡ mapped f (suc n) xs
-set-mapped f n [] d h = absurd (omega arith)
-set-mapped f zero (x ∷ xs) d h = refl
-set-mapped f (suc n) (x ∷ xs) d h = ap (λ (ys : List _). f x ∷ ys) (set-mapped f n xs d (omega arith))
 
 -- with f applied to all, the list is mapped
 pub mapped-all : {X : Type 0} (f : X → X) (n : ℕ) (xs : List X) → length xs ≡ n → mapped f n xs ≡ map f xs
@@ -42,8 +32,8 @@ pub sweep_step : (ns : ZonedNamespace) (action : Action) (z : ℕ) → z < lengt
     → with_zone (swept_below ns action z) z (swept action (zone_at (swept_below ns action z) z)) ≡ swept_below ns action (z + 1)
 sweep_step ns action z inside =
     let f = swept action in
-    let read = get_or-mapped f z ns.zones no_zone inside in
-    let done = set-mapped f z ns.zones no_zone inside in
-    let next : suc z ≡ z + 1 = omega arith in
-    ap (λ (zones : List ZoneBlocks). let m : ZonedNamespace = record ns { zones = zones } in m)
-    (ap (λ (zone : ZoneBlocks). set (mapped f z ns.zones) z (f zone)) read ∙ (done ∙ ap (λ (n : ℕ). mapped f n ns.zones) next))
+    let zones = mapped f z ns.zones in
+    let zone = get_or zones z no_zone in
+    let there : z < length zones = omega (arith, inside, length-mapped f z ns.zones) in
+    ap (λ (done : List ZoneBlocks). let m : ZonedNamespace = record ns { zones = done } in m)
+    (map_over_more f ns.zones zones z zone inside refl (get_or_default zones z no_zone zone there))

@@ -1,12 +1,12 @@
 -- Logical blocks and zones.
-use Rattle.std.specs.Prelude.{ℕ, zero, suc, ◌≡◌, ◌<◌, ◌+◌, ◌*◌, ◌^◌, ◌==◌, nat_lt, nat_le, List, [], ◌∷◌, length, Option}
+use Rattle.std.specs.Prelude.{ℕ, ◌≡◌, ◌<◌, ◌+◌, ◌*◌, ◌^◌, ◌==◌, nat_lt, nat_le, List, [], ◌∷◌, length, Option}
 use Rattle.zone_state.specs.Zone.{CountedZone}
 use Rattle.zone_state.specs.declared.status.Status.{Status}
 use Rattle.zone_state.specs.declared.status.TheConstants.Status.{INVALID_FIELD_IN_COMMAND, LBA_OUT_OF_RANGE, ZONE_BOUNDARY_ERROR}
 use Rattle.zone_state.specs.Checks.{demand}
 use Rattle.image_store.specs.Geometry.{zone_block_at}
 use Rattle.image_store.specs.declared.geometry.ZoneBlock.{ZoneBlock}
-use Rattle.image_store.specs.Namespace.{ZonedNamespace, zone_at, counted, block_at}
+use Rattle.image_store.specs.Namespace.{ZonedNamespace, zone_at, counted}
 
 -- the number of logical blocks
 abbrev pub block_total : ZonedNamespace → ℕ
@@ -31,11 +31,6 @@ write_pointer ns z = z * ns.size + length (zone_at ns z).blocks
 -- a zone with its blocks only counted
 abbrev pub counted_zone_at : ZonedNamespace → ℕ → CountedZone
 counted_zone_at ns z = counted ns.capacity (zone_at ns z)
-
--- so many blocks, one logical block after another from this one on
-abbrev pub blocks_from : ZonedNamespace → ℕ → ℕ → List (List ℕ)
-blocks_from ns lba zero = []
-blocks_from ns lba (suc count) = block_at ns lba ∷ blocks_from ns (lba + 1) count
 
 -- a logical block is in the namespace
 abbrev pub address_check : ZonedNamespace → ℕ → Option Status

@@ -16,7 +16,7 @@ use Rattle.nvme_entry.specs.Report.{descriptor_at, matching}
 use Rattle.program_interface.specs.Bytes.{AreBytes}
 use Rattle.image_store.specs.Blocks.{block_count}
 use Rattle.image_store.specs.Geometry.{Shape, IsShape}
-use Rattle.image_store.specs.Namespace.{ZonedNamespace, zone_at, appended, IsNamespace, all_empty, counted_zones}
+use Rattle.image_store.specs.Namespace.{ZonedNamespace, zone_at, appended, block_at, IsNamespace, all_empty, counted_zones}
 use Rattle.zone_state.specs.FirstCheck.{FailsFirst, NoneFails}
 use Rattle.zone_state.specs.State.{is_cleared}
 use Rattle.zns_commands.specs.Address.{block_total, zone_number, zone_offset}
@@ -121,6 +121,19 @@ EachBlockIsRead =
     → IsNamespace ns → (meaning ns holds (Read lba blocks) input).status ≡ SUCCESS → i < blocks
     → take ns.block (drop (i * ns.block) (meaning ns holds (Read lba blocks) input).output)
     ≡ block_or_zeros ns (zone_number ns lba) (zone_offset ns lba + i)
+
+-- so many blocks, one logical block after another from this one on
+abbrev pub blocks_from : ZonedNamespace → ℕ → ℕ → List (List ℕ)
+blocks_from ns lba zero = []
+blocks_from ns lba (suc count) = block_at ns lba ∷ blocks_from ns (lba + 1) count
+
+-- written blocks that follow one another in a zone are a part of its list
+abbrev pub ConsecutiveBlocksAreAPart : Type 0
+ConsecutiveBlocksAreAPart =
+    (ns : ZonedNamespace) (lba count : ℕ) → IsNamespace ns
+    → let blocks = (zone_at ns (zone_number ns lba)).blocks in
+    zone_offset ns lba + count ≤ length blocks
+    → blocks_from ns lba count ≡ take count (drop (zone_offset ns lba) blocks)
 
 -- what an Append that succeeds put in is read from the address that its completion tells, whatever
 -- commands and faults come in between, until the zone is reset or goes offline

@@ -1,10 +1,10 @@
 -- What commands and faults leave as it was.
-use Rattle.std.specs.Prelude.{ℕ, ◌≡◌, ◌≤◌, ◌+◌, ◌++◌, ◌==◌, ◌||◌, Bool, true, false, List, length, take, drop, Option}
+use Rattle.std.specs.Prelude.{ℕ, ◌≡◌, ◌++◌, ◌==◌, ◌||◌, Bool, true, false, List, Option}
 use Rattle.zone_resources.specs.Holds.{names, is_source, is_destination}
 use Rattle.zone_resources.specs.declared.holds.Holds.{Holds}
 use Rattle.nvme_entry.specs.declared.command.StandardCommand.TheVariants.{Write, Read, Send, Receive, Append}
-use Rattle.image_store.specs.Namespace.{ZonedNamespace, zone_at, shape, IsNamespace}
-use Rattle.zns_commands.specs.Address.{zone_number, zone_offset, blocks_from}
+use Rattle.image_store.specs.Namespace.{ZonedNamespace, zone_at, shape}
+use Rattle.zns_commands.specs.Address.{zone_number}
 use Rattle.zns_commands.specs.Laws.{NamespaceEvent, Commanded, Faulted, after}
 use Rattle.zns_commands.specs.Send.{gives_way_to, takes}
 use Rattle.zns_commands.specs.Resources.{gives_way}
@@ -55,11 +55,3 @@ HeldSourcesKeepBlocks =
 -- no event changes how many zones there are, their size and capacity, the bytes of a block, or the limits
 abbrev pub ShapesAreKept : Type 0
 ShapesAreKept = (event : NamespaceEvent) (ns : ZonedNamespace) → shape (after event ns) ≡ shape ns
-
--- written blocks that follow one another in a zone are a part of its list
-abbrev pub ConsecutiveBlocksAreAPart : Type 0
-ConsecutiveBlocksAreAPart =
-    (ns : ZonedNamespace) (lba count : ℕ) → IsNamespace ns
-    → let blocks = (zone_at ns (zone_number ns lba)).blocks in
-    zone_offset ns lba + count ≤ length blocks
-    → blocks_from ns lba count ≡ take count (drop (zone_offset ns lba) blocks)

@@ -2,9 +2,9 @@
 //! it ensures is the law.
 
 ghost use Rattle.zns_commands.specs.Held.{HeldCommandsAreRefused};
-ghost use Rattle.zns_commands.specs.Left.{ConsecutiveBlocksAreAPart, HeldDestinationsAreLeft, HeldSourcesKeepBlocks, OtherZonesAreLeft, ShapesAreKept};
+ghost use Rattle.zns_commands.specs.Left.{HeldDestinationsAreLeft, HeldSourcesKeepBlocks, OtherZonesAreLeft, ShapesAreKept};
 ghost use Rattle.zns_commands.specs.SelectAll.{SelectAllIsEachAlone, SelectAllIsRefusedByHoldsAndLimits, TakenZonesMove};
-ghost use Rattle.zns_commands.specs.Laws.{AddedBlocksAreAppended, AddedBlocksKeepNamespacesSound, AppendedBlocksReadBack, EachBlockIsRead, EmptyIsNamespace, EventsKeepNamespaces, JustOneCase, RefusedCommandsChangeNothing, ReportsEveryZone, ReportsWhatMatches, WrittenBlocksReadBack};
+ghost use Rattle.zns_commands.specs.Laws.{AddedBlocksAreAppended, AddedBlocksKeepNamespacesSound, AppendedBlocksReadBack, ConsecutiveBlocksAreAPart, EachBlockIsRead, EmptyIsNamespace, EventsKeepNamespaces, JustOneCase, RefusedCommandsChangeNothing, ReportsEveryZone, ReportsWhatMatches, WrittenBlocksReadBack};
 
 /// A namespace stays one, whatever commands that entries can spell, and whatever faults, come: its open and
 /// active zones are within the limits, each zone's state fits its written blocks, and each block is whole. One of
@@ -40,6 +40,11 @@ pub fn refused_commands_change_nothing()
 /// Each block that a Read gives is the zone's block of that offset where it is written, and zeros where it isn't.
 pub fn each_block_is_read()
     ensures { EachBlockIsRead }
+{}
+
+/// Written blocks that follow one another in a zone are a part of the list of its blocks.
+pub fn consecutive_blocks_are_a_part()
+    ensures { ConsecutiveBlocksAreAPart }
 {}
 
 /// The data of an Append that succeeds is what a Read of the assigned address gives, whatever commands
@@ -81,11 +86,6 @@ pub fn held_sources_keep_blocks()
 /// No command or fault changes the shape of the namespace.
 pub fn shapes_are_kept()
     ensures { ShapesAreKept }
-{}
-
-/// Written blocks that follow one another in a zone are a part of the list of its blocks.
-pub fn consecutive_blocks_are_a_part()
-    ensures { ConsecutiveBlocksAreAPart }
 {}
 
 /// A Write, an Append or an action is refused on a zone that an active run appends to, and Reset and Offline on one

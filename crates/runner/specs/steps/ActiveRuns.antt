@@ -1,5 +1,5 @@
 -- A run before its first turn, and what active runs hold.
-use Rattle.std.specs.Prelude.{ℕ, List, map, Option, Some, None}
+use Rattle.std.specs.Prelude.{ℕ, List, map, option_map, Option}
 use Rattle.nvme_entry.specs.declared.command.RunCommand.{RunCommand}
 use Rattle.emit_append.specs.Packer.{new_packer}
 use Rattle.image_store.specs.declared.geometry.ZoneBlock.{ZoneBlock}
@@ -24,13 +24,11 @@ new_active queue cid command source destination block = record {
 
 -- the zone that a place's run reads from
 abbrev pub source_held : Option ActiveRun → Option ℕ
-source_held None = None
-source_held (Some a) = Some a.source.zone
+source_held = option_map (λ a. a.source.zone)
 
 -- the zone that a place's run appends to
 abbrev pub destination_held : Option ActiveRun → Option ℕ
-destination_held None = None
-destination_held (Some a) = Some a.destination
+destination_held = option_map (λ a. a.destination)
 
 -- the zones that the active runs hold
 abbrev pub held_by : List (Option ActiveRun) → Holds

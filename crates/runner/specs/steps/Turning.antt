@@ -1,5 +1,5 @@
 -- What a turn does to a run as a device keeps it.
-use Rattle.std.specs.Prelude.{ℕ, ◌≡◌, ◌+◌, ◌≤◌, true, List, [], ◌∷◌, length, get_or, set, Option, Some, None}
+use Rattle.std.specs.Prelude.{ℕ, ◌≡◌, ◌+◌, ◌≤◌, true, List, [], ◌∷◌, length, get_or, set, Option, Some, None, IfSome, IsSomeAnd}
 use Rattle.zone_state.specs.State.{is_open}
 use Rattle.instruction_set.specs.declared.instruction.Instruction.{Instruction}
 use Rattle.program_meaning.specs.BlockRun.{BlockRun}
@@ -82,8 +82,7 @@ pub record Keeps (a b : ActiveRun) : Type 0 where
 
 -- a run that fits, with the program of its slot
 abbrev pub FitsIn : ZonedNamespace → Option LoadedProgram → ActiveRun → Type 0
-FitsIn ns None a = ⊥
-FitsIn ns (Some p) a = IsForBlocks ns p × FitsOn ns (program_of p.prepared) (sizes_of p.prepared).limit a
+FitsIn ns slot a = IsSomeAnd slot (λ p. IsForBlocks ns p × FitsOn ns (program_of p.prepared) (sizes_of p.prepared).limit a)
 
 -- a turn of a run, by the program of a slot, which has the scratch bytes as its result once the run has ended
 abbrev pub SlotTurned : ZonedNamespace → ZonedNamespace → Option LoadedProgram → Option LoadedProgram → ActiveRun → ActiveRun → Option Answer → Type 0
@@ -95,8 +94,7 @@ SlotTurned old new _ _ a b answer = ⊥
 
 -- a place at which no run is, or one that fits
 abbrev pub FitsAt : ZonedNamespace → List (Option LoadedProgram) → Option ActiveRun → Type 0
-FitsAt ns slots None = Unit {0}
-FitsAt ns slots (Some a) = FitsIn ns (get_or slots a.command.slot None) a
+FitsAt ns slots place = IfSome place (λ a. FitsIn ns (get_or slots a.command.slot None) a)
 
 -- what a turn in a state comes to
 pub record IsTurned (s : State) (run : ℕ) (ns : ZonedNamespace) (slots : List (Option LoadedProgram)) (runs : List (Option ActiveRun)) (given : Reply) : Type 0 where
