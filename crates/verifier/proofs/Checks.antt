@@ -1,5 +1,5 @@
 -- What an instruction does that no reason refuses.
-use Rattle.std.proofs.Common.{ℕ, ℤ, ◌+◌, ◌≡◌, ◌<◌, ◌≤◌, ◌^◌, ◌<ℤ◌, ◌≤ℤ◌, Bool, true, false, List, length, Option, Some, None, pos, negsuc, refl, arith, IsSome, IfSome, not, nat_lt, ◌&&◌, if◌then◌else◌}
+use Rattle.std.proofs.Common.{ℕ, ℤ, ◌+◌, ◌≡◌, ◌<◌, ◌≤◌, ◌^◌, ◌<ℤ◌, ◌≤ℤ◌, Bool, true, false, List, length, Option, Some, None, pos, negsuc, arith, IfSome, not, nat_lt, ◌&&◌, if◌then◌else◌}
 use Rattle.std.proofs.Math.Facts.{yes_leb, yes_ltb}
 use Rattle.std.proofs.lemmas.Bool.{not-false}
 use Rattle.std.proofs.lemmas.Bool.Decides.{nat_tests}
@@ -12,7 +12,7 @@ use Rattle.program_interface.specs.RunSizes.{Sizes}
 use Rattle.word_domain.specs.Domain.{Operations}
 use Rattle.accepted_programs.specs.Accepted.{begins_at, fails, greatest_length, leads_nowhere, reason_of, turns_away}
 use Rattle.verifier.specs.steps.Instructions.{HasRoom, StaysInside}
-use Rattle.accepted_programs.specs.Facts.{facts_behind, slot_behind}
+use Rattle.accepted_programs.specs.Facts.{slot_behind}
 use Rattle.accepted_programs.proofs.Proved.{no_reason_holds}
 use Rattle.accepted_programs.specs.declared.facts.Facts.{Facts}
 use Rattle.accepted_programs.specs.declared.reason.Reason.{Reason}
@@ -46,23 +46,6 @@ within_limit true limit most is e fits = grind (arith, nat_tests, e, fits)
 within_limit false limit most is e fits = cc
 
 module _ {D : Type 0} (operations : Operations D) where
-  -- what turns away gives nothing to the slot behind it
-  pub stays : (block : ℕ) (i : Instruction) (facts : Facts D) → IsSome (facts_behind operations block i facts) → turns_away i ≡ false
-  stays block (LoadImmediate dst value) facts h = refl
-  stays block (Load size dst src offset) facts h = refl
-  stays block (LoadSigned size dst src offset) facts h = refl
-  stays block (StoreImmediate size dst offset value) facts h = refl
-  stays block (StoreRegister size dst src offset) facts h = refl
-  stays block (Arithmetic width operation dst source) facts h = refl
-  stays block (Negate width dst) facts h = refl
-  stays block (MoveSigned extension dst src) facts h = refl
-  stays block (SwapBytes swap size dst) facts h = refl
-  stays block (Jump distance) facts h = cc
-  stays block (JumpLong distance) facts h = cc
-  stays block (Branch width relation dst source distance) facts h = refl
-  stays block (Call helper) facts h = refl
-  stays block Exit facts h = cc
-
   module _ (program : List (Option Instruction)) (sizes : Sizes) (slot : ℕ) (facts : Facts D) (i : Instruction)
       (none : reason_of operations program sizes slot facts i ≡ None) where
     free : (reason : Reason) → fails operations program sizes slot facts i reason ≡ false
