@@ -15,7 +15,8 @@ use Rattle.zns_commands.specs.Meaning.{meaning}
 use Rattle.zns_commands.specs.Transfer.{transfer_checks}
 use Rattle.zns_commands.proofs.Proved.{refused_commands_change_nothing}
 use Rattle.pushdown.specs.Admission.{Loaded, admission_checks}
-use Rattle.pushdown.specs.EventReplies.{Happening, Submission, completed, plain, submission_of}
+use Rattle.pushdown.specs.EventReplies.{Happening, Submission, completed, submission_of}
+use Rattle.device_events.specs.Replies.{without_data}
 use Rattle.pushdown.specs.Happenings.{result_by, start_by, submitted, why_not_run}
 use Rattle.pushdown.specs.Laws.{IsAnswered, IsLoaded, OnlyLoadsChangeSlots, RefusedLeavesState}
 use Rattle.pushdown.specs.State.{State, free_place, holds_at, program_at, with_namespace}
@@ -24,7 +25,7 @@ use Rattle.pushdown.proofs.Loads.{loading_is}
 
 module _ {D : Type 0} (operations : Operations D) (starved : Bool) (sub : Submission) (s : State) where
   abbrev IsReplied : Happening → Type 0
-  IsReplied h = ((run : ℕ) × (h.reply ≡ plain (reply.Pending run))) ⊎ IsAnswered s sub h
+  IsReplied h = ((run : ℕ) × (h.reply ≡ without_data (reply.Pending run))) ⊎ IsAnswered s sub h
 
   unchanged : (status : Status) (dw0 dw1 : ℕ) (output : List ℕ) → IsReplied (completed sub status dw0 dw1 output s)
   unchanged status dw0 dw1 output =

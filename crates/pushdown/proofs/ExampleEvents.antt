@@ -8,8 +8,8 @@ use Rattle.instruction_set.specs.declared.instruction.Instruction.{Instruction}
 use Rattle.program_meaning.specs.BlockRun.{block_run_of}
 use Rattle.word_domain.specs.Domain.{Operations}
 use Rattle.image_store.specs.Namespace.{ZoneBlocks, ZonedNamespace, zone_at}
-use Rattle.pushdown.specs.EventReplies.{Happening, plain, submission_of}
-use Rattle.device_events.specs.Replies.{ReplyWithData}
+use Rattle.pushdown.specs.EventReplies.{Happening, submission_of}
+use Rattle.device_events.specs.Replies.{ReplyWithData, without_data}
 use Rattle.pushdown.specs.Draining.{replies_to_turns, state_after_turns}
 use Rattle.pushdown.specs.Happenings.{faulting, submitted}
 use Rattle.pushdown.specs.Pushdown.{blocks_at}
@@ -20,13 +20,13 @@ use Rattle.pushdown.proofs.Examples.{block_of, entry_of, four_zones, frame, pass
 -- a completion to queue 1 with these first dwords, this identifier, and these last two bytes
 abbrev pub completes_with : ℕ → ℕ → ℕ → ℕ → ℕ → ReplyWithData
 completes_with dw0 dw1 cid low high =
-    plain (Complete 1 (dw0 ∷ 0 ∷ 0 ∷ 0 ∷ dw1 ∷ 0 ∷ 0 ∷ 0 ∷ 0 ∷ 0 ∷ 1 ∷ 0 ∷ cid ∷ 0 ∷ low ∷ high ∷ []) 0)
+    without_data (Complete 1 (dw0 ∷ 0 ∷ 0 ∷ 0 ∷ dw1 ∷ 0 ∷ 0 ∷ 0 ∷ 0 ∷ 0 ∷ 1 ∷ 0 ∷ cid ∷ 0 ∷ low ∷ high ∷ []) 0)
 
 abbrev pub completes : ℕ → ℕ → ℕ → ReplyWithData
 completes cid low high = completes_with 0 0 cid low high
 
 abbrev pub pending : ℕ → ReplyWithData
-pending run = plain (Pending run)
+pending run = without_data (Pending run)
 
 -- a zone in a state, with these blocks
 abbrev pub zone_of : ZoneState → List (List ℕ) → ZoneBlocks
@@ -65,7 +65,7 @@ module _ {D : Type 0} (operations : Operations D) where
     pub run_is_admitted : admitted.reply ≡ pending 0
     run_is_admitted = refl
 
-    pub turns_end_the_run : replies_to_turns (0 ∷ 0 ∷ 0 ∷ 0 ∷ []) admitted.state ≡ pending 0 ∷ pending 0 ∷ completes 7 0 0 ∷ plain Idle ∷ []
+    pub turns_end_the_run : replies_to_turns (0 ∷ 0 ∷ 0 ∷ 0 ∷ []) admitted.state ≡ pending 0 ∷ pending 0 ∷ completes 7 0 0 ∷ without_data Idle ∷ []
     unfolding block_run_of
     turns_end_the_run = refl
 
@@ -126,7 +126,7 @@ module _ {D : Type 0} (operations : Operations D) where
   unfolding block_run_of
   destination_is_kept = refl
 
-  pub source_cannot_fail : (faulting holding 0 ReadOnly).reply ≡ plain FaultRefused
+  pub source_cannot_fail : (faulting holding 0 ReadOnly).reply ≡ without_data FaultRefused
   unfolding block_run_of
   source_cannot_fail = refl
 

@@ -4,8 +4,8 @@ use Rattle.zone_state.specs.declared.state.ZoneState.TheVariants as zone
 use Rattle.nvme_entry.specs.Entry.{decoded}
 use Rattle.program_meaning.specs.BlockRun.{block_run_of}
 use Rattle.word_domain.specs.Domain.{Operations}
-use Rattle.pushdown.specs.EventReplies.{Happening, plain, submission_of}
-use Rattle.device_events.specs.Replies.{ReplyWithData}
+use Rattle.pushdown.specs.EventReplies.{Happening, submission_of}
+use Rattle.device_events.specs.Replies.{ReplyWithData, without_data}
 use Rattle.pushdown.specs.Draining.{state_after_turns}
 use Rattle.pushdown.specs.Happenings.{submitted, turned}
 use Rattle.pushdown.specs.State.{State, new_state}
@@ -103,5 +103,5 @@ module _ {D : Type 0} (operations : Operations D) where
   pub destination_is_closed : (asks operations (run_entry 5 0 1 24) [] zones).reply ≡ completes 5 0x8a 0x0f
   destination_is_closed = refl
 
-  pub no_such_run : (turned zones 255).reply ≡ plain Idle
+  pub no_such_run : (turned zones 255).reply ≡ without_data Idle
   no_such_run = refl

@@ -9,8 +9,8 @@ use Rattle.nvme_entry.specs.declared.command.RunCommand.{RunCommand}
 use Rattle.word_domain.specs.Domain.{Operations}
 use Rattle.zns_commands.specs.Transfer.{transfer_checks}
 use Rattle.pushdown.specs.Admission.{Loaded}
-use Rattle.pushdown.specs.EventReplies.{Happening, Submission, plain, submission_of}
-use Rattle.device_events.specs.Replies.{ReplyWithData}
+use Rattle.pushdown.specs.EventReplies.{Happening, Submission, submission_of}
+use Rattle.device_events.specs.Replies.{ReplyWithData, without_data}
 use Rattle.pushdown.specs.Laws.{PendingIsAdmitted}
 use Rattle.pushdown.specs.Happenings.{result_by, start_by, submitted, why_not_run}
 use Rattle.pushdown.specs.Pushdown.{IsAdmitted}
@@ -26,12 +26,12 @@ run_in reply.Idle = 0
 run_in reply.FaultTaken = 0
 run_in reply.FaultRefused = 0
 
-other_reply : (t : ReplyWithData) (run : ℕ) → is_pending t.reply ≡ false → t ≡ plain (reply.Pending run) → ⊥
+other_reply : (t : ReplyWithData) (run : ℕ) → is_pending t.reply ≡ false → t ≡ without_data (reply.Pending run) → ⊥
 other_reply t run other is =
     let pends_so : is_pending t.reply ≡ true = ap (λ (x : ReplyWithData). is_pending x.reply) is in cc
 
 abbrev IsPending : ℕ → Happening → Type 0
-IsPending run h = h.reply ≡ plain (reply.Pending run)
+IsPending run h = h.reply ≡ without_data (reply.Pending run)
 
 given_pends : (slot : Option Loaded) (why : Option Status) (sub : Submission) (s : State) (run : ℕ) → IsPending run (result_by slot why sub s) → ⊥
 given_pends slot (Some status) sub s run is = other_reply _ run refl is

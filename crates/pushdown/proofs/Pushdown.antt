@@ -17,7 +17,8 @@ use Rattle.accepted_programs.specs.Laws.{AcceptedNeverTraps}
 use Rattle.image_store.specs.Namespace.{ZonedNamespace, shape, zone_at}
 use Rattle.image_store.proofs.Proved.{blocks_lie_in_zones, written_is_within, zone_room_is_bounded}
 use Rattle.pushdown.specs.Admission.{admission_checks, source_blocks, task_of}
-use Rattle.pushdown.specs.EventReplies.{Happening, Submission, plain, submission_of}
+use Rattle.pushdown.specs.EventReplies.{Happening, Submission, submission_of}
+use Rattle.device_events.specs.Replies.{without_data}
 use Rattle.pushdown.specs.BlockRuns.{block_runs_of, no_scratch}
 use Rattle.pushdown.specs.Events.{Occurrence, state_after}
 use Rattle.pushdown.specs.Laws.{AdmittedStarts, StartsRun}
@@ -50,7 +51,7 @@ module _ {D : Type 0} (operations : Operations D) (s : State) (queue : ℕ) (ent
   begun starved = happens operations s starved (event.Submit queue entry input)
 
   started : (starved : Bool) → IsAdmitted s sub command run
-      → begun starved ≡ record { reply = plain (reply.Pending run); state = with_place s run (Some place) }
+      → begun starved ≡ record { reply = without_data (reply.Pending run); state = with_place s run (Some place) }
   started starved admitted =
       ap (submitted operations starved sub s) admitted.asked
       ∙ ap (λ (why : Option Status). start_by why (free_place s) sub s command) admitted.passed

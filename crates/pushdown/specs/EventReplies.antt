@@ -4,7 +4,7 @@ use Rattle.zone_state.specs.declared.status.Status.{Status}
 use Rattle.nvme_entry.specs.Completion.{completion_bytes}
 use Rattle.nvme_entry.specs.Entry.{identifier_of}
 use Rattle.pushdown.specs.State.{State}
-use Rattle.device_events.specs.Replies.{ReplyWithData}
+use Rattle.device_events.specs.Replies.{ReplyWithData, without_data}
 use Rattle.device_events.specs.declared.reply.Reply.{Reply}
 use Rattle.device_events.specs.declared.reply.Reply.TheVariants as reply
 
@@ -12,10 +12,6 @@ use Rattle.device_events.specs.declared.reply.Reply.TheVariants as reply
 pub record Happening : Type 0 where
   pub reply : ReplyWithData
   pub state : State
-
--- a reply without data
-abbrev pub plain : Reply → ReplyWithData
-plain r = record { reply = r; bytes = [] }
 
 -- the reply that is a completion, with so many bytes of data
 abbrev pub completion_reply : ℕ → ℕ → Status → ℕ → ℕ → ℕ → Reply
@@ -48,4 +44,4 @@ refused sub status s = completed sub status 0 0 [] s
 
 -- no run has the number
 abbrev pub idle : State → Happening
-idle s = record { reply = plain reply.Idle; state = s }
+idle s = record { reply = without_data reply.Idle; state = s }

@@ -23,8 +23,8 @@ use Rattle.zns_commands.specs.Effect.{Effect}
 use Rattle.zns_commands.specs.Fault.{zone_fault_refusal, faulted}
 use Rattle.zns_commands.specs.Meaning.{meaning}
 use Rattle.zns_commands.specs.Transfer.{transfer_checks}
-use Rattle.pushdown.specs.Admission.{Loaded, run_refusal, granted_sizes, source_blocks, task_of, source_zone, destination_zone}
-use Rattle.device_events.specs.Replies.{ReplyWithData}
+use Rattle.pushdown.specs.Admission.{Loaded, run_refusal, granted_sizes, source_blocks, task_of, source_zone, destination_zone, sizes_with}
+use Rattle.device_events.specs.Replies.{ReplyWithData, without_data}
 use Rattle.pushdown.specs.EventReplies.{Happening, Submission, plain, completion, completed, refused, idle, submission_of}
 use Rattle.pushdown.specs.BlockRuns.{no_scratch}
 use Rattle.pushdown.specs.Outcome.{Turn, Ending, outcome}
@@ -112,7 +112,7 @@ abbrev pub start_by : Option Status → Option ℕ → Submission → State → 
 start_by (Some status) free sub s command = refused sub status s
 start_by None None sub s command = idle s
 start_by None (Some run) sub s command =
-    record { reply = plain (reply.Pending run); state = with_place s run (Some (admitted_place sub s command)) }
+    record { reply = without_data (reply.Pending run); state = with_place s run (Some (admitted_place sub s command)) }
 
 -- what a Run comes to
 abbrev pub starting : Submission → State → RunCommand → Happening
@@ -142,7 +142,7 @@ slots_left s place (Some ending) = set s.slots place.slot (keeping (program_at s
 
 -- the reply to a turn: the run's completion, where it ends the run
 abbrev pub turn_reply : ℕ → Place → Option Ending → ReplyWithData
-turn_reply run place None = plain (reply.Pending run)
+turn_reply run place None = without_data (reply.Pending run)
 turn_reply run place (Some ending) = completion place.queue place.cid ending.status ending.dw0 ending.dw1 []
 
 -- the state after a turn of an active run
@@ -178,7 +178,7 @@ fault_reply (Err refused) = reply.FaultRefused
 -- what a zone's fault comes to
 abbrev pub faulting : State → ℕ → FaultState → Happening
 faulting s zone state = record {
-  reply = plain (fault_reply (zone_fault_refusal s.namespace (holds_at s) zone state));
+  reply = without_data (fault_reply (zone_fault_refusal s.namespace (holds_at s) zone state));
   state = with_namespace s (faulted s.namespace (holds_at s) zone state);
 }
 

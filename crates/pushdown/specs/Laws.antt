@@ -25,7 +25,8 @@ use Rattle.image_store.specs.Namespace.{ZoneBlocks, ZonedNamespace, zone_at, sha
 use Rattle.zns_commands.specs.Append.{TakesBlocks, append_checks, append_effect}
 use Rattle.zns_commands.specs.Left.{Grows}
 use Rattle.pushdown.specs.Admission.{Loaded, SameProgram, sizes_in, source_blocks, task_of}
-use Rattle.pushdown.specs.EventReplies.{Happening, Submission, completion, plain, submission_of}
+use Rattle.pushdown.specs.EventReplies.{Happening, Submission, completion, submission_of}
+use Rattle.device_events.specs.Replies.{without_data}
 use Rattle.pushdown.specs.BlockRuns.{Task, block_run, block_runs_of, frames_of, goes_on, groups_of, scratch_after}
 use Rattle.pushdown.specs.Draining.{Drains, turns_left}
 use Rattle.pushdown.specs.Events.{Occurrence}
@@ -112,7 +113,7 @@ abbrev pub RefusedLeavesState : {D : Type 0} → Operations D → Type 0
 RefusedLeavesState operations =
     (s : State) (starved : Bool) (queue : ℕ) (entry : List ℕ) (input : Vec ℕ Global)
     → let h = happens operations s starved (event.Submit queue entry input) in
-    ((run : ℕ) × (h.reply ≡ plain (reply.Pending run))) ⊎ IsAnswered s (submission_of queue entry input.items) h
+    ((run : ℕ) × (h.reply ≡ without_data (reply.Pending run))) ⊎ IsAnswered s (submission_of queue entry input.items) h
 
 module _ {D : Type 0} (operations : Operations D) where
   -- a Load succeeds: its slot gets the program that its data is decoded to, which no reason refuses, with no
@@ -137,7 +138,7 @@ OnlyLoadsChangeSlots operations =
 
 -- the reply to a Run that is admitted is Pending with its number, and it takes that place; all else is as it was
 pub record StartsRun (s : State) (sub : Submission) (command : RunCommand) (run : ℕ) (h : Happening) : Type 0 where
-  pub reply : h.reply ≡ plain (reply.Pending run)
+  pub reply : h.reply ≡ without_data (reply.Pending run)
   pub place : place_at h.state run ≡ Some (admitted_place sub s command)
   pub others : (other : ℕ) → other ≢ run → place_at h.state other ≡ place_at s other
   pub namespace : h.state.namespace ≡ s.namespace
@@ -154,7 +155,7 @@ AdmittedStarts operations =
 abbrev pub PendingIsAdmitted : {D : Type 0} → Operations D → Type 0
 PendingIsAdmitted operations =
     (s : State) (starved : Bool) (queue : ℕ) (entry : List ℕ) (input : Vec ℕ Global) (run : ℕ)
-    → (happens operations s starved (event.Submit queue entry input)).reply ≡ plain (reply.Pending run)
+    → (happens operations s starved (event.Submit queue entry input)).reply ≡ without_data (reply.Pending run)
     → (command : RunCommand) × IsAdmitted s (submission_of queue entry input.items) command run
 
 -- an event that is no turn of a run leaves its turns as they were

@@ -8,8 +8,8 @@ use Rattle.nvme_entry.specs.declared.command.Command.{Command}
 use Rattle.interval_domain.specs.Intervals.{intervals}
 use Rattle.zns_commands.specs.Answer.{refused_answer}
 use Rattle.zns_commands.specs.declared.answer.Answer.{Answer}
-use Rattle.pushdown.specs.EventReplies.{Happening, Submission, completed, plain, refused}
-use Rattle.device_events.specs.Replies.{data_length}
+use Rattle.pushdown.specs.EventReplies.{Happening, Submission, completed, refused}
+use Rattle.device_events.specs.Replies.{data_length, without_data}
 use Rattle.pushdown.specs.Happenings.{submitted}
 use Rattle.pushdown.specs.State.{State}
 use Rattle.device_events.specs.declared.reply.Reply.{Reply}
@@ -38,10 +38,10 @@ module _ (sub : Submission) (asked : Result Command Status) (old new : State) (s
 
   pub replied_refusal : (status : Status) → submitted intervals starved sub old asked ≡ refused sub status old
       → r ≡ complete_reply sub.queue (identifier_of sub.entry) answer → answer ≡ refused_answer status → new ≡ old
-      → HasSubmitted sub asked old new (plain r)
+      → HasSubmitted sub asked old new (without_data r)
   replied_refusal status is as_reply refusing same =
-      let replying : Reply → Happening = λ x. record { reply = plain x; state = old } in
-      let leaving : State → Happening = λ s. record { reply = plain r; state = s } in
+      let replying : Reply → Happening = λ x. record { reply = without_data x; state = old } in
+      let leaving : State → Happening = λ s. record { reply = without_data r; state = s } in
       record {
         starved = starved;
         happening = is ∙ ap replying (sym (as_reply ∙ ap (complete_reply sub.queue (identifier_of sub.entry)) refusing)) ∙ ap leaving (sym same);

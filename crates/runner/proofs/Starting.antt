@@ -9,7 +9,8 @@ use Rattle.accepted_programs.proofs.Proved.{set_known}
 use Rattle.image_store.specs.Namespace.{ZonedNamespace}
 use Rattle.image_store.specs.declared.geometry.ZoneBlock.{ZoneBlock}
 use Rattle.pushdown.specs.Admission.{run_refusal}
-use Rattle.pushdown.specs.EventReplies.{plain, submission_of}
+use Rattle.pushdown.specs.EventReplies.{submission_of}
+use Rattle.device_events.specs.Replies.{without_data}
 use Rattle.pushdown.specs.Happenings.{start_by}
 use Rattle.pushdown.specs.Outcome.{at_admission}
 use Rattle.pushdown.specs.State.{Place, State, free_place, with_place}
@@ -49,9 +50,9 @@ module _ (ns : ZonedNamespace) (slots : List (Option LoadedProgram)) (runs : Lis
       ap (λ (n : ℕ). record { queue = queue; cid = n; command = command; so_far = at_admission }) (sym named) in
       ap (λ (why : Option Status). start_by why (free_place s) sub s command) (why_is ns slots runs sub command ready ∙ sym passes)
       ∙ ap (λ (number : Option ℕ). start_by None number sub s command) (free_is ns slots runs ∙ free)
-      ∙ ap (λ (place : Place). record { reply = plain (reply.Pending admitted.run); state = with_place s admitted.run (Some place) })
+      ∙ ap (λ (place : Place). record { reply = without_data (reply.Pending admitted.run); state = with_place s admitted.run (Some place) })
       (sym (seen_at_admission sub s command) ∙ ap (place_of ns (map loaded_slot slots)) (sym begins))
-      ∙ ap (λ (t : State). record { reply = plain (reply.Pending admitted.run); state = t }) (sym (placed admitted.run a))
+      ∙ ap (λ (t : State). record { reply = without_data (reply.Pending admitted.run); state = t }) (sym (placed admitted.run a))
 
   pub refuses : (command : RunCommand) (input : List ℕ) (status : Status) → IsReady ns slots runs
       → Some status ≡ run_refusal ns (held_by runs) (is_some (position is_none runs)) (loaded_slot (get_or slots command.slot None)) command input

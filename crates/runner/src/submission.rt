@@ -4,8 +4,7 @@ ghost use Rattle.std.specs.Prelude.{◌≡◌, ◌≤◌, drop, length, take, Li
 ghost use Rattle.program_interface.specs.Bytes.{AreBytes};
 ghost use Rattle.nvme_entry.specs.Entry.{decoded, identifier_of};
 ghost use Rattle.nvme_entry.specs.declared.command.Command.TheVariants as commands;
-ghost use Rattle.device_events.specs.Replies.{data_length};
-ghost use Rattle.pushdown.specs.EventReplies.{plain};
+ghost use Rattle.device_events.specs.Replies.{data_length, without_data};
 ghost use Rattle.runner.specs.steps.Answered.{HasExecuted, HasSubmitted, as_submission, complete_reply};
 ghost use Rattle.runner.specs.DeviceState.{device_state};
 ghost use Rattle.runner.specs.Ready.{IsReady};
@@ -131,7 +130,7 @@ fn run(
     submission: &Submission<'_>,
 ) -> Reply
     requires ready { IsReady namespace.now slots.now runs.old }
-    ensures submitted { HasSubmitted (as_submission submission.now) (Ok (commands.Run command.now)) (device_state namespace.now slots.now runs.old) (device_state namespace.now slots.now runs.new) (plain result) }
+    ensures submitted { HasSubmitted (as_submission submission.now) (Ok (commands.Run command.now)) (device_state namespace.now slots.now runs.old) (device_state namespace.now slots.now runs.new) (without_data result) }
     ensures no_data { data_length result ≡ 0 }
     ensures ready { IsReady namespace.now slots.now runs.new }
 {

@@ -10,8 +10,8 @@ use Rattle.interval_domain.specs.Intervals.{intervals}
 use Rattle.image_store.specs.Namespace.{ZonedNamespace}
 use Rattle.zns_commands.specs.Meaning.{meaning}
 use Rattle.zns_commands.specs.declared.answer.Answer.{Answer}
-use Rattle.pushdown.specs.EventReplies.{Happening, Submission, completed, completion_reply, plain, refused, submission_of}
-use Rattle.device_events.specs.Replies.{ReplyWithData}
+use Rattle.pushdown.specs.EventReplies.{Happening, Submission, completed, completion_reply, refused, submission_of}
+use Rattle.device_events.specs.Replies.{ReplyWithData, without_data}
 use Rattle.pushdown.specs.Happenings.{commanded, giving_result, loading, starting, submitted}
 use Rattle.pushdown.specs.State.{State, holds_at}
 use Rattle.device_events.specs.declared.reply.Reply.{Reply}
@@ -64,7 +64,7 @@ abbrev pub Starts : RunCommand → ℕ → ℕ → List ℕ → State → State 
 Starts command queue cid input old new run =
     (entry : List ℕ) → identifier_of entry ≡ cid
     → let sub = submission_of queue entry input in
-    starting sub old command ≡ record { reply = plain (reply.Pending run); state = new }
+    starting sub old command ≡ record { reply = without_data (reply.Pending run); state = new }
 
 -- no run is started, for this reason
 abbrev pub Refuses : RunCommand → List ℕ → State → Status → Type 0
