@@ -1,7 +1,7 @@
 -- The turns of runs come to the same in any order.
 use Rattle.std.proofs.Common.{◌≡◌, ◌≢◌, ℕ, zero, suc, Bool, true, false, cond, List, [], ◌∷◌, ◌++◌, map, get_or, Option, Some, None, refl, ap, sym, ◌∙◌, inl, inr, append_assoc}
 use Rattle.std.specs.Prelude.{◌==◌}
-use Rattle.std.specs.List.{filter, zip}
+use Rattle.std.specs.List.{filter, fold, zip}
 use Rattle.std.proofs.lemmas.Bool.{eqb-true}
 use Rattle.std.proofs.lemmas.Bool.Decides.{eqb_tells}
 use Rattle.std.proofs.lemmas.List.{append-nil}
@@ -17,7 +17,7 @@ use Rattle.pushdown.specs.Outcome.{Ending, Turn}
 use Rattle.pushdown.specs.State.{Place, State, place_at, program_at}
 use Rattle.pushdown.proofs.Commuting.{Empty, OwnAll, kept, reply_after, state_of_both, stays_own, turns_keep}
 use Rattle.pushdown.proofs.Places.{AreApart}
-use Rattle.pushdown.proofs.SameTurns.{after, in_any_order}
+use Rattle.pushdown.proofs.SameTurns.{in_any_order}
 use Rattle.pushdown.proofs.States.{reached_fine}
 
 -- ---- slots of which all are emptied but one
@@ -103,18 +103,18 @@ replies_both false true before x y differs = ap (λ (xs : List ReplyWithData). x
 replies_both false false before x y differs = refl
 
 module _ (watched : ℕ) where
-  abbrev step : ℕ → Seen → Seen
-  step run x = seen_with (turned x.state run).state (x.replies ++ told_if (run == watched) (turned x.state run).reply)
+  abbrev step : Seen → ℕ → Seen
+  step x run = seen_with (turned x.state run).state (x.replies ++ told_if (run == watched) (turned x.state run).reply)
 
   abbrev Own : Seen → Type 0
   Own x = OwnAll x.state
 
-  in_either_order : (x : Seen) (a b : ℕ) → Own x → a ≢ b → step b (step a x) ≡ step a (step b x)
+  in_either_order : (x : Seen) (a b : ℕ) → Own x → a ≢ b → step (step x a) b ≡ step (step x b) a
   in_either_order x a b own differs =
       let s = x.state in
       let first = told_if (a == watched) (turned s a).reply in
       let second = told_if (b == watched) (turned s b).reply in
-      same_seen (step b (step a x)).state (step a (step b x)).state (step b (step a x)).replies (step a (step b x)).replies
+      same_seen (step (step x a) b).state (step (step x b) a).state (step (step x a) b).replies (step (step x b) a).replies
       (state_of_both s a b own differs)
       (ap (λ (y : ReplyWithData). (x.replies ++ first) ++ told_if (b == watched) y) (reply_after s a b (λ same. differs (sym same)))
       ∙ replies_both (a == watched) (b == watched) x.replies (turned s a).reply (turned s b).reply
@@ -123,14 +123,14 @@ module _ (watched : ℕ) where
 
   module _ (view : List (Option Loaded) → List (Option Loaded)) (is : IsView view) where
     turns_seen : (runs : List ℕ) (s : State) (replies : List ReplyWithData)
-        → after step runs (seen_with (with_view view s) replies)
+        → fold step (seen_with (with_view view s) replies) runs
         ≡ seen_with (with_view view (state_after_turns runs s)) (replies ++ own_replies watched runs (replies_to_turns runs s))
     turns_seen [] s replies = ap (seen_with (with_view view s)) (sym (append-nil replies))
     turns_seen (run ∷ runs) s replies =
         let t = (turned s run).state in
         let mine = told_if (run == watched) (turned s run).reply in
         let rest = own_replies watched runs (replies_to_turns runs t) in
-        ap (λ (h : Happening). after step runs (seen_with h.state (replies ++ told_if (run == watched) h.reply)))
+        ap (λ (h : Happening). fold step (seen_with h.state (replies ++ told_if (run == watched) h.reply)) runs)
         (sym (turned_seen view is s run (place_at s run)))
         ∙ turns_seen runs t (replies ++ mine)
         ∙ ap (seen_with (with_view view (state_after_turns runs t))) (append_assoc replies mine rest ∙ ap (λ (xs : List ReplyWithData). replies ++ xs)

@@ -4,6 +4,7 @@ use Rattle.std.proofs.lemmas.Bool.{cond_both}
 use Rattle.std.proofs.lemmas.List.{length-replicate}
 use Rattle.std.proofs.Math.Nat.{suc-mul}
 use Rattle.std.specs.List.{AllByRecursion, flat_map}
+use Rattle.std.proofs.lemmas.List.Sums.{sum_by-cons}
 use Rattle.byteorder.specs.Endian.{little_bytes}
 use Rattle.instruction_set.specs.Program.{instruction_count}
 use Rattle.program_interface.specs.Frame.{frame, frames}
@@ -139,4 +140,4 @@ few_frames task (run ∷ block_runs) done =
     let first = frames_fit task run done.0 in
     let rest = few_frames task block_runs done.1 in
     let product = suc-mul (length block_runs) task.sizes.limit in
-    omega (arith, first, rest, product)
+    omega (arith, first, rest, product, sum_by-cons (λ (r : BlockRun). r.state.frames) run block_runs)

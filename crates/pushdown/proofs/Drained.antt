@@ -2,8 +2,10 @@
 use Rattle.std.proofs.Common.{◌≡◌, ℕ, zero, suc, ◌+◌, ◌≤◌, true, List, [], ◌∷◌, length, set, get_or, Option, Some, None, refl, ap, subst, arith}
 use Rattle.std.specs.Prelude.{is_some}
 use Rattle.std.proofs.lemmas.List.Quantifiers.{position-Some}
+use Rattle.std.proofs.lemmas.List.Sums.{sum_by-set}
 use Rattle.word_domain.specs.Domain.{Operations}
 use Rattle.accepted_programs.specs.Laws.{AcceptedNeverTraps}
+use Rattle.zone_resources.proofs.Proved.{there}
 use Rattle.pushdown.specs.EventReplies.{Happening}
 use Rattle.pushdown.specs.Draining.{Drains, lowest_run, turns_left, turns_left_at}
 use Rattle.pushdown.specs.Laws.{DrainingEnds, TurnsLeaveFewer}
@@ -19,10 +21,8 @@ less_left place later (Some ending) = omega arith
 
 left_after : (places : List (Option Place)) (run : ℕ) (place : Place) (new : Option Place) → get_or places run None ≡ Some place
     → turns_left_at new + 1 ≤ length place.turns → turns_left (set places run new) + 1 ≤ turns_left places
-left_after [] run place new at less = cc
-left_after (p ∷ ps) zero place new at less = omega (arith, less, ap turns_left_at at)
-left_after (p ∷ ps) (suc run) place new at less =
-    let rest = left_after ps run place new at less in omega (arith, rest)
+left_after places run place new at less =
+    omega (arith, less, ap turns_left_at at, sum_by-set turns_left_at places run new None (there places run place at))
 
 abbrev CanDrain : State → Type 0
 CanDrain s = (runs : List ℕ) × Drains s runs

@@ -1,6 +1,7 @@
 -- What a run appends reads back as the records that its block runs emit.
 use Rattle.std.proofs.Common.{ℕ, ◌<◌, List, [], ◌∷◌, length, refl, ap, subst, ◌∙◌, arith, length-append}
 use Rattle.std.specs.List.{AllByRecursion, concat, flat_map}
+use Rattle.std.proofs.lemmas.List.Sums.{sum_by-cons}
 use Rattle.program_interface.specs.Frame.{frames}
 use Rattle.program_meaning.specs.BlockRun.{BlockRun}
 use Rattle.word_domain.specs.Domain.{Operations}
@@ -33,7 +34,7 @@ emits task (run ∷ block_runs) done =
       records = group.records ∷ rest.records;
       are = record {
         groups = ap (λ (g : List ℕ). g ∷ groups_of block_runs) group.whole ∙ ap (λ (gs : List (List ℕ)). frames group.records ∷ gs) rest.are.groups;
-        counted = omega (arith, joined, group.number, rest.are.counted);
+        counted = omega (arith, joined, group.number, rest.are.counted, sum_by-cons (λ (r : BlockRun). r.state.frames) run block_runs);
       };
       some = (group.some, rest.some);
     }

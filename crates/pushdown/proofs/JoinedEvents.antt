@@ -1,6 +1,7 @@
 -- Lists of events, one behind another, and turns as events.
 use Rattle.std.proofs.Common.{suc, ◌≡◌, ℕ, List, [], ◌∷◌, ◌++◌, map, None, refl, ap, sym, subst, ◌∙◌}
 use Rattle.std.proofs.lemmas.List.{map-append}
+use Rattle.std.proofs.lemmas.List.Sums.{fold-append}
 use Rattle.word_domain.specs.Domain.{Operations}
 use Rattle.program_interface.proofs.Proved.{all_append}
 use Rattle.device_events.specs.Replies.{Joins, ReplyWithData}
@@ -22,11 +23,6 @@ module _ {D : Type 0} (operations : Operations D) where
   one_reply_each [] s = refl
   one_reply_each (o ∷ os) s = ap suc (one_reply_each os (next o s))
 
-  pub state_after-append : (first later : List Occurrence) (s : State)
-      → state_after operations (first ++ later) s ≡ state_after operations later (state_after operations first s)
-  state_after-append [] later s = refl
-  state_after-append (o ∷ os) later s = state_after-append os later (next o s)
-
   pub replies_to-append : (first later : List Occurrence) (s : State)
       → replies_to operations (first ++ later) s
       ≡ replies_to operations first s ++ replies_to operations later (state_after operations first s)
@@ -35,13 +31,13 @@ module _ {D : Type 0} (operations : Operations D) where
       ap (λ (replies : List ReplyWithData). (happens operations s o.starved o.event).reply ∷ replies) (replies_to-append os later (next o s))
 
   pub events_in_parts : EventsInParts operations
-  events_in_parts first later s = record { replies = replies_to-append first later s; state = state_after-append first later s }
+  events_in_parts first later s = record { replies = replies_to-append first later s; state = fold-append _ s first later }
 
   state_in_parts : (first later : List Occurrence) (old between new : State)
       → between ≡ state_after operations first old → new ≡ state_after operations later between
       → new ≡ state_after operations (first ++ later) old
   state_in_parts first later old between new state last =
-      last ∙ ap (state_after operations later) state ∙ sym (state_after-append first later old)
+      last ∙ ap (state_after operations later) state ∙ sym (fold-append _ old first later)
 
   -- ---- turns as events
 

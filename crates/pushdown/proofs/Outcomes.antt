@@ -2,6 +2,7 @@
 use Rattle.std.proofs.Common.{◌≡◌, ℕ, ◌+◌, ◌≤◌, List, [], ◌∷◌, ◌++◌, length, Option, Some, refl, ap, sym, ◌∙◌, arith, append_assoc}
 use Rattle.std.proofs.lemmas.List.{append-nil, drop_at}
 use Rattle.std.specs.List.{AllByRecursion}
+use Rattle.std.proofs.lemmas.List.Sums.{sum_by-cons}
 use Rattle.program_meaning.specs.BlockRun.{BlockRun}
 use Rattle.program_meaning.specs.TrapFree.{IsExit}
 use Rattle.program_meaning.specs.declared.end.End.{End}
@@ -166,7 +167,8 @@ module _ (block : ℕ) where
       ≡ told (emitted.frames + frames_of (run ∷ next ∷ block_runs)) (emitted.appended + length (packed block (emitted.groups ++ groups_of (run ∷ next ∷ block_runs))))
       (last_scratch (run ∷ next ∷ block_runs))
   more_told emitted run next block_runs later =
-      let sum : emitted.frames + run.state.frames + frames_of (next ∷ block_runs) ≡ emitted.frames + frames_of (run ∷ next ∷ block_runs) = omega arith in
+      let sum : emitted.frames + run.state.frames + frames_of (next ∷ block_runs) ≡ emitted.frames + frames_of (run ∷ next ∷ block_runs) =
+      omega (arith, sum_by-cons (λ (r : BlockRun). r.state.frames) run (next ∷ block_runs)) in
       let joined = append_assoc emitted.groups (run.state.group ∷ []) (groups_of (next ∷ block_runs)) in
       later
       ∙ ap (λ n. told n (emitted.appended + length (packed block ((emitted.groups ++ run.state.group ∷ []) ++ groups_of (next ∷ block_runs)))) (last_scratch (next ∷ block_runs))) sum
@@ -176,7 +178,7 @@ module _ (block : ℕ) where
       → ending_of (turns_after block emitted (run ∷ block_runs))
       ≡ told (emitted.frames + frames_of (run ∷ block_runs)) (emitted.appended + length (packed block (emitted.groups ++ groups_of (run ∷ block_runs)))) (last_scratch (run ∷ block_runs))
   all_told emitted run [] exit =
-      let same : emitted.frames + run.state.frames ≡ emitted.frames + (run.state.frames + 0) = omega arith in
+      let same : emitted.frames + run.state.frames ≡ emitted.frames + frames_of (run ∷ []) = omega arith in
       last_told run.end emitted run exit.0
       ∙ ap (λ n. told n (emitted.appended + length (packed block (with_group emitted run).groups)) (scratch_after run)) same
   all_told emitted run (next ∷ []) exit = more_told emitted run next [] (all_told (with_group emitted run) next [] exit.1)

@@ -1,6 +1,7 @@
 -- Steps by numbers, of which each two come to the same in either order, come to the same in any order.
 use Rattle.std.proofs.Common.{◌≡◌, ◌≢◌, ℕ, ◌+◌, ◌≤◌, Bool, cond, List, [], ◌∷◌, refl, ap, sym, ◌∙◌, arith, inl, inr}
 use Rattle.std.specs.Prelude.{◌==◌, count_by}
+use Rattle.std.specs.List.{fold}
 use Rattle.std.proofs.lemmas.Bool.Decides.{eqb_tells}
 use Rattle.std.proofs.lemmas.List.Sums.{sum_by-cons}
 use Rattle.pushdown.specs.AnyOrder.{AreSameTurns}
@@ -48,32 +49,27 @@ front_count x (y ∷ ys) some z = elim (eqb_tells y x) [
       ap (λ (b : Bool). count z (x ∷ cond b ys (y ∷ rest))) other.0 ∙ swapped
 ]
 
-module _ {X : Type 0} (step : ℕ → X → X) where
-  abbrev pub after : List ℕ → X → X
-  after [] x = x
-  after (n ∷ ns) x = after ns (step n x)
+module _ {X : Type 0} (step : X → ℕ → X) (Holds : X → Type 0) (keeps : (x : X) (n : ℕ) → Holds x → Holds (step x n))
+    (commutes : (x : X) (n m : ℕ) → Holds x → n ≢ m → step (step x n) m ≡ step (step x m) n) where
+  -- a number's first step can be done before the others
+  step_first : (n : ℕ) (ms : List ℕ) (x : X) → Holds x → 1 ≤ count n ms → fold step x ms ≡ fold step (step x n) (without n ms)
+  step_first n [] x holds some = absurd (omega (arith, some))
+  step_first n (m ∷ ms) x holds some = elim (eqb_tells m n) [
+    | inl same ↦
+        ap (λ (k : ℕ). fold step (step x k) ms) same.1 ∙ ap (λ (b : Bool). fold step (step x n) (cond b ms (m ∷ without n ms))) (sym same.0)
+    | inr other ↦
+        let less : 1 ≤ count n ms = omega (arith, some, count-cons n m ms, one-other n m other.1) in
+        step_first n ms (step x m) (keeps x m holds) less
+        ∙ ap (λ (y : X). fold step y (without n ms)) (commutes x m n holds other.1)
+        ∙ ap (λ (b : Bool). fold step (step x n) (cond b ms (m ∷ without n ms))) (sym other.0)
+  ]
 
-  module _ (Holds : X → Type 0) (keeps : (x : X) (n : ℕ) → Holds x → Holds (step n x))
-      (commutes : (x : X) (n m : ℕ) → Holds x → n ≢ m → step m (step n x) ≡ step n (step m x)) where
-    -- a number's first step can be done before the others
-    step_first : (n : ℕ) (ms : List ℕ) (x : X) → Holds x → 1 ≤ count n ms → after ms x ≡ after (without n ms) (step n x)
-    step_first n [] x holds some = absurd (omega (arith, some))
-    step_first n (m ∷ ms) x holds some = elim (eqb_tells m n) [
-      | inl same ↦
-          ap (λ (k : ℕ). after ms (step k x)) same.1 ∙ ap (λ (b : Bool). after (cond b ms (m ∷ without n ms)) (step n x)) (sym same.0)
-      | inr other ↦
-          let less : 1 ≤ count n ms = omega (arith, some, count-cons n m ms, one-other n m other.1) in
-          step_first n ms (step m x) (keeps x m holds) less
-          ∙ ap (after (without n ms)) (commutes x m n holds other.1)
-          ∙ ap (λ (b : Bool). after (cond b ms (m ∷ without n ms)) (step n x)) (sym other.0)
-    ]
-
-    pub in_any_order : (first second : List ℕ) (x : X) → Holds x → AreSameTurns first second → after first x ≡ after second x
-    in_any_order [] [] x holds same = refl
-    in_any_order [] (m ∷ ms) x holds same = absurd (omega (arith, same m, count-cons m m ms, one-same m))
-    in_any_order (n ∷ ns) ms x holds same =
-        let some : 1 ≤ count n ms = omega (arith, same n, count-cons n n ns, one-same n) in
-        let rest = without n ms in
-        in_any_order ns rest (step n x) (keeps x n holds)
-        (λ (z : ℕ). omega (arith, same z, front_count n ms some z, count-cons z n ns, count-cons z n rest))
-        ∙ sym (step_first n ms x holds some)
+  pub in_any_order : (first second : List ℕ) (x : X) → Holds x → AreSameTurns first second → fold step x first ≡ fold step x second
+  in_any_order [] [] x holds same = refl
+  in_any_order [] (m ∷ ms) x holds same = absurd (omega (arith, same m, count-cons m m ms, one-same m))
+  in_any_order (n ∷ ns) ms x holds same =
+      let some : 1 ≤ count n ms = omega (arith, same n, count-cons n n ns, one-same n) in
+      let rest = without n ms in
+      in_any_order ns rest (step x n) (keeps x n holds)
+      (λ (z : ℕ). omega (arith, same z, front_count n ms some z, count-cons z n ns, count-cons z n rest))
+      ∙ sym (step_first n ms x holds some)

@@ -2,6 +2,7 @@
 use Rattle.std.proofs.Common.{◌≡◌, ◌≢◌, ℕ, zero, suc, ◌+◌, ◌<◌, Bool, true, false, List, [], ◌∷◌, ◌++◌, length, get_or, take, drop, Option, Some, None, refl, ap, sym, subst, ◌∙◌, arith, append_assoc, get_or-set_other, get_or-set_same}
 use Rattle.std.proofs.lemmas.Bool.{eqb-true}
 use Rattle.std.proofs.lemmas.List.{append-nil, drop_more}
+use Rattle.std.proofs.lemmas.List.Sums.{sum_by-cons}
 use Rattle.zone_state.specs.declared.state.ZoneState.TheVariants.{Offline}
 use Rattle.zone_resources.specs.Holds.{is_destination}
 use Rattle.zone_resources.specs.declared.holds.Holds.{Holds}
@@ -133,7 +134,7 @@ module _ {D : Type 0} (operations : Operations D) where
     stand [] zero s turns ready own less =
         record { left = ready.at; appended = sym (append-nil (blocks_at s place.destination)); apart = ready.apart; on = ready.on }
     stand [] (suc m) s turns ready own less = cc
-    stand (o ∷ os) k s turns ready own less = either_step o os (stand os) (is_turn_of run o.event) k s turns refl ready own less
+    stand (o ∷ os) k s turns ready own less = either_step o os (stand os) (is_turn_of run o.event) k s turns refl ready (sym (sum_by-cons _ o os) ∙ own) less
 
 -- ---- the next turn
 

@@ -1,5 +1,6 @@
 -- The block runs of a run: its program on one source block after another.
 use Rattle.std.specs.Prelude.{ℕ, Bool, false, ◌+◌, ◌==◌, List, [], ◌∷◌, map, replicate, Option, if◌then◌else◌}
+use Rattle.std.specs.List.{sum_by}
 use Rattle.instruction_set.specs.Program.{instruction_count}
 use Rattle.instruction_set.specs.declared.instruction.Instruction.{Instruction}
 use Rattle.program_interface.specs.Context.{context_bytes}
@@ -74,8 +75,7 @@ groups_of block_runs = map (λ run. run.state.group) block_runs
 
 -- the number of their frames
 abbrev pub frames_of : List BlockRun → ℕ
-frames_of [] = 0
-frames_of (run ∷ block_runs) = run.state.frames + frames_of block_runs
+frames_of block_runs = sum_by (λ run. run.state.frames) block_runs
 
 -- the scratch bytes that the last of them leaves
 abbrev pub last_scratch : List BlockRun → List ℕ

@@ -1,5 +1,6 @@
 -- Turns of the lowest active run, until no run is left.
-use Rattle.std.specs.Prelude.{ℕ, ◌≡◌, ◌≤◌, ◌+◌, ◌-◌, List, [], ◌∷◌, length, position, take, is_some, Option, Some, None}
+use Rattle.std.specs.Prelude.{ℕ, ◌≡◌, ◌≤◌, ◌-◌, List, [], ◌∷◌, length, position, take, is_some, Option, Some, None}
+use Rattle.std.specs.List.{fold, sum_by}
 use Rattle.device_events.specs.Replies.{ReplyWithData}
 use Rattle.pushdown.specs.Happenings.{turned}
 use Rattle.pushdown.specs.State.{Place, State}
@@ -15,8 +16,7 @@ replies_to_turns (run ∷ runs) s = (turned s run).reply ∷ replies_to_turns ru
 
 -- the state after turns of these runs
 abbrev pub state_after_turns : List ℕ → State → State
-state_after_turns [] s = s
-state_after_turns (run ∷ runs) s = state_after_turns runs (turned s run).state
+state_after_turns runs s = fold (λ before run. (turned before run).state) s runs
 
 -- each turn is of the lowest active run of then
 abbrev pub AreLowest : List ℕ → State → Type 0
@@ -30,8 +30,7 @@ turns_left_at (Some place) = length place.turns
 
 -- the turns that are left of all runs
 abbrev pub turns_left : List (Option Place) → ℕ
-turns_left [] = 0
-turns_left (place ∷ places) = turns_left_at place + turns_left places
+turns_left places = sum_by turns_left_at places
 
 -- turns of the lowest active run, after which no run is left; no more than were left
 pub record Drains (s : State) (runs : List ℕ) : Type 0 where

@@ -1,6 +1,6 @@
 -- Lists of events: the replies to them and the state behind them, and that a device did them.
 use Rattle.std.specs.Prelude.{ℕ, Bool, ◌≡◌, ◌≤◌, ◌-◌, List, [], ◌∷◌, length, map, take}
-use Rattle.std.specs.List.{AllByRecursion}
+use Rattle.std.specs.List.{AllByRecursion, fold}
 use Rattle.program_interface.specs.Bytes.{AreBytes}
 use Rattle.word_domain.specs.Domain.{Operations}
 use Rattle.device_events.specs.Replies.{ReplyWithData}
@@ -32,8 +32,7 @@ module _ {D : Type 0} (operations : Operations D) where
 
   -- the state after events
   abbrev pub state_after : List Occurrence → State → State
-  state_after [] s = s
-  state_after (o ∷ os) s = state_after os (happens operations s o.starved o.event).state
+  state_after events s = fold (λ before o. (happens operations before o.starved o.event).state) s events
 
 -- ---- what a device does with events
 

@@ -23,9 +23,9 @@ use Rattle.zns_commands.specs.Effect.{Effect}
 use Rattle.zns_commands.specs.Fault.{zone_fault_refusal, faulted}
 use Rattle.zns_commands.specs.Meaning.{meaning}
 use Rattle.zns_commands.specs.Transfer.{transfer_checks}
-use Rattle.pushdown.specs.Admission.{Loaded, run_refusal, granted_sizes, source_blocks, task_of, source_zone, destination_zone, sizes_with}
+use Rattle.pushdown.specs.Admission.{Loaded, run_refusal, granted_sizes, source_blocks, task_of, source_zone, destination_zone}
 use Rattle.device_events.specs.Replies.{ReplyWithData, without_data}
-use Rattle.pushdown.specs.EventReplies.{Happening, Submission, plain, completion, completed, refused, idle, submission_of}
+use Rattle.pushdown.specs.EventReplies.{Happening, Submission, completion, completed, refused, idle, submission_of}
 use Rattle.pushdown.specs.BlockRuns.{no_scratch}
 use Rattle.pushdown.specs.Outcome.{Turn, Ending, outcome}
 use Rattle.pushdown.specs.State.{Place, State, holds_at, program_at, place_at, in_use, free_place, with_namespace, with_slot, with_place}

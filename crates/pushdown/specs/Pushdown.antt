@@ -8,10 +8,9 @@
 --    it leaves: the namespace, the run's place and the slots;
 -- 5. the completion tells how many frames were emitted and how many blocks were appended; both fit into its 32 bits.
 use Rattle.std.specs.Prelude.{ℕ, Bool, false, ◌≡◌, ◌≢◌, ◌≤◌, ◌<◌, ◌+◌, ◌^◌, ◌==◌, List, [], ◌∷◌, ◌++◌, length, take, drop, get_or, Option, Some, None, IsSomeAnd, Ok, Vec}
-use Rattle.std.specs.List.{AllByRecursion}
+use Rattle.std.specs.List.{AllByRecursion, count_by}
 use Rattle.std.specs.declared.alloc.Global.{Global}
 use Rattle.zone_state.specs.declared.status.TheConstants.Status.{SUCCESS}
-use Rattle.zone_resources.specs.Counts.{one_if}
 use Rattle.nvme_entry.specs.Entry.{decoded}
 use Rattle.nvme_entry.specs.declared.command.Command.TheVariants as commands
 use Rattle.nvme_entry.specs.declared.command.RunCommand.{RunCommand}
@@ -41,8 +40,7 @@ is_turn_of run (event.Fault zone state) = false
 
 -- how many of the events are turns of a run; all others are those of others
 abbrev pub own_turns : ℕ → List Occurrence → ℕ
-own_turns run [] = 0
-own_turns run (o ∷ os) = one_if (is_turn_of run o.event) + own_turns run os
+own_turns run events = count_by (λ o. is_turn_of run o.event) events
 
 -- ---- turns
 

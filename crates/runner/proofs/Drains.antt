@@ -3,12 +3,13 @@ use Rattle.std.proofs.Common.{◌≡◌, ℕ, suc, ◌+◌, ◌-◌, ◌*◌, �
 use Rattle.std.specs.Prelude.{is_some}
 use Rattle.std.proofs.lemmas.List.{length-take, take_at, nil_from_length}
 use Rattle.std.proofs.lemmas.List.Quantifiers.{position-Some}
+use Rattle.std.proofs.lemmas.List.Sums.{fold-append, sum_by-cons}
 use Rattle.interval_domain.specs.Intervals.{intervals}
 use Rattle.image_store.specs.Namespace.{ZonedNamespace, zone_at}
 use Rattle.zns_commands.specs.Address.{zone_number}
 use Rattle.pushdown.specs.Admission.{task_of}
 use Rattle.device_events.specs.Replies.{Joins, ReplyWithData}
-use Rattle.pushdown.specs.Draining.{AreLowest, StopsDraining, lowest_run, replies_to_turns, state_after_turns, turns_left}
+use Rattle.pushdown.specs.Draining.{AreLowest, StopsDraining, lowest_run, replies_to_turns, state_after_turns, turns_left, turns_left_at}
 use Rattle.pushdown.specs.Happenings.{turned}
 use Rattle.pushdown.specs.State.{State}
 use Rattle.pushdown.specs.View.{seen, to_come}
@@ -42,13 +43,11 @@ few_left ns slots [] fit = omega arith
 few_left ns slots (None ∷ runs) fit = let rest = few_left ns slots runs (λ k. fit (suc k)) in omega (arith, rest)
 few_left ns slots (Some a ∷ runs) fit =
     let rest = few_left ns slots runs (λ k. fit (suc k)) in
-    let first = few_of ns slots a (fit 0 a refl) in omega (arith, rest, first)
+    let first = few_of ns slots a (fit 0 a refl) in
+    let all = sum_by-cons turns_left_at (seen ns (map loaded_slot slots) (Some (active_of a))) (device_state ns slots runs).places in
+    omega (arith, rest, first, all)
 
 -- ---- turns, one more
-
-turns_state-append : (first later : List ℕ) (s : State) → state_after_turns (first ++ later) s ≡ state_after_turns later (state_after_turns first s)
-turns_state-append [] later s = refl
-turns_state-append (run ∷ runs) later s = turns_state-append runs later (turned s run).state
 
 turns_replies-append : (first later : List ℕ) (s : State)
     → replies_to_turns (first ++ later) s ≡ replies_to_turns first s ++ replies_to_turns later (state_after_turns first s)
@@ -71,7 +70,7 @@ pub record IsDraining (old now : State) (took : List ReplyWithData → Type 0) (
 
 module _ {T : Type 0} (took : T → T → List ReplyWithData → Type 0) (joins : Joins took) (old now new : State) (first then after : T) (done run : ℕ) (reply : ReplyWithData) where
   more_state : (d : IsDraining old now (took first then) done) → new ≡ (turned now run).state → new ≡ state_after_turns (d.runs ++ run ∷ []) old
-  more_state d step = step ∙ ap (λ (s : State). (turned s run).state) d.state ∙ sym (turns_state-append d.runs (run ∷ []) old)
+  more_state d step = step ∙ ap (λ (s : State). (turned s run).state) d.state ∙ sym (fold-append _ old d.runs (run ∷ []))
 
   more_lowest : (d : IsDraining old now (took first then) done) → lowest_run now ≡ Some run → AreLowest (d.runs ++ run ∷ []) old
   more_lowest d low = lowest-append d.runs (run ∷ []) old d.lowest (subst (λ (s : State). lowest_run s ≡ Some run) d.state low, tt)

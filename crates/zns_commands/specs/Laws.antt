@@ -1,6 +1,6 @@
 -- Laws of commands and faults.
 use Rattle.std.specs.Prelude.{ℕ, zero, suc, ◌≡◌, ◌≢◌, ◌<◌, ◌≤◌, ◌+◌, ◌*◌, ◌^◌, min, Bool, true, false, List, [], ◌∷◌, ◌++◌, length, map, get_or, take, drop, replicate, Option, All}
-use Rattle.std.specs.List.{enumerate_from}
+use Rattle.std.specs.List.{enumerate_from, fold}
 use Rattle.zone_state.specs.declared.state.FaultState.{FaultState}
 use Rattle.zone_state.specs.declared.status.Status.{Status}
 use Rattle.zone_state.specs.declared.status.TheConstants.Status.{SUCCESS}
@@ -38,8 +38,7 @@ after (Faulted holds zone fault) ns = faulted ns holds zone fault
 
 -- the namespace after one event after another
 abbrev pub after_events : List NamespaceEvent → ZonedNamespace → ZonedNamespace
-after_events [] ns = ns
-after_events (event ∷ events) ns = after_events events (after event ns)
+after_events events ns = fold (λ before event. after event before) ns events
 
 -- what an entry and the bytes beside it can spell: a command that writes at least one block, and bytes
 abbrev pub IsSpelled : NamespaceEvent → Type 0
