@@ -1,5 +1,6 @@
 -- Whether a run is admitted (profile).
-use Rattle.std.specs.Prelude.{ℕ, Bool, ◌≡◌, ◌+◌, ◌==◌, not, nat_le, List, [], ◌∷◌, ◌++◌, length, take, drop, Option, Some, None, is_some}
+use Rattle.std.specs.Prelude.{ℕ, Bool, ◌≡◌, ◌+◌, ◌==◌, not, nat_le, List, [], ◌∷◌, ◌++◌, length, take, drop, Option, is_some}
+use Rattle.std.specs.Option.{option_map_or}
 use Rattle.zone_state.specs.State.{is_open}
 use Rattle.zone_state.specs.declared.status.Status.{Status}
 use Rattle.zone_state.specs.declared.status.TheConstants.Status.{ZONE_HELD, NO_SUCH_PROGRAM, NO_RUN_FREE, SOURCE_NOT_WRITTEN, DESTINATION_NOT_OPEN, DESTINATION_LACKS_ROOM, SOURCE_IS_DESTINATION}
@@ -26,13 +27,11 @@ pub record Loaded : Type 0 where
 
 -- the program of a slot; one without instructions where the slot has none
 abbrev pub program_in : Option Loaded → List (Option Instruction)
-program_in None = []
-program_in (Some loaded) = loaded.program
+program_in slot = option_map_or (λ loaded. loaded.program) slot []
 
 -- the most bytes that it may emit for a block; 0 where the slot has none
 abbrev pub limit_in : Option Loaded → ℕ
-limit_in None = 0
-limit_in (Some loaded) = loaded.limit
+limit_in slot = option_map_or (λ loaded. loaded.limit) slot 0
 
 -- a slot has the same program as before, though perhaps another result
 pub record SameProgram (before after : Option Loaded) : Type 0 where

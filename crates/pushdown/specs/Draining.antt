@@ -1,6 +1,7 @@
 -- Turns of the lowest active run, until no run is left.
 use Rattle.std.specs.Prelude.{ℕ, ◌≡◌, ◌≤◌, ◌-◌, List, [], ◌∷◌, length, position, take, is_some, Option, Some, None}
 use Rattle.std.specs.List.{fold, sum_by}
+use Rattle.std.specs.Option.{option_map_or}
 use Rattle.device_events.specs.Replies.{ReplyWithData}
 use Rattle.pushdown.specs.Happenings.{turned}
 use Rattle.pushdown.specs.State.{Place, State}
@@ -9,7 +10,7 @@ use Rattle.pushdown.specs.State.{Place, State}
 abbrev pub lowest_run : State → Option ℕ
 lowest_run s = position is_some s.places
 
--- the turns of these runs, one after another: the replies to them, and the state after them
+-- the replies to turns of these runs, one after another
 abbrev pub replies_to_turns : List ℕ → State → List ReplyWithData
 replies_to_turns [] s = []
 replies_to_turns (run ∷ runs) s = (turned s run).reply ∷ replies_to_turns runs (turned s run).state
@@ -25,8 +26,7 @@ AreLowest (run ∷ runs) s = (lowest_run s ≡ Some run) × AreLowest runs (turn
 
 -- how many turns are left of the run at a place
 abbrev pub turns_left_at : Option Place → ℕ
-turns_left_at None = 0
-turns_left_at (Some place) = length place.turns
+turns_left_at place = option_map_or (λ p. length p.turns) place 0
 
 -- the turns that are left of all runs
 abbrev pub turns_left : List (Option Place) → ℕ
