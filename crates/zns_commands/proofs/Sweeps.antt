@@ -2,8 +2,8 @@
 use Rattle.zone_state.specs.declared.action.Action.{Action}
 use Rattle.image_store.specs.Namespace.{ZoneBlocks, ZonedNamespace, no_zone, zone_at, with_zone}
 use Rattle.zns_commands.specs.Send.{swept}
-use Rattle.std.proofs.Common.{◌≡◌, ℕ, ◌+◌, ◌<◌, zero, suc, List, [], ◌∷◌, ◌++◌, length, get_or, take, drop, map, refl, ap, arith}
-use Rattle.std.proofs.lemmas.List.{get_or_default}
+use Rattle.std.proofs.Common.{◌≡◌, ℕ, ◌+◌, ◌<◌, List, ◌++◌, append-nil, length, get_or, take, drop, map, refl, ap, ◌∙◌, arith, length-append, length-take, length-drop}
+use Rattle.std.proofs.lemmas.List.{drop_all, get_or_default, length-map, take_all}
 use Rattle.std.proofs.lemmas.List.Edits.{map_over_more}
 
 -- the list with f applied to its first elements
@@ -11,17 +11,15 @@ abbrev pub mapped : {X : Type 0} → (X → X) → ℕ → List X → List X
 mapped f n xs = map f (take n xs) ++ drop n xs
 
 length-mapped : {X : Type 0} (f : X → X) (n : ℕ) (xs : List X) → length (mapped f n xs) ≡ length xs
-length-mapped f zero [] = refl
-length-mapped f (suc n) [] = refl
-length-mapped f zero (x ∷ xs) = refl
-length-mapped f (suc n) (x ∷ xs) = ap suc (length-mapped f n xs)
+length-mapped f n xs =
+    omega (arith, length-append (map f (take n xs)) (drop n xs), length-map (take n xs) f, length-take n xs, length-drop n xs)
 
 -- with f applied to all, the list is mapped
 pub mapped-all : {X : Type 0} (f : X → X) (n : ℕ) (xs : List X) → length xs ≡ n → mapped f n xs ≡ map f xs
-mapped-all f zero [] h = refl
-mapped-all f (suc n) [] h = absurd (omega arith)
-mapped-all f zero (x ∷ xs) h = absurd (omega arith)
-mapped-all f (suc n) (x ∷ xs) h = ap (λ (ys : List _). f x ∷ ys) (mapped-all f n xs (omega arith))
+mapped-all f n xs h =
+    ap (λ (ys : List _). map f ys ++ drop n xs) (take_all n xs (omega (arith, h)))
+    ∙ ap (λ (ys : List _). map f xs ++ ys) (drop_all n xs (omega (arith, h)))
+    ∙ append-nil (map f xs)
 
 -- the namespace once Select All has gone over its first zones
 abbrev pub swept_below : ZonedNamespace → Action → ℕ → ZonedNamespace
