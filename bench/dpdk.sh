@@ -1,5 +1,5 @@
-# Sourced with `program` set to a C program of this folder: builds it with DPDK as `$work/dpdk`, in a folder
-# that is removed at the end.
+# Sourced with `here` set to this folder and `program` to a C program in it: builds that with DPDK as `$work/dpdk`, in a
+# folder that is removed at the end.
 . "$here/least.sh"
 work=$(mktemp -d)
 trap 'rm -rf "$work"' EXIT

@@ -1,8 +1,8 @@
 #!/bin/sh
 # Runs each test of the crates with these names, or of some that test what asks for memory, again and again, and has
 # one request for memory refused each time, a later one with each run. Prints for each crate how many runs ended with an
-# error (status 101), by an assertion (134), since a call answered want of memory, or as they should (0), since the
-# test takes that for an answer. Ends with status 1 where a run was stopped by a fault or did not end.
+# error (status 101), by an assertion (134), since a call gave want of memory, or as they should (0), since the
+# test takes that for a result. Ends with status 1 where a run was stopped by a fault or did not end.
 set -eu
 cd "$(dirname "$0")/.."
 work=$(mktemp -d)

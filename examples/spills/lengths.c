@@ -5,8 +5,8 @@
    Block:    512 bytes
    Emit:     84, three records of at most 8 and three of at most 16 bytes
    Argument: none
-   Kept:     lengths, with their bounds, over the emits. They have 64 bits: those of 32 would be stored by their 4 bytes,
-             which keep no range */
+   Kept:     lengths, with their bounds, and the addresses of the context and of scratch, over the emits. The lengths have
+             64 bits: those of 32 would be stored by their 4 bytes, which keep no range */
 #include "pifnjarl.h"
 
 long lengths(const struct context *context, const u8 *block, u8 *scratch)

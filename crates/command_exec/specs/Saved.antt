@@ -23,8 +23,8 @@ HasPrinted before after replies = Appends before after (flat_map reply_line repl
 abbrev pub Untold : List ReplyWithData → Type 0
 Untold replies = Unit {0}
 
--- the first of some events and of the turns behind them were done, one or more, and the reply to the last of these
--- was refused
+-- the first of some events were done, one or more; or all of them, and then the first of the turns behind them, one or
+-- more
 pub data HasBegun (events : List Event) (old new : State) : Type 0 where
   InEvents : (done : ℕ) (stopped : HasStopped intervals events old new Untold done) → HasBegun events old new
   InTurns : (between : State) (done : ℕ) (served : HasServed intervals events old between Untold)

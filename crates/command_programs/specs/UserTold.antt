@@ -1,4 +1,4 @@
--- What the user is told of a text that isn't assembled (profile).
+-- Why `asm` makes no program (profile).
 use Rattle.std.specs.Prelude.{◌≡◌, ℕ, List, Option, Err, IfSome}
 use Rattle.ebpf_asm.specs.Assembly.{assembled}
 use Rattle.command_failure.specs.declared.failure.Failure.{Failure}

@@ -6,7 +6,8 @@ use Rattle.std.specs.Option.{option_and_then, option_map}
 use Rattle.std.specs.Result.{result_ok}
 use Rattle.std.specs.Str.{bytes_eq}
 use Rattle.std.proofs.lemmas.Fmt.{decimal_nonempty}
-use Rattle.hex.specs.Hex.{IsBytes, decode_of, decode_pairs, encode_lower}
+use Rattle.program_interface.specs.Bytes.{AreBytes}
+use Rattle.hex.specs.Hex.{decode_of, decode_pairs, encode_lower}
 use Rattle.hex.proofs.HexLemmas.{decode_of-encode_lower}
 use Rattle.device_events.specs.Replies.{ReplyWithData, without_data}
 use Rattle.device_events.specs.declared.reply.Reply.{Reply}
@@ -46,7 +47,7 @@ complete_again : (number digits behind entry bytes : List ℕ) (queue size : ℕ
     → completed (decimal_of number) (result_ok (decode_of digits)) (result_ok (decode_of behind)) ≡ Some (record { reply = Complete queue entry size; bytes = bytes })
 complete_again number digits behind entry bytes queue size is_queue is_entry is_data is_size = rw (is_queue, is_entry, is_data, is_size) refl
 
-reply_again : (number digits entry bytes : List ℕ) (queue size : ℕ) → decimal_of number ≡ Some queue → decode_of digits ≡ Ok entry → IsBytes bytes → size ≡ length bytes
+reply_again : (number digits entry bytes : List ℕ) (queue size : ℕ) → decimal_of number ≡ Some queue → decode_of digits ≡ Ok entry → AreBytes bytes → size ≡ length bytes
     → told_by (codes "cpl" ∷ number ∷ digits ∷ data_words bytes) ≡ Some (record { reply = Complete queue entry size; bytes = bytes })
 unfolding decode_pairs
 reply_again number digits entry [] queue size is_queue is_entry small is_size = complete_again number digits [] entry [] queue size is_queue is_entry refl is_size

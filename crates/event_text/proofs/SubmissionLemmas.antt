@@ -7,7 +7,8 @@ use Rattle.std.specs.Result.{result_ok}
 use Rattle.std.proofs.Math.Dec.{eqb-suc-zero}
 use Rattle.std.proofs.lemmas.Fmt.{decimal_nonempty}
 use Rattle.std.proofs.lemmas.List.Elements.{All-append, All-cons, All-nil}
-use Rattle.hex.specs.Hex.{IsBytes, decode_of, decode_pairs, decode_sized, encode_lower, encode_with, hex_digit_value, lower_digits}
+use Rattle.program_interface.specs.Bytes.{AreBytes}
+use Rattle.hex.specs.Hex.{decode_of, decode_pairs, decode_sized, encode_lower, encode_with, hex_digit_value, lower_digits}
 use Rattle.hex.proofs.HexLemmas.{IsDigits-lower_digits, decode_of-encode_lower, decode_sized-encode_lower, length-encode_with}
 use Rattle.text_lines.specs.Number.{decimal_of}
 use Rattle.event_text.specs.CommandFile.{Submitted, below, line_told, submission, words_told}
@@ -24,7 +25,7 @@ digit_in_word byte value h =
     let high : byte < 128 = grind (arith) in
     (low, high, other)
 
-pub hex_in_word : (bytes : List ℕ) → IsBytes bytes → All InWord (encode_lower bytes)
+pub hex_in_word : (bytes : List ℕ) → AreBytes bytes → All InWord (encode_lower bytes)
 unfolding encode_with
 hex_in_word [] small = All-nil InWord
 hex_in_word (b ∷ rest) small =
@@ -47,7 +48,7 @@ not_empty bytes some = let size = length-encode_with lower_digits bytes in omega
 data_text-cons : (b : ℕ) (rest : List ℕ) → data_text (b ∷ rest) ≡ 32 ∷ encode_lower (b ∷ rest)
 data_text-cons b rest = ap (λ (empty : Bool). cond empty [] (32 ∷ encode_lower (b ∷ rest))) (eqb-suc-zero (length rest))
 
-words_of-data : (word input : List ℕ) → 0 < length word → All InWord word → IsBytes input → words_of (word ++ data_text input) ≡ word ∷ data_words input
+words_of-data : (word input : List ℕ) → 0 < length word → All InWord word → AreBytes input → words_of (word ++ data_text input) ≡ word ∷ data_words input
 words_of-data word [] some h small = ap words_of (append-nil word) ∙ word_last word some (unblank word h)
 words_of-data word (b ∷ rest) some h small =
     let input = b ∷ rest in
@@ -66,7 +67,7 @@ number_spaced number digits behind = append_assoc (number ++ codes " ") digits b
 submission_text-spaced : (queue : ℕ) (entry input : List ℕ) → submission_text queue entry input ≡ spaced (codes "submit") (decimal queue) (encode_lower entry) (data_text input)
 submission_text-spaced queue entry input = ap (λ (ys : List ℕ). codes "submit " ++ ys) (number_spaced (decimal queue) (encode_lower entry) (data_text input))
 
-pub words_of-spaced : (name number digits input : List ℕ) → 0 < length name → All InWord name → 0 < length number → All InWord number → 0 < length digits → All InWord digits → IsBytes input
+pub words_of-spaced : (name number digits input : List ℕ) → 0 < length name → All InWord name → 0 < length number → All InWord number → 0 < length digits → All InWord digits → AreBytes input
     → words_of (spaced name number digits (data_text input)) ≡ name ∷ number ∷ digits ∷ data_words input
 words_of-spaced name number digits input named is_name some is_number any is_digits small =
     word_first name (number ++ 32 ∷ (digits ++ data_text input)) named (unblank name is_name)
@@ -75,7 +76,7 @@ words_of-spaced name number digits input named is_name some is_number any is_dig
 
 -- ---- the bytes of the line
 
-data_in_line : (input : List ℕ) → IsBytes input → All InLine (data_text input)
+data_in_line : (input : List ℕ) → AreBytes input → All InLine (data_text input)
 data_in_line [] small = All-nil InLine
 data_in_line (b ∷ rest) small =
     subst (λ (text : List ℕ). All InLine text) (sym (data_text-cons b rest)) (space_before (encode_lower (b ∷ rest)) (as_line (encode_lower (b ∷ rest)) (hex_in_word (b ∷ rest) small)))
@@ -92,14 +93,14 @@ event_again : (number digits behind entry input : List ℕ) (queue : ℕ) → op
     → option_map Some (submission (option_and_then (below (2 ^ 16)) (decimal_of number)) (result_ok (decode_sized digits 64)) (result_ok (decode_of behind))) ≡ Some (Some (Submitted queue entry input))
 event_again number digits behind entry input queue is_queue is_entry is_input = rw (is_queue, is_entry, is_input) refl
 
-words_again : (number digits entry input : List ℕ) (queue : ℕ) → option_and_then (below (2 ^ 16)) (decimal_of number) ≡ Some queue → decode_sized digits 64 ≡ Ok entry → IsBytes input
+words_again : (number digits entry input : List ℕ) (queue : ℕ) → option_and_then (below (2 ^ 16)) (decimal_of number) ≡ Some queue → decode_sized digits 64 ≡ Ok entry → AreBytes input
     → words_told (codes "submit" ∷ number ∷ digits ∷ data_words input) ≡ Some (Some (Submitted queue entry input))
 unfolding decode_pairs
 words_again number digits entry [] queue is_queue is_entry small = event_again number digits [] entry [] queue is_queue is_entry refl
 words_again number digits entry (b ∷ rest) queue is_queue is_entry small =
     event_again number digits (encode_lower (b ∷ rest)) entry (b ∷ rest) queue is_queue is_entry (decode_of-encode_lower (b ∷ rest) small)
 
-pub submission_spelled : (queue : ℕ) (entry input : List ℕ) → queue < 2 ^ 16 → length entry ≡ 64 → IsBytes entry → IsBytes input → IsSpelled (submission_text queue entry input) (Submitted queue entry input)
+pub submission_spelled : (queue : ℕ) (entry input : List ℕ) → queue < 2 ^ 16 → length entry ≡ 64 → AreBytes entry → AreBytes input → IsSpelled (submission_text queue entry input) (Submitted queue entry input)
 submission_spelled queue entry input small size entry_bytes input_bytes =
     let number = decimal_nonempty queue (omega arith) in
     let is_name = spelled_in_word (codes "submit") refl in
@@ -115,7 +116,7 @@ submission_spelled queue entry input small size entry_bytes input_bytes =
     let whole : IsSpelled line (Submitted queue entry input) = record { plain = in_a_line; told = told } in
     subst (λ (text : List ℕ). IsSpelled text (Submitted queue entry input)) (sym (submission_text-spaced queue entry input)) whole
 
-pub submission_tells : (queue : ℕ) (entry input : List ℕ) → queue < 2 ^ 16 → length entry ≡ 64 → IsBytes entry → IsBytes input → Tells (submission_text queue entry input) (Submitted queue entry input)
+pub submission_tells : (queue : ℕ) (entry input : List ℕ) → queue < 2 ^ 16 → length entry ≡ 64 → AreBytes entry → AreBytes input → Tells (submission_text queue entry input) (Submitted queue entry input)
 submission_tells queue entry input small size entry_bytes input_bytes =
     let line = submission_spelled queue entry input small size entry_bytes input_bytes in
     record { single = in_one_line (submission_text queue entry input) line.plain; told = line.told }

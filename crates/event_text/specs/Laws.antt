@@ -4,7 +4,7 @@ use Rattle.std.specs.List.{AllPass}
 use Rattle.std.specs.Char.{is_ascii}
 use Rattle.std.specs.Fmt.{decimal}
 use Rattle.std.specs.Str.Lines.{lines}
-use Rattle.hex.specs.Hex.{IsBytes}
+use Rattle.program_interface.specs.Bytes.{AreBytes}
 use Rattle.zone_state.specs.Words.{fault_word}
 use Rattle.zone_state.specs.declared.state.FaultState.{FaultState}
 use Rattle.text_lines.specs.Laws.{AreBlanks}
@@ -74,7 +74,7 @@ ReadsBack line event = (end : LineEnd) → events_in (line ++ end_text end) ≡ 
 -- the line of a submission is read back as it
 abbrev pub SubmissionsReadBack : Type 0
 SubmissionsReadBack =
-    (queue : ℕ) (entry input : List ℕ) → queue < 2 ^ 16 → length entry ≡ 64 → IsBytes entry → IsBytes input
+    (queue : ℕ) (entry input : List ℕ) → queue < 2 ^ 16 → length entry ≡ 64 → AreBytes entry → AreBytes input
     → ReadsBack (submission_text queue entry input) (Submitted queue entry input)
 
 -- the line of a turn is read back as it
@@ -87,7 +87,7 @@ FaultsReadBack = (zone : ℕ) (state : FaultState) → zone < 2 ^ 32 → ReadsBa
 
 -- the numbers of a reply are of their types: 16 bits, 16 bytes (NVMe Base 2.0, 3.3.3.2), 8 bits
 abbrev pub AreOfTypes : Reply → Type 0
-AreOfTypes (reply.Complete queue entry size) = (queue < 2 ^ 16) × (length entry ≡ 16) × IsBytes entry
+AreOfTypes (reply.Complete queue entry size) = (queue < 2 ^ 16) × (length entry ≡ 16) × AreBytes entry
 AreOfTypes (reply.Pending run) = run < 2 ^ 8
 AreOfTypes reply.Idle = Unit {0}
 AreOfTypes reply.FaultTaken = Unit {0}
@@ -96,7 +96,7 @@ AreOfTypes reply.FaultRefused = Unit {0}
 -- a reply with bytes of data, as many as it tells
 pub record IsReply (given : ReplyWithData) : Type 0 where
   pub numbers : AreOfTypes given.reply
-  pub are_bytes : IsBytes given.bytes
+  pub are_bytes : AreBytes given.bytes
   pub told : data_length given.reply ≡ length given.bytes
 
 -- replies that are printed alike are the same, with the same data

@@ -31,7 +31,7 @@ use Rattle.image_store.proofs.ImageFields.{counted_seen}
 use Rattle.image_store.proofs.LoadStages.{HaveFit, after_header, after_rows, after_total, after_limits, after_blocks, zones_fit}
 use Rattle.image_store.proofs.BlocksOfBytes.{bytes-blocks}
 use Rattle.image_store.proofs.Shapes.{resized}
-use Rattle.image_store.proofs.SpelledParts.{zeros_spelled, header_spelled, total_or_none}
+use Rattle.image_store.proofs.SpelledParts.{zeros_spelled, header_spelled}
 use Rattle.image_store.proofs.ToldRows.{row_right}
 
 -- a header that is read stands in front
@@ -43,7 +43,7 @@ pub record IsHeaded (bytes : List ℕ) (told : Header) (rest : List ℕ) : Type 
   pub has : HasText version told.geometry
   pub same : told.total ≡ total_in version total
 
-total_is : (version : Version) (xs : List ℕ) → total_told version xs ≡ total_in version (total_or_none (total_told version xs))
+total_is : (version : Version) (xs : List ℕ) → total_told version xs ≡ total_in version (unwrap_or (total_told version xs) 0)
 total_is One xs = refl
 total_is Two xs = refl
 
@@ -55,7 +55,7 @@ header_only bytes told rest fit e =
     let size = bytes_size 64 bytes a.0 a.1 in
     let front = front_fit a.0.0 a.0.1 (subst AreBytes (sym parts) fit) in
     let h = header_parts a.0.0 b.0 b.1 in
-    let total = total_or_none (total_told h.version a.0.0) in
+    let total = unwrap_or (total_told h.version a.0.0) 0 in
     let spelled = header_spelled h.version a.0.0 size front h.begins h.zeros in
     let both = ok_is (b.0, a.0.1) (told, rest) b.2 in
     subst (λ (x : Header × List ℕ). IsHeaded bytes x.0 x.1) both (record {

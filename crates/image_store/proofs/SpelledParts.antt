@@ -38,13 +38,8 @@ magic_spelled : (version : Version) (xs : List ℕ) → begins xs version ≡ tr
 magic_spelled One xs h = magic_by (numbers_of_version One).magic xs h
 magic_spelled Two xs h = magic_by (numbers_of_version Two).magic xs h
 
--- the number that is told, if one is
-abbrev pub total_or_none : Option ℕ → ℕ
-total_or_none None = 0
-total_or_none (Some n) = n
-
 end_spelled : (version : Version) (xs : List ℕ) → length xs ≡ 64 → AreBytes xs → are_zeros (drop (numbers_of_version version).zeros_from xs) ≡ true
-    → header_end version (total_or_none (total_told version xs)) ≡ drop 32 xs
+    → header_end version (unwrap_or (total_told version xs) 0) ≡ drop 32 xs
 end_spelled One xs size fit zeros = zeros_behind 32 32 xs size zeros
 end_spelled Two xs size fit zeros =
     let number = little_bytes 8 (little_number 8 (drop 32 xs)) in
@@ -53,7 +48,7 @@ end_spelled Two xs size fit zeros =
 
 -- 64 bytes that pass the tests are the header of the shape that they tell
 pub header_spelled : (version : Version) (xs : List ℕ) → length xs ≡ 64 → AreBytes xs → begins xs version ≡ true → are_zeros (drop (numbers_of_version version).zeros_from xs) ≡ true
-    → header version (shape_told xs) (total_or_none (total_told version xs)) ≡ xs
+    → header version (shape_told xs) (unwrap_or (total_told version xs) 0) ≡ xs
 header_spelled version xs size fit magic zeros =
     let front = (numbers_of_version version).magic in
     let n1 = field xs 8 4 in

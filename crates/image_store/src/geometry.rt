@@ -36,7 +36,7 @@ pub enum GeometryRefusal {
         size: u32,
     },
     /// No zone may be open, or more than may be active, or more of these than there are zones (ZNS 1.1, 2.1.1).
-    #[error("{open_limit} open and {active_limit} active of {zones} zones: the limits are not 1 open zone or more, as many active ones, and no more than zones")]
+    #[error("{open_limit} open and {active_limit} active of {zones} zones: the limits are not 1 open zone or more, as many active ones or more, and no more than zones")]
     ResourceLimits {
         open_limit: u32,
         active_limit: u32,

@@ -73,14 +73,6 @@ impl<'a> Machine<'a> {
         self.block
     }
 
-    /// The word in R0.
-    #[inline(always)]
-    pub fn r0(&self) -> u64
-        ensures { result ≡ slice_index self.now.registers 0 }
-    {
-        self.registers[0]
-    }
-
     /// Says where the machine stands, after how many steps.
     #[inline(always)]
     pub fn stand_at(&mut self, slot: usize, steps: u64)

@@ -23,7 +23,7 @@ fn program(alloc: Global, slots: &[u64]) -> Result<Program, Fail> {
     Ok(decode(alloc, &bytes)?)
 }
 
-/// A run over a block, and the number of steps.
+/// A block run, and the number of steps.
 fn run(rt: &impl Abort, program: &Program, block: &[u8; 512]) -> (End, u64) {
     let mut scratch = [0; 1024];
     let context = [0; 32];

@@ -1,4 +1,4 @@
--- The laws of this crate, proved, and lemmas: all that the proofs of other crates cite of it.
+-- The laws of this crate, proved: all that the proofs of other crates cite of it.
 use Rattle.nvme_entry.specs.EntryLaws.{FieldsAreSpelled, OnlyNamedFieldsCount, SpelledEntriesAreDecoded}
 use Rattle.nvme_entry.specs.ReportLaws.{ReportsGiveWhatMatches}
 use Rattle.nvme_entry.specs.CompletionFields.{CompletionsTell}

@@ -1,4 +1,4 @@
-//! The registers, and what they have at the start of a block's run.
+//! The registers, and what they have at the start of a block run.
 
 ghost use Rattle.std.specs.Prelude.{◌≡◌};
 ghost use Rattle.program_interface.specs.Registers.{registers_at_start};
@@ -12,7 +12,7 @@ pub const REGISTERS: usize = 11;
 /// keep (BPF ABI 1.0, Registers and calling convention).
 pub const CLEARED_REGISTERS: usize = 6;
 
-/// The registers at the start of a block's run: R1, R2 and R3 are the addresses of context, block and
+/// The registers at the start of a block run: R1, R2 and R3 are the addresses of context, block and
 /// scratch, R10 is the end of the stack, and all others are 0 (profile).
 #[inline(always)]
 pub fn start_registers() -> [u64; REGISTERS]

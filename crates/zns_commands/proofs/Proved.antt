@@ -1,4 +1,4 @@
--- The laws of this crate, proved, and lemmas: what the proofs of other crates cite of it.
+-- Laws of this crate, proved, and lemmas: what the proofs of other crates cite of it.
 use Rattle.zns_commands.specs.Held.{HeldCommandsAreRefused}
 use Rattle.zns_commands.specs.Left.{HeldDestinationsAreLeft, ShapesAreKept, HeldSourcesKeepBlocks}
 use Rattle.zns_commands.specs.Laws.{AddedBlocksAreAppended, AddedBlocksKeepNamespacesSound, EmptyIsNamespace, EventsKeepNamespaces, RefusedCommandsChangeNothing}

@@ -60,7 +60,7 @@ pub record IsClosable (holds : Holds) (zones : List CountedZone) (number : ℕ) 
   pub implicitly_opened : zone.state ≡ ImplicitlyOpened
   pub free : is_destination holds number ≡ false
 
--- the zone that is closed may be, and is the lowest that may; where none is, none may be
+-- the zone that is told to be closed may be, and is the lowest that may; where none is told, none may be
 abbrev pub ClosesTheLowest : Type 0
 ClosesTheLowest =
     (zones : List CountedZone) (holds : Holds)

@@ -10,8 +10,8 @@ pub fn counts_are_few()
     ensures { CountsAreFew }
 {}
 
-/// The zone that gives way is implicitly opened and no run's destination, and is the lowest such; where none gives way
-/// there is no such zone.
+/// The zone that gives way is implicitly opened and no run's destination, and is the lowest such; where none can give
+/// way there is no such zone.
 pub fn closes_the_lowest()
     ensures { ClosesTheLowest }
 {}

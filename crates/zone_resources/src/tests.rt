@@ -16,8 +16,8 @@ fn zone(state: ZoneState, written: u32) -> Result<Zone, Fail>
     Ok(Zone::new(state, written, 6).ok_or("a zone")?)
 }
 
-/// What is answered where one of these zones wants resources.
-fn answer(zones: &[Zone], holds: &Holds, wanted: Wanted) -> Result<Option<u32>, Status>
+/// What admission gives where one of these zones wants resources.
+fn admitted(zones: &[Zone], holds: &Holds, wanted: Wanted) -> Result<Option<u32>, Status>
     requires { length zones.now ≤ 2 ^ 32 }
 {
     admit(zones, &Counts::of(zones), &LIMITS, holds, wanted)
@@ -54,7 +54,7 @@ fn an_implicitly_opened_zone_gives_way(rt: HostRuntime) -> Result<(), Fail> {
         ([explicit, explicit, empty, empty], open_full),
         ([explicit, explicit, closed, empty], active_full),
     ] {
-        assert_eq!(rt; answer(&zones, &holds, Wanted::OpenAndActive), told);
+        assert_eq!(rt; admitted(&zones, &holds, Wanted::OpenAndActive), told);
     }
     assert_eq!(rt; Wanted::of(empty.state()), Some(Wanted::OpenAndActive));
     Ok(())
@@ -74,11 +74,11 @@ fn an_implicitly_opened_zone_gives_way_to_an_active_one(rt: HostRuntime) -> Resu
         ([implicit, implicit, closed, empty], Ok(Some(0))),
         ([explicit, explicit, closed, empty], open_full),
     ] {
-        assert_eq!(rt; answer(&zones, &holds, Wanted::OpenOnly), told);
+        assert_eq!(rt; admitted(&zones, &holds, Wanted::OpenOnly), told);
     }
     holds.destinations[RUNS - 1] = Some(0);
     let zones = [implicit, implicit, closed, empty];
-    assert_eq!(rt; answer(&zones, &holds, Wanted::OpenOnly), Ok(Some(1)));
+    assert_eq!(rt; admitted(&zones, &holds, Wanted::OpenOnly), Ok(Some(1)));
     Ok(())
 }
 

@@ -1,4 +1,4 @@
--- What the proofs of other crates cite of this one: laws, and what the checks of a write come to.
+-- What the proofs of other crates cite of this one: laws, and lemmas of checks and of writes.
 use Rattle.zone_state.specs.FirstCheck.{FirstFailedIsFirst, NoFaultWhereNoneFails}
 pub use Rattle.zone_state.proofs.AllowedWrites.{IsAllowed, allowed_passes, is_allowed}
 use Rattle.zone_state.proofs.FirstChecks as checks

@@ -8,7 +8,7 @@ use crate::state::{FaultState, ZoneState};
 use crate::status::{Status, StatusType};
 use std::fmt;
 
-/// A status with the standard's name for it, and what it says of the command.
+/// A status with its name, the standard's or, of type 7h, the profile's, and what it says of the command.
 #[derive(Clone, Copy, Debug)]
 struct Meaning {
     status: Status,

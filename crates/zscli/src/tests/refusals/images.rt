@@ -33,7 +33,7 @@ const GEOMETRIES: &[Act] = &[
     ),
     Act::Refuses(
         "zscli format new --block 512 --zones 4 --size 8 --capacity 6 --open 3 --active 2",
-        "3 open and 2 active of 4 zones: the limits are not 1 open zone or more, as many active ones, and no more than zones\n\
+        "3 open and 2 active of 4 zones: the limits are not 1 open zone or more, as many active ones or more, and no more than zones\n\
          geometry refused 5\n",
     ),
     Act::Refuses(
@@ -86,7 +86,7 @@ const IMAGES: &[Act] = &[
     ),
     Act::Refuses(
         "zscli zones image",
-        "image: header: 2 open and 1 active of 4 zones: the limits are not 1 open zone or more, as many active ones, and no more than zones\n\
+        "image: header: 2 open and 1 active of 4 zones: the limits are not 1 open zone or more, as many active ones or more, and no more than zones\n\
          image refused 12\n",
     ),
     Act::Put(
