@@ -1,4 +1,4 @@
-/* The least and the greatest of four records: emits both, and leaves their measures and numbers in scratch.
+/* The least and the greatest of four records: emits both, and leaves their measures and the block's LBA in scratch.
 
    Record:   64 bytes, the first 4 of a block: a measure (u32) at byte 4
    Block:    512 bytes

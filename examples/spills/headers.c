@@ -1,7 +1,7 @@
 /* A message with a header, a body and a note: emits the header and the body, and the note where the argument asks for it,
    and adds the body's length to a sum in scratch.
 
-   Record:   one in a block: the offsets of its body, its body's length and its note's offset (u16 each), a header of 8
+   Record:   one in a block: the offset of its body, its body's length and its note's offset (u16 each), a header of 8
              bytes at byte 8, a body of 1 to 64 bytes, a note of 32
    Block:    512 bytes
    Emit:     110, records of 8, of at most 64 and of 32 bytes

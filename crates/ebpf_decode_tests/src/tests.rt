@@ -134,7 +134,7 @@ const RETURNING: [u64; 2] = [
     EXIT,
 ];
 
-/// A jump over a wide instruction to its second slot: decoding takes no offence.
+/// A jump over a wide instruction's first slot to its second: decoding takes no offence.
 const INTO_WIDE: [u64; 4] = [
     0x0500_0100_0000_0000, // ja +1
     0x1801_0000_0000_0000, // lddw r1, 0

@@ -1,4 +1,4 @@
-//! The instruction set of RFC 9669 as types: instructions with the facts that belong to each, and
+//! The instruction set of RFC 9669 as types: instructions with what belongs to each, and
 //! programs of them.
 #![tactic(auto)]
 

@@ -44,7 +44,7 @@ impl Domain for Constants {
 
     ghost sound = { constants_sound };
 
-    fn row_fits() {}
+    fn fact_fits() {}
 
     fn constant(word: u64) -> Constants {
         Constants {

@@ -53,7 +53,7 @@ impl Domain for Intervals {
 
     ghost sound = { intervals_sound };
 
-    fn row_fits() {}
+    fn fact_fits() {}
 
     fn constant(word: u64) -> Intervals {
         Intervals {

@@ -1,4 +1,4 @@
--- The laws of this crate, proved, and a lemma: what the proofs of other crates cite of it.
+-- Laws of this crate, proved, and a lemma: what the proofs of other crates cite of it.
 use Rattle.std.proofs.Common.{List}
 use Rattle.word_domain.specs.Domain.{Operations}
 use Rattle.accepted_programs.specs.Laws.{AcceptedNeverTraps}

@@ -220,7 +220,7 @@ pub fn results_read_back<D: Domain>()
 {}
 
 /// In each state that events leave, turns come to the same in any order, but for the result of a slot that two
-/// of their runs share: the same namespace, runs, programs and replies to each run, and in every other slot the
+/// active runs share: the same namespace, runs, programs and replies to each run, and in every other slot the
 /// same result.
 pub fn turns_in_any_order<D: Domain>()
     ensures { TurnsInAnyOrder D.operations }

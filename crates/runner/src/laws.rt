@@ -84,7 +84,7 @@ pub fn results_read_back()
     ensures { ResultsReadBack intervals }
 {}
 
-/// Turns come to the same in any order, but for the result of a slot that two of their runs share.
+/// Turns come to the same in any order, but for the result of a slot that two active runs share.
 pub fn turns_in_any_order()
     ensures { TurnsInAnyOrder intervals }
 {}

@@ -7,18 +7,9 @@ ghost use Rattle.runner.specs.DeviceState.{device_state};
 ghost use Rattle.runner.specs.declared.active_run.ActiveRun.{ActiveRun};
 
 use crate::loaded_program::LoadedProgram;
-use nvme_entry::{PROGRAM_SLOTS, ProgramSlot, Status};
+use nvme_entry::{PROGRAM_SLOTS, ProgramSlot, Status, put_front};
 use program_interface::SCRATCH_BYTES;
 use zns_commands::{Answer, check_transfer};
-
-/// Puts scratch bytes at the front.
-fn put_scratch(output: &mut [u8], scratch: &[u8; SCRATCH_BYTES])
-    requires { SCRATCH_BYTES ≤ length output.old }
-    ensures front { output.new ≡ scratch.now ++ drop SCRATCH_BYTES output.old }
-    ensures size { length scratch.now ≡ SCRATCH_BYTES }
-{
-    output[..SCRATCH_BYTES].copy_from_slice(scratch);
-}
 
 /// Gives the result of a slot's program.
 pub fn give_result(
@@ -38,7 +29,7 @@ pub fn give_result(
     match &slots[slot.index()] {
         None => Answer::refused(Status::NO_SUCH_PROGRAM),
         Some(loaded) => {
-            put_scratch(output, &loaded.result);
+            put_front(output, &loaded.result);
             Answer::success(0, SCRATCH_BYTES)
         }
     }

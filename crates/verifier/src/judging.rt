@@ -101,7 +101,7 @@ pub fn judge<D: Domain>(
 ) -> Result<Judgement<D>, AllocError>
     ensures { IfOk result (IsJudged D.operations program.now sizes) }
 {
-    D::row_fits();
+    D::fact_fits();
     let mut rows = first_rows(alloc, program.slots())?;
     judge_over(alloc, &mut rows, program, sizes)
 }

@@ -238,7 +238,7 @@ pub(crate) fn visit<D: Domain>(
     ensures facts { IfOk result (λ found. IfSome found (λ refused. Some refused.facts.value ≡ held_at rows.old slot)) }
     ensures given { IfOk result (λ found. IfNone found ((s : ℕ) → slot < s → s < length rows.old → held_at rows.new s ≡ gives D.operations sizes.block (instruction_at program.now slot) slot (held_at rows.old slot) s (held_at rows.old s))) }
 {
-    D::row_fits();
+    D::fact_fits();
     // what an instruction emits within the limit can be counted
     let _limit = sizes.limit();
     let Some(instruction) = program.at(slot) else {

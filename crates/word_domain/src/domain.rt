@@ -22,9 +22,9 @@ pub trait Domain: Copy {
     /// What the operations give.
     ghost operations: { Operations Self };
 
-    /// A row of facts, about registers or cells of the stack, fits in memory, with room for what stands beside it: a
-    /// proof about rows of facts calls this, which has no code.
-    fn row_fits()
+    /// A fact takes fewer than 2^32 bytes, and is aligned to fewer: so rows of facts, of registers or of cells of the
+    /// stack, fit in memory. A proof about such rows calls this, which has no code.
+    fn fact_fits()
         ensures size { type_size Self.row < 2 ^ 32 }
         ensures align { type_align Self.row < 2 ^ 32 };
 

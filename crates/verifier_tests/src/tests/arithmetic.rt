@@ -180,7 +180,7 @@ const INDICES: &[Row] = &[
         0,
         Accepted(6),
     ),
-    // Neither can 32 bits tell which sums wrap.
+    // At 32 bits all but the least of these sums wrap: any number of 32 bits.
     Text(
         "ldxb r6, [r2+0]\naddw r6, -1\nadd r2, r6\nldxb r0, [r2+0]\nexit",
         0,

@@ -12,7 +12,7 @@ push-requires g c =
     let ops = g.D.Domain.operations in
     let none : reason_of ops c.args.program.now c.args.sizes c.args.slot c.in-Some-take.facts.value c.in-Some.instruction.now ≡ None =
     rw c.deref.ensures at (sym c.find_reason.ensures ∙ c.in_default-find_reason.is) in (
-      facts_fit _ _ c.row_fits.ensures.size c.row_fits.ensures.align,
+      facts_fit _ _ c.fact_fits.ensures.size c.fact_fits.ensures.align,
       (
         search rules,
         (
