@@ -1,4 +1,4 @@
-//! What is printed of the events of a command file, and of a line that is none.
+//! What is printed of the events of a command file.
 
 use super::scenes::{Act, EXEC, Scene, play};
 use std::test::Fail;
@@ -14,25 +14,12 @@ const EVENTS: &[Act] = &[
     Act::Prints(EXEC, "done\ndone\nrefused\n"),
 ];
 
-const REFUSED: &[Act] = &[
-    Act::Start(b"; x\n\nturn 0\nturn 256\nturn 257\n"),
-    Act::Fails(EXEC, 3, "", "line 4 refused\n"),
-    Act::Start(b"turn 0 ; \xc3\xa9"),
-    Act::Fails(EXEC, 3, "", "line 1 refused\n"),
-];
-
-const SCENES: &[Scene] = &[
-    Scene {
-        name: "lines that are events",
-        acts: EVENTS,
-    },
-    Scene {
-        name: "lines that are refused",
-        acts: REFUSED,
-    },
-];
+const SCENES: &[Scene] = &[Scene {
+    name: "lines that are events",
+    acts: EVENTS,
+}];
 
 #[test]
-fn which_lines_are_events(rt: HostRuntime) -> Result<(), Fail> {
+fn lines_that_are_events(rt: HostRuntime) -> Result<(), Fail> {
     play(&rt, rt.alloc(), SCENES)
 }

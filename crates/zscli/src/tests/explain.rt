@@ -205,16 +205,6 @@ const REFUSED: &[Act] = &[
         "zscli explain replies",
         "replies, line 3: not one that `exec` prints\nline 3 refused\n",
     ),
-    Act::Put("replies", &[(b"pending 03\n", 1)]),
-    Act::Refuses(
-        "zscli explain replies",
-        "replies, line 1: not one that `exec` prints\nline 1 refused\n",
-    ),
-    Act::Put("replies", &[(b"cpl 1 0000000000000000000001000300000", 1)]),
-    Act::Refuses(
-        "zscli explain replies",
-        "replies, line 1: not one that `exec` prints\nline 1 refused\n",
-    ),
 ];
 
 const SCENES: &[Scene] = &[

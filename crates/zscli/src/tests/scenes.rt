@@ -136,11 +136,11 @@ fn judge(rt: &impl Abort, stage: &mut Stage, scene: &str, act: Act) -> Result<()
         Act::Says(line, text) => stage.check_said(rt, &At { scene, what: line }, text)?,
         Act::Has(file, parts) => stage.check_file(rt, &At { scene, what: file }, parts)?,
         Act::HasNo(file) => assert!(rt; stage.files.bytes(file).is_none(), "{scene}: {file}"),
-        Act::Verify(text, emit, answer) => {
+        Act::Verify(text, emit, said) => {
             stage.files.put("events", text.as_bytes())?;
             let what = "zscli asm events made";
             stage.check(rt, &At { scene: text, what }, 0, "", "")?;
-            stage.check_program(rt, text, "made", emit, answer)?;
+            stage.check_program(rt, text, "made", emit, said)?;
         }
         _ => {}
     }

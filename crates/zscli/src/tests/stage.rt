@@ -184,7 +184,7 @@ impl Stage {
         Ok(())
     }
 
-    /// Compares what `verify` says of a program, which is in a file, for blocks of 512 bytes. Where an answer has
+    /// Compares what `verify` says of a program, which is in a file, for blocks of 512 bytes. Where what is said has
     /// several lines, it is asked to explain.
     pub(super) fn check_program(
         &mut self,
@@ -192,9 +192,9 @@ impl Stage {
         program: &str,
         file: &str,
         emit: u32,
-        answer: &str,
+        said: &str,
     ) -> Result<(), AllocError> {
-        let explain = if answer.contains("\n") {
+        let explain = if said.contains("\n") {
             " --explain"
         } else {
             ""
@@ -209,7 +209,7 @@ impl Stage {
             scene: program,
             what: "zscli verify",
         };
-        assert_printed(rt, &at, self.out.bytes.as_slice(), answer);
+        assert_printed(rt, &at, self.out.bytes.as_slice(), said);
         Ok(())
     }
 
