@@ -1,5 +1,5 @@
 -- What is read as a namespace is a text of that namespace.
-use Rattle.std.proofs.Common.{◌≡◌, ℕ, ◌+◌, ◌*◌, ◌<◌, ◌≤◌, zero, suc, List, [], ◌∷◌, ◌++◌, length, get_or, map, take, drop, Option, Ok, refl, ap, sym, subst, ◌∙◌, append_assoc, arith, length-drop}
+use Rattle.std.proofs.Common.{◌≡◌, ℕ, ◌+◌, ◌*◌, ◌<◌, ◌≤◌, zero, suc, List, [], ◌∷◌, ◌++◌, length, get_or, map, take, drop, Option, Ok, refl, ap, sym, subst, ◌∙◌, append_assoc, arith, length-drop, unwrap_or}
 use Rattle.std.proofs.lemmas.Bool.{eqb-true}
 use Rattle.std.proofs.lemmas.List.{append-nil, drop_all, length-map, length-take-le, nil_from_length, take_all, take-append-drop}
 use Rattle.std.proofs.Math.Nat.{suc-mul}
