@@ -7,7 +7,8 @@ pub fn assembled_is_program()
     ensures { AssembledIsProgram }
 {}
 
-/// The bytes of a text are the spellings of its lines' instructions in their order, and a jump to a label leads to the instruction behind that label.
+/// The bytes of a text are the spellings of its lines' instructions in their order, and a jump to a label leads to the
+/// instruction behind that label.
 pub fn lines_are_in_order()
     ensures { LinesAreInOrder }
 {}

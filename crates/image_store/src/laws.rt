@@ -1,4 +1,5 @@
-//! Laws of the texts of a namespace, of the tests of a shape, and of the versions. Each function does nothing: what it ensures is the law.
+//! Laws of the texts of a namespace, of the tests of a shape, and of the versions. Each function does nothing: what it
+//! ensures is the law.
 
 ghost use Rattle.image_store.specs.FirstFault.{FaultIsFirst};
 ghost use Rattle.image_store.specs.Laws.{CutTextsAreTruncated, EachVersionLoads, FaultsAreByPrefix, LastVersionHasAll, LoadedTextsAreNamespaces, LongerTextsAreTrailing, OnlyTextsLoad, SavedTextsLoad, ShapesAreTested, UpgradedStandsForTheSame, UpgradingTwiceIsOnce, VersionsAreKnown};

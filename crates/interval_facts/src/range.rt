@@ -145,7 +145,7 @@ fn modulo(width: Width, dst: Bounds, source: Bounds) -> Bounds
     }
 }
 
-/// May no number of these have a sign in the width?
+/// Is none of these numbers negative, as signed ones of the width?
 fn is_positive(width: Width, bounds: Bounds) -> bool
     ensures { result ≡ nat_lt bounds.high (half width) }
 {

@@ -59,8 +59,9 @@ pub fn written_blocks_read_back()
 {}
 
 /// A report from any address of the namespace on, with room for its header, tells how many zones match, or with Partial how
-/// many it gives, and then of these zones, in order, as many as there is room for, with zeros behind. Partial reports of all zones, each from the first zone on that the one before left out, list
-/// every zone once, in order, where together they have room for all.
+/// many it gives, and then of these zones, in order, as many as there is room for, with zeros behind. Partial reports of all
+/// zones, each from the first zone on that the one before left out, list every zone once, in order, where together they have
+/// room for all.
 pub fn reports_list_every_zone()
     ensures matching { ReportsWhatMatches }
     ensures every { ReportsEveryZone }

@@ -62,13 +62,13 @@ fn perform<'a, F: Files, O: Write>(
         Some((zones::NAME, matches)) => zones::zones(alloc, matches, files, out),
         Some((upgrade::NAME, matches)) => upgrade::upgrade(alloc, matches, files),
         Some((exec::NAME, matches)) => exec::exec(alloc, matches, files, out),
-        Some((name, matches)) => perform_on_programs(alloc, line, name, matches, files, out),
+        Some((name, matches)) => perform_without_image(alloc, line, name, matches, files, out),
         None => Err(no_command(line)),
     }
 }
 
-/// Does the command with this name, of those that need no device.
-fn perform_on_programs<'a, F: Files, O: Write>(
+/// Does the command with this name, of those that take no image.
+fn perform_without_image<'a, F: Files, O: Write>(
     alloc: Global,
     line: &mut Command<'a>,
     name: &str,

@@ -4,12 +4,12 @@ use super::scenes::{Act, EMPTY_ZONE, EXEC, MAGIC, SHAPE, Scene, play};
 use super::stage::{At, Stage};
 use std::test::Fail;
 
-/// A program that emits nothing.
-const EXIT: &[u8] = b"\xb7\0\0\0\0\0\0\0\x95\0\0\0\0\0\0\0";
+/// Emits nothing: `mov r0, 0` and `exit`.
+const RETURNING: &[u8] = b"\xb7\0\0\0\0\0\0\0\x95\0\0\0\0\0\0\0";
 
 /// Each kind that moves no block.
 const LINES: &[Act] = &[
-    Act::Put("exit", &[(EXIT, 1)]),
+    Act::Put("exit", &[(RETURNING, 1)]),
     Act::Submits(
         "zscli entry read --lba 8589934600 --blocks 3 --cid 9",
         1,
@@ -93,7 +93,7 @@ const LINES: &[Act] = &[
 /// A command file of lines that are printed one after another, and what it does.
 const WORK: &[Act] = &[
     Act::Start(b""),
-    Act::Put("exit", &[(EXIT, 1)]),
+    Act::Put("exit", &[(RETURNING, 1)]),
     Act::Put("block", &[(b"a", 512)]),
     Act::Adds("zscli entry append --lba 8 --data block"),
     Act::Adds("zscli entry write --lba 9 --data block --block 512 --cid 2"),

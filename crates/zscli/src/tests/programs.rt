@@ -146,8 +146,8 @@ const TRACED: &[Act] = &[
     ),
 ];
 
-/// Each kind of instruction: of 7 and the block's second byte, 2ah, the sum goes to scratch, and its lowest byte,
-/// 31h, is emitted from there.
+/// Instructions of many kinds: of 100000007h and the block's second byte, 2ah, the sum goes to scratch, and its lowest
+/// byte, 31h, is emitted from there.
 const STEPS: &[u8] = b"\
 lddw r6, 0x100000007
 ldxb r7, [r2+1]
