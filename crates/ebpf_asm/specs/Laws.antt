@@ -74,7 +74,8 @@ AssembledIsProgram =
     (text bytes : List ℕ) → assembled text ≡ Ok bytes
     → ((bytes ≡ []) × (slot_count (lines_of text) ≡ 0)) ⊎ ((slots : List (Option Instruction)) × IsProgram slots × (bytes ≡ program_bytes slots))
 
--- the bytes of a text are the spellings of its lines' instructions in their order, and a jump to a label leads to the instruction behind that label
+-- the bytes of a text are the spellings of its lines' instructions in their order, and a jump to a label leads to the
+-- slot of that label, where the next instruction begins if there is one
 abbrev pub LinesAreInOrder : Type 0
 LinesAreInOrder = (text bytes : List ℕ) → assembled text ≡ Ok bytes → AreInOrder (lines_of text) bytes
 

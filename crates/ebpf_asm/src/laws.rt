@@ -8,7 +8,7 @@ pub fn assembled_is_program()
 {}
 
 /// The bytes of a text are the spellings of its lines' instructions in their order, and a jump to a label leads to the
-/// instruction behind that label.
+/// slot of that label, where the next instruction begins if there is one.
 pub fn lines_are_in_order()
     ensures { LinesAreInOrder }
 {}

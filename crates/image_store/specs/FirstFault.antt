@@ -1,4 +1,4 @@
--- What a refusal of a text tells: which fault, where, and that nothing before it is at fault (profile).
+-- What a refusal of a text tells: which fault, where, and that no test before its own fails (profile).
 use Rattle.std.specs.Prelude.{ℕ, ◌≡◌, ◌≢◌, ◌+◌, ◌*◌, ◌<◌, ◌≤◌, ◌⊎◌, true, false, List, length, get_or, take, drop, Some, None, IfSome, Err}
 use Rattle.zone_state.specs.FirstCheck.{FailsFirst}
 use Rattle.zone_state.specs.State.{state_of}
@@ -102,7 +102,8 @@ pub record HasRows (version : Version) (bytes : List ℕ) (zones : List CountedZ
 abbrev pub blocks_end : List ℕ → List CountedZone → ℕ
 blocks_end bytes zones = rows_end bytes + written_blocks zones * (shape_in bytes).block
 
--- a text ends within its header, or within its rows, or within its blocks, and has no fault before that
+-- a text ends within its header, whatever stands there; or its header has no fault, and it ends within its rows, of which
+-- none is looked at before all are there; or it has no fault up to the end of its rows, and ends within its blocks
 abbrev pub EndsEarly : List ℕ → Type 0
 EndsEarly bytes =
     (length bytes < 64)

@@ -1,5 +1,5 @@
--- Reading the text of an image, of either version (profile): the namespace that it stands for, or its
--- first fault from the left.
+-- Reading the text of an image, of either version (profile): the namespace that it stands for, or the
+-- fault of the first test that fails.
 use Rattle.std.specs.Prelude.{ℕ, zero, suc, Bool, ◌+◌, ◌*◌, ◌==◌, ◌&&◌, nat_le, List, [], ◌∷◌, length, get_or, take, drop, Option, Some, None, Result, Ok, Err, if◌then◌else◌}
 use Rattle.std.specs.List.{find, list_all, starts_with}
 use Rattle.std.specs.Option.{ok_or}

@@ -73,7 +73,7 @@ impl GeometryRefusal {
 pub struct ZoneBlock {
     /// The number of the zone.
     pub zone: u32,
-    /// How many blocks lie between the zone's lowest one and this one.
+    /// How many blocks it lies behind the zone's lowest one.
     pub offset: u32,
 }
 

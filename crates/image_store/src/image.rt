@@ -67,7 +67,7 @@ impl Image {
     ///
     /// # Errors
     ///
-    /// The first fault of the text from the left, or [`LoadFault::Stream`] where the source fails, or
+    /// The fault of the first test of the text that fails, or [`LoadFault::Stream`] where the source fails, or
     /// [`LoadFault::Memory`] where memory is refused once the header is accepted.
     pub fn load<R: Source>(alloc: Global, source: &mut R) -> Result<Image, LoadFault>
         requires { R.failures source.old < 2 ^ 64 - 1 }

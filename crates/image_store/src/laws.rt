@@ -40,7 +40,7 @@ pub fn faults_are_by_prefix()
     ensures { FaultsAreByPrefix }
 {}
 
-/// The fault that a text is refused with is its first: it is there, and nothing before it is at fault.
+/// The fault that a text is refused with is its first: it is there, and no test before its own fails.
 pub fn fault_is_first()
     ensures { FaultIsFirst }
 {}

@@ -27,7 +27,7 @@ ContainsWord (Pointer area low high) w = IsAtOffset (record { area = area; low =
 abbrev pub farthest : ℤ
 farthest = pos (2 ^ 20)
 
--- the bounds of a fact are in order
+-- the bounds of a fact are in order, and those of a pointer no farther than that
 abbrev pub IsFact : Fact → Type 0
 IsFact (Words b) = b.low ≤ b.high
 IsFact (Pointer area low high) = ((pos 0 -ℤ farthest) ≤ℤ low) × (low ≤ℤ high) × (high ≤ℤ farthest)

@@ -84,8 +84,8 @@ RestIsFew = (task : Task) (so_far : Progress) (blocks : List (List ℕ)) → len
 
 -- ---- the outcome
 
--- All that the turns of a run append is the packing of the groups of all its block runs, and the last turn
--- tells how many frames these hold and how many blocks they come to.
+-- There are as many turns as block runs. All that they append is the packing of the groups of these, and the last turn
+-- tells how many frames the groups hold and how many blocks they come to.
 pub record IsWholeOutcome (task : Task) (block_runs : List BlockRun) (turns : List Turn) : Type 0 where
   pub blocks : appended_by turns ≡ packed task.sizes.block (groups_of block_runs)
   pub one_each : length turns ≡ length block_runs

@@ -108,7 +108,8 @@ module _ {D : Type 0} (operations : Operations D) where
     abbrev pub pointer : ℕ
     pointer = write_pointer s.namespace destination
 
-    -- each part of what its turns have appended is read, from where the destination's end was at admission
+    -- each part of what its turns have appended, of one block or more and no more than a transfer may be, is read,
+    -- from where the destination's end was at admission
     abbrev pub AppendedAreRead : Type 0
     AppendedAreRead =
         let appended = appended_by (take (own_turns run events + 1) turns) in

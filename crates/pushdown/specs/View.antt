@@ -55,15 +55,15 @@ begun sub command = record { queue = sub.queue; cid = identifier_of sub.entry; c
 abbrev pub SeenAtAdmission : Type 0
 SeenAtAdmission = (sub : Submission) (s : State) (command : RunCommand) → place_of s.namespace s.slots (begun sub command) ≡ admitted_place sub s command
 
--- a later namespace of the same sizes, in whose source zone the blocks are those of before and perhaps some
--- behind them
+-- a later namespace of the same sizes, in whose source zone the blocks are those of before, among them all that are
+-- still to come, and perhaps some behind them
 pub record KeepsSource (ns later : ZonedNamespace) (a : Active) : Type 0 where
   pub size : later.size ≡ ns.size
   pub block : later.block ≡ ns.block
   pub grows : Grows (zone_at ns (source_zone ns a.command)).blocks (zone_at later (source_zone ns a.command)).blocks
   pub written : zone_offset ns a.command.lba + a.so_far.index + (a.command.blocks - a.so_far.index) ≤ length (zone_at ns (source_zone ns a.command)).blocks
 
--- what is seen of a run stays, whatever is written behind its source, and whatever result its slot is given
+-- what is seen of a run whose source blocks are written stays, whatever is written behind these, and whatever result its slot is given
 abbrev pub SeenStays : Type 0
 SeenStays =
     (ns later : ZonedNamespace) (slots slots' : List (Option Loaded)) (a : Active) → KeepsSource ns later a

@@ -69,7 +69,8 @@ pub fn seen_at_admission()
     ensures { SeenAtAdmission }
 {}
 
-/// What is seen of a run stays, whatever is written behind its source, and whatever result its slot is given.
+/// What is seen of a run whose source blocks are written stays, whatever is written behind these, and whatever result its
+/// slot is given.
 pub fn seen_stays()
     ensures { SeenStays }
 {}

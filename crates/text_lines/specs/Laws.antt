@@ -1,5 +1,5 @@
 -- How a text is cut into parts and into lines, and what of it stands between blanks.
-use Rattle.std.specs.Prelude.{ℕ, ◌==◌, ◌≡◌, ◌↔◌, true, false, List, [], ◌∷◌, ◌++◌, Some, None}
+use Rattle.std.specs.Prelude.{ℕ, ◌==◌, ◌≡◌, ◌<◌, ◌↔◌, true, false, List, [], ◌∷◌, ◌++◌, length, Some, None}
 use Rattle.std.specs.List.{AllByRecursion, slice_split}
 use Rattle.std.specs.Str.Lines.{lines, strip_carriage_return}
 use Rattle.text_lines.specs.Cut.{cut_at, is_blank_byte, trimmed}
@@ -29,6 +29,14 @@ SomePartIsThere = (byte : ℕ) (text : List ℕ) → HasFirst (parts_at byte tex
 abbrev pub LinesAreCut : Type 0
 LinesAreCut =
     (text line behind : List ℕ) → cut_at 10 text ≡ Some (line, behind) → lines text ≡ strip_carriage_return line ∷ lines behind
+
+-- a text without a newline is one line, if it has any bytes
+abbrev pub LastLineIsWhole : Type 0
+LastLineIsWhole = (text : List ℕ) → 0 < length text → cut_at 10 text ≡ None → lines text ≡ text ∷ []
+
+-- else it has no line
+abbrev pub NothingHasNoLine : Type 0
+NothingHasNoLine = lines [] ≡ []
 
 -- a text of blanks alone, or of nothing
 abbrev pub AreBlanks : List ℕ → Type 0

@@ -46,7 +46,7 @@ abbrev pub IsReadFrom : Holds → ℕ → Type 0
 IsReadFrom holds zone = (run : ℕ) × (get_or holds.sources run None ≡ Some zone)
 
 -- a zone that a run appends to is held against every action; one that runs only read from against those that
--- forget its blocks, and against no others; and one that no run uses against none
+-- forget its blocks, and against no others; and one that no run uses against none. Where no run is, no zone is used
 pub record HoldsRefuse : Type 0 where
   pub destination : (holds : Holds) (a : Action) (zone : ℕ) → IsAppendedTo holds zone → refuses holds a zone ≡ true
   pub source : (holds : Holds) (zone : ℕ) → IsReadFrom holds zone

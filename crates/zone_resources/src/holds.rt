@@ -11,7 +11,7 @@ pub const RUNS: usize = 8;
 /// The zones that each active run reads from and appends to (profile). A zone may be the source of
 /// several runs, and also the destination of one.
 ///
-/// A source is kept from what would forget its blocks: Reset, Offline and faults. A destination is
+/// A source is kept from what would forget its blocks, Reset and Offline, and from faults. A destination is
 /// kept from whatever is not its run's: Write, Append, every Zone Send Action, faults, the close
 /// that makes room for another zone, and a second run to it.
 #[derive(Clone, Copy, Debug, PartialEq, Eq)]

@@ -33,7 +33,7 @@ pub fn idle_holds_no_more()
 {}
 
 /// A destination of a run refuses every action, a zone that is only a source Reset and Offline and no other, and a
-/// zone that no run uses none.
+/// zone that no run uses none. Where no run is, no zone is used.
 pub fn holds_refuse()
     ensures { HoldsRefuse }
 {}
