@@ -187,17 +187,7 @@ module _ {D : Type 0} {IsFact : D → Type 0} {operations : Operations D} (give 
     target_facts (JumpLong distance) facts are = are
     target_facts (Branch width relation dst source distance) facts are =
         along_facts facts true width relation dst source are
-    target_facts (LoadImmediate dst value) facts are = tt
-    target_facts (Load size dst src offset) facts are = tt
-    target_facts (LoadSigned size dst src offset) facts are = tt
-    target_facts (StoreImmediate size dst offset value) facts are = tt
-    target_facts (StoreRegister size dst src offset) facts are = tt
-    target_facts (Arithmetic width operation dst source) facts are = tt
-    target_facts (Negate width dst) facts are = tt
-    target_facts (MoveSigned extension dst src) facts are = tt
-    target_facts (SwapBytes swap size dst) facts are = tt
-    target_facts (Call helper) facts are = tt
-    target_facts Exit facts are = tt
+    target_facts i facts are = tt
 
     -- what a slot gives to another, if it leads there
     pub behind_given : (i : Instruction) (slot : ℕ) (facts : Facts D) (other : ℕ) → AreFacts IsFact facts

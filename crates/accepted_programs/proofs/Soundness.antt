@@ -1,7 +1,7 @@
 -- What is known at a slot is met by the runs that come there, and a program that is accepted over a sound domain never traps.
-use Rattle.std.specs.Prelude.{ℕ, zero, suc, ◌≡◌, ◌+◌, ◌<◌, ◌≤◌, Bool, true, false, List, length, drop, count_by, is_some, Option, Some, None}
+use Rattle.std.specs.Prelude.{ℕ, zero, suc, ◌≡◌, ◌+◌, ◌<◌, ◌≤◌, true, List, length, drop, count_by, is_some, Option, Some, None}
 use Rattle.std.proofs.Common.{arith, inl, inr, ◌⊎◌, lit<, refl, ap, subst, ◌∙◌}
-use Rattle.std.proofs.lemmas.Bool.{cases_lt}
+use Rattle.std.proofs.lemmas.Bool.{cases_lt, cond_both}
 use Rattle.instruction_set.proofs.Proved.{begins_inside}
 use Rattle.instruction_set.specs.Program.{instruction_at, instruction_count}
 use Rattle.instruction_set.specs.declared.instruction.Instruction.{Instruction}
@@ -42,10 +42,6 @@ decided_ends : (s : State) (i : Instruction) (least : Option Cause) → least �
     → decided s i least ≡ Ends (register s 0) s
 decided_ends s i None e exits = rw exits refl
 decided_ends s i (Some cause) e exits = cc
-
-by_test : (P : Type 0) (b : Bool) → (b ≡ true → P) → (b ≡ false → P) → P
-by_test P true f g = f refl
-by_test P false f g = g refl
 
 module _ {D : Type 0} (contains : D → ℕ → Type 0) (operations : Operations D) where
   -- what holds of each state of a run
@@ -113,7 +109,7 @@ module _ {D : Type 0} {IsFact : D → Type 0} {contains : D → ℕ → Type 0} 
           let are = known_facts sound.facts sizes.block program s.slot facts known in
           let near = short.offsets s.slot i begins in
           let none = unhindered sound program sizes i facts s are_sizes holds.is holds.block_long are meets near passes in
-          by_test (EndsOrLeads s) (is_exit i)
+          cond_both (is_exit i) true true (λ _. EndsOrLeads s)
           (λ exits. inl (rw (begins, decided_ends s i (least_cause program sizes.limit s i) none exits) refl))
           (λ runs_on.
           let goes = decided_goes s i (least_cause program sizes.limit s i) none runs_on in

@@ -9,7 +9,7 @@ use Rattle.std.specs.Prelude.{◌==◌, if◌then◌else◌, nat_le, nat_lt, sli
 use Rattle.instruction_set.specs.Instruction.{access_of, distance_of, is_emit, signed_size_of, size_of, target}
 use Rattle.instruction_set.specs.Spelling.{first_slot}
 use Rattle.instruction_set.specs.declared.instruction.Instruction.{Instruction}
-use Rattle.instruction_set.specs.declared.instruction.Instruction.TheVariants.{LoadImmediate, Load, LoadSigned, StoreImmediate, StoreRegister, Arithmetic, Negate, MoveSigned, SwapBytes, Jump, JumpLong, Branch, Call, Exit}
+use Rattle.instruction_set.specs.declared.instruction.Instruction.TheVariants.{Load, LoadSigned, StoreImmediate, StoreRegister, Jump, JumpLong, Branch, Exit}
 use Rattle.instruction_set.specs.declared.operation.SignedSize.{SignedSize}
 use Rattle.instruction_set.specs.declared.operation.SignedSize.TheVariants as signed
 use Rattle.instruction_set.specs.declared.operation.Size.{Size}
@@ -53,15 +53,6 @@ module _ (program : List (Option Instruction)) (limit : ℕ) where
   goes_on : (s : State) (i : Instruction) → leads_nowhere program s.slot (distance_of i) ≡ false
       → (if turns_away i then false else not (begins_at program (pos (slot_behind s.slot i)))) ≡ false
       → (hinders program limit s i cause.NextOutside ≡ false) × (hinders program limit s i cause.NextInsideWide ≡ false)
-  goes_on s (LoadImmediate dst value) there behind = stands _ behind
-  goes_on s (Load size dst src offset) there behind = stands _ behind
-  goes_on s (LoadSigned size dst src offset) there behind = stands _ behind
-  goes_on s (StoreImmediate size dst offset value) there behind = stands _ behind
-  goes_on s (StoreRegister size dst src offset) there behind = stands _ behind
-  goes_on s (Arithmetic width operation dst source) there behind = stands _ behind
-  goes_on s (Negate width dst) there behind = stands _ behind
-  goes_on s (MoveSigned extension dst src) there behind = stands _ behind
-  goes_on s (SwapBytes swap size dst) there behind = stands _ behind
   goes_on s (Jump distance) there behind = stands _ there
   goes_on s (JumpLong distance) there behind = stands _ there
   goes_on s (Branch width relation dst source distance) there behind =
@@ -69,8 +60,8 @@ module _ (program : List (Option Instruction)) (limit : ℕ) where
       (target s.slot distance) (pos (s.slot + 1))
       (λ next. (is_none (slot_in program next) ≡ false) × (is_inside_wide (slot_in program next) ≡ false))
       (λ _. stands _ there) (λ _. stands _ behind)
-  goes_on s (Call helper) there behind = stands _ behind
   goes_on s Exit there behind = (refl, refl)
+  goes_on s i there behind = stands _ behind
 
 -- ---- memory
 
@@ -138,20 +129,11 @@ module _ {D : Type 0} {IsFact : D → Type 0} {contains : D → ℕ → Type 0} 
     accesses : (i : Instruction) → FitsSigned w16 (first_slot i).offset → loads_outside operations block facts (access_of i) ≡ false
         → stores_outside operations block facts (access_of i) ≡ false
         → (machine.loads_outside s (access_of i) ≡ false) × (machine.stores_outside s (access_of i) ≡ false)
-    accesses (LoadImmediate dst value) near load store = (refl, refl)
     accesses (Load size dst src offset) near load store = (found _ src offset (size_of size) near (size_fits size) refl load, refl)
     accesses (LoadSigned size dst src offset) near load store = (found _ src offset (signed_size_of size) near (signed_size_fits size) refl load, refl)
     accesses (StoreImmediate size dst offset value) near load store = (refl, writable _ dst offset (size_of size) near (size_fits size) refl store)
     accesses (StoreRegister size dst src offset) near load store = (refl, writable _ dst offset (size_of size) near (size_fits size) refl store)
-    accesses (Arithmetic width operation dst source) near load store = (refl, refl)
-    accesses (Negate width dst) near load store = (refl, refl)
-    accesses (MoveSigned extension dst src) near load store = (refl, refl)
-    accesses (SwapBytes swap size dst) near load store = (refl, refl)
-    accesses (Jump distance) near load store = (refl, refl)
-    accesses (JumpLong distance) near load store = (refl, refl)
-    accesses (Branch width relation dst source distance) near load store = (refl, refl)
-    accesses (Call helper) near load store = (refl, refl)
-    accesses Exit near load store = (refl, refl)
+    accesses i near load store = (refl, refl)
 
     -- ---- emit
 

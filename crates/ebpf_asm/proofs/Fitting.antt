@@ -5,7 +5,7 @@ use Rattle.std.specs.Int.{w16, w32, w64, cast_signed, cast_unsigned}
 use Rattle.std.specs.List.{AllByRecursion, before_first, position_or_len}
 use Rattle.std.specs.Char.{is_ascii_digit}
 use Rattle.std.specs.Str.{bytes_eq}
-use Rattle.std.proofs.lemmas.Bool.{and_parts, leb-true}
+use Rattle.std.proofs.lemmas.Bool.{and_parts, cond_both, leb-true}
 use Rattle.std.proofs.lemmas.Int.{ints}
 use Rattle.instruction_set.specs.declared.instruction.Instruction.{Instruction}
 use Rattle.instruction_set.specs.declared.instruction.Instruction.TheVariants as instructions
@@ -22,7 +22,7 @@ use Rattle.instruction_set.specs.Spelling.{Fits, source_register, source_immedia
 use Rattle.ebpf_asm.specs.declared.mnemonic.Mnemonic.{Mnemonic}
 use Rattle.ebpf_asm.specs.declared.mnemonic.Mnemonic.TheVariants.{LoadImmediate, Load, LoadSigned, StoreImmediate, StoreRegister, Arithmetic, Negate, MoveSigned, SwapBytes, Jump, JumpLong, Branch, Call, Exit}
 use Rattle.ebpf_asm.specs.declared.fault.FaultKind.{FaultKind}
-use Rattle.ebpf_asm.specs.declared.fault.FaultKind.TheVariants.{UnknownMnemonic, Operand, OutOfRange, UnknownLabel, LabelTwice, LabelTooFar, TooLong, NotAscii}
+use Rattle.ebpf_asm.specs.declared.fault.FaultKind.TheVariants.{UnknownMnemonic, Operand, OutOfRange}
 use Rattle.program_interface.specs.Readings.{◌>>=◌}
 use Rattle.ebpf_asm.specs.Fault.{read_both}
 use Rattle.ebpf_asm.specs.Mnemonic.{mnemonic_named}
@@ -53,63 +53,41 @@ both_fit (Ok a) (Ok b) P Q p q = (p, q)
 both_fit (Ok a) (Err fault) P Q p q = tt
 both_fit (Err OutOfRange) (Ok b) P Q p q = tt
 both_fit (Err OutOfRange) (Err fault) P Q p q = tt
-both_fit (Err UnknownMnemonic) b P Q p q = tt
-both_fit (Err Operand) b P Q p q = tt
-both_fit (Err UnknownLabel) b P Q p q = tt
-both_fit (Err LabelTwice) b P Q p q = tt
-both_fit (Err LabelTooFar) b P Q p q = tt
-both_fit (Err TooLong) b P Q p q = tt
-both_fit (Err NotAscii) b P Q p q = tt
+both_fit (Err fault) b P Q p q = tt
 
 -- ---- numbers
 
 short_fits : (z : ℤ) → IfOk (short_of z) (FitsSigned w16)
-short_fits (pos n) = by_test (leb n 32767) refl
-  where
-    by_test : (b : Bool) → leb n 32767 ≡ b → IfOk (cond b (Ok (pos n)) (Err OutOfRange)) (FitsSigned w16)
-    by_test true is = let low = leb-true n 32767 is in omega (arith, ints)
-    by_test false is = tt
-short_fits (negsuc n) = by_test (leb n 32767) refl
-  where
-    by_test : (b : Bool) → leb n 32767 ≡ b → IfOk (cond (b && true) (Ok (negsuc n)) (Err OutOfRange)) (FitsSigned w16)
-    by_test true is = let low = leb-true n 32767 is in omega (arith, ints)
-    by_test false is = tt
+short_fits (pos n) =
+    cond_both (leb n 32767) (Ok (pos n)) (Err OutOfRange) (λ r. IfOk r (FitsSigned w16))
+    (λ is. let low = leb-true n 32767 is in omega (arith, ints)) (λ _. tt)
+short_fits (negsuc n) =
+    cond_both (leb n 32767 && true) (Ok (negsuc n)) (Err OutOfRange) (λ r. IfOk r (FitsSigned w16))
+    (λ is. let low = leb-true n 32767 (and_parts (leb n 32767) true is).0 in omega (arith, ints)) (λ _. tt)
 
 long_fits : (z : ℤ) → IfOk (long_of z) (FitsSigned w32)
-long_fits (pos n) = by_test (leb n 2147483647) refl
-  where
-    by_test : (b : Bool) → leb n 2147483647 ≡ b → IfOk (cond b (Ok (pos n)) (Err OutOfRange)) (FitsSigned w32)
-    by_test true is = let low = leb-true n 2147483647 is in omega (arith, ints)
-    by_test false is = tt
-long_fits (negsuc n) = by_test (leb n 2147483647) refl
-  where
-    by_test : (b : Bool) → leb n 2147483647 ≡ b → IfOk (cond (b && true) (Ok (negsuc n)) (Err OutOfRange)) (FitsSigned w32)
-    by_test true is = let low = leb-true n 2147483647 is in omega (arith, ints)
-    by_test false is = tt
+long_fits (pos n) =
+    cond_both (leb n 2147483647) (Ok (pos n)) (Err OutOfRange) (λ r. IfOk r (FitsSigned w32))
+    (λ is. let low = leb-true n 2147483647 is in omega (arith, ints)) (λ _. tt)
+long_fits (negsuc n) =
+    cond_both (leb n 2147483647 && true) (Ok (negsuc n)) (Err OutOfRange) (λ r. IfOk r (FitsSigned w32))
+    (λ is. let low = leb-true n 2147483647 (and_parts (leb n 2147483647) true is).0 in omega (arith, ints)) (λ _. tt)
 
 wide_in_range : (z : ℤ) → IfOk (in_range (negsuc 9223372036854775807) (pos 18446744073709551615) z) (λ x. cast_unsigned w64 x < 2 ^ 64)
-wide_in_range (pos n) = by_test (leb n 18446744073709551615) refl
-  where
-    by_test : (b : Bool) → leb n 18446744073709551615 ≡ b → IfOk (cond b (Ok (pos n)) (Err OutOfRange)) (λ x. cast_unsigned w64 x < 2 ^ 64)
-    by_test true is = let low = leb-true n 18446744073709551615 is in omega (arith, ints)
-    by_test false is = tt
-wide_in_range (negsuc n) = by_test (leb n 9223372036854775807) refl
-  where
-    by_test : (b : Bool) → leb n 9223372036854775807 ≡ b → IfOk (cond (b && true) (Ok (negsuc n)) (Err OutOfRange)) (λ x. cast_unsigned w64 x < 2 ^ 64)
-    by_test true is = let low = leb-true n 9223372036854775807 is in omega (arith, ints)
-    by_test false is = tt
+wide_in_range (pos n) =
+    cond_both (leb n 18446744073709551615) (Ok (pos n)) (Err OutOfRange) (λ r. IfOk r (λ x. cast_unsigned w64 x < 2 ^ 64))
+    (λ is. let low = leb-true n 18446744073709551615 is in omega (arith, ints)) (λ _. tt)
+wide_in_range (negsuc n) =
+    cond_both (leb n 9223372036854775807 && true) (Ok (negsuc n)) (Err OutOfRange) (λ r. IfOk r (λ x. cast_unsigned w64 x < 2 ^ 64))
+    (λ is. let low = leb-true n 9223372036854775807 (and_parts (leb n 9223372036854775807) true is).0 in omega (arith, ints)) (λ _. tt)
 
 word_in_range : (z : ℤ) → IfOk (in_range (negsuc 2147483647) (pos 4294967295) z) (λ x. cast_unsigned w32 x < 2 ^ 32)
-word_in_range (pos n) = by_test (leb n 4294967295) refl
-  where
-    by_test : (b : Bool) → leb n 4294967295 ≡ b → IfOk (cond b (Ok (pos n)) (Err OutOfRange)) (λ x. cast_unsigned w32 x < 2 ^ 32)
-    by_test true is = let low = leb-true n 4294967295 is in omega (arith, ints)
-    by_test false is = tt
-word_in_range (negsuc n) = by_test (leb n 2147483647) refl
-  where
-    by_test : (b : Bool) → leb n 2147483647 ≡ b → IfOk (cond (b && true) (Ok (negsuc n)) (Err OutOfRange)) (λ x. cast_unsigned w32 x < 2 ^ 32)
-    by_test true is = let low = leb-true n 2147483647 is in omega (arith, ints)
-    by_test false is = tt
+word_in_range (pos n) =
+    cond_both (leb n 4294967295) (Ok (pos n)) (Err OutOfRange) (λ r. IfOk r (λ x. cast_unsigned w32 x < 2 ^ 32))
+    (λ is. let low = leb-true n 4294967295 is in omega (arith, ints)) (λ _. tt)
+word_in_range (negsuc n) =
+    cond_both (leb n 2147483647 && true) (Ok (negsuc n)) (Err OutOfRange) (λ r. IfOk r (λ x. cast_unsigned w32 x < 2 ^ 32))
+    (λ is. let low = leb-true n 2147483647 (and_parts (leb n 2147483647) true is).0 in omega (arith, ints)) (λ _. tt)
 
 immediate_fits : (text : List ℕ) → IfOk (immediate_told text) (FitsSigned w32)
 unfolding immediate_told

@@ -1,7 +1,8 @@
 -- A line that names a label jumps.
-use Rattle.std.proofs.Common.{◌≡◌, ℕ, ℤ, pos, negsuc, ◌&&◌, Bool, true, false, cond, List, drop, map, Option, Some, None, Result, Ok, Err, refl, ap, ◌∙◌}
+use Rattle.std.proofs.Common.{◌≡◌, ℕ, ℤ, pos, negsuc, ◌&&◌, List, drop, map, Option, Some, None, Result, Ok, Err, refl, ap, ◌∙◌}
 use Rattle.std.specs.Prelude.{IfOk, IfSome, int_le, ok_or}
 use Rattle.std.specs.List.{AllByRecursion, before_first, position_or_len}
+use Rattle.std.proofs.lemmas.Bool.{cond_both}
 use Rattle.instruction_set.specs.declared.instruction.Instruction.{Instruction}
 use Rattle.instruction_set.specs.declared.instruction.Instruction.TheVariants as instructions
 use Rattle.ebpf_asm.specs.declared.mnemonic.Mnemonic.{Mnemonic}
@@ -26,11 +27,8 @@ abbrev pub Jumps : Instruction → Type 0
 Jumps instruction = (distance : ℤ) (made : Instruction) → jump_by instruction distance ≡ Ok made → with_distance distance instruction ≡ Some made
 
 in_range_same : (least greatest z x : ℤ) → in_range least greatest z ≡ Ok x → z ≡ x
-in_range_same least greatest z x e = by (int_le least z && int_le z greatest) e
-  where
-    by : (b : Bool) → cond b (Ok z) (Err OutOfRange) ≡ Ok x → z ≡ x
-    by true is = cc
-    by false is = absurd cc
+in_range_same least greatest z x e =
+    cond_both (int_le least z && int_le z greatest) (Ok z) (Err OutOfRange) (λ r. r ≡ Ok x → z ≡ x) (λ _ is. cc) (λ _ is. absurd cc) e
 
 fitting_made : (jump : ℤ → Instruction) (distance : ℤ) (read : Result ℤ FaultKind) (made : Instruction) → ((x : ℤ) → read ≡ Ok x → distance ≡ x) → fitting jump read ≡ Ok made → jump distance ≡ made
 fitting_made jump distance (Ok x) made same e = let is : jump x ≡ made = cc in ap jump (same x refl) ∙ is

@@ -1,5 +1,5 @@
 -- The fault that a text is refused with is its first.
-use Rattle.std.proofs.Common.{◌≡◌, ◌≢◌, ℕ, ◌+◌, ◌*◌, ◌<◌, ◌≤◌, ◌==◌, zero, suc, nat_le, true, false, List, [], ◌∷◌, length, take, drop, get_or, Option, Some, None, Ok, Err, refl, ap, sym, subst, ◌∙◌, arith, inl, inr, length-drop}
+use Rattle.std.proofs.Common.{◌≡◌, ℕ, ◌+◌, ◌*◌, ◌<◌, ◌≤◌, ◌==◌, nat_le, true, false, List, [], ◌∷◌, length, take, drop, get_or, Option, Some, None, Ok, Err, refl, ap, sym, subst, ◌∙◌, arith, inl, inr, length-drop, pos_of_ne-zero}
 use Rattle.std.specs.Prelude.{◌&&◌, IfSome}
 use Rattle.std.proofs.Math.Nat.{add-mul}
 use Rattle.std.proofs.lemmas.Bool.{eqb-false, eqb-true, leb-true, le-leb}
@@ -133,13 +133,9 @@ module _ (bytes : List ℕ) (h : Header) (there : 64 ≤ length bytes) (read : I
       (λ first more.
       let p = wrong (length blocks.1 == 0) tt Trailing first more in
       let some = eqb-false (length blocks.1) 0 p.0 in
-      let one : 0 < length blocks.1 = positive (length blocks.1) some in
+      let one : 0 < length blocks.1 = pos_of_ne-zero some in
       subst (IsFirstFault bytes) p.1 (read.version, zs, rows, omega (arith, one, size, front, rest, end, inside)))
       (λ done fine none. absurd cc))
-    where
-      positive : (n : ℕ) → n ≢ 0 → 0 < n
-      positive zero some = absurd (some refl)
-      positive (suc n) some = omega arith
 
   rows_first : (zs : List CountedZone) (fault : LoadFault) → given.zones * 8 ≤ length (drop 64 bytes) → TellsAllZones read.version bytes zs
       → after_rows h zs (drop (given.zones * 8) (drop 64 bytes)) ≡ Err fault → IsFirstFault bytes fault

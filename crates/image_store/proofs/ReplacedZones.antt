@@ -1,5 +1,6 @@
 -- One counted zone replaced.
-use Rattle.std.proofs.Common.{◌≡◌, ℕ, ◌+◌, ◌*◌, ◌<◌, ◌≤◌, zero, suc, Bool, true, false, nat_eq, if◌then◌else◌, List, [], ◌∷◌, length, get_or, set, drop, refl, ap, sym, subst, ◌∙◌, arith, Ok}
+use Rattle.std.proofs.Common.{◌≡◌, ℕ, ◌+◌, ◌*◌, ◌<◌, ◌≤◌, Bool, true, false, nat_eq, if◌then◌else◌, List, [], length, get_or, set, drop, refl, ap, sym, subst, ◌∙◌, arith, Ok}
+use Rattle.std.proofs.lemmas.List.Elements.{All-from_get_or, All-set}
 use Rattle.std.proofs.lemmas.Bool.{eqb-false, le-leb}
 use Rattle.std.proofs.lemmas.Bool.Decides.{nat_tests}
 use Rattle.std.proofs.lemmas.List.{length-set}
@@ -59,11 +60,7 @@ after_write_zone z n some allowed =
 -- what holds of each of a list holds of each where one that it holds of is put in a place
 pub each_set : {X : Type 0} (none : X) (P : X → Type 0) (xs : List X) (z : ℕ) (x : X)
     → ((y : ℕ) → y < length xs → P (get_or xs y none)) → P x → (y : ℕ) → y < length (set xs z x) → P (get_or (set xs z x) y none)
-each_set none P [] z new all here y h = absurd (omega arith)
-each_set none P (x ∷ xs) zero new all here zero h = here
-each_set none P (x ∷ xs) zero new all here (suc y) h = all (suc y) h
-each_set none P (x ∷ xs) (suc z) new all here zero h = all 0 (omega arith)
-each_set none P (x ∷ xs) (suc z) new all here (suc y) h = each_set none P xs z new (λ k in_list. all (suc k) (omega arith)) here y (omega arith)
+each_set none P xs z x all here y h = All-set P xs z x here (All-from_get_or P xs none all) y none h
 
 -- an allowed counted zone in one place, over bytes of the same number
 pub flat_set : (s : Shape) (zs : List CountedZone) (xs ys : List ℕ) (z : ℕ) (r : CountedZone)

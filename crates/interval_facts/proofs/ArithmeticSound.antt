@@ -6,7 +6,7 @@ use Rattle.std.proofs.lemmas.Int.{to_z_pos}
 use Rattle.std.specs.Int.{w8, w16, w32}
 use Rattle.std.specs.Prelude.{◌&&◌, nat_lt}
 use Rattle.instruction_set.specs.declared.operation.Operation.{Operation}
-use Rattle.instruction_set.specs.declared.operation.Operation.TheVariants.{Add, Subtract, Multiply, Divide, SignedDivide, Or, And, LeftShift, RightShift, Modulo, SignedModulo, Xor, Move, ArithmeticShift}
+use Rattle.instruction_set.specs.declared.operation.Operation.TheVariants.{Add, Subtract, Move}
 use Rattle.instruction_set.specs.declared.operation.SignExtension.{SignExtension}
 use Rattle.instruction_set.specs.declared.operation.SignExtension.TheVariants.{Bits8To32, Bits16To32, Bits8To64, Bits16To64, Bits32To64}
 use Rattle.instruction_set.specs.declared.operation.Swap.{Swap}
@@ -76,17 +76,7 @@ combined_64_law : (operation : Operation) (d s : Fact) (x y : ℕ) → ContainsW
 combined_64_law Add d s x y hd hs = added_law d s x y hd hs
 combined_64_law Subtract d s x y hd hs = subtracted_law d s x y hd hs
 combined_64_law Move d s x y hd hs = hs
-combined_64_law Multiply d s x y hd hs = general_law Bits64 Multiply d s x y hd hs
-combined_64_law Divide d s x y hd hs = general_law Bits64 Divide d s x y hd hs
-combined_64_law SignedDivide d s x y hd hs = general_law Bits64 SignedDivide d s x y hd hs
-combined_64_law Or d s x y hd hs = general_law Bits64 Or d s x y hd hs
-combined_64_law And d s x y hd hs = general_law Bits64 And d s x y hd hs
-combined_64_law LeftShift d s x y hd hs = general_law Bits64 LeftShift d s x y hd hs
-combined_64_law RightShift d s x y hd hs = general_law Bits64 RightShift d s x y hd hs
-combined_64_law Modulo d s x y hd hs = general_law Bits64 Modulo d s x y hd hs
-combined_64_law SignedModulo d s x y hd hs = general_law Bits64 SignedModulo d s x y hd hs
-combined_64_law Xor d s x y hd hs = general_law Bits64 Xor d s x y hd hs
-combined_64_law ArithmeticShift d s x y hd hs = general_law Bits64 ArithmeticShift d s x y hd hs
+combined_64_law operation d s x y hd hs = general_law Bits64 operation d s x y hd hs
 
 combined_of_law : (w : Width) (operation : Operation) (d s : Fact) (x y : ℕ) → ContainsWord d x → ContainsWord s y
     → ContainsWord (combined_of w operation d s) (computed (Binary w operation) x y)
@@ -163,19 +153,7 @@ both_known a d s x y hd hs are =
 known_law : (a : Arithmetic) (d s : Fact) (x y : ℕ) → ContainsWord d x → ContainsWord s y → are_known a d s ≡ true
     → computed a x y ≡ computed a (bounds_of d).low (bounds_of s).low
 known_law (Binary w Move) d s x y hd hs are = ap (low_bits w) (is_known_word s y hs are)
-known_law (Binary w Add) d s x y hd hs are = both_known (Binary w Add) d s x y hd hs are
-known_law (Binary w Subtract) d s x y hd hs are = both_known (Binary w Subtract) d s x y hd hs are
-known_law (Binary w Multiply) d s x y hd hs are = both_known (Binary w Multiply) d s x y hd hs are
-known_law (Binary w Divide) d s x y hd hs are = both_known (Binary w Divide) d s x y hd hs are
-known_law (Binary w SignedDivide) d s x y hd hs are = both_known (Binary w SignedDivide) d s x y hd hs are
-known_law (Binary w Or) d s x y hd hs are = both_known (Binary w Or) d s x y hd hs are
-known_law (Binary w And) d s x y hd hs are = both_known (Binary w And) d s x y hd hs are
-known_law (Binary w LeftShift) d s x y hd hs are = both_known (Binary w LeftShift) d s x y hd hs are
-known_law (Binary w RightShift) d s x y hd hs are = both_known (Binary w RightShift) d s x y hd hs are
-known_law (Binary w Modulo) d s x y hd hs are = both_known (Binary w Modulo) d s x y hd hs are
-known_law (Binary w SignedModulo) d s x y hd hs are = both_known (Binary w SignedModulo) d s x y hd hs are
-known_law (Binary w Xor) d s x y hd hs are = both_known (Binary w Xor) d s x y hd hs are
-known_law (Binary w ArithmeticShift) d s x y hd hs are = both_known (Binary w ArithmeticShift) d s x y hd hs are
+known_law (Binary w operation) d s x y hd hs are = both_known (Binary w operation) d s x y hd hs are
 known_law (Negate w) d s x y hd hs are = ap (λ n. computed (Negate w) n 0) (is_known_word d x hd are)
 known_law (MoveSigned extension) d s x y hd hs are = ap (extended extension) (is_known_word s y hs are)
 known_law (SwapBytes swap size) d s x y hd hs are = ap (reordered swap size) (is_known_word d x hd are)

@@ -180,18 +180,8 @@ module _ (d s : Fact) (hd : IsFact d) (hs : IsFact s) where
   combined_64_is : (operation : Operation) → IsFact (combined_64 operation d s)
   combined_64_is Add = added_is d s hd hs
   combined_64_is Subtract = subtracted_is d s hd hs
-  combined_64_is Multiply = wide_is Multiply
-  combined_64_is Divide = wide_is Divide
-  combined_64_is SignedDivide = wide_is SignedDivide
-  combined_64_is Or = wide_is Or
-  combined_64_is And = wide_is And
-  combined_64_is LeftShift = wide_is LeftShift
-  combined_64_is RightShift = wide_is RightShift
-  combined_64_is Modulo = wide_is Modulo
-  combined_64_is SignedModulo = wide_is SignedModulo
-  combined_64_is Xor = wide_is Xor
   combined_64_is Move = hs
-  combined_64_is ArithmeticShift = wide_is ArithmeticShift
+  combined_64_is operation = wide_is operation
 
   combined_of_is : (w : Width) (operation : Operation) → IsFact (combined_of w operation d s)
   combined_of_is Bits32 operation = combined_is Bits32 (operand_of Bits32 d) (operand_of Bits32 s) (operand_is Bits32 d hd) (operand_is Bits32 s hs) operation

@@ -3,6 +3,7 @@ use Rattle.std.proofs.Common.{◌≡◌, ℕ, ◌+◌, ◌*◌, ◌%◌, ◌==�
 use Rattle.std.specs.Prelude.{Result}
 use Rattle.std.specs.Option.{ok_or, option_and_then, option_map}
 use Rattle.std.proofs.lemmas.Bool.{eqb-true, leb-true, le-leb, lt-ltb, ltb-true}
+use Rattle.std.proofs.lemmas.Option.{cond_some, option_and_then_some}
 use Rattle.zone_state.specs.declared.action.Action.{Action}
 use Rattle.zone_state.specs.declared.status.Status.{Status}
 use Rattle.zone_state.specs.declared.status.TheConstants.Status.{INVALID_FIELD_IN_COMMAND, INVALID_NAMESPACE_OR_FORMAT}
@@ -68,29 +69,21 @@ mapped : {X : Type 0} (P : Command → Type 0) (f : X → Command) (o : Option X
 mapped P f None c each e = absurd cc
 mapped P f (Some x) c each e = one P (f x) c (each x refl) e
 
-chained : {X : Type 0} (P : Command → Type 0) (f : X → Option Command) (o : Option X) (c : Command) → ((x : X) → o ≡ Some x → f x ≡ Some c → P c) → option_and_then f o ≡ Some c → P c
-chained P f None c each e = absurd cc
-chained P f (Some x) c each e = each x refl e
-
 passed : (P : Command → Type 0) (test : Bool) (found : Option Command) (c : Command) → (test ≡ true → found ≡ Some c → P c) → cond test found None ≡ Some c → P c
 passed P true found c each e = each refl e
 passed P false found c each e = absurd cc
 
-within : (test : Bool) (x y : ℕ) → cond test (Some x) None ≡ Some y → (y ≡ x) × (test ≡ true)
-within true x y e = (cc, refl)
-within false x y e = absurd cc
-
 -- a slot that there is
 slot_told : (number slot : ℕ) → program_slot_of number ≡ Some slot → (slot ≡ number) × (slot < 8)
 slot_told number slot e =
-    let told = within (nat_lt number 8) number slot e in
-    let few = ltb-true number 8 told.1 in (told.0, omega (arith, told.0, few))
+    let told = cond_some (nat_lt number 8) number slot e in
+    let few = ltb-true number 8 told.0 in (sym told.1, omega (arith, told.1, few))
 
 -- a number of dwords that one command moves
 pub count_told : (count dwords : ℕ) → dwords_of count ≡ Some dwords → (dwords ≡ count + 1) × (4 * dwords ≤ MOST_TRANSFER)
 count_told count dwords e =
-    let told = within (nat_le (4 * (count + 1)) MOST_TRANSFER) (count + 1) dwords e in
-    let few = leb-true (4 * (count + 1)) MOST_TRANSFER told.1 in (told.0, omega (arith, told.0, few))
+    let told = cond_some (nat_le (4 * (count + 1)) MOST_TRANSFER) (count + 1) dwords e in
+    let few = leb-true (4 * (count + 1)) MOST_TRANSFER told.0 in (sym told.1, omega (arith, told.1, few))
 
 pub spelled_by : (o : Opcode) (entry : List ℕ) (c : Command) → slice_index entry 0 ≡ code o → command_of o entry ≡ Some c → Spells entry c
 spelled_by opcode.Write entry c is e = one (Spells entry) (command.Standard (Write (starting_lba entry) (asked_blocks entry))) c (is, refl, refl) e
@@ -101,13 +94,12 @@ spelled_by opcode.ZoneManagementSend entry c is e =
     (λ what told. (is, refl, told, refl)) e
 spelled_by opcode.ZoneManagementReceive entry c is e =
     let made = λ (dwords : ℕ) (filter : ZoneFilter). command.Standard (Receive (starting_lba entry) dwords filter (slice_index entry 54 % 2 == 1)) in
-    chained (Spells entry) (λ (dwords : ℕ). cond (slice_index entry 52 == 0x00) (option_map (made dwords) (filter_of (slice_index entry 53))) None) (dwords_of (dword entry 12)) c
+    option_and_then_some (λ (dwords : ℕ). cond (slice_index entry 52 == 0x00) (option_map (made dwords) (filter_of (slice_index entry 53))) None) (dwords_of (dword entry 12)) c e
     (λ dwords count. passed (Spells entry) (slice_index entry 52 == 0x00) (option_map (made dwords) (filter_of (slice_index entry 53))) c
     (λ reports. mapped (Spells entry) (made dwords) (filter_of (slice_index entry 53)) c
     (λ filter told.
     let number = count_told (dword entry 12) dwords count in
     (is, refl, number.0, number.1, eqb-true (slice_index entry 52) 0x00 reports, told, refl))))
-    e
 spelled_by opcode.Run entry c is e =
     mapped (Spells entry)
     (λ (slot : ℕ). command.Run record { lba = starting_lba entry; blocks = asked_blocks entry; slot = slot; argument = dword entry 13; destination = field entry 56 8 })

@@ -4,6 +4,7 @@ use Rattle.std.specs.List.{AllByRecursion}
 use Rattle.byteorder.specs.Endian.{little_bytes}
 use Rattle.emit_append.specs.OutputBlocks.{AreAllBytes, AreWhole}
 use Rattle.emit_append.proofs.Proved.{AllBytes, by_recursion}
+use Rattle.std.proofs.lemmas.List.Elements.{All-from_recursion}
 use Rattle.program_interface.proofs.Proved.{low_first}
 use Rattle.program_interface.specs.Bytes.{AreBytes}
 
@@ -34,6 +35,4 @@ blocks_by_place block (b ∷ bs) whole are =
     (record { whole = whole 0 (omega arith); are = are 0 }, blocks_by_place block bs (λ i less. whole (suc i) (omega (arith, less))) (λ i. are (suc i)))
 
 pub whole_at : (block : ℕ) (blocks : List (List ℕ)) → AreBlocks block blocks → (i : ℕ) → i < length blocks → length (get_or blocks i []) ≡ block
-whole_at block [] h i less = absurd (omega (arith, less))
-whole_at block (b ∷ bs) h zero less = h.0.whole
-whole_at block (b ∷ bs) h (suc i) less = whole_at block bs h.1 i (omega (arith, less))
+whole_at block blocks h i less = (All-from_recursion (IsBlock block) blocks h i [] less).whole

@@ -48,7 +48,3 @@ spelled holds (Append lba blocks) input some fit = (some, fit)
 spelled holds (Read lba blocks) input some fit = tt
 spelled holds (Send lba action select_all) input some fit = tt
 spelled holds (Receive lba dwords filter partial) input some fit = tt
-
-pub just_one : (step : NamespaceEvent) → IsSpelled step → All IsSpelled (step ∷ [])
-just_one step is zero other h = is
-just_one step is (suc k) other h = absurd (omega arith)

@@ -4,6 +4,7 @@ use Rattle.std.specs.Prelude.{IfSome, is_some, nat_le}
 use Rattle.std.specs.List.{AllByRecursion}
 use Rattle.std.proofs.lemmas.Bool.{leb-true}
 use Rattle.std.proofs.lemmas.List.{length-map}
+use Rattle.std.proofs.lemmas.List.Elements.{All-cons, All-nil}
 use Rattle.zone_state.specs.State.{is_open}
 use Rattle.zone_state.specs.declared.status.Status.{Status}
 use Rattle.zone_state.specs.declared.status.TheConstants.Status.{INVALID_FIELD_IN_COMMAND, NO_SUCH_PROGRAM, SOURCE_NOT_WRITTEN, DESTINATION_NOT_OPEN, DESTINATION_LACKS_ROOM}
@@ -58,7 +59,6 @@ use Rattle.pushdown.proofs.Outcomes.{HasWhole, ends_with_last, no_groups, outcom
 use Rattle.pushdown.proofs.Places.{AreApart, held_at, left_apart, new_apart, started_apart}
 use Rattle.pushdown.proofs.TurnsFit.{turn_appended, turn_sound}
 use Rattle.pushdown.proofs.RunsFit.{Rooms, kept_rooms, now_room, turn_rooms}
-use Rattle.pushdown.proofs.Spelled.{just_one}
 
 -- ---- the source
 
@@ -137,7 +137,7 @@ module _ {D : Type 0} (operations : Operations D) (never : AcceptedNeverTraps op
   step_fine s step h same is_spelled =
       let kept_shape = shapes_are_kept step s.namespace in
       record {
-        is = events_keep_namespaces (step ∷ []) s.namespace h.is (just_one step is_spelled);
+        is = events_keep_namespaces (step ∷ []) s.namespace h.is (All-cons IsSpelled step [] is_spelled (All-nil IsSpelled));
         size = ap (λ (x : Shape). x.block) kept_shape ∙ h.size;
         slots = h.slots;
         places = h.places;

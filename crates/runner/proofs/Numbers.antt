@@ -1,14 +1,14 @@
 -- The numbers of runs, free and active, by what a device holds.
 use Rattle.std.proofs.Common.{◌≡◌, ℕ, ◌+◌, Bool, cond, List, [], ◌∷◌, length, map, Option, Some, None, refl, ap, ◌∙◌}
-use Rattle.std.specs.Prelude.{not, nat_lt, is_none, is_some, position}
+use Rattle.std.specs.Prelude.{not, nat_lt, is_none, is_some, option_map, position}
 use Rattle.std.specs.List.{position_or_len}
 use Rattle.std.proofs.lemmas.List.{length-map}
 use Rattle.image_store.specs.Namespace.{ZonedNamespace}
 use Rattle.pushdown.specs.Admission.{Loaded}
 use Rattle.pushdown.specs.Draining.{lowest_run}
 use Rattle.pushdown.specs.State.{free_place}
-use Rattle.pushdown.specs.View.{Active, seen}
-use Rattle.runner.specs.DeviceState.{loaded_slot, running, device_state}
+use Rattle.pushdown.specs.View.{place_of, seen}
+use Rattle.runner.specs.DeviceState.{active_of, loaded_slot, running, device_state}
 use Rattle.runner.specs.declared.active_run.ActiveRun.{ActiveRun}
 use Rattle.runner.specs.declared.loaded_program.LoadedProgram.{LoadedProgram}
 
@@ -25,30 +25,23 @@ module _ {X Y : Type 0} (f : X → Y) (p : X → Bool) (q : Y → Bool) (same : 
       ap (λ (n : ℕ). cond (nat_lt n (length (map f xs))) (Some n) None) (mapped_or_len xs)
       ∙ ap (λ (n : ℕ). cond (nat_lt (position_or_len p xs) n) (Some (position_or_len p xs)) None) (length-map xs f)
 
-module _ (ns : ZonedNamespace) (slots : List (Option Loaded)) where
-  seen_none : (run : Option Active) → is_none (seen ns slots run) ≡ is_none run
-  seen_none None = refl
-  seen_none (Some a) = refl
+-- what is made of an option is there where that is
+module _ {X Y : Type 0} (f : X → Y) where
+  mapped_none : (x : Option X) → is_none (option_map f x) ≡ is_none x
+  mapped_none None = refl
+  mapped_none (Some x) = refl
 
-  seen_some : (run : Option Active) → is_some (seen ns slots run) ≡ is_some run
-  seen_some None = refl
-  seen_some (Some a) = refl
-
-running_none : (run : Option ActiveRun) → is_none (running run) ≡ is_none run
-running_none None = refl
-running_none (Some a) = refl
-
-running_some : (run : Option ActiveRun) → is_some (running run) ≡ is_some run
-running_some None = refl
-running_some (Some a) = refl
+  mapped_some : (x : Option X) → is_some (option_map f x) ≡ is_some x
+  mapped_some None = refl
+  mapped_some (Some x) = refl
 
 module _ (ns : ZonedNamespace) (slots : List (Option LoadedProgram)) (runs : List (Option ActiveRun)) where
   pub free_is : free_place (device_state ns slots runs) ≡ position is_none runs
   free_is =
-      position_mapped (seen ns (map loaded_slot slots)) is_none is_none (seen_none ns (map loaded_slot slots)) (map running runs)
-      ∙ position_mapped running is_none is_none running_none runs
+      position_mapped (seen ns (map loaded_slot slots)) is_none is_none (mapped_none (place_of ns (map loaded_slot slots))) (map running runs)
+      ∙ position_mapped running is_none is_none (mapped_none active_of) runs
 
   pub lowest_is : lowest_run (device_state ns slots runs) ≡ position is_some runs
   lowest_is =
-      position_mapped (seen ns (map loaded_slot slots)) is_some is_some (seen_some ns (map loaded_slot slots)) (map running runs)
-      ∙ position_mapped running is_some is_some running_some runs
+      position_mapped (seen ns (map loaded_slot slots)) is_some is_some (mapped_some (place_of ns (map loaded_slot slots))) (map running runs)
+      ∙ position_mapped running is_some is_some (mapped_some active_of) runs

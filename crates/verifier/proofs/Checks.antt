@@ -6,7 +6,7 @@ use Rattle.std.proofs.lemmas.Bool.Decides.{nat_tests}
 use Rattle.instruction_set.specs.Instruction.{distance_of, is_emit, target}
 use Rattle.instruction_set.proofs.Proved.{begins_inside}
 use Rattle.instruction_set.specs.declared.instruction.Instruction.{Instruction}
-use Rattle.instruction_set.specs.declared.instruction.Instruction.TheVariants.{LoadImmediate, Load, LoadSigned, StoreImmediate, StoreRegister, Arithmetic, Negate, MoveSigned, SwapBytes, Jump, JumpLong, Branch, Call, Exit}
+use Rattle.instruction_set.specs.declared.instruction.Instruction.TheVariants.{Call}
 use Rattle.program_interface.specs.declared.block_size.TheConstants.{LARGEST_BLOCK}
 use Rattle.program_interface.specs.RunSizes.{Sizes}
 use Rattle.word_domain.specs.Domain.{Operations}
@@ -65,16 +65,4 @@ module _ {D : Type 0} (operations : Operations D) where
       within_limit (is_emit (Call helper)) sizes.limit (facts.emitted + 2 + greatest_length operations facts)
       (free program sizes slot facts (Call helper) none UnknownHelper)
       (free program sizes slot facts (Call helper) none EmitLimit) fits
-  room_left program sizes slot facts (LoadImmediate dst value) none fits = tt
-  room_left program sizes slot facts (Load size dst src offset) none fits = tt
-  room_left program sizes slot facts (LoadSigned size dst src offset) none fits = tt
-  room_left program sizes slot facts (StoreImmediate size dst offset value) none fits = tt
-  room_left program sizes slot facts (StoreRegister size dst src offset) none fits = tt
-  room_left program sizes slot facts (Arithmetic width operation dst source) none fits = tt
-  room_left program sizes slot facts (Negate width dst) none fits = tt
-  room_left program sizes slot facts (MoveSigned extension dst src) none fits = tt
-  room_left program sizes slot facts (SwapBytes swap size dst) none fits = tt
-  room_left program sizes slot facts (Jump distance) none fits = tt
-  room_left program sizes slot facts (JumpLong distance) none fits = tt
-  room_left program sizes slot facts (Branch width relation dst source distance) none fits = tt
-  room_left program sizes slot facts Exit none fits = tt
+  room_left program sizes slot facts i none fits = tt

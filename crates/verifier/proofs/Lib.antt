@@ -5,4 +5,4 @@ pub mod Gifts
 pub mod Checks
 pub mod Refusals
 pub mod Sizes
-pub mod Judgements
+pub mod Emitted

@@ -2,6 +2,7 @@
 use Rattle.std.proofs.Common.{◌≡◌, ℕ, zero, suc, ◌+◌, ◌*◌, ◌/◌, ◌<◌, ◌≤◌, Bool, true, false, cond, List, [], ◌∷◌, ◌++◌, length, get_or, Option, None, Ok, ap, sym, subst, ◌∙◌, arith, length-append}
 use Rattle.std.specs.Prelude.{nat_eq}
 use Rattle.std.proofs.Math.Nat.{mul-div_cancel}
+use Rattle.std.proofs.lemmas.List.Elements.{All-append, All-from_get_or}
 use Rattle.zone_state.specs.Zone.{IsZone, write_check, write_refusal, after_write, written_state}
 use Rattle.zone_state.specs.declared.state.ZoneState.{ZoneState}
 use Rattle.zone_state.specs.declared.state.ZoneState.TheVariants.{Empty, ImplicitlyOpened, ExplicitlyOpened, Closed, ReadOnly, Full, Offline}
@@ -22,9 +23,7 @@ use Rattle.zns_commands.proofs.GivenWay.{HasRoom, has_room, room_sound, written_
 each_append : (P : List ℕ → Type 0) (xs ys : List (List ℕ))
     → ((i : ℕ) → i < length xs → P (get_or xs i [])) → ((i : ℕ) → i < length ys → P (get_or ys i []))
     → (i : ℕ) → i < length (xs ++ ys) → P (get_or (xs ++ ys) i [])
-each_append P [] ys front back i h = back i h
-each_append P (x ∷ xs) ys front back zero h = front 0 (omega arith)
-each_append P (x ∷ xs) ys front back (suc i) h = each_append P xs ys (λ k in_list. front (suc k) (omega arith)) back i (omega arith)
+each_append P xs ys front back i h = All-append P xs ys (All-from_get_or P xs [] front) (All-from_get_or P ys [] back) i [] h
 
 bytes_append : (xs ys : List (List ℕ)) → ((i : ℕ) → AreBytes (get_or xs i [])) → ((i : ℕ) → AreBytes (get_or ys i []))
     → (i : ℕ) → AreBytes (get_or (xs ++ ys) i [])

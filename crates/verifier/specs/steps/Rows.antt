@@ -1,5 +1,5 @@
 -- The facts of the slots, each in a box of its own.
-use Rattle.std.specs.Prelude.{ℕ, Bool, true, false, Box, List, get_or, option_map, Option, Some, None}
+use Rattle.std.specs.Prelude.{ℕ, Box, List, get_or, option_map, Option, None}
 use Rattle.accepted_programs.specs.declared.facts.Facts.{Facts}
 use Rattle.accepted_programs.specs.declared.reason.Refusal.{Refusal}
 use Rattle.verifier.specs.declared.rows.Refused.{Refused}

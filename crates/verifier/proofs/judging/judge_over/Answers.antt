@@ -5,7 +5,7 @@ use Rattle.accepted_programs.specs.Accepted.{refusal_at}
 use Rattle.accepted_programs.specs.Facts.{facts_at}
 use Rattle.accepted_programs.specs.Emitted.{group_in}
 use Rattle.verifier.specs.steps.Rows.{held, held_at, refusal_in}
-use Rattle.verifier.proofs.Judgements.{most_more}
+use Rattle.verifier.proofs.Emitted.{most_more}
 use Rattle.accepted_programs.proofs.Proved.{refusal_is_at_its_slot}
 use Rattle.verifier.proofs.Refusals.{first_found, none_more, rows_more}
 use Rattle.verifier.proofs.judging.judge_over.Goals as goal
