@@ -1,6 +1,5 @@
 -- A Write, an Append and a Run that entries spell have at least one block, and what is so spelled.
-use Rattle.std.proofs.Common.{◌≡◌, ℕ, zero, suc, ◌+◌, ◌≤◌, List, [], ◌∷◌, Ok, arith}
-use Rattle.std.specs.Prelude.{All}
+use Rattle.std.proofs.Common.{◌≡◌, ℕ, ◌+◌, ◌≤◌, List, Ok, arith}
 use Rattle.zone_resources.specs.declared.holds.Holds.{Holds}
 use Rattle.nvme_entry.specs.Entry.{decoded}
 use Rattle.nvme_entry.specs.declared.command.Command.{Command}
@@ -9,7 +8,7 @@ use Rattle.nvme_entry.specs.declared.command.StandardCommand.{StandardCommand}
 use Rattle.nvme_entry.specs.declared.command.StandardCommand.TheVariants.{Write, Read, Send, Receive, Append}
 use Rattle.nvme_entry.proofs.Proved.{fields_are_spelled}
 use Rattle.program_interface.specs.Bytes.{AreBytes, field}
-use Rattle.zns_commands.specs.Laws.{Commanded, IsSpelled, NamespaceEvent}
+use Rattle.zns_commands.specs.Laws.{Commanded, IsSpelled}
 
 abbrev pub HasBlocks : Command → Type 0
 HasBlocks (commands.Standard (Write lba blocks)) = 1 ≤ blocks

@@ -4,7 +4,6 @@ use Rattle.std.specs.Prelude.{not, nat_lt, is_none, is_some, option_map, positio
 use Rattle.std.specs.List.{position_or_len}
 use Rattle.std.proofs.lemmas.List.{length-map}
 use Rattle.image_store.specs.Namespace.{ZonedNamespace}
-use Rattle.pushdown.specs.Admission.{Loaded}
 use Rattle.pushdown.specs.Draining.{lowest_run}
 use Rattle.pushdown.specs.State.{free_place}
 use Rattle.pushdown.specs.View.{place_of, seen}
