@@ -5,7 +5,7 @@ use Rattle.std.proofs.lemmas.Bool.{cases_lt, cond_both}
 use Rattle.instruction_set.proofs.Proved.{begins_inside}
 use Rattle.instruction_set.specs.Program.{instruction_at, instruction_count}
 use Rattle.instruction_set.specs.declared.instruction.Instruction.{Instruction}
-use Rattle.program_meaning.proofs.Proved.{begins_at_instruction, decided_goes, keeps_group_limit, keeps_read_only, keeps_state, leads_to_instruction, runs_by_outcome}
+use Rattle.program_meaning.proofs.Proved.{begins_at_instruction, decided_goes, keeps_group_limit, keeps_read_only, keeps_state, leads_to_instruction, runs_by_step_end}
 use Rattle.program_meaning.specs.Cause.{is_exit, least_cause}
 use Rattle.program_meaning.specs.Effect.{register}
 use Rattle.program_meaning.specs.BlockRun.{BlockRun, block_run_of, continued, ran}
@@ -149,10 +149,10 @@ module _ {D : Type 0} {IsFact : D → Type 0} {contains : D → ℕ → Type 0} 
     -- a state that a run comes to by slots that are passed
     comes : (fuel n : ℕ) (s : State) → Holds s → ((k : ℕ) → k < fuel → IsPassedAt (run k n s).state.slot)
         → Holds (run fuel n s).state
-    comes zero n s holds passed = rw (runs_by_outcome program sizes.limit n s).0 holds
+    comes zero n s holds passed = rw (runs_by_step_end program sizes.limit n s).0 holds
     comes (suc fuel) n s holds passed =
         let P : BlockRun → Type 0 = λ r. IsPassedAt r.state.slot in
-        elim (steps s holds (subst P (runs_by_outcome program sizes.limit n s).0 (passed 0 (omega arith)))) [
+        elim (steps s holds (subst P (runs_by_step_end program sizes.limit n s).0 (passed 0 (omega arith)))) [
           | inl ends ↦ rw (ended fuel n s ends) holds
           | inr leads ↦ rw (led fuel n s leads.to leads.goes)
               (comes fuel (n + 1) leads.to leads.holds

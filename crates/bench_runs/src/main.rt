@@ -17,7 +17,7 @@ use std::alloc::Global;
 use std::rt::{Env, Files};
 use std::{env, fs, io};
 use work::{
-    BLOCK, CACHED, MOST_BLOCKS, SOURCE, ZONE_SIZE, admission, appends, cached_turns, copies,
+    BLOCK, CACHED, SOURCE, TRANSFER_BLOCKS, ZONE_SIZE, admission, appends, cached_turns, copies,
     events, fill, load_filter, refusal, source_reads, whole_run,
 };
 use zns_commands::{Geometry, Image, Limits, MOST_TRANSFER};
@@ -111,8 +111,8 @@ fn compare_appends(
     for _ in 0..rounds {
         small = small.min(appends(rt, rt.alloc(), device, 1, data)?);
         small_copy = small_copy.min(copies(rt, rt.alloc(), &mut target, 1)?);
-        large = large.min(appends(rt, rt.alloc(), device, MOST_BLOCKS, data)?);
-        large_copy = large_copy.min(copies(rt, rt.alloc(), &mut target, MOST_BLOCKS)?);
+        large = large.min(appends(rt, rt.alloc(), device, TRANSFER_BLOCKS, data)?);
+        large_copy = large_copy.min(copies(rt, rt.alloc(), &mut target, TRANSFER_BLOCKS)?);
     }
     println!(rt;
         "Appends of 4 KiB at {} % of the rate of copies",

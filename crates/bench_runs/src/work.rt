@@ -26,7 +26,7 @@ pub const CACHED: u16 = 64;
 const REFUSALS: usize = 1000;
 
 /// The blocks of the largest transfer.
-pub const MOST_BLOCKS: u16 = (MOST_TRANSFER / BLOCK as usize) as u16;
+pub const TRANSFER_BLOCKS: u16 = (MOST_TRANSFER / BLOCK as usize) as u16;
 
 /// The first of the two bytes of a completion's status field (NVMe Base 2.0, 3.3.3.2).
 const STATUS: usize = 14;

@@ -1,4 +1,4 @@
--- Which fault of a text is told: that of the lowest line.
+-- Which fault of a text is told: that of the lowest line that has one by itself, or else that jumps amiss.
 use Rattle.std.specs.Prelude.{◌≡◌, ℕ, ◌+◌, ◌<◌, List, take, slice_get, Option, Some, None, option_and_then, Result, Ok, ◌⊎◌}
 use Rattle.std.specs.Result.{result_err}
 use Rattle.instruction_set.specs.declared.instruction.Instruction.{Instruction}

@@ -47,7 +47,8 @@ impl FaultKind {
     }
 }
 
-/// The lowest line, counted from 1, that can't be assembled, and why.
+/// The line that is told, counted from 1, and why it can't be assembled: the lowest that has a fault by itself, or where
+/// none has, the lowest that jumps amiss.
 #[derive(Clone, Copy, Debug, PartialEq, Eq, Error)]
 #[error("line {line}: {kind}")]
 pub struct Fault {

@@ -124,7 +124,7 @@ pub(crate) fn long_distance(text: &[u8]) -> Result<i32, FaultKind>
     }
 }
 
-/// The label that a jump's target is, if it is one.
+/// The label that a text is, if it is one.
 pub(crate) fn label(text: &[u8]) -> Option<&[u8]>
     ensures { option_copied result ≡ label_of text.now }
 {

@@ -212,7 +212,7 @@ fn each_kind_has_its_number(rt: HostRuntime) {
 }
 
 #[test]
-fn the_lowest_fault_is_told(rt: HostRuntime) -> Result<(), Fail> {
+fn the_first_fault_is_told(rt: HostRuntime) -> Result<(), Fail> {
     for (text, line, kind) in REFUSED {
         assert_eq!(rt; fault_of(rt.alloc(), text)?, (line, kind), "{text}");
     }

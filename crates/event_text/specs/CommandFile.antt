@@ -98,7 +98,7 @@ events_from number (line ∷ rest) = line_before number (line_told line) (events
 abbrev pub events_in : List ℕ → Result (List ToldEvent) ℕ
 events_in file = events_from 1 (lines file)
 
--- the fault is that of the lowest line that is refused, or memory ran out
+-- the fault has the number of the lowest line that is refused, or memory ran out
 abbrev pub RefusesFile : ParseFault → Result (List ToldEvent) ℕ → Type 0
 RefusesFile (Line number fault) meant = meant ≡ Err number
 RefusesFile Memory meant = Unit {0}

@@ -64,7 +64,7 @@ numbers_in s = numbers_tested (tested s)
 abbrev pub version_in : List ℕ → Option Version
 version_in bytes = find (λ version. starts_with (λ a b. a == b) bytes (numbers_of_version version).magic) (One ∷ Two ∷ [])
 
--- the shapes that there are, but in no text of the version
+-- the checks of a shape that there is, in order: the version has blocks of its size, and so many zones (profile)
 abbrev pub version_checks : Version → Shape → List (Option LoadFault)
 version_checks version s =
     demand (has_block version s.block) (fault.Header (header_fault.VersionBlock version s.block))

@@ -1,4 +1,4 @@
-//! What no clause says: images that were written down byte by byte, and what is told of bytes that are none.
+//! Images that were written down byte by byte, and what is told of bytes that are none.
 
 use image_store::{
     Buffer, Geometry, GeometryRefusal, HeaderFault, Image, Limits, LoadFault, Sink, Version,
@@ -52,6 +52,7 @@ fn written(alloc: Global) -> Result<Vec<u8>, AllocError> {
     Ok(text)
 }
 
+/// The fault that a text is refused with, if it is.
 fn fault_of(alloc: Global, text: &[u8]) -> Option<LoadFault> {
     let mut source = text;
     match Image::load(alloc, &mut source) {

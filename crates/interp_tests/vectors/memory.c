@@ -1,6 +1,6 @@
 // Prints src/tests/vectors.rt: what gcc makes of loads and stores, on a little-endian host.
 // gcc -O1 -fwrapv memory.c && ./a.out > ../src/tests/vectors.rt && rm a.out && rt fmt
-// The words that are stored and the immediates are the pairs.
+// The words that are stored and the immediates are the firsts and the seconds of each third pair.
 #include "../../program_meaning/vectors/pairs.h"
 #include <stdio.h>
 #include <string.h>

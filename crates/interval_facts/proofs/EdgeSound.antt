@@ -1,15 +1,17 @@
 -- Words that belong to two facts, and between which a relation holds, belong to what its edge keeps.
-use Rattle.std.proofs.Common.{ℕ, ℤ, ◌≡◌, ◌≢◌, ◌+◌, ◌-◌, ◌^◌, ◌<◌, ◌≤◌, Bool, true, false, not, min, max, Option, Some, None, inl, inr, refl, subst, arith}
+use Rattle.std.proofs.Common.{ℕ, ℤ, ◌≡◌, ◌≢◌, ◌+◌, ◌-◌, ◌^◌, ◌<◌, ◌≤◌, Bool, true, false, not, min, max, Option, Some, None, inl, inr, refl, subst, arith, sym}
 use Rattle.std.proofs.Math.Nat.{mod-eq_of_lt}
 use Rattle.std.proofs.lemmas.Bool.{cond_both, ltb-true, ltb-false, leb-true, leb-false, eqb-true, eqb-false, and_parts, or_cases, or_parts, not-true, not-false}
 use Rattle.std.specs.Prelude.{◌==◌, ◌&&◌, ◌||◌}
+use Rattle.std.specs.Bool.{beq}
+use Rattle.std.specs.Cmp.{booleans_Decides}
 use Rattle.instruction_set.specs.declared.operation.Relation.{Relation}
 use Rattle.instruction_set.specs.declared.operation.Relation.TheVariants.{Equal, Greater, GreaterOrEqual, AnyBitSet, NotEqual, SignedGreater, SignedGreaterOrEqual, Less, LessOrEqual, SignedLess, SignedLessOrEqual}
 use Rattle.instruction_set.specs.declared.operation.Width.{Width}
 use Rattle.instruction_set.specs.declared.operation.Width.TheVariants.{Bits32, Bits64}
 use Rattle.program_meaning.specs.Word.{is_taken, low_bits, relates, signed}
 use Rattle.word_domain.specs.Domain.{BelongAfter}
-use Rattle.interval_facts.specs.Edge.{agrees, as_facts, at_most, different, edge_of, equal, exchanged, fits, is_empty, less, narrowed, refine_of, refine_words, without}
+use Rattle.interval_facts.specs.Edge.{as_facts, at_most, different, edge_of, equal, exchanged, fits, is_empty, less, narrowed, refine_of, refine_words, without}
 use Rattle.interval_facts.specs.Fact.{ContainsWord, IsWithin, is_single, range}
 use Rattle.word_domain.specs.declared.bounds.Bounds.{Bounds}
 use Rattle.interval_facts.specs.declared.fact.Fact.{Fact}
@@ -98,11 +100,6 @@ low_is : (width : Width) (b : Bounds) (x : ℕ) → IsWithin b x → fits width 
 low_is Bits32 b x within small = let e = ltb-true b.high (2 ^ 32) small in mod-eq_of_lt {n = x} {m = 2 ^ 32} (omega arith)
 low_is Bits64 b x within small = refl
 
-agreed : (taken answer : Bool) → answer ≡ taken → agrees taken answer ≡ true
-agreed true answer is = is
-agreed false true is = cc
-agreed false false is = refl
-
 refine_words_law : (width : Width) (relation : Relation) (taken : Bool) (d s : Bounds) (same : Bool) (x y : ℕ)
     → ContainsWord (Words d) x → ContainsWord (Words s) y → is_taken width relation x y ≡ taken
     → BelongAfter ContainsWord x y (refine_words width relation taken d s same)
@@ -114,12 +111,12 @@ refine_words_law width relation taken d s same x y hd hs is =
     let second = eqb-true s.low s.high both.1 in
     let dst : x ≡ d.low = omega arith in
     let source : y ≡ s.low = omega arith in
-    cond_both (agrees taken (is_taken width relation d.low s.low)) _ _ (BelongAfter ContainsWord x y)
+    cond_both (beq taken (is_taken width relation d.low s.low)) _ _ (BelongAfter ContainsWord x y)
     (λ _. (hd, hs))
     (λ disagrees.
-    let agree : agrees taken (is_taken width relation d.low s.low) ≡ true =
-    subst (λ n. agrees taken (is_taken width relation d.low n) ≡ true) source
-    (subst (λ n. agrees taken (is_taken width relation n y) ≡ true) dst (agreed taken (is_taken width relation x y) is)) in
+    let agree : beq taken (is_taken width relation d.low s.low) ≡ true =
+    subst (λ n. beq taken (is_taken width relation d.low n) ≡ true) source
+    (subst (λ n. beq taken (is_taken width relation n y) ≡ true) dst ((booleans_Decides taken (is_taken width relation x y)).1 (sym is))) in
     (cc)))
     (λ _. cond_both (same || not (fits width d) || not (fits width s)) _ _ (BelongAfter ContainsWord x y)
     (λ _. (hd, hs))

@@ -4,6 +4,7 @@ use Rattle.std.proofs.Math.Pow.{shr_mono}
 use Rattle.std.proofs.lemmas.Bool.{and_parts, cond_both, leb-true, ltb-false, ltb-true, or_cases, or_parts}
 use Rattle.std.proofs.lemmas.Int.{ints, to_z_pos}
 use Rattle.std.proofs.lemmas.Nat.{mul-le}
+use Rattle.std.specs.Bool.{beq}
 use Rattle.std.specs.Int.{cast_signed, int_max, int_min, w64}
 use Rattle.std.specs.Ordering.{int_eq}
 use Rattle.std.specs.Prelude.{◌==◌, ◌&&◌, ◌||◌, ◌≤ℤ◌, IfSome, int_le, nat_le, nat_lt, not}
@@ -28,7 +29,7 @@ use Rattle.word_domain.specs.Domain.{GiveFacts}
 use Rattle.word_domain.specs.declared.bounds.Bounds.{Bounds}
 use Rattle.interval_facts.specs.Arithmetic.{sum_of, alu_of, are_known, combined_64, combined_of, cut, estimated, extended_of, moved_back, moved_on, operand_of, signed_bounds, difference_of, swapped_of, unsigned_below}
 use Rattle.interval_facts.specs.Constants.{both_widened, constants}
-use Rattle.interval_facts.specs.Edge.{FactPair, agrees, as_facts, at_most, different, edge_of, equal, exchanged, fits, is_empty, less, narrowed, refine_of, refine_words, without}
+use Rattle.interval_facts.specs.Edge.{FactPair, as_facts, at_most, different, edge_of, equal, exchanged, fits, is_empty, less, narrowed, refine_of, refine_words, without}
 use Rattle.interval_facts.specs.Fact.{IsFact, bounds_of, farthest, full, is_single, join_of, loaded_of, pointer_to, range, widened}
 use Rattle.interval_facts.specs.Intervals.{intervals}
 use Rattle.interval_facts.specs.Range.{combined, difference, half, if_positive, number_count, product, quotient, remainder, shifted_left, shifted_left_by, shifted_right, sum}
@@ -265,7 +266,7 @@ words_are : (width : Width) (relation : Relation) (taken : Bool) (d s : Bounds) 
     → AreFacts (refine_words width relation taken d s same)
 words_are width relation taken d s same hd hs =
     cond_both (is_single d && is_single s) _ _ (λ o. AreFacts o)
-    (λ _. cond_both (agrees taken (is_taken width relation d.low s.low)) _ _ (λ o. AreFacts o) (λ _. (hd, hs)) (λ _. tt))
+    (λ _. cond_both (beq taken (is_taken width relation d.low s.low)) _ _ (λ o. AreFacts o) (λ _. (hd, hs)) (λ _. tt))
     (λ _. cond_both (same || not (fits width d) || not (fits width s)) _ _ (λ o. AreFacts o)
     (λ _. (hd, hs))
     (λ _. as_facts_is (narrowed relation taken d s) (narrowed_is relation taken d s hd hs)))

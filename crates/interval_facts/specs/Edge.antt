@@ -1,5 +1,6 @@
 -- What an edge of a compare tells of its operands (profile).
 use Rattle.std.specs.Prelude.{ℕ, Bool, true, false, Option, Some, None, ◌+◌, ◌-◌, ◌^◌, ◌==◌, ◌&&◌, ◌||◌, nat_lt, not, min, max, if◌then◌else◌}
+use Rattle.std.specs.Bool.{beq}
 use Rattle.std.specs.Option.{option_map}
 use Rattle.instruction_set.specs.declared.operation.Relation.{Relation}
 use Rattle.instruction_set.specs.declared.operation.Relation.TheVariants.{Equal, Greater, GreaterOrEqual, AnyBitSet, NotEqual, SignedGreater, SignedGreaterOrEqual, Less, LessOrEqual, SignedLess, SignedLessOrEqual}
@@ -84,17 +85,12 @@ abbrev pub fits : Width → Bounds → Bool
 fits Bits32 b = nat_lt b.high (2 ^ 32)
 fits Bits64 b = true
 
--- does this edge go with what the compare comes to?
-abbrev pub agrees : Bool → Bool → Bool
-agrees true b = b
-agrees false b = not b
-
 -- the facts of destination and source along an edge of a compare; the last says that both are one
 -- register
 abbrev pub refine_words : Width → Relation → Bool → Bounds → Bounds → Bool → Option (Fact × Fact)
 refine_words width relation taken d s same =
     if is_single d && is_single s
-    then (if agrees taken (is_taken width relation d.low s.low) then Some (Words d, Words s) else None)
+    then (if beq taken (is_taken width relation d.low s.low) then Some (Words d, Words s) else None)
     else
     if same || not (fits width d) || not (fits width s) then Some (Words d, Words s) else
     as_facts (narrowed relation taken d s)

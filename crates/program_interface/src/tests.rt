@@ -1,4 +1,4 @@
-//! The block sizes, and the context of a worked example.
+//! The sizes of blocks and of runs, the context of a worked example, the areas, the registers and the most slots.
 
 use crate::{Area, BLOCK_SIZES, BlockSize, Context, MOST_SLOTS, RunSizes, start_registers};
 

@@ -38,7 +38,8 @@ pub fn outcome_is_packed()
     ensures { OutcomeIsPacked }
 {}
 
-/// What a run appends to its destination, unpacked, is the records that its program emitted, in order.
+/// In each state that events leave, what a Run that is admitted there appends to its destination, unpacked, is the records
+/// that its program emitted, in order.
 pub fn outcome_unpacks<D: Domain>()
     ensures { OutcomeUnpacks D.operations }
 {}
@@ -207,15 +208,15 @@ pub fn written_blocks_read_back<D: Domain>()
     ensures { WrittenBlocksReadBack D.operations }
 {}
 
-/// What a run has appended is read from where its destination ended at admission, after each of its turns
-/// and whatever events happen then, until the destination is reset or goes offline. After its last
-/// turn the blocks that are read there unpack to the records that its program emitted, in order.
+/// What a run has appended that was admitted in a state that events leave is read from where its destination ended at
+/// admission, after each of its turns and whatever events happen then, until the destination is reset or goes offline.
+/// After its last turn the blocks that are read there unpack to the records that its program emitted, in order.
 pub fn appended_by_runs_reads_back<D: Domain>()
     ensures { AppendedByRunsReadsBack D.operations }
 {}
 
-/// After a run's last turn a Result of its slot gives the 1024 scratch bytes that its last block run left,
-/// whatever events happen then, until a run of the slot ends or a Load of it succeeds.
+/// After the last turn of a run that was admitted in a state that events leave, a Result of its slot gives the 1024 scratch
+/// bytes that its last block run left, whatever events happen then, until a run of the slot ends or a Load of it succeeds.
 pub fn results_read_back<D: Domain>()
     ensures { ResultsReadBack D.operations }
 {}

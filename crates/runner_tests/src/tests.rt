@@ -16,6 +16,7 @@ use zone_state::Action;
 
 mod admitting;
 mod draining;
+mod entries_and_faults;
 mod holds;
 mod loading;
 mod refusing;
@@ -23,7 +24,6 @@ mod running;
 mod scenes;
 mod states;
 mod steps;
-mod submissions;
 
 /// Room for the data of a reply.
 fn room(rt: &impl Abort, alloc: Global) -> Vec<u8>

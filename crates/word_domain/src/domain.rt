@@ -53,7 +53,8 @@ pub trait Domain: Copy {
         ensures { result ≡ operations.join self other };
 
     /// What an arithmetic instruction makes of its destination and its source (RFC 9669, 4.1 and
-    /// 4.2). Where it takes one of them alone, any fact may stand for the other.
+    /// 4.2). Where it takes one of them alone, any fact that a word
+    /// belongs to may stand for the other.
     fn alu(arithmetic: Arithmetic, dst: Self, source: Self) -> Self
         ensures { result ≡ operations.alu arithmetic dst source };
 

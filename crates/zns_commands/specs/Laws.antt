@@ -92,7 +92,7 @@ pub record ChangesNothing (ns : ZonedNamespace) (done : Effect) : Type 0 where
   pub dw1 : done.dw1 ≡ 0
   pub output : done.output ≡ []
 
--- a command is done whole or not at all
+-- a command whose status isn't success leaves the namespace as it was, and gives nothing
 abbrev pub RefusedCommandsChangeNothing : Type 0
 RefusedCommandsChangeNothing =
     (ns : ZonedNamespace) (holds : Holds) (command : StandardCommand) (input : List ℕ)

@@ -180,7 +180,7 @@ impl fmt::Display for ZoneState {
 
 impl ZoneState {
     /// One word for the state, which a user reads and writes (profile): a zone that a write opened is `implicit`, one
-    /// that a command opened `explicit`.
+    /// that the action Open opened `explicit`.
     pub fn word(self) -> &'static str
         ensures { result.now ≡ state_word self }
     {

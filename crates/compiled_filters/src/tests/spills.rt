@@ -3,7 +3,7 @@
 //! the C and the block alone.
 //!
 //! Each filter has a word on the stack that has to be known when it is loaded again, behind an emit or where branches meet:
-//! of an address of any bytes its first use is refused. Which slots load these words stands beside the filter, as `zscli
+//! were it any bytes, its first use would be refused. Which slots load these words stands beside the filter, as `zscli
 //! disasm --slots` numbers them.
 
 mod addresses;

@@ -71,7 +71,7 @@ const CLOSING: &[Case] = &[
 
 const SCENES: &[Scene] = &[
     Scene {
-        name: "all zones but a source",
+        name: "a reset of all zones, of which a run holds two",
         shape: FOUR_ZONES,
         zones: "full 01*6, explicit, full 02*6, empty",
         steps: RESET_OF_ALL,

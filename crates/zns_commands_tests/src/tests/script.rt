@@ -23,7 +23,7 @@ pub const EMPTY: ZoneState = ZoneState::Empty;
 /// A write opened the zone.
 pub const IMPLICIT: ZoneState = ZoneState::ImplicitlyOpened;
 
-/// A command opened it.
+/// The action Open opened it.
 pub const EXPLICIT: ZoneState = ZoneState::ExplicitlyOpened;
 
 /// It is active, and not open.
