@@ -1,4 +1,4 @@
-# Sourced with `rounds` set. `best`: the least nanoseconds that a command takes in so many rounds.
+# Sourced. `best`: the least nanoseconds that a command takes in as many rounds as `rounds` says then.
 best() {
     least=
     for _ in $(seq "$rounds"); do

@@ -33,7 +33,7 @@ none_of_fault source path text (Fault fault) (AssemblyRefused told refusal) is f
 none_of_fault source path text (Fault fault) _ is found = absurd is
 none_of_fault source path text Memory failure is found = subst (λ (f : Failure). MakesNone source path text f) (sym is) tt
 
--- the source file couldn't be read
+-- the text file couldn't be read
 pub fails_unread : (contents : List ℕ → Option (List ℕ)) (source : Bor (List ℕ)) (asked named : List ℕ) → source.now ≡ asked
     → (failure : Failure) → IsUnread source failure → AsmFails contents asked named failure
 fails_unread contents source asked named is_asked (CannotRead told cause) is = ap (λ (b : Bor (List ℕ)). b.now) is ∙ is_asked

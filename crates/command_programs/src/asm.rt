@@ -84,7 +84,7 @@ pub fn asm<'a, F: Files>(
     )
 }
 
-/// Makes a file of the program that the text of a source assembles to.
+/// Makes a file of the program that a text assembles to.
 fn make<'a, F: Files>(
     alloc: Global,
     source: &'a str,
