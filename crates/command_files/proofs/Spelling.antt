@@ -10,13 +10,10 @@ use Rattle.std.proofs.lemmas.Bool.{and_parts, false_from_ne_true, ltb-true, lt-l
 use Rattle.std.proofs.lemmas.Bool.Decides.{Decides-eqb}
 use Rattle.std.proofs.lemmas.Slice.Eq.{starts_is}
 use Rattle.std.proofs.lemmas.Str.Parse.{without_leading_plus_none}
+use Rattle.text_lines.proofs.Proved.{all_digits}
 use Rattle.command_files.specs.Number.{numeral_of, spelled}
 
--- digits, told by a test
-all_told : (radix : ℕ) (ds : List ℕ) → AllDigits radix ds → list_all (λ byte. is_digit byte radix) ds ≡ true
-all_told radix [] all = refl
-all_told radix (d ∷ ds) all = rw (lt-ltb (digit_value d) radix all.0) (all_told radix ds all.1)
-
+-- bytes that pass the test of a radix's digits are digits of it
 told_all : (radix : ℕ) (ds : List ℕ) → list_all (λ byte. is_digit byte radix) ds ≡ true → AllDigits radix ds
 told_all radix [] told = tt
 told_all radix (d ∷ ds) told =
@@ -31,7 +28,7 @@ none_unless false b c n h = refl
 
 numeral_if : {E : Type 0} (radix : ℕ) (ds : List ℕ) (r : Result ℕ E) → OkIff r (IsNumeral radix ds × (digits_value radix ds < 2 ^ 64)) (digits_value radix ds) → result_ok r ≡ numeral_of radix ds
 numeral_if radix ds (Ok n) h =
-    rw (all_told radix ds h.0.0.1, lt-ltb 0 (length ds) h.0.0.0, lt-ltb (digits_value radix ds) (2 ^ 64) h.0.1) (ap Some h.1)
+    rw (all_digits radix ds h.0.0.1, lt-ltb 0 (length ds) h.0.0.0, lt-ltb (digits_value radix ds) (2 ^ 64) h.0.1) (ap Some h.1)
 numeral_if radix ds (Err e) h =
     none_unless (list_all (λ byte. is_digit byte radix) ds) (ltb 0 (length ds)) (ltb (digits_value radix ds) (2 ^ 64)) (digits_value radix ds)
     (λ all some small. h ((ltb-true _ _ some, told_all radix ds all), ltb-true _ _ small))

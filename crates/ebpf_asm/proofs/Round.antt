@@ -8,20 +8,17 @@ use Rattle.std.proofs.lemmas.Bool.Decides.{nat_tests}
 use Rattle.std.proofs.lemmas.List.{length-append}
 use Rattle.std.specs.List.{list_all}
 use Rattle.std.specs.Char.{is_digit, digit_value}
-use Rattle.std.specs.Str.Parse.{AllDigits, IsNumeral, digits_value}
+use Rattle.std.specs.Str.Parse.{IsNumeral, digits_value}
 use Rattle.std.specs.Fmt.{decimal, signed_decimal, digits}
 use Rattle.std.proofs.Math.Bool.{and-false}
 use Rattle.std.proofs.lemmas.Bool.{lt-ltb, le-leb, ne_eqb}
 use Rattle.std.proofs.lemmas.Fmt.{decimal_is_IsNumeral, digits_is_IsNumeral, decimal_digit, decimal_step}
 use Rattle.std.proofs.lemmas.Str.Parse.{digit_from_value}
+use Rattle.text_lines.proofs.Proved.{all_digits}
 use Rattle.ebpf_asm.specs.declared.fault.FaultKind.TheVariants.{Operand, OutOfRange}
 use Rattle.program_interface.specs.Readings.{◌>>=◌}
 use Rattle.ebpf_asm.specs.Operand.{numeral_of, magnitude_of, literal_of, immediate_told, wide_of, in_range, register_of}
 use Rattle.ebpf_asm.specs.Listing.{register_text, wide_text}
-
-all_digits : (radix : ℕ) (ds : List ℕ) → AllDigits radix ds → list_all (λ byte. is_digit byte radix) ds ≡ true
-all_digits radix [] h = refl
-all_digits radix (d ∷ ds) h = rw (lt-ltb _ _ h.0, all_digits radix ds h.1) refl
 
 -- digits are read as the number that they write
 pub numeral_again : (radix : ℕ) (ds : List ℕ) (n : ℕ) → IsNumeral radix ds → digits_value radix ds ≡ n → n < 2 ^ 64 → numeral_of radix ds ≡ Ok n

@@ -60,6 +60,7 @@ pub record IsOfSlot (slots : List Fields) (fault : Fault) : Type 0 where
 abbrev pub IsBehindLength : List ℕ → Fault → Type 0
 IsBehindLength bytes fault = NoneFails (length_checks (length bytes)) × IsOfSlot (slots_at (length bytes / 8) bytes) fault
 
--- the first fault of some bytes: that of their length, or else that of the lowest slot where no instruction begins
+-- the first fault of some bytes: that of their length, or else that of the slot that has whole instructions alone before it
+-- and at which none begins
 abbrev pub IsFirstFault : List ℕ → Fault → Type 0
 IsFirstFault bytes fault = IsOfLength bytes fault ⊎ IsBehindLength bytes fault

@@ -330,7 +330,8 @@ fn length_fault(len: usize) -> Option<FaultKind>
 ///
 /// # Errors
 ///
-/// The fault of the length, at slot 0; or else that of the lowest slot where no instruction begins. Or want of memory.
+/// The fault of the length, at slot 0; or else that of the slot that has whole instructions alone before
+/// it and at which none begins. Or want of memory.
 pub fn decode(alloc: Global, bytes: &[u8]) -> Result<Program, DecodeFault>
     // Which program or fault it is.
     ensures exact { Gives fault_in (λ program. program) result (decoded_program bytes.now) }

@@ -22,8 +22,8 @@ pub fn fault_is_inside()
     ensures { FaultIsInside }
 {}
 
-/// A refusal tells the first fault: that of the length, or else the lowest slot where no instruction
-/// begins, though those before it are instructions, and of its checks the first that fails.
+/// A refusal tells the first fault: that of the length, or else that of the slot that has whole
+/// instructions alone before it and at which none begins, by the first of its checks that fails.
 pub fn fault_is_first()
     ensures { FaultIsFirst }
 {}

@@ -4,5 +4,5 @@ pub mod Need
 pub mod PackedLaw
 pub mod OutputBlocks
 pub mod Packer
-pub mod Refusal
 pub mod Unpacking
+pub mod Refusal

@@ -11,7 +11,7 @@ use crate::operation::{
 use crate::register::Register;
 use program_interface::{EMIT, MOST_SLOTS};
 
-/// The second operand of an arithmetic or a compare (RFC 9669, 4.1).
+/// The second operand of an arithmetic or a compare (RFC 9669, 4).
 #[derive(Clone, Copy, Debug, PartialEq, Eq)]
 pub enum Source {
     /// A number in the instruction, sign-extended where 64 bits are wanted.
