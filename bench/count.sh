@@ -14,7 +14,8 @@ for version in v2 v3; do
         xxd -p -c 8 "$program"
         echo end
     done
-done | awk '
+done > "$work/slots"
+awk '
 function hex(digit) { return index("0123456789abcdef", digit) - 1 }
 # an instruction by its first byte: class in the low three bits
 function name(byte,   high, low, class, what) {
@@ -46,7 +47,7 @@ skip { skip = 0; next }
     if (before != "") here[before " -> " now]++
     before = now
 }
-END { for (i in share) printf "%7.1f %s\n", 1000 * share[i] / programs, i }' | sort -rn > "$work/shares"
+END { for (i in share) printf "%7.1f %s\n", 1000 * share[i] / programs, i }' "$work/slots" | sort -rn > "$work/shares"
 grep -v -e '->' "$work/shares" | head -n 40
 echo
 grep -e '->' "$work/shares" | head -n 40

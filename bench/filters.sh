@@ -35,7 +35,8 @@ for file in "$work"/*.bin; do
         theirs=0
     fi
     echo "$name $checked $prepared $theirs"
-done | awk 'NF == 4 {
+done > "$work/times"
+awk 'NF == 4 {
     printf "%s: checked %.1f ns, prepared %.1f ns", $1, $2 / 1000, $3 / 1000
     if ($4) {
         printf ", DPDK %.1f ns, ratios %.2f and %.2f", $4 / 1000, $2 / $4, $3 / $4
@@ -45,4 +46,4 @@ done | awk 'NF == 4 {
     next
 }
 { print }
-END { if (count) printf "geometric mean of %d: %.2f\n", count, exp(sum / count) }'
+END { if (count) printf "geometric mean of %d: %.2f\n", count, exp(sum / count) }' "$work/times"

@@ -163,7 +163,7 @@ fn compare_refusals(
     let (mut one, mut many, mut one_in_small) = (u128::MAX, u128::MAX, u128::MAX);
     for _ in 0..rounds {
         one = one.min(refusal(rt, alloc, large, u64::from(SOURCE), 1, data)?);
-        many = many.min(refusal(rt, alloc, large, u64::from(SOURCE), SOURCE, data)?);
+        many = many.min(refusal(rt, alloc, large, u64::from(SOURCE) - 8, SOURCE, data)?);
         one_in_small = one_in_small.min(refusal(rt, alloc, small, u64::from(CACHED), 1, data)?);
     }
     println!(rt;

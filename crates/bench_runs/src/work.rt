@@ -210,18 +210,18 @@ pub fn admission(
     Ok(least)
 }
 
-/// Runs that are refused, over so many blocks from `unwritten` on, or from one of the 7 blocks behind it, none of which is
+/// Runs that are refused, over so many blocks from `first` on, or from one of the 7 blocks behind it, of which the last isn't
 /// written, to the zone whose lowest block is `to`.
-fn refused_runs(alloc: Global, unwritten: u64, blocks: u16, to: u64) -> io::Result<Vec<Event>> {
+fn refused_runs(alloc: Global, first: u64, blocks: u16, to: u64) -> io::Result<Vec<Event>> {
     let mut events = Vec::with_capacity(alloc, REFUSALS)?;
     for number in 0..REFUSALS as u64 {
-        let lba = unwritten.saturating_add(number % 8);
+        let lba = first.saturating_add(number % 8);
         events.push(run(lba, blocks, to, Vec::new(alloc))?)?;
     }
     Ok(events)
 }
 
-/// The nanoseconds of refusing a Run, whose blocks from one of a few on aren't written.
+/// The nanoseconds of refusing a Run, of whose blocks, from `first` on or a few behind it, the last isn't written.
 ///
 /// # Errors
 ///
@@ -230,7 +230,7 @@ pub fn refusal(
     rt: &impl Clock,
     alloc: Global,
     device: &mut Device,
-    unwritten: u64,
+    first: u64,
     blocks: u16,
     data: &mut [u8],
 ) -> io::Result<u128>
@@ -238,7 +238,7 @@ pub fn refusal(
     ensures { MOST_TRANSFER ≤ length data.new }
 {
     let lowest = u64::from(device.image().geometry().size());
-    let events = refused_runs(alloc, unwritten, blocks, lowest)?;
+    let events = refused_runs(alloc, first, blocks, lowest)?;
     let begin = Instant::now(rt)?;
     let mut admitted = false;
     for event in &events {

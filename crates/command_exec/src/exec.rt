@@ -95,6 +95,7 @@ pub fn exec<'a, F: Files, O: Write>(
     ensures made { OnOk result (MakesOne (value_of matches.now IMAGE.now) (F.made files.old) (F.made files.new)) }
     ensures one { result ≡ Err Failure.CannotPrint → MakesOne (value_of matches.now IMAGE.now) (F.made files.old) (F.made files.new) }
     ensures kept { IfErr result (λ failure. failure ≢ Failure.CannotPrint → F.made files.new ≡ F.made files.old) }
+    ensures contents { IfErr result (λ failure. failure ≢ Failure.CannotPrint → F.contents files.new ≡ F.contents files.old) }
 {
     let path = required(matches, IMAGE);
     let image = image_file::load(alloc, path, files)?;
@@ -124,6 +125,7 @@ fn run<'a, F: Files, O: Write>(
     ensures made { OnOk result (MakesOne path.now (F.made files.old) (F.made files.new)) }
     ensures one { result ≡ Err Failure.CannotPrint → MakesOne path.now (F.made files.old) (F.made files.new) }
     ensures kept { IfErr result (λ failure. failure ≢ Failure.CannotPrint → F.made files.new ≡ F.made files.old) }
+    ensures contents { IfErr result (λ failure. failure ≢ Failure.CannotPrint → F.contents files.new ≡ F.contents files.old) }
 {
     let mut lines = Lines::new(alloc, out)?;
     let mut data = vec![in alloc; 0; MOST_TRANSFER]?;

@@ -2,7 +2,7 @@
 
 ghost use Rattle.std.specs.Prelude.{◌≡◌, ◌≢◌, ◌≤◌, IfErr, IfOk, IfSome, None, OnOk, OnErr};
 ghost use Rattle.program_interface.specs.BlockSize.{block_size as size_of_bytes};
-ghost use Rattle.command_files.specs.Made.{then_made};
+ghost use Rattle.command_files.specs.Made.{HasReplaced, then_made};
 ghost use Rattle.command_files.specs.UserTold.{IsUnread, IsUnwritten, told_unread, told_unwritten};
 
 use crate::files::{FileFault, Files};
@@ -35,6 +35,8 @@ pub fn read<'a, F: Files>(path: &'a str, files: &mut F) -> Result<Vec<u8>, Failu
 pub fn write<'a, F: Files>(path: &'a str, bytes: &[u8], files: &mut F) -> Result<(), Failure<'a>>
     ensures made { OnOk result (F.made files.new ≡ then_made (F.made files.old) path.now bytes.now) }
     ensures kept { OnErr result (F.made files.new ≡ F.made files.old) }
+    ensures replaced { OnOk result (HasReplaced path.now bytes.now (F.contents files.old) (F.contents files.new)) }
+    ensures contents { OnErr result (F.contents files.new ≡ F.contents files.old) }
     ensures unwritten { IfErr result (IsUnwritten path.entry) }
 {
     match files.write(path, bytes) {

@@ -96,6 +96,7 @@ pub fn format<'a, F: Files>(
     ensures failed { IfErr result (FormatFails matches.now (value_of matches.now IMAGE.now)) }
     ensures made { OnOk result (MakesOne (value_of matches.now IMAGE.now) (F.made files.old) (F.made files.new)) }
     ensures kept { OnErr result (F.made files.new ≡ F.made files.old) }
+    ensures contents { OnErr result (F.contents files.new ≡ F.contents files.old) }
 {
     let geometry = geometry(matches)?;
     let image = Image::empty(alloc, geometry)?;

@@ -35,8 +35,8 @@ Example: a program that emits the first 8 bytes of each block whose first byte i
   mov r1, r2
   mov r2, 8
   call 1
-  mov r0, 0
-  done: exit";
+  done: mov r0, 0
+  exit";
 
 /// How the command stands on the command line.
 ///
@@ -72,6 +72,7 @@ pub fn asm<'a, F: Files>(
     ensures failed { IfErr result (AsmFails (F.contents files.old) (value_of matches.now TEXT.now) (value_of matches.now PROGRAM.now)) }
     ensures made { OnOk result (MakesOne (value_of matches.now PROGRAM.now) (F.made files.old) (F.made files.new)) }
     ensures kept { OnErr result (F.made files.new ≡ F.made files.old) }
+    ensures contents { OnErr result (F.contents files.new ≡ F.contents files.old) }
 {
     let source = required(matches, TEXT);
     let text = read(source, files)?;
@@ -96,6 +97,7 @@ fn make<'a, F: Files>(
     ensures failed { IfErr result (MakesNone source.entry path.entry text.now) }
     ensures made { OnOk result (MakesOne path.now (F.made files.old) (F.made files.new)) }
     ensures kept { OnErr result (F.made files.new ≡ F.made files.old) }
+    ensures contents { OnErr result (F.contents files.new ≡ F.contents files.old) }
 {
     match assemble(alloc, text) {
         Ok(program) => write(path, program.as_slice(), files),

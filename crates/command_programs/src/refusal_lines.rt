@@ -126,12 +126,12 @@ impl RefusedInstruction<'_> {
         let (emitted, limit) = (self.facts.emitted as u64, self.sizes.limit());
         let most = self.facts.get(Register::R2).bounds().high;
         let before = Counted(emitted, "byte");
-        let frame = Counted(most, "byte");
+        let record = Counted(most, "byte");
         let length = FRAME_LENGTH_BYTES as u64;
         let after = u128::from(emitted) + u128::from(length) + u128::from(most);
         writeln!(
             out,
-            "behind {before}, {length} for its length and {frame} come to {after}, and {limit} may be emitted"
+            "behind {before}, {length} for its length and {record} come to {after}, and {limit} may be emitted"
         )
     }
 
