@@ -54,7 +54,7 @@ ahead_is : (slot : ℕ) (distance : ℤ) → goes_back (Some distance) ≡ false
 ahead_is slot (pos n) forth = (refl, omega arith)
 ahead_is slot (negsuc n) forth = cc
 
--- a frame of at most so many bytes
+-- the frame of a record of at most so many bytes
 frame_length : (m : Memory) (address n : ℕ) → length (frame (bytes_at m address n)) ≤ 2 + n
 frame_length m address n =
     let taken = length-take n (bytes_from m (area_offset_of (length m.block) address n)) in

@@ -27,8 +27,8 @@ use Rattle.program_interface.specs.declared.area.Area.{Area}
 use Rattle.program_interface.specs.RunSizes.{AreSizes, Sizes}
 use Rattle.word_domain.specs.Domain.{IsSound, Operations}
 use Rattle.program_meaning.proofs.Proved.{areas_are_apart, blocks_are_short}
-use Rattle.accepted_programs.specs.Accepted.{begins_at, fails, greatest_length, leads_nowhere, least_length, loads_outside, stores_outside, turns_away}
-use Rattle.accepted_programs.specs.Facts.{area_of, fact, slot_behind}
+use Rattle.accepted_programs.specs.Accepted.{begins_at, fails, leads_nowhere, loads_outside, stores_outside, turns_away}
+use Rattle.accepted_programs.specs.Facts.{area_of, fact, greatest_length, least_length, slot_behind}
 use Rattle.accepted_programs.proofs.KnownFacts.{AreFacts}
 use Rattle.accepted_programs.specs.Meets.{Meets}
 use Rattle.accepted_programs.proofs.Registers.{word_of}

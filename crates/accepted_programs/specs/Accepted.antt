@@ -10,7 +10,7 @@ use Rattle.program_meaning.specs.Cause.{calls_unknown, hinders_load, hinders_sto
 use Rattle.program_interface.specs.declared.area.Area.{Area}
 use Rattle.program_interface.specs.RunSizes.{Sizes}
 use Rattle.word_domain.specs.Domain.{Operations}
-use Rattle.accepted_programs.specs.Facts.{area_of, fact, facts_at, slot_behind}
+use Rattle.accepted_programs.specs.Facts.{area_of, facts_at, greatest_length, least_length, slot_behind}
 use Rattle.accepted_programs.specs.declared.facts.Facts.{Facts}
 use Rattle.accepted_programs.specs.declared.reason.Reason.{Reason}
 use Rattle.accepted_programs.specs.declared.reason.Reason.TheVariants.{JumpBack, JumpOutside, FallsOff, WriteToFramePointer, LoadOutside, StoreOutside, UnknownHelper, EmitAddress, EmitLength, EmitLimit}
@@ -75,14 +75,6 @@ module _ {D : Type 0} (operations : Operations D) where
   stores_outside block facts (Some access) = hinders_store access.kind (area_accessed block facts access)
   stores_outside block facts None = false
 
-  -- the least length that emit can be given
-  abbrev pub least_length : Facts D → ℕ
-  least_length facts = (operations.bounds (fact operations facts 2)).low
-
-  -- the greatest length that emit can be given
-  abbrev pub greatest_length : Facts D → ℕ
-  greatest_length facts = (operations.bounds (fact operations facts 2)).high
-
   module _ (program : List (Option Instruction)) (sizes : Sizes) where
     -- the reasons, each for itself
     abbrev pub fails : ℕ → Facts D → Instruction → Reason → Bool
@@ -95,8 +87,8 @@ module _ {D : Type 0} (operations : Operations D) where
     fails slot facts i UnknownHelper = calls_unknown i
     fails slot facts i EmitAddress = is_emit i && is_none (area_of operations sizes.block facts 1 (pos 0) 0)
     fails slot facts i EmitLength =
-        is_emit i && (least_length facts == 0 || is_none (area_of operations sizes.block facts 1 (pos 0) (greatest_length facts)))
-    fails slot facts i EmitLimit = is_emit i && nat_lt sizes.limit (facts.emitted + 2 + greatest_length facts)
+        is_emit i && (least_length operations facts == 0 || is_none (area_of operations sizes.block facts 1 (pos 0) (greatest_length operations facts)))
+    fails slot facts i EmitLimit = is_emit i && nat_lt sizes.limit (facts.emitted + 2 + greatest_length operations facts)
 
     -- the least reason to refuse an instruction at a slot with these facts
     abbrev pub reason_of : ℕ → Facts D → Instruction → Option Reason

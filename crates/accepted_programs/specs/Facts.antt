@@ -85,12 +85,20 @@ module _ {D : Type 0} (operations : Operations D) where
   along taken width relation dst source facts = with_both facts dst source
       (operations.refine width relation taken (fact facts dst) (compared_fact width facts source) (is_register dst source))
 
+  -- the least length of a record that emit can be given,
+  abbrev pub least_length : Facts D → ℕ
+  least_length facts = (operations.bounds (fact facts 2)).low
+
+  -- and the greatest
+  abbrev pub greatest_length : Facts D → ℕ
+  greatest_length facts = (operations.bounds (fact facts 2)).high
+
   -- after emit R0 to R5 are 0 (BPF ABI 1.0, Registers and calling convention: a call needn't keep them; that they are 0
-  -- is profile), and the group has grown by a frame of at most R2 bytes
+  -- is profile), and the group has grown by a frame: the two bytes of its length, and at most the longest record
   abbrev pub after_emit : Facts D → Facts D
   after_emit facts = record facts {
     registers = replicate CLEARED_REGISTERS (operations.constant 0) ++ drop CLEARED_REGISTERS facts.registers;
-    emitted = facts.emitted + 2 + (operations.bounds (fact facts 2)).high;
+    emitted = facts.emitted + 2 + greatest_length facts;
   }
 
   -- ---- the stack

@@ -1,6 +1,6 @@
 -- Laws of this crate, proved, and lemmas: all that the proofs of other crates cite of it.
 use Rattle.std.specs.Prelude.{◌≡◌, ℕ, List, [], ◌∷◌}
-use Rattle.emit_append.specs.Packing.{pending_of, released}
+use Rattle.emit_append.specs.Packing.{released}
 use Rattle.emit_append.specs.Unpacking.{PackedFramesReadBack, RefusedIsLowest, UnpackedIsFrames}
 use Rattle.emit_append.specs.GoingOn.{PackingGoesOn}
 use Rattle.emit_append.specs.Need.{NeedGrows, NeedIsEnough}
@@ -26,13 +26,9 @@ output_blocks_are_whole = wholes.output_blocks_are_whole
 pub output_blocks_are_bytes : OutputBlocksAreBytes
 output_blocks_are_bytes = wholes.output_blocks_are_bytes
 
--- what one group comes to: it releases no block, and all of it is pending
-pub record IsPendingAlone (block : ℕ) (group : List ℕ) : Type 0 where
-  pub released_none : released block (group ∷ []) ≡ []
-  pub pending_whole : pending_of block (group ∷ []) ≡ group
-
-pub one_group_is_pending : (block : ℕ) (group : List ℕ) → IsPendingAlone block group
-one_group_is_pending block group = record { released_none = puts.released-one block group; pending_whole = puts.pending-one block group }
+-- one group alone releases no block
+pub one_group_releases_none : (block : ℕ) (group : List ℕ) → released block (group ∷ []) ≡ []
+one_group_releases_none = puts.released-one
 
 pub packing_goes_on : PackingGoesOn
 packing_goes_on = continuing.packing_goes_on

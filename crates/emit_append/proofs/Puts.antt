@@ -15,7 +15,7 @@ pub released-one : (block : ℕ) (group : List ℕ) → released block (group �
 released-one block [] = refl
 released-one block (x ∷ xs) = ap (λ bs. all_but_last (map (padded block) bs)) (filled-one block x xs)
 
-pub pending-one : (block : ℕ) (group : List ℕ) → pending_of block (group ∷ []) ≡ group
+pending-one : (block : ℕ) (group : List ℕ) → pending_of block (group ∷ []) ≡ group
 pending-one block [] = refl
 pending-one block (x ∷ xs) = ap last_or_empty (filled-one block x xs)
 

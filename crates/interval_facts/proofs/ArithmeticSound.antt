@@ -54,27 +54,27 @@ general_law w operation d s x y hd hs = (
   words_are_computed (Binary w operation) x y (is_word d x hd) (is_word s y hs),
 )
 
-added_law : (d s : Fact) (x y : ℕ) → ContainsWord d x → ContainsWord s y → ContainsWord (sum_of d s) (computed (Binary Bits64 Add) x y)
-added_law (Words b) (Words c) x y hd hs = general_law Bits64 Add (Words b) (Words c) x y hd hs
-added_law (Pointer area low high) (Words c) x y hd hs = moved_on_law area low high c x y hd hs
-added_law (Words b) (Pointer area low high) x y hd hs =
+sum_of_law : (d s : Fact) (x y : ℕ) → ContainsWord d x → ContainsWord s y → ContainsWord (sum_of d s) (computed (Binary Bits64 Add) x y)
+sum_of_law (Words b) (Words c) x y hd hs = general_law Bits64 Add (Words b) (Words c) x y hd hs
+sum_of_law (Pointer area low high) (Words c) x y hd hs = moved_on_law area low high c x y hd hs
+sum_of_law (Words b) (Pointer area low high) x y hd hs =
     let turned : y + x ≡ x + y = omega arith in
     subst (λ n. ContainsWord (sum_of (Words b) (Pointer area low high)) (n % 2 ^ 64)) turned (moved_on_law area low high b y x hs hd)
-added_law (Pointer area low high) (Pointer area' low' high') x y hd hs =
+sum_of_law (Pointer area low high) (Pointer area' low' high') x y hd hs =
     any_law ((x + y) % 2 ^ 64) (omega arith)
 
-subtracted_law : (d s : Fact) (x y : ℕ) → ContainsWord d x → ContainsWord s y
+difference_of_law : (d s : Fact) (x y : ℕ) → ContainsWord d x → ContainsWord s y
     → ContainsWord (difference_of d s) (computed (Binary Bits64 Subtract) x y)
-subtracted_law (Words b) (Words c) x y hd hs = general_law Bits64 Subtract (Words b) (Words c) x y hd hs
-subtracted_law (Pointer area low high) (Words c) x y hd hs = moved_back_law area low high c x y hd hs
-subtracted_law (Words b) (Pointer area low high) x y hd hs = any_law ((x + (2 ^ 64 - y)) % 2 ^ 64) (omega arith)
-subtracted_law (Pointer area low high) (Pointer area' low' high') x y hd hs =
+difference_of_law (Words b) (Words c) x y hd hs = general_law Bits64 Subtract (Words b) (Words c) x y hd hs
+difference_of_law (Pointer area low high) (Words c) x y hd hs = moved_back_law area low high c x y hd hs
+difference_of_law (Words b) (Pointer area low high) x y hd hs = any_law ((x + (2 ^ 64 - y)) % 2 ^ 64) (omega arith)
+difference_of_law (Pointer area low high) (Pointer area' low' high') x y hd hs =
     any_law ((x + (2 ^ 64 - y)) % 2 ^ 64) (omega arith)
 
 combined_64_law : (operation : Operation) (d s : Fact) (x y : ℕ) → ContainsWord d x → ContainsWord s y
     → ContainsWord (combined_64 operation d s) (computed (Binary Bits64 operation) x y)
-combined_64_law Add d s x y hd hs = added_law d s x y hd hs
-combined_64_law Subtract d s x y hd hs = subtracted_law d s x y hd hs
+combined_64_law Add d s x y hd hs = sum_of_law d s x y hd hs
+combined_64_law Subtract d s x y hd hs = difference_of_law d s x y hd hs
 combined_64_law Move d s x y hd hs = hs
 combined_64_law operation d s x y hd hs = general_law Bits64 operation d s x y hd hs
 

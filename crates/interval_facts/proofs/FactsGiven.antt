@@ -162,25 +162,25 @@ operand_is : (w : Width) (f : Fact) → IsFact f → IsOrdered (operand_of w f)
 operand_is Bits32 f is = cut_is (bounds_of f) (bounds_is f is)
 operand_is Bits64 f is = bounds_is f is
 
-added_is : (d s : Fact) → IsFact d → IsFact s → IsFact (sum_of d s)
-added_is (Words d) (Words s) hd hs = sum_is Bits64 d s hd hs
-added_is (Pointer area low high) (Words s) hd hs = moved_on_is area low high s hd.1 hs
-added_is (Words d) (Pointer area low high) hd hs = moved_on_is area low high d hs.1 hd
-added_is (Pointer area low high) (Pointer area' low' high') hd hs = omega arith
+sum_of_is : (d s : Fact) → IsFact d → IsFact s → IsFact (sum_of d s)
+sum_of_is (Words d) (Words s) hd hs = sum_is Bits64 d s hd hs
+sum_of_is (Pointer area low high) (Words s) hd hs = moved_on_is area low high s hd.1 hs
+sum_of_is (Words d) (Pointer area low high) hd hs = moved_on_is area low high d hs.1 hd
+sum_of_is (Pointer area low high) (Pointer area' low' high') hd hs = omega arith
 
-subtracted_is : (d s : Fact) → IsFact d → IsFact s → IsFact (difference_of d s)
-subtracted_is (Words d) (Words s) hd hs = difference_is Bits64 d s hd hs
-subtracted_is (Pointer area low high) (Words s) hd hs = moved_back_is area low high s hd.1 hs
-subtracted_is (Words d) (Pointer area low high) hd hs = omega arith
-subtracted_is (Pointer area low high) (Pointer area' low' high') hd hs = omega arith
+difference_of_is : (d s : Fact) → IsFact d → IsFact s → IsFact (difference_of d s)
+difference_of_is (Words d) (Words s) hd hs = difference_is Bits64 d s hd hs
+difference_of_is (Pointer area low high) (Words s) hd hs = moved_back_is area low high s hd.1 hs
+difference_of_is (Words d) (Pointer area low high) hd hs = omega arith
+difference_of_is (Pointer area low high) (Pointer area' low' high') hd hs = omega arith
 
 module _ (d s : Fact) (hd : IsFact d) (hs : IsFact s) where
   wide_is : (operation : Operation) → IsOrdered (combined Bits64 operation (bounds_of d) (bounds_of s))
   wide_is operation = combined_is Bits64 (bounds_of d) (bounds_of s) (bounds_is d hd) (bounds_is s hs) operation
 
   combined_64_is : (operation : Operation) → IsFact (combined_64 operation d s)
-  combined_64_is Add = added_is d s hd hs
-  combined_64_is Subtract = subtracted_is d s hd hs
+  combined_64_is Add = sum_of_is d s hd hs
+  combined_64_is Subtract = difference_of_is d s hd hs
   combined_64_is Move = hs
   combined_64_is operation = wide_is operation
 

@@ -65,7 +65,7 @@ abbrev pub operand_of : Width → Fact → Bounds
 operand_of Bits32 f = cut (bounds_of f)
 operand_of Bits64 f = bounds_of f
 
--- a move keeps a pointer; but for it and the sums, a pointer counts as every word
+-- a move keeps a pointer; but for it, sums and differences, a pointer counts as every word
 abbrev pub combined_64 : Operation → Fact → Fact → Fact
 combined_64 Add d s = sum_of d s
 combined_64 Subtract d s = difference_of d s

@@ -4,7 +4,7 @@ use Rattle.program_meaning.specs.BlockRun.{BlockRun}
 use Rattle.program_meaning.specs.declared.end.End.{End}
 use Rattle.program_meaning.specs.declared.end.End.TheVariants as end
 use Rattle.emit_append.specs.Packing.{packed, released, pending_of}
-use Rattle.emit_append.proofs.Proved.{one_group_is_pending, packing_goes_on}
+use Rattle.emit_append.proofs.Proved.{one_group_releases_none, packing_goes_on}
 use Rattle.pushdown.proofs.BlockRuns.{few_runs}
 use Rattle.pushdown.specs.Laws.{RestAtAdmission, RestEnds, RestGoesOn, RestIsFew, further, next_turn}
 use Rattle.pushdown.specs.BlockRuns.{Task, block_run, block_runs_from, block_runs_of, goes_on, scratch_after, until_ended}
@@ -100,7 +100,7 @@ goes task so_far run next block_runs =
     let groups = so_far.pending ∷ run.state.group ∷ [] in
     let frames = so_far.frames + run.state.frames in
     let later = turns_after block (out groups frames so_far.appended) (next ∷ block_runs) in
-    ap (λ first. record { blocks = behind first (released block groups); ending = None } ∷ later) (one_group_is_pending block so_far.pending).released_none
+    ap (λ first. record { blocks = behind first (released block groups); ending = None } ∷ later) (one_group_releases_none block so_far.pending)
     ∙ ap (λ turns. next_turn task so_far run ∷ turns) (turns_on block groups [] frames so_far.appended (next ∷ block_runs))
 
 cut_not : (block : ℕ) (emitted : Emitted) (run : BlockRun) (later : List BlockRun) (on : Bool) → on ≡ true

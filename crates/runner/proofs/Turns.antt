@@ -10,7 +10,7 @@ use Rattle.program_meaning.specs.declared.end.End.{End}
 use Rattle.program_meaning.specs.declared.end.End.TheVariants as end
 use Rattle.emit_append.specs.Packer.{after_put, given_by_finish, given_by_put, new_packer}
 use Rattle.emit_append.specs.Packing.{packed, pending_of, released}
-use Rattle.emit_append.proofs.Proved.{one_group_is_pending, packing_goes_on}
+use Rattle.emit_append.proofs.Proved.{one_group_releases_none, packing_goes_on}
 use Rattle.image_store.specs.Geometry.{Shape}
 use Rattle.image_store.specs.Namespace.{ZoneBlocks, ZonedNamespace, zone_at}
 use Rattle.image_store.specs.declared.geometry.ZoneBlock.{ZoneBlock}
@@ -96,7 +96,7 @@ module _ (block : ℕ) (so_far : Progress) (run : BlockRun) where
       ap (λ (first : List (List ℕ)). record {
         blocks = behind first all;
         ending = Some (success (so_far.frames + run.state.frames) (so_far.appended + length all) (scratch_after run));
-      }) (one_group_is_pending block so_far.pending).released_none
+      }) (one_group_releases_none block so_far.pending)
   last_by (end.Trap slot cause) r0 is = cc
   last_by end.OutOfFuel r0 is = cc
 

@@ -10,9 +10,9 @@ use Rattle.instruction_set.specs.declared.instruction.Instruction.TheVariants.{C
 use Rattle.program_interface.specs.declared.block_size.TheConstants.{LARGEST_BLOCK}
 use Rattle.program_interface.specs.RunSizes.{Sizes}
 use Rattle.word_domain.specs.Domain.{Operations}
-use Rattle.accepted_programs.specs.Accepted.{begins_at, fails, greatest_length, leads_nowhere, reason_of, turns_away}
+use Rattle.accepted_programs.specs.Accepted.{begins_at, fails, leads_nowhere, reason_of, turns_away}
 use Rattle.verifier.specs.steps.Instructions.{HasRoom, StaysInside}
-use Rattle.accepted_programs.specs.Facts.{slot_behind}
+use Rattle.accepted_programs.specs.Facts.{greatest_length, slot_behind}
 use Rattle.accepted_programs.proofs.Proved.{no_reason_holds}
 use Rattle.accepted_programs.specs.declared.facts.Facts.{Facts}
 use Rattle.accepted_programs.specs.declared.reason.Reason.{Reason}

@@ -4,8 +4,8 @@ use Rattle.instruction_set.specs.Instruction.{distance_of, target}
 use Rattle.instruction_set.specs.declared.instruction.Instruction.{Instruction}
 use Rattle.instruction_set.specs.declared.instruction.Instruction.TheVariants.{Call}
 use Rattle.word_domain.specs.Domain.{Operations}
-use Rattle.accepted_programs.specs.Accepted.{greatest_length, turns_away}
-use Rattle.accepted_programs.specs.Facts.{slot_behind}
+use Rattle.accepted_programs.specs.Accepted.{turns_away}
+use Rattle.accepted_programs.specs.Facts.{greatest_length, slot_behind}
 use Rattle.accepted_programs.specs.declared.facts.Facts.{Facts}
 
 -- a call leaves the bound on the emitted bytes a number that can be counted

@@ -20,7 +20,7 @@ const EMITS: &[Row] = &[
     Text("mov r1, 0\ncall 1\nexit", 16, Refused(1, 8)),
     // The byte before the context.
     Text("sub r1, 1\nmov r2, 1\ncall 1\nexit", 3, Refused(2, 8)),
-    // A frame has at least one byte.
+    // A record has at least one byte.
     Text("mov r1, r2\nmov r2, 0\ncall 1\nexit", 2, Refused(2, 9)),
     // The block has 512 bytes.
     Text("mov r1, r2\nmov r2, 513\ncall 1\nexit", 512, Refused(2, 9)),
