@@ -1,8 +1,8 @@
 pub mod Fault
 pub mod Mnemonic
 pub mod Operand
-pub mod Statement
 pub mod Listing
+pub mod Statement
 pub mod Line
 pub mod Assembly
 pub mod LowestFault

@@ -10,7 +10,7 @@ use std::fmt;
 
 /// A status with its name, the standard's or, of type 7h, the profile's, and what it says of the command.
 #[derive(Clone, Copy, Debug)]
-struct Meaning {
+struct StatusWords {
     status: Status,
     name: &'static str,
     sentence: &'static str,
@@ -18,123 +18,123 @@ struct Meaning {
 
 /// Every status of [`Status`], in the order of the numbers. Program Trapped is among them, which no device gives: an
 /// accepted program never traps.
-const MEANINGS: &[Meaning] = &[
-    Meaning {
+const STATUSES: &[StatusWords] = &[
+    StatusWords {
         status: Status::SUCCESS,
         name: "Successful Completion",
         sentence: "the command is done",
     },
-    Meaning {
+    StatusWords {
         status: Status::INVALID_COMMAND_OPCODE,
         name: "Invalid Command Opcode",
         sentence: "the opcode is none that is supported",
     },
-    Meaning {
+    StatusWords {
         status: Status::INVALID_FIELD_IN_COMMAND,
         name: "Invalid Field in Command",
         sentence: "a field has a value that it may not have, or the data is not as long as the fields say",
     },
-    Meaning {
+    StatusWords {
         status: Status::INVALID_NAMESPACE_OR_FORMAT,
         name: "Invalid Namespace or Format",
         sentence: "the namespace is not 1",
     },
-    Meaning {
+    StatusWords {
         status: Status::LBA_OUT_OF_RANGE,
         name: "LBA Out of Range",
         sentence: "the blocks are not all in the namespace",
     },
-    Meaning {
+    StatusWords {
         status: Status::ZONE_BOUNDARY_ERROR,
         name: "Zone Boundary Error",
         sentence: "a Read or the source of a Run passes its zone's end, or a write its zone's capacity",
     },
-    Meaning {
+    StatusWords {
         status: Status::ZONE_IS_FULL,
         name: "Zone Is Full",
         sentence: "a write to a Full zone",
     },
-    Meaning {
+    StatusWords {
         status: Status::ZONE_IS_READ_ONLY,
         name: "Zone Is Read Only",
         sentence: "a write to a Read Only zone",
     },
-    Meaning {
+    StatusWords {
         status: Status::ZONE_IS_OFFLINE,
         name: "Zone Is Offline",
         sentence: "a Read of an Offline zone, a Run from one, or a write to one",
     },
-    Meaning {
+    StatusWords {
         status: Status::ZONE_INVALID_WRITE,
         name: "Zone Invalid Write",
         sentence: "a Write that does not begin at the zone's write pointer",
     },
-    Meaning {
+    StatusWords {
         status: Status::TOO_MANY_ACTIVE_ZONES,
         name: "Too Many Active Zones",
         sentence: "an active resource is wanted and none is free",
     },
-    Meaning {
+    StatusWords {
         status: Status::TOO_MANY_OPEN_ZONES,
         name: "Too Many Open Zones",
         sentence: "an open resource is wanted, none is free and no zone can be closed",
     },
-    Meaning {
+    StatusWords {
         status: Status::INVALID_ZONE_STATE_TRANSITION,
         name: "Invalid Zone State Transition",
         sentence: "the zone's state does not allow the action",
     },
-    Meaning {
+    StatusWords {
         status: Status::ZONE_HELD,
         name: "Zone Held",
         sentence: "an active run holds the zone against the command",
     },
-    Meaning {
+    StatusWords {
         status: Status::NO_SUCH_PROGRAM,
         name: "No Such Program",
         sentence: "the slot has no program",
     },
-    Meaning {
+    StatusWords {
         status: Status::PROGRAM_REFUSED,
         name: "Program Refused",
         sentence: "the bytes are no program, or it is not accepted",
     },
-    Meaning {
+    StatusWords {
         status: Status::NO_RUN_FREE,
         name: "No Run Free",
         sentence: "as many runs are active as can be",
     },
-    Meaning {
+    StatusWords {
         status: Status::SOURCE_NOT_WRITTEN,
         name: "Source Not Written",
         sentence: "not all of the blocks that the run is to read are written",
     },
-    Meaning {
+    StatusWords {
         status: Status::DESTINATION_NOT_OPEN,
         name: "Destination Not Open",
         sentence: "the zone that the run is to append to is not open",
     },
-    Meaning {
+    StatusWords {
         status: Status::DESTINATION_LACKS_ROOM,
         name: "Destination Lacks Room",
         sentence: "the zone that the run is to append to has less room than the run may need",
     },
-    Meaning {
+    StatusWords {
         status: Status::WANT_OF_MEMORY,
         name: "Want of Memory",
         sentence: "there is no memory for the program; nothing has changed",
     },
-    Meaning {
+    StatusWords {
         status: Status::PROGRAM_TRAPPED,
         name: "Program Trapped",
         sentence: "the run's program could not go on",
     },
-    Meaning {
+    StatusWords {
         status: Status::SOURCE_IS_DESTINATION,
         name: "Source Is Destination",
         sentence: "the run's source and its destination are one zone",
     },
-    Meaning {
+    StatusWords {
         status: Status::PROGRAM_IN_USE,
         name: "Program in Use",
         sentence: "an active run uses the slot's program",
@@ -151,8 +151,8 @@ impl fmt::Display for Status {
             StatusType::VendorSpecific => "; profile",
             StatusType::Generic | StatusType::CommandSpecific => "",
         };
-        match MEANINGS.iter().find(|meaning| meaning.status == *self) {
-            Some(Meaning { name, sentence, .. }) => {
+        match STATUSES.iter().find(|meaning| meaning.status == *self) {
+            Some(StatusWords { name, sentence, .. }) => {
                 write!(
                     f,
                     "{name} (type {kind}h, code {code:02X}h{whose}): {sentence}"

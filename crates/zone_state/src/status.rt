@@ -49,7 +49,7 @@ pub struct Status {
     pub code: u8,
 }
 
-/// Generic command status (NVMe Base 2.0, 3.3.3.2; LBA Out of Range is of the NVM Command Set).
+/// Generic command status (NVMe Base 2.0, 3.3.3.2; LBA Out of Range is of the NVM Command Set 1.0).
 impl Status {
     /// The command is done.
     pub const SUCCESS: Status = Status {

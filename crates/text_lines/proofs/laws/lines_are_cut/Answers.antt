@@ -1,4 +1,4 @@
-use Rattle.std.proofs.Common.{refl, sym, [], List, ℕ}
+use Rattle.std.proofs.Common.{refl, sym, []}
 use Rattle.text_lines.proofs.LineLemmas.{cut_line, lines-last}
 use Rattle.text_lines.proofs.laws.lines_are_cut.Goals as goal
 
