@@ -151,7 +151,7 @@ impl fmt::Display for Status {
             StatusType::VendorSpecific => "; profile",
             StatusType::Generic | StatusType::CommandSpecific => "",
         };
-        match STATUSES.iter().find(|meaning| meaning.status == *self) {
+        match STATUSES.iter().find(|words| words.status == *self) {
             Some(StatusWords { name, sentence, .. }) => {
                 write!(
                     f,
