@@ -7,7 +7,7 @@ pub record Sizes : Type 0 where
   pub block : ℕ
   pub limit : ℕ
 
--- a group fits a block
+-- a block has one of its sizes, and a group fits it
 pub record AreSizes (sizes : Sizes) : Type 0 where
   pub block_size : IsBlockSize sizes.block
   pub fits : sizes.limit ≤ sizes.block
