@@ -19,6 +19,7 @@ use Rattle.std.proofs.lemmas.List.Concat.{flat_map-append}
 use Rattle.std.proofs.lemmas.Result.{IfOk-at_ok}
 use Rattle.ebpf_decode.proofs.SpelledAreRead.{read-again}
 use Rattle.program_interface.specs.Bytes.{AreBytes}
+use Rattle.program_interface.proofs.Proved.{no_fault}
 use Rattle.ebpf_decode.proofs.Bytes.{FitSlot, fits-32, length-slots_bytes, slots-again, slots-bytes, slots-fields}
 use Rattle.ebpf_decode.proofs.NoFault.{none-fails}
 use Rattle.ebpf_decode.proofs.Slots.{length-slots}
@@ -198,13 +199,9 @@ program-again slots program =
 pub one-program : (a b : List (Option Instruction)) → IsProgram a → IsProgram b → program_bytes a ≡ program_bytes b → a ≡ b
 one-program a b p q same = IfOk-at_ok (λ slots. a ≡ slots) (sym (program-again a p) ∙ ap decoded_program same ∙ program-again b q) refl
 
-no-length-fault : (k : Option FaultKind) (read : Result (List (Option Instruction)) Fault) (slots : List (Option Instruction))
-    → unless_fault (option_map at_first_slot k) read ≡ Ok slots → (k ≡ None) × (read ≡ Ok slots)
-no-length-fault (Some kind) read slots e = absurd cc
-no-length-fault None read slots e = (refl, e)
-
 -- what decodes is a program, spelled by the bytes
 pub decoded-program : (bytes : List ℕ) (slots : List (Option Instruction)) → AreBytes bytes → decoded_program bytes ≡ Ok slots → IsProgram slots × (bytes ≡ program_bytes slots)
 decoded-program bytes slots fits e =
-    let ok = no-length-fault (length_fault (length bytes)) (read_slots false 0 (slots_at (length bytes / 8) bytes)) slots e in
-    program-read bytes slots fits ok.0 ok.1
+    let ok = no_fault (option_map at_first_slot (length_fault (length bytes))) (read_slots false 0 (slots_at (length bytes / 8) bytes)) slots e in
+    let no_length_fault : length_fault (length bytes) ≡ None = grind (arith, ok.0) in
+    program-read bytes slots fits no_length_fault ok.1

@@ -6,10 +6,8 @@ use Rattle.std.specs.Option.{ok_or, option_or}
 use Rattle.std.proofs.lemmas.Bool.{agree_below_at, and_parts, eqb-true, leb-false, not-false, or_parts}
 use Rattle.std.proofs.lemmas.Bool.Decides.{Decides-int_eq}
 use Rattle.std.proofs.lemmas.Int.{ints, to_z-of_z}
-use Rattle.program_interface.proofs.Proved.{found_passes}
-use Rattle.ebpf_decode.specs.declared.fault.FaultKind.{FaultKind}
+use Rattle.program_interface.proofs.Proved.{found_passes, found_where_ok, no_fault}
 use Rattle.ebpf_decode.specs.declared.fault.FaultKind.TheVariants as kinds
-use Rattle.program_interface.specs.Readings.{unless_fault}
 use Rattle.program_interface.specs.declared.registers.TheConstants.{REGISTERS}
 use Rattle.instruction_set.specs.declared.fields.Fields.{Fields}
 use Rattle.instruction_set.specs.declared.instruction.Instruction.{Instruction}
@@ -67,11 +65,6 @@ named-is : (opcode : ℕ) → opcode < 256 → is_of (opcode_named opcode) opcod
 named-is opcode h = agree_below_at (λ n. is_of (opcode_named n) n) (λ _. true) 256 opcode refl h
 
 -- ---- what an instruction without a fault knows of its fields
-
-found_without_fault : {X : Type 0} (fault : Option FaultKind) (found : Option X) (x : X) → unless_fault fault (ok_or found kinds.Value) ≡ Ok x → (fault ≡ None) × (found ≡ Some x)
-found_without_fault (Some kind) found x e = absurd cc
-found_without_fault None (Some y) x e = (refl, cc)
-found_without_fault None None x e = absurd cc
 
 zero_when : (used : Bool) (n : ℕ) → (not used && not (eqb n 0)) ≡ false → used ≡ false → n ≡ 0
 zero_when true n h e = absurd cc
@@ -261,12 +254,13 @@ read-named : (f : Fields) (next : Option Fields) (i : Instruction) (named : Opti
     → AreFields f → AreFieldsIn next → read_named named f next ≡ Ok i → Begins f next i
 read-named f next i None is fits others e = absurd cc
 read-named f next i (Some opcode) is fits others e =
-    let u = found_without_fault (first_fault opcode f next) (instruction_with opcode f next) i e in
+    let u = no_fault (first_fault opcode f next) (ok_or (instruction_with opcode f next) kinds.Value) i e in
+    let found = found_where_ok (instruction_with opcode f next) kinds.Value i u.1 in
     let v = none-fails (checks opcode f next) u.0 in
     let w = or_parts (has_unused (uses opcode) f) (is_load_immediate opcode && has_more next) v.1.1.1.0 in
     let used = is_used (uses opcode) f v.1.1.0 w.0 in
     let named : is_of (Some opcode) f.opcode ≡ true = ap (λ m. is_of m f.opcode) (sym is) ∙ named-is f.opcode fits.opcode in
-    let spelled = row opcode f next i named used v.1.0 w.1 fits others u.1 in
+    let spelled = row opcode f next i named used v.1.0 w.1 fits others found in
     record {
       fits = record {
         dst = subst (λ (s : Fields). s.dst < 11) (sym spelled.0) used.low_dst;
