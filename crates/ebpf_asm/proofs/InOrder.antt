@@ -24,7 +24,7 @@ use Rattle.ebpf_asm.specs.Laws.{LinesAreInOrder}
 use Rattle.ebpf_asm.proofs.Fitting.{Fills, LineFits, lines_fit, resolved_fits}
 use Rattle.ebpf_asm.proofs.Jumps.{Jumps, LineJumps, lines_jump}
 use Rattle.ebpf_asm.proofs.LowestFaults.{own_none}
-use Rattle.ebpf_asm.proofs.Programs.{no_fault}
+use Rattle.program_interface.proofs.Proved.{no_fault}
 
 length-spelling : (i : Instruction) → length (spelling i) ≡ 8 * slots_taken i
 length-spelling (LoadImmediate dst value) = refl

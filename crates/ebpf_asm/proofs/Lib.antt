@@ -1,19 +1,19 @@
-pub mod Words
-pub mod Numbers
-pub mod Operands
-pub mod Passes
-pub mod Names
-pub mod Round
-pub mod RoundOperands
-pub mod RoundLines
-pub mod RoundProgram
-pub mod Listings
-pub mod SlotListings
-pub mod SlotFronts
-pub mod EachLine
-pub mod Fitting
-pub mod Programs
-pub mod LowestFaults
-pub mod Jumps
-pub mod InOrder
-pub mod Blanks
+mod Words
+mod Numbers
+mod Operands
+mod Passes
+mod Names
+mod Round
+mod RoundOperands
+mod RoundLines
+mod RoundProgram
+mod Listings
+mod SlotListings
+mod SlotFronts
+mod EachLine
+mod Fitting
+mod Programs
+mod LowestFaults
+mod Jumps
+mod InOrder
+mod Blanks

@@ -6,7 +6,7 @@ use Rattle.std.specs.Str.Lines.{lines}
 use Rattle.instruction_set.specs.declared.instruction.Instruction.{Instruction}
 use Rattle.instruction_set.specs.Program.{IsProgram, is_wide, slots_of, slots_taken}
 use Rattle.instruction_set.specs.Spelling.{Fits, spelling, program_bytes}
-use Rattle.program_interface.specs.Readings.{unless_fault}
+use Rattle.program_interface.proofs.Proved.{no_fault}
 use Rattle.ebpf_asm.specs.declared.fault.Fault.{Fault}
 use Rattle.ebpf_asm.specs.declared.fault.FaultKind.{FaultKind}
 use Rattle.ebpf_asm.specs.Line.{Line, slots_in, slots_of_instruction}
@@ -78,10 +78,6 @@ spells labels number slot (line ∷ rest) bytes fits e =
     (λ more h. spells labels (number + 1) (slot + slots_in line) rest more fits.1 h) e
 
 -- ---- the program
-
-pub no_fault : (fault : Option Fault) (read : Result (List ℕ) Fault) (bytes : List ℕ) → unless_fault fault read ≡ Ok bytes → (fault ≡ None) × (read ≡ Ok bytes)
-no_fault None read bytes e = (refl, e)
-no_fault (Some fault) read bytes e = absurd cc
 
 some_slot : (instruction : Instruction) (instructions : List Instruction) → 1 ≤ length (slots_of (instruction ∷ instructions))
 some_slot instruction instructions = by_wide (is_wide instruction)

@@ -141,17 +141,20 @@ impl Mnemonic {
     {
         match self {
             Mnemonic::LoadImmediate => ("lddw", ""),
-            Mnemonic::Load(size) => ("ldx", size_of_access(size)),
-            Mnemonic::LoadSigned(size) => ("ldxs", size_of_signed(size)),
-            Mnemonic::StoreImmediate(size) => ("st", size_of_access(size)),
-            Mnemonic::StoreRegister(size) => ("stx", size_of_access(size)),
-            Mnemonic::Arithmetic(width, operation) => (name_of(operation), width_mark(width)),
-            Mnemonic::Negate(width) => ("neg", width_mark(width)),
-            Mnemonic::MoveSigned(extension) => ("movsx", bits_extended(extension)),
-            Mnemonic::SwapBytes(swap, size) => (name_of_swap(swap), bits_kept(size)),
+            Mnemonic::Load(size) => ("ldx", size_suffix(size)),
+            Mnemonic::LoadSigned(size) => ("ldxs", signed_size_suffix(size)),
+            Mnemonic::StoreImmediate(size) => ("st", size_suffix(size)),
+            Mnemonic::StoreRegister(size) => ("stx", size_suffix(size)),
+            Mnemonic::Arithmetic(width, operation) => (
+                operation_name(operation),
+                width_suffix(width),
+            ),
+            Mnemonic::Negate(width) => ("neg", width_suffix(width)),
+            Mnemonic::MoveSigned(extension) => ("movsx", extension_suffix(extension)),
+            Mnemonic::SwapBytes(swap, size) => (swap_name(swap), swap_size_suffix(size)),
             Mnemonic::Jump => ("ja", ""),
             Mnemonic::JumpLong => ("jaw", ""),
-            Mnemonic::Branch(width, relation) => (name_of_relation(relation), width_mark(width)),
+            Mnemonic::Branch(width, relation) => (relation_name(relation), width_suffix(width)),
             Mnemonic::Call => ("call", ""),
             Mnemonic::Exit => ("exit", ""),
         }
@@ -168,7 +171,7 @@ fn is_joined(word: &[u8], front: &str, back: &str) -> bool
     }
 }
 
-fn name_of(operation: Operation) -> &'static str
+fn operation_name(operation: Operation) -> &'static str
     ensures { result.now ≡ operation_name operation }
 {
     match operation {
@@ -189,7 +192,7 @@ fn name_of(operation: Operation) -> &'static str
     }
 }
 
-fn name_of_relation(relation: Relation) -> &'static str
+fn relation_name(relation: Relation) -> &'static str
     ensures { result.now ≡ relation_name relation }
 {
     match relation {
@@ -207,7 +210,7 @@ fn name_of_relation(relation: Relation) -> &'static str
     }
 }
 
-fn name_of_swap(swap: Swap) -> &'static str
+fn swap_name(swap: Swap) -> &'static str
     ensures { result.now ≡ swap_name swap }
 {
     match swap {
@@ -218,7 +221,7 @@ fn name_of_swap(swap: Swap) -> &'static str
 }
 
 /// The 32-bit forms have a `w` at the end.
-fn width_mark(width: Width) -> &'static str
+fn width_suffix(width: Width) -> &'static str
     ensures { result.now ≡ width_suffix width }
 {
     match width {
@@ -227,7 +230,7 @@ fn width_mark(width: Width) -> &'static str
     }
 }
 
-fn size_of_access(size: Size) -> &'static str
+fn size_suffix(size: Size) -> &'static str
     ensures { result.now ≡ size_suffix size }
 {
     match size {
@@ -238,7 +241,7 @@ fn size_of_access(size: Size) -> &'static str
     }
 }
 
-fn size_of_signed(size: SignedSize) -> &'static str
+fn signed_size_suffix(size: SignedSize) -> &'static str
     ensures { result.now ≡ signed_size_suffix size }
 {
     match size {
@@ -248,7 +251,7 @@ fn size_of_signed(size: SignedSize) -> &'static str
     }
 }
 
-fn bits_extended(extension: SignExtension) -> &'static str
+fn extension_suffix(extension: SignExtension) -> &'static str
     ensures { result.now ≡ extension_suffix extension }
 {
     match extension {
@@ -260,7 +263,7 @@ fn bits_extended(extension: SignExtension) -> &'static str
     }
 }
 
-fn bits_kept(size: SwapSize) -> &'static str
+fn swap_size_suffix(size: SwapSize) -> &'static str
     ensures { result.now ≡ swap_size_suffix size }
 {
     match size {
