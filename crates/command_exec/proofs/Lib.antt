@@ -1,1 +1,1 @@
-pub mod Saving
+mod Saving

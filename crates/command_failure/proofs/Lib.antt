@@ -1,1 +1,1 @@
-pub mod PrintLemmas
+mod PrintLemmas

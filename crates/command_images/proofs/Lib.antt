@@ -1,1 +1,1 @@
-pub mod Making
+mod Making

@@ -1,11 +1,11 @@
-pub mod BlankLines
-pub mod FileLemmas
-pub mod JoinedFiles
-pub mod LineLemmas
-pub mod PlainLines
-pub mod ReplyLemmas
-pub mod ReplyTexts
-pub mod SingleLines
-pub mod SpelledEvents
-pub mod SubmissionLemmas
-pub mod WordLemmas
+mod BlankLines
+mod FileLemmas
+mod JoinedFiles
+mod LineLemmas
+mod PlainLines
+mod ReplyLemmas
+mod ReplyTexts
+mod SingleLines
+mod SpelledEvents
+mod SubmissionLemmas
+mod WordLemmas

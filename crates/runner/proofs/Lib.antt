@@ -1,17 +1,17 @@
-pub mod Admissions
-pub mod Appends
-pub mod CommandsLeave
-pub mod DeviceTurns
-pub mod Drains
-pub mod Holding
-pub mod Loads
-pub mod MayBeThere
-pub mod Nexts
-pub mod Numbers
-pub mod Occurrences
-pub mod Reached
-pub mod Replies
-pub mod Served
-pub mod Starting
-pub mod Staying
-pub mod Turns
+mod Admissions
+mod Appends
+mod CommandsLeave
+mod DeviceTurns
+mod Drains
+mod Holding
+mod Loads
+mod MayBeThere
+mod Nexts
+mod Numbers
+mod Occurrences
+mod Reached
+mod Replies
+mod Served
+mod Starting
+mod Staying
+mod Turns

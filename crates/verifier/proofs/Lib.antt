@@ -1,8 +1,8 @@
-pub mod Joins
-pub mod Fills
-pub mod Stores
-pub mod Gifts
-pub mod Checks
-pub mod Refusals
-pub mod Sizes
-pub mod Emitted
+mod Joins
+mod Fills
+mod Stores
+mod Gifts
+mod Checks
+mod Refusals
+mod Sizes
+mod Emitted

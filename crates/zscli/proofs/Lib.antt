@@ -1,1 +1,1 @@
-pub mod Makes
+mod Makes
