@@ -206,7 +206,7 @@ fn fault_of(alloc: Global, text: &str) -> Result<(usize, FaultKind), Fail> {
 }
 
 #[test]
-fn each_kind_has_its_number(rt: HostRuntime) {
+fn the_first_and_the_last_kind_have_their_numbers(rt: HostRuntime) {
     assert_eq!(rt; FaultKind::UnknownMnemonic.number(), 1);
     assert_eq!(rt; FaultKind::NotAscii.number(), 8);
 }

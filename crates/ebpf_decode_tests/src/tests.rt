@@ -42,7 +42,7 @@ fn a_lone_slot_with_a_fault(rt: HostRuntime) -> Result<(), Fail> {
 }
 
 #[test]
-fn each_kind_has_its_number(rt: HostRuntime) {
+fn the_first_and_the_last_kind_have_their_numbers(rt: HostRuntime) {
     assert_eq!(rt; FaultKind::Length.number(), 20);
     assert_eq!(rt; FaultKind::NotInProfile.number(), 28);
 }
