@@ -1,24 +1,17 @@
 -- Laws of this crate, proved, and lemmas: all that the proofs of other crates cite of it.
 use Rattle.std.specs.Prelude.{◌≡◌, ℕ, List, [], ◌∷◌}
 use Rattle.emit_append.specs.Packing.{released}
-use Rattle.emit_append.specs.Unpacking.{PackedFramesReadBack, RefusedIsLowest, UnpackedIsFrames}
+use Rattle.emit_append.specs.Unpacking.{PackedFramesReadBack}
 use Rattle.emit_append.specs.GoingOn.{PackingGoesOn}
 use Rattle.emit_append.specs.Need.{NeedGrows, NeedIsEnough}
 use Rattle.emit_append.specs.OutputBlocks.{OutputBlocksAreBytes, OutputBlocksAreWhole}
-use Rattle.emit_append.specs.PackedLaw.{PackedAsDescribed}
-use Rattle.emit_append.specs.Packer.{LendingIsFinishing, LendingIsPutting, PuttingIsPacking}
+use Rattle.emit_append.specs.Packer.{LendingIsPutting}
 pub use Rattle.emit_append.proofs.ByteLists.{AllBytes, FitsByte, by_place, by_recursion}
 use Rattle.emit_append.proofs.Continuing as continuing
-use Rattle.emit_append.proofs.LowestRefused as lowest_refused
 use Rattle.emit_append.proofs.Needs as needs
-use Rattle.emit_append.proofs.UnpackedFrames as unpacked_frames
-use Rattle.emit_append.proofs.GroupsOfBlocks as groups
 use Rattle.emit_append.proofs.Puts as puts
 use Rattle.emit_append.proofs.ReadBack as read_back
 use Rattle.emit_append.proofs.Wholes as wholes
-
-pub packed_as_described : PackedAsDescribed
-packed_as_described = groups.packed_as_described
 
 pub output_blocks_are_whole : OutputBlocksAreWhole
 output_blocks_are_whole = wholes.output_blocks_are_whole
@@ -33,14 +26,8 @@ one_group_releases_none = puts.released-one
 pub packing_goes_on : PackingGoesOn
 packing_goes_on = continuing.packing_goes_on
 
-pub putting_is_packing : PuttingIsPacking
-putting_is_packing = puts.putting_is_packing
-
 pub lending_is_putting : LendingIsPutting
 lending_is_putting = puts.lending_is_putting
-
-pub lending_is_finishing : LendingIsFinishing
-lending_is_finishing = puts.lending_is_finishing
 
 pub need_is_enough : NeedIsEnough
 need_is_enough = needs.need_is_enough
@@ -50,9 +37,3 @@ need_grows = needs.need_grows
 
 pub packed_frames_read_back : PackedFramesReadBack
 packed_frames_read_back = read_back.packed_frames_read_back
-
-pub unpacked_is_frames : UnpackedIsFrames
-unpacked_is_frames = unpacked_frames.unpacked_is_frames
-
-pub refused_is_lowest : RefusedIsLowest
-refused_is_lowest = lowest_refused.refused_is_lowest

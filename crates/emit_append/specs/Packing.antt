@@ -1,5 +1,6 @@
 -- How groups of bytes stand in output blocks (profile): whole and in order, each in the block of the group before it where it still fits, the rest of a block zeros.
-use Rattle.std.specs.Prelude.{ℕ, ◌-◌, nat_le, List, [], ◌∷◌, ◌++◌, length, map, if◌then◌else◌}
+use Rattle.std.specs.Prelude.{ℕ, ◌-◌, nat_le, List, [], ◌∷◌, ◌++◌, length, map, None, unwrap_or, if◌then◌else◌}
+use Rattle.std.specs.List.{last_or}
 use Rattle.program_interface.specs.Bytes.{padded}
 
 -- what groups add to a block begun, and the bytes of each block after it
@@ -38,11 +39,9 @@ all_but_last (x ∷ y ∷ ys) = x ∷ all_but_last (y ∷ ys)
 
 -- the last, or no bytes
 abbrev pub last_or_empty : List (List ℕ) → List ℕ
-last_or_empty [] = []
-last_or_empty (x ∷ []) = x
-last_or_empty (x ∷ y ∷ ys) = last_or_empty (y ∷ ys)
+last_or_empty blocks = unwrap_or (last_or None blocks) []
 
--- the blocks that no later group can change, since a block stands after them
+-- all blocks but the last: a block stands after them, so that no later group can change them
 abbrev pub released : ℕ → List (List ℕ) → List (List ℕ)
 released block groups = all_but_last (packed block groups)
 

@@ -11,7 +11,7 @@ use Rattle.image_store.specs.Namespace.{ZoneBlocks, ZonedNamespace, zone_at}
 use Rattle.pushdown.specs.EventReplies.{Happening, submission_of}
 use Rattle.device_events.specs.Replies.{ReplyWithData, without_data}
 use Rattle.pushdown.specs.Draining.{replies_to_turns, state_after_turns}
-use Rattle.pushdown.specs.Happenings.{faulting, submitted}
+use Rattle.pushdown.specs.Happenings.{faulting, submitted, turned}
 use Rattle.pushdown.specs.Pushdown.{blocks_at}
 use Rattle.pushdown.specs.State.{State, new_state}
 use Rattle.device_events.specs.declared.reply.Reply.TheVariants.{Complete, FaultRefused, Idle, Pending}
@@ -68,6 +68,9 @@ module _ {D : Type 0} (operations : Operations D) where
     pub turns_end_the_run : replies_to_turns (0 ∷ 0 ∷ 0 ∷ 0 ∷ []) admitted.state ≡ pending 0 ∷ pending 0 ∷ completes 7 0 0 ∷ without_data Idle ∷ []
     unfolding block_run_of
     turns_end_the_run = refl
+
+    pub no_such_run : (turned three_blocks 255).reply ≡ without_data Idle
+    no_such_run = refl
 
   -- ---- a destination that lacks room for what 52 groups can come to
 

@@ -5,11 +5,11 @@ use Rattle.nvme_entry.specs.Entry.{decoded}
 use Rattle.program_meaning.specs.BlockRun.{block_run_of}
 use Rattle.word_domain.specs.Domain.{Operations}
 use Rattle.pushdown.specs.EventReplies.{Happening, submission_of}
-use Rattle.device_events.specs.Replies.{ReplyWithData, without_data}
+use Rattle.device_events.specs.Replies.{ReplyWithData}
 use Rattle.pushdown.specs.Draining.{state_after_turns}
-use Rattle.pushdown.specs.Happenings.{submitted, turned}
+use Rattle.pushdown.specs.Happenings.{submitted}
 use Rattle.pushdown.specs.State.{State, new_state}
-use Rattle.device_events.specs.declared.reply.Reply.TheVariants.{Complete, Idle}
+use Rattle.device_events.specs.declared.reply.Reply.TheVariants.{Complete}
 use Rattle.pushdown.proofs.ExampleEvents.{asks, completes, completes_with, device, zone_of}
 use Rattle.pushdown.proofs.Examples.{block_of, entry_of, four_zones, passes, run_entry, sums, two_zones}
 
@@ -102,6 +102,3 @@ module _ {D : Type 0} (operations : Operations D) where
 
   pub destination_is_closed : (asks operations (run_entry 5 0 1 24) [] zones).reply ≡ completes 5 0x8a 0x0f
   destination_is_closed = refl
-
-  pub no_such_run : (turned zones 255).reply ≡ without_data Idle
-  no_such_run = refl

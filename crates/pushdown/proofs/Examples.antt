@@ -89,7 +89,7 @@ traps = program_of (decoded_program (
 abbrev pub loops : List (Option Instruction)
 loops = program_of (decoded_program (0x05 ∷ 0 ∷ 0xff ∷ 0xff ∷ replicate 4 0 ++ 0x95 ∷ replicate 7 0))
 
--- the frame that the second program emits of such a block
+-- the frame that `sevens` emits of a block of 7 and zeros
 abbrev pub frame : List ℕ
 frame = 8 ∷ 0 ∷ 7 ∷ replicate 7 0
 

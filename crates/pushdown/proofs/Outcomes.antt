@@ -13,7 +13,7 @@ use Rattle.emit_append.specs.Packing.{packed, pending_of, released}
 use Rattle.emit_append.proofs.Proved.{output_blocks_are_bytes, output_blocks_are_whole, packing_goes_on}
 use Rattle.pushdown.specs.BlockRuns.{Task, block_runs_of, frames_of, groups_of, last_scratch, scratch_after}
 use Rattle.pushdown.specs.Laws.{OutcomeIsPacked}
-use Rattle.pushdown.specs.Outcome.{Ending, Emitted, Turn, appended_by, behind, ending_of, last_turn_by, middle_turn, nothing_emitted, success, turns_after, with_group}
+use Rattle.pushdown.specs.Outcome.{Ending, Emitted, Turn, appended_by, coming_to, ending_of, last_turn_by, middle_turn, nothing_emitted, success, turns_after, with_group}
 use Rattle.pushdown.specs.Pushdown.{EndsWithLast, Succeeds, success_of}
 use Rattle.pushdown.proofs.BlockRuns.{IsDone}
 use Rattle.program_interface.proofs.Proved.{all_append, all_drop}
@@ -95,11 +95,11 @@ abbrev AllExit : List BlockRun → Type 0
 AllExit block_runs = AllByRecursion (λ run. IsExit run.end) block_runs
 
 -- what stood in front, and then what comes to it
-in_whole : (first more : List (List ℕ)) → first ++ behind first (first ++ more) ≡ first ++ more
+in_whole : (first more : List (List ℕ)) → first ++ coming_to first (first ++ more) ≡ first ++ more
 in_whole first more = ap (λ xs. first ++ xs) (drop_at first more (length first) refl)
 
-whole_again : (first rest whole : List (List ℕ)) → whole ≡ first ++ rest → first ++ behind first whole ≡ whole
-whole_again first rest whole is = ap (λ xs. first ++ behind first xs) is ∙ in_whole first rest ∙ sym is
+whole_again : (first rest whole : List (List ℕ)) → whole ≡ first ++ rest → first ++ coming_to first whole ≡ whole
+whole_again first rest whole is = ap (λ xs. first ++ coming_to first xs) is ∙ in_whole first rest ∙ sym is
 
 module _ (block : ℕ) where
   -- what is pending, and a block run's group
@@ -107,21 +107,21 @@ module _ (block : ℕ) where
   later_groups emitted run = pending_of block emitted.groups ∷ run.state.group ∷ []
 
   released_more : (emitted : Emitted) (run : BlockRun)
-      → released block emitted.groups ++ behind (released block emitted.groups) (released block (with_group emitted run).groups)
+      → released block emitted.groups ++ coming_to (released block emitted.groups) (released block (with_group emitted run).groups)
       ≡ released block (with_group emitted run).groups
   released_more emitted run =
       whole_again (released block emitted.groups) (released block (later_groups emitted run)) (released block (with_group emitted run).groups)
       (packing_goes_on block emitted.groups (run.state.group ∷ [])).released_blocks
 
   packed_more : (emitted : Emitted) (run : BlockRun)
-      → released block emitted.groups ++ behind (released block emitted.groups) (packed block (with_group emitted run).groups)
+      → released block emitted.groups ++ coming_to (released block emitted.groups) (packed block (with_group emitted run).groups)
       ≡ packed block (with_group emitted run).groups
   packed_more emitted run =
       whole_again (released block emitted.groups) (packed block (later_groups emitted run)) (packed block (with_group emitted run).groups)
       (packing_goes_on block emitted.groups (run.state.group ∷ [])).blocks
 
   last_blocks : (e : End) (emitted : Emitted) (run : BlockRun) → IsExit e
-      → (last_turn_by e block emitted run).blocks ≡ behind (released block emitted.groups) (packed block (with_group emitted run).groups)
+      → (last_turn_by e block emitted run).blocks ≡ coming_to (released block emitted.groups) (packed block (with_group emitted run).groups)
   last_blocks (end.Exit r0) emitted run exit = refl
   last_blocks (end.Trap slot cause) emitted run exit = absurd exit
   last_blocks end.OutOfFuel emitted run exit = absurd exit
@@ -131,12 +131,12 @@ module _ (block : ℕ) where
   all_blocks emitted run [] exit =
       let first = released block emitted.groups in
       ap (λ xs. first ++ (xs ++ [])) (last_blocks run.end emitted run exit.0)
-      ∙ ap (λ xs. first ++ xs) (append-nil (behind first (packed block (with_group emitted run).groups)))
+      ∙ ap (λ xs. first ++ xs) (append-nil (coming_to first (packed block (with_group emitted run).groups)))
       ∙ packed_more emitted run
   all_blocks emitted run (next ∷ block_runs) exit =
       let first = released block emitted.groups in
       let then = with_group emitted run in
-      let mine = behind first (released block then.groups) in
+      let mine = coming_to first (released block then.groups) in
       let later = appended_by (turns_after block then (next ∷ block_runs)) in
       sym (append_assoc first mine later)
       ∙ ap (λ xs. xs ++ later) (released_more emitted run)

@@ -4,7 +4,7 @@ use Rattle.word_domain.specs.Domain.{Operations}
 use Rattle.accepted_programs.specs.Laws.{AcceptedNeverTraps}
 use Rattle.device_events.specs.Replies.{Joins, ReplyWithData}
 use Rattle.pushdown.specs.AnyOrder.{TurnsInAnyOrder}
-use Rattle.pushdown.specs.JoinedEvents.{DrainedByTurns, EventsInParts, EventsJoin, ServedAndDrained}
+use Rattle.pushdown.specs.JoinedEvents.{EventsInParts, ServedAndDrained}
 use Rattle.pushdown.specs.Laws.{BlocksLeaveOthers, DrainingEnds, EventsKeepForRuns, OnlyLoadsChangeSlots, RefusedLeavesState, RestEnds, RestGoesOn, RestIsFew, RoomIsOpen, RoomStays, StatesAreSound, TurnsLeaveFewer}
 use Rattle.pushdown.specs.Pushdown.{Pushdown}
 use Rattle.pushdown.specs.ReadBack.{AppendedBlocksReadBack, AppendedByRunsReadsBack, ResultsReadBack, WrittenBlocksReadBack}
@@ -51,9 +51,6 @@ room_is_open = fitting.room_is_open
 pub room_stays : RoomStays
 room_stays = fitting.room_stays
 
-pub events_join : EventsJoin
-events_join = joined.events_join
-
 module _ {D : Type 0} (operations : Operations D) where
   pub new_is_reached : NewIsReached operations
   new_is_reached = reached.new_is_reached operations
@@ -66,9 +63,6 @@ module _ {D : Type 0} (operations : Operations D) where
 
   pub events_in_parts : EventsInParts operations
   events_in_parts = joined.events_in_parts operations
-
-  pub drained_by_turns : DrainedByTurns operations
-  drained_by_turns = joined.drained_by_turns operations
 
   pub served_and_drained : {T : Type 0} (took : T → T → List ReplyWithData → Type 0) → Joins took → ServedAndDrained operations took
   served_and_drained = joined.served_and_drained operations

@@ -8,7 +8,7 @@ use Rattle.emit_append.proofs.Proved.{one_group_releases_none, packing_goes_on}
 use Rattle.pushdown.proofs.BlockRuns.{few_runs}
 use Rattle.pushdown.specs.Laws.{RestAtAdmission, RestEnds, RestGoesOn, RestIsFew, further, next_turn}
 use Rattle.pushdown.specs.BlockRuns.{Task, block_run, block_runs_from, block_runs_of, goes_on, scratch_after, until_ended}
-use Rattle.pushdown.specs.Outcome.{Turn, Emitted, Progress, behind, last_turn, last_turn_by, middle_turn, emitted_by, rest, success, turns_after, with_group}
+use Rattle.pushdown.specs.Outcome.{Turn, Emitted, Progress, coming_to, last_turn, last_turn_by, middle_turn, emitted_by, rest, success, turns_after, with_group}
 
 abbrev out : List (List ℕ) → ℕ → ℕ → Emitted
 out groups frames appended = record { groups = groups; frames = frames; appended = appended }
@@ -35,9 +35,9 @@ rest_at_admission task blocks = turns_empty task.sizes.block [] 0 0 (block_runs_
 
 -- ---- the pending bytes stand for the groups before
 
-behind_both : (first xs ys : List (List ℕ)) → behind (first ++ xs) (first ++ ys) ≡ behind xs ys
-behind_both [] xs ys = refl
-behind_both (x ∷ first) xs ys = behind_both first xs ys
+coming_to_both : (first xs ys : List (List ℕ)) → coming_to (first ++ xs) (first ++ ys) ≡ coming_to xs ys
+coming_to_both [] xs ys = refl
+coming_to_both (x ∷ first) xs ys = coming_to_both first xs ys
 
 module _ (block : ℕ) (before : List (List ℕ)) where
   abbrev sent : ℕ
@@ -50,13 +50,13 @@ module _ (block : ℕ) (before : List (List ℕ)) where
       → middle_turn block (out (before ++ after) frames appended) run ≡ middle_turn block (out (kept ∷ after) frames (appended + sent)) run
   middle_on after frames appended run =
       let g = run.state.group ∷ [] in
-      let turn : List (List ℕ) → List (List ℕ) → Turn = λ a b. record { blocks = behind a b; ending = None } in
+      let turn : List (List ℕ) → List (List ℕ) → Turn = λ a b. record { blocks = coming_to a b; ending = None } in
       let more = append_assoc before after g in
       ap (λ gs. turn (released block (before ++ after)) (released block gs)) more
       ∙ ap (λ a. turn a (released block (before ++ (after ++ g)))) (packing_goes_on block before after).released_blocks
       ∙ ap (turn (released block before ++ released block (kept ∷ after))) (packing_goes_on block before (after ++ g)).released_blocks
       ∙ ap (λ blocks. record { blocks = blocks; ending = None })
-      (behind_both (released block before) (released block (kept ∷ after)) (released block (kept ∷ (after ++ g))))
+      (coming_to_both (released block before) (released block (kept ∷ after)) (released block (kept ∷ (after ++ g))))
 
   abbrev ended : List ℕ → ℕ → List (List ℕ) → ℕ → Turn
   ended scratch frames blocks all = record { blocks = blocks; ending = Some (success frames all scratch) }
@@ -73,11 +73,11 @@ module _ (block : ℕ) (before : List (List ℕ)) where
       ap (packed block) (append_assoc before after g) ∙ (packing_goes_on block before (after ++ g)).blocks in
       let total : appended + length (released block before ++ rest_packed) ≡ appended + sent + length rest_packed =
       omega (arith, length-append (released block before) rest_packed) in
-      ap (λ p. turn (behind (released block (before ++ after)) p) (appended + length p)) whole
-      ∙ ap (λ a. turn (behind a (released block before ++ rest_packed)) (appended + length (released block before ++ rest_packed))) (packing_goes_on block before after).released_blocks
-      ∙ ap (λ n. turn (behind (released block before ++ released block (kept ∷ after)) (released block before ++ rest_packed)) n) total
+      ap (λ p. turn (coming_to (released block (before ++ after)) p) (appended + length p)) whole
+      ∙ ap (λ a. turn (coming_to a (released block before ++ rest_packed)) (appended + length (released block before ++ rest_packed))) (packing_goes_on block before after).released_blocks
+      ∙ ap (λ n. turn (coming_to (released block before ++ released block (kept ∷ after)) (released block before ++ rest_packed)) n) total
       ∙ ap (λ blocks. turn blocks (appended + sent + length rest_packed))
-      (behind_both (released block before) (released block (kept ∷ after)) rest_packed)
+      (coming_to_both (released block before) (released block (kept ∷ after)) rest_packed)
 
   turns_on : (after : List (List ℕ)) (frames appended : ℕ) (block_runs : List BlockRun)
       → turns_after block (out (before ++ after) frames appended) block_runs ≡ turns_after block (out (kept ∷ after) frames (appended + sent)) block_runs
@@ -100,7 +100,7 @@ goes task so_far run next block_runs =
     let groups = so_far.pending ∷ run.state.group ∷ [] in
     let frames = so_far.frames + run.state.frames in
     let later = turns_after block (out groups frames so_far.appended) (next ∷ block_runs) in
-    ap (λ first. record { blocks = behind first (released block groups); ending = None } ∷ later) (one_group_releases_none block so_far.pending)
+    ap (λ first. record { blocks = coming_to first (released block groups); ending = None } ∷ later) (one_group_releases_none block so_far.pending)
     ∙ ap (λ turns. next_turn task so_far run ∷ turns) (turns_on block groups [] frames so_far.appended (next ∷ block_runs))
 
 cut_not : (block : ℕ) (emitted : Emitted) (run : BlockRun) (later : List BlockRun) (on : Bool) → on ≡ true

@@ -1,6 +1,7 @@
 -- The block runs of a run: its program on one source block after another.
-use Rattle.std.specs.Prelude.{ℕ, Bool, false, ◌+◌, ◌==◌, List, [], ◌∷◌, map, replicate, Option, if◌then◌else◌}
-use Rattle.std.specs.List.{sum_by}
+use Rattle.std.specs.Prelude.{ℕ, Bool, false, ◌+◌, ◌==◌, List, [], ◌∷◌, map, replicate, Option, None, if◌then◌else◌}
+use Rattle.std.specs.List.{last_or, sum_by}
+use Rattle.std.specs.Option.{option_map_or}
 use Rattle.instruction_set.specs.Program.{instruction_count}
 use Rattle.instruction_set.specs.declared.instruction.Instruction.{Instruction}
 use Rattle.program_interface.specs.Context.{context_bytes}
@@ -79,6 +80,4 @@ frames_of block_runs = sum_by (λ run. run.state.frames) block_runs
 
 -- the scratch bytes that the last of them leaves
 abbrev pub last_scratch : List BlockRun → List ℕ
-last_scratch [] = no_scratch
-last_scratch (run ∷ []) = scratch_after run
-last_scratch (run ∷ next ∷ block_runs) = last_scratch (next ∷ block_runs)
+last_scratch block_runs = option_map_or scratch_after (last_or None block_runs) no_scratch

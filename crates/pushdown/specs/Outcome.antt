@@ -1,6 +1,8 @@
 -- The outcome of a run: what each of its turns appends, and how it ends. It is fixed when the run is
 -- admitted, by the program and the source blocks of then.
 use Rattle.std.specs.Prelude.{ℕ, ◌+◌, List, [], ◌∷◌, ◌++◌, length, drop, flat_map, Option, Some, None}
+use Rattle.std.specs.List.{last_or}
+use Rattle.std.specs.Option.{option_and_then}
 use Rattle.zone_state.specs.declared.status.Status.{Status}
 use Rattle.zone_state.specs.declared.status.TheConstants.Status.{SUCCESS, PROGRAM_TRAPPED}
 use Rattle.program_meaning.specs.Cause.{cause_number}
@@ -47,21 +49,21 @@ with_group emitted run = record {
   appended = emitted.appended;
 }
 
--- what comes to blocks that begin with others
-abbrev pub behind : List (List ℕ) → List (List ℕ) → List (List ℕ)
-behind first blocks = drop (length first) blocks
+-- what comes to the first blocks, in blocks that begin with them
+abbrev pub coming_to : List (List ℕ) → List (List ℕ) → List (List ℕ)
+coming_to first blocks = drop (length first) blocks
 
--- a turn after which the run goes on appends the blocks that no later group can change
+-- a turn after which the run goes on appends all blocks so far but the last, less those appended before
 abbrev pub middle_turn : ℕ → Emitted → BlockRun → Turn
 middle_turn block emitted run = record {
-  blocks = behind (released block emitted.groups) (released block (with_group emitted run).groups);
+  blocks = coming_to (released block emitted.groups) (released block (with_group emitted run).groups);
   ending = None;
 }
 
 -- a run whose last block run ended by EXIT: all blocks are appended, and told with the frames
 abbrev pub succeeded : ℕ → Emitted → Emitted → List ℕ → Turn
 succeeded block before emitted scratch = record {
-  blocks = behind (released block before.groups) (packed block emitted.groups);
+  blocks = coming_to (released block before.groups) (packed block emitted.groups);
   ending = Some (success emitted.frames (emitted.appended + length (packed block emitted.groups)) scratch);
 }
 
@@ -98,9 +100,7 @@ appended_by = flat_map (λ turn. turn.blocks)
 
 -- how the last of some turns ends the run
 abbrev pub ending_of : List Turn → Option Ending
-ending_of [] = None
-ending_of (turn ∷ []) = turn.ending
-ending_of (turn ∷ next ∷ turns) = ending_of (next ∷ turns)
+ending_of turns = option_and_then (λ turn. turn.ending) (last_or None turns)
 
 -- ---- the rest of a run
 

@@ -137,8 +137,9 @@ module _ {D : Type 0} (operations : Operations D) where
     -- 4. After k own turns the first k turns of those fixed at admission are done: their blocks stand in order
     -- directly behind what the destination held at admission, and the others are left. The reply to the next
     -- turn is what is fixed for it, and it leaves the namespace as a Zone Append of its blocks does that meets
-    -- no hold (`appends` of `StatesAreSound`); the last one posts the completion, to the queue and with the
-    -- identifier of the Run, frees the place, and leaves the last scratch bytes as the slot's result.
+    -- no hold (`appends` of `StatesAreSound` says so of `added`, where the data of the events is bytes); the
+    -- last one posts the completion, to the queue and with the identifier of the Run, frees the place, and
+    -- leaves the last scratch bytes as the slot's result.
     pub record DoesItsTurns : Type 0 where
       pub left : place_at now run ≡ Some (record place { turns = drop done place.turns })
       pub appended : blocks_at now place.destination ≡ blocks_at s place.destination ++ appended_by (take done place.turns)

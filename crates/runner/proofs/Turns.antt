@@ -20,7 +20,7 @@ use Rattle.pushdown.specs.Admission.{task_by}
 use Rattle.pushdown.specs.BlockRuns.{Task, goes_on, scratch_after}
 use Rattle.pushdown.specs.Laws.{Ends, RoomIn, further, next_turn}
 use Rattle.pushdown.specs.Happenings.{added}
-use Rattle.pushdown.specs.Outcome.{Ending, Progress, Turn, appended_by, behind, last_turn, last_turn_by, emitted_by, rest, success}
+use Rattle.pushdown.specs.Outcome.{Ending, Progress, Turn, appended_by, coming_to, last_turn, last_turn_by, emitted_by, rest, success}
 use Rattle.pushdown.specs.View.{Active, to_come, turns_of}
 use Rattle.pushdown.proofs.Proved.{blocks_leave_others, rest_ends, rest_goes_on, room_is_open, room_stays}
 use Rattle.runner.specs.DeviceState.{active_of}
@@ -94,7 +94,7 @@ module _ (block : ℕ) (so_far : Progress) (run : BlockRun) where
       ≡ record { blocks = all; ending = Some (success (so_far.frames + run.state.frames) (so_far.appended + length all) (scratch_after run)) }
   last_by (end.Exit r) r0 is =
       ap (λ (first : List (List ℕ)). record {
-        blocks = behind first all;
+        blocks = coming_to first all;
         ending = Some (success (so_far.frames + run.state.frames) (so_far.appended + length all) (scratch_after run));
       }) (one_group_releases_none block so_far.pending)
   last_by (end.Trap slot cause) r0 is = cc
