@@ -27,7 +27,8 @@ use Rattle.program_interface.specs.Readings.{◌>>=◌}
 use Rattle.image_store.specs.Reading.{bytes_in, rows_end, shape_in, version_in, header_of, header_told, header_in, zone_in, zones_in, total_kept, limits_kept, blocks_in, end_in, namespace_in}
 use Rattle.image_store.specs.Text.{written_blocks}
 use Rattle.image_store.specs.Version.{numbers_of_version}
-use Rattle.image_store.proofs.Faults.{header_of_fault, kept_fault}
+use Rattle.image_store.proofs.BadHeaders.{header_wrong}
+use Rattle.image_store.proofs.Faults.{kept_fault}
 use Rattle.image_store.proofs.FilledBuffers.{Split, bytes_short}
 use Rattle.image_store.proofs.HeaderParts.{header_parts}
 use Rattle.image_store.proofs.LoadStages.{after_blocks, after_header, after_limits, after_rows, after_total}
@@ -135,8 +136,8 @@ whole_text bytes there =
     ap (λ (r : Result (Header × List ℕ) LoadFault). r >>= λ got. after_header got.0 got.1) (whole_header bytes there)
     ∙ bind_pair (header_told (take 64 bytes)) (drop 64 bytes)
 
-header_fails : (bytes : List ℕ) (fault : LoadFault) → 64 ≤ length bytes → header_told (take 64 bytes) ≡ Err fault → namespace_in bytes ≡ Err fault
-header_fails bytes fault there e = whole_text bytes there ∙ ap (λ (r : Result Header LoadFault). r >>= λ h. after_header h (drop 64 bytes)) e
+header_fault_is_told : (bytes : List ℕ) (fault : LoadFault) → 64 ≤ length bytes → header_told (take 64 bytes) ≡ Err fault → namespace_in bytes ≡ Err fault
+header_fault_is_told bytes fault there e = whole_text bytes there ∙ ap (λ (r : Result Header LoadFault). r >>= λ h. after_header h (drop 64 bytes)) e
 
 header_passes : (bytes : List ℕ) (h : Header) → 64 ≤ length bytes → header_told (take 64 bytes) ≡ Ok h → namespace_in bytes ≡ after_header h (drop 64 bytes)
 header_passes bytes h there e = whole_text bytes there ∙ ap (λ (r : Result Header LoadFault). r >>= λ h. after_header h (drop 64 bytes)) e
@@ -162,7 +163,7 @@ module _ (bytes other : List ℕ) (there : 64 ≤ length bytes) (longer : length
       let fits : 8 ≤ 64 = omega arith in
       let front : take 8 (take 64 other) ≡ take 8 (take 64 bytes) = take-take 8 64 other fits ∙ same ∙ sym (take-take 8 64 bytes fits) in
       let none_other : version_in (take 64 other) ≡ None = ap version_of front ∙ none in
-      header_fails other Magic (omega arith) (no_version (version_in (take 64 other)) (take 64 other) none_other)
+      header_fault_is_told other Magic (omega arith) (no_version (version_in (take 64 other)) (take 64 other) none_other)
 
   -- a fault behind the magic is found by the whole header at least
   abbrev IsBehind : LoadFault → Type 0
@@ -176,8 +177,8 @@ module _ (bytes other : List ℕ) (there : 64 ≤ length bytes) (longer : length
       bind_fails (IsOf bytes other) (ok_or (version_in (take 64 bytes)) Magic) (header_of (take 64 bytes)) fault e
       (λ first none. let known = unknown (version_in (take 64 bytes)) first none in subst (IsOf bytes other) known.1 (magic_is_of known.0))
       (λ version told later whole alone same.
-      let behind = header_of_fault IsBehind (λ why. le_refl 64) (take 64 bytes) version fault later in
-      header_fails other fault (omega arith) (ap header_told (header_same fault behind same) ∙ e))
+      let behind = subst IsBehind (sym (header_wrong version (take 64 bytes) fault later).is) (le_refl 64) in
+      header_fault_is_told other fault (omega arith) (ap header_told (header_same fault behind same) ∙ e))
 
 -- ---- behind the header
 

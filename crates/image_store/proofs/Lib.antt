@@ -15,6 +15,7 @@ mod BlocksRead
 mod Headers
 mod Shapes
 mod HeaderParts
+mod BadHeaders
 mod Upgrades
 mod Faults
 mod LoadStages
