@@ -24,8 +24,8 @@ mod SpelledParts
 mod OnlyTextsLoad
 mod LoadedNamespaces
 mod CutTexts
+mod RowFaults
 mod FaultPlaces
 mod HeaderFaults
-mod RowFaults
 mod FirstFaults
 pub mod Proved
