@@ -100,7 +100,7 @@ fn and_action<'a>(
     let all = Arg::new(alloc, ALL)
         .long(ALL)
         .action(ArgAction::SetTrue)
-        .help("All zones that the action takes");
+        .help("All zones that Select All takes for the action");
     let action = Command::new(alloc, name).about(about).after_help(example);
     let action = and_argument(Ok(action), lba);
     let action = and_argument(action, all);

@@ -50,7 +50,7 @@ fn standard<W: fmt::Write>(command: &StandardCommand, f: &mut fmt::Formatter<W>)
         } => {
             let action = action.word();
             if *select_all {
-                write!(f, "{action} of all zones that it takes")
+                write!(f, "{action} of all zones that Select All takes")
             } else {
                 write!(f, "{action} of the zone of LBA {lba}")
             }

@@ -81,7 +81,7 @@ fields-slot f bytes fits =
     rw (dst, src, offset, immediate) refl
 
 pub length-slots_bytes : (fs : List Fields) → length (flat_map slot_bytes fs) ≡ 8 * length fs
-length-slots_bytes fs = omega (arith, length-flat_map-each slot_bytes 8 (λ f. refl) fs)
+length-slots_bytes fs = omega (arith, length-flat_map-each slot_bytes 8 fs (λ k d h. refl))
 
 -- the slots of the bytes of slots
 pub slots-again : (fs : List Fields) → AllByRecursion FitSlot fs → slots_at (length fs) (flat_map slot_bytes fs) ≡ fs

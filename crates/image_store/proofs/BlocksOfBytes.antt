@@ -6,9 +6,10 @@ use Rattle.std.proofs.Math.Seq.{take-add}
 use Rattle.std.proofs.Math.Nat.{suc-mul}
 use Rattle.program_interface.specs.Bytes.{pieces, spliced}
 
-pub length-blocks : (b n : ℕ) (xs : List ℕ) → length (pieces b n xs) ≡ n
-length-blocks b zero xs = refl
-length-blocks b (suc n) xs = ap suc (length-blocks b n (drop b xs))
+-- bytes are cut into as many blocks as are asked for
+pub blocks_are_counted : (b n : ℕ) (xs : List ℕ) → length (pieces b n xs) ≡ n
+blocks_are_counted b zero xs = refl
+blocks_are_counted b (suc n) xs = ap suc (blocks_are_counted b n (drop b xs))
 
 -- blocks come from the front alone
 pub blocks-take : (b n k : ℕ) (xs : List ℕ) → n * b ≤ k → pieces b n (take k xs) ≡ pieces b n xs
@@ -40,20 +41,20 @@ blocks-add b (suc n) m xs =
     ∙ ap (λ (ys : List ℕ). take b xs ∷ (pieces b n (drop b xs) ++ pieces b m ys)) (drop-drop (n * b) b xs ∙ ap (λ (k : ℕ). drop k xs) place))
 
 -- the bytes of blocks are those that they were cut from
-pub bytes-blocks : (b n : ℕ) (xs : List ℕ) → concat (pieces b n xs) ≡ take (n * b) xs
-bytes-blocks b zero xs = let none : zero * b ≡ 0 = omega arith in rw none refl
-bytes-blocks b (suc n) xs =
+pub blocks_keep_bytes : (b n : ℕ) (xs : List ℕ) → concat (pieces b n xs) ≡ take (n * b) xs
+blocks_keep_bytes b zero xs = let none : zero * b ≡ 0 = omega arith in rw none refl
+blocks_keep_bytes b (suc n) xs =
     let place : b + n * b ≡ suc n * b = omega (arith, suc-mul n b) in
-    ap (λ (ys : List ℕ). take b xs ++ ys) (bytes-blocks b n (drop b xs))
+    ap (λ (ys : List ℕ). take b xs ++ ys) (blocks_keep_bytes b n (drop b xs))
     ∙ (sym (take-add b (n * b) xs) ∙ ap (λ (k : ℕ). take k xs) place)
 
 pub drop-blocks : (b i n : ℕ) (xs : List ℕ) → drop i (pieces b (i + n) xs) ≡ pieces b n (drop (i * b) xs)
 drop-blocks b i n xs =
-    ap (drop i) (blocks-add b i n xs) ∙ drop_at (pieces b i xs) (pieces b n (drop (i * b) xs)) i (length-blocks b i xs)
+    ap (drop i) (blocks-add b i n xs) ∙ drop_at (pieces b i xs) (pieces b n (drop (i * b) xs)) i (blocks_are_counted b i xs)
 
 pub take-blocks : (b n m : ℕ) (xs : List ℕ) → take n (pieces b (n + m) xs) ≡ pieces b n xs
 take-blocks b n m xs =
-    ap (take n) (blocks-add b n m xs) ∙ take_at (pieces b n xs) (pieces b m (drop (n * b) xs)) n (length-blocks b n xs)
+    ap (take n) (blocks-add b n m xs) ∙ take_at (pieces b n xs) (pieces b m (drop (n * b) xs)) n (blocks_are_counted b n xs)
 
 -- the bytes of some blocks of the middle
 pub bytes-middle : (b i n w : ℕ) (xs : List ℕ) → i + n ≤ w → concat (take n (drop i (pieces b w xs))) ≡ take (n * b) (drop (i * b) xs)
@@ -61,7 +62,7 @@ bytes-middle b i n w xs h =
     let rest : w ≡ i + (n + (w - i - n)) = omega arith in
     ap (λ (k : ℕ). concat (take n (drop i (pieces b k xs)))) rest
     ∙ (ap (λ (yss : List (List ℕ)). concat (take n yss)) (drop-blocks b i (n + (w - i - n)) xs)
-    ∙ (ap concat (take-blocks b n (w - i - n) (drop (i * b) xs)) ∙ bytes-blocks b n (drop (i * b) xs)))
+    ∙ (ap concat (take-blocks b n (w - i - n) (drop (i * b) xs)) ∙ blocks_keep_bytes b n (drop (i * b) xs)))
 
 -- what stands before the place stays
 pub take-spliced : (k at : ℕ) (new xs : List ℕ) → k ≤ at → at ≤ length xs → take k (spliced at new xs) ≡ take k xs

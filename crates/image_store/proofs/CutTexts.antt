@@ -17,7 +17,7 @@ use Rattle.program_interface.specs.Readings.{◌>>=◌}
 use Rattle.image_store.specs.Reading.{bytes_in, header_told, zones_in, blocks_in, end_in, namespace_in}
 use Rattle.image_store.specs.Text.{header, written_blocks, zone_rows, blocks_text, text_of}
 use Rattle.image_store.specs.Version.{HasText}
-use Rattle.image_store.proofs.TextsReadBack.{blocks_read, front_read, length-bytes, length-rows, told_of, total_small}
+use Rattle.image_store.proofs.TextsReadBack.{blocks_read, front_read, blocks_have_bytes, length-rows, told_of, total_small}
 use Rattle.image_store.proofs.FilledBuffers.{Split, bytes_short, bytes_whole}
 use Rattle.image_store.proofs.Headers.{header_length, header_read}
 use Rattle.image_store.proofs.LoadStages.{after_blocks, after_header, after_rows, past_header, past_blocks}
@@ -67,7 +67,7 @@ blocks_cut b c [] n whole h = absurd (omega arith)
 blocks_cut b c (zone ∷ zones) n whole h =
     let front = concat zone.blocks in
     let rest = blocks_text zones in
-    let size = length-bytes b zone.blocks (whole 0) in
+    let size = blocks_have_bytes b zone.blocks (whole 0) in
     let read : Result Split LoadFault → Result (List ZoneBlocks × List ℕ) LoadFault =
     λ r. r >>= λ first. blocks_in b (map (counted c) zones) first.1 >>= λ more. Ok (zone_seen b (counted c zone) first.0 ∷ more.0, more.1) in
     elim (leb_tells (length front) n) [

@@ -1,5 +1,5 @@
 -- A fault is found by the bytes of the text up to where it stands.
-use Rattle.std.proofs.Common.{◌≡◌, ◌≢◌, ℕ, ◌+◌, ◌*◌, ◌<◌, ◌≤◌, ◌==◌, zero, suc, Bool, cond, List, [], ◌∷◌, length, take, drop, Option, Some, None, Result, Ok, Err, refl, ap, sym, subst, ◌∙◌, arith, inl, inr, le_refl}
+use Rattle.std.proofs.Common.{◌≡◌, ◌≢◌, ℕ, ◌+◌, ◌*◌, ◌<◌, ◌≤◌, ◌==◌, Bool, cond, List, [], ◌∷◌, length, take, drop, Option, Some, None, Result, Ok, Err, refl, ap, sym, subst, ◌∙◌, arith, inl, inr, le_refl}
 use Rattle.std.specs.Cmp.Lexicographic.{pointwise}
 use Rattle.std.specs.List.{find}
 use Rattle.std.specs.Option.{ok_or}
@@ -14,8 +14,7 @@ use Rattle.zone_state.specs.Zone.{CountedZone}
 use Rattle.zone_resources.specs.declared.admission.Limits.{Limits as ResourceLimits}
 use Rattle.zone_resources.specs.Counts.{open_count, active_count}
 use Rattle.image_store.specs.declared.fault.LoadFault.{LoadFault}
-use Rattle.image_store.specs.declared.fault.LoadFault.TheVariants.{Truncated, Magic, ZoneRow, Total, Limits, Trailing}
-use Rattle.image_store.specs.declared.fault.ZoneRowFault.{ZoneRowFault}
+use Rattle.image_store.specs.declared.fault.LoadFault.TheVariants.{Truncated, Magic, Total, Limits, Trailing}
 use Rattle.image_store.specs.declared.header.Header.{Header}
 use Rattle.image_store.specs.declared.version.Version.{Version}
 use Rattle.image_store.specs.declared.version.Version.TheVariants.{One, Two}
@@ -24,61 +23,16 @@ use Rattle.image_store.specs.Geometry.{Shape}
 use Rattle.image_store.specs.Laws.{FaultsAreByPrefix, fault_end}
 use Rattle.image_store.specs.Namespace.{ZonedNamespace, namespace_with}
 use Rattle.program_interface.specs.Readings.{◌>>=◌}
-use Rattle.image_store.specs.Reading.{bytes_in, rows_end, shape_in, version_in, header_of, header_told, header_in, zone_in, zones_in, total_kept, limits_kept, blocks_in, end_in, namespace_in}
+use Rattle.image_store.specs.Reading.{bytes_in, rows_end, shape_in, version_in, header_of, header_told, header_in, zones_in, total_kept, limits_kept, blocks_in, end_in, namespace_in}
 use Rattle.image_store.specs.Text.{written_blocks}
 use Rattle.image_store.specs.Version.{numbers_of_version}
-use Rattle.image_store.proofs.Faults.{header_of_fault, kept_fault}
+use Rattle.image_store.proofs.BadHeaders.{header_wrong}
+use Rattle.image_store.proofs.Faults.{kept_fault}
 use Rattle.image_store.proofs.FilledBuffers.{Split, bytes_short}
 use Rattle.image_store.proofs.HeaderParts.{header_parts}
 use Rattle.image_store.proofs.LoadStages.{after_blocks, after_header, after_limits, after_rows, after_total}
 use Rattle.image_store.proofs.ReadingCalls.{bind_fails, chosen, is_this, wrong}
-use Rattle.image_store.proofs.ToldRows.{row_wrong}
-
--- ---- the rows
-
--- a row that tells no zone is found by the rows up to it
-record IsFoundAt (zone capacity n : ℕ) (xs : List ℕ) (fault : LoadFault) : Type 0 where
-  pub before : ℕ
-  pub inside : before < n
-  pub why : ZoneRowFault
-  pub is : fault ≡ ZoneRow (zone + before) why
-  pub same : (ys : List ℕ) → take ((before + 1) * 8) ys ≡ take ((before + 1) * 8) xs → zones_in zone capacity n ys ≡ Err fault
-
-first_found : (zone capacity n : ℕ) (xs : List ℕ) (fault : LoadFault) → zone_in zone capacity (take 8 xs) ≡ Err fault → IsFoundAt zone capacity (suc n) xs fault
-first_found zone capacity n xs fault e =
-    let bad = row_wrong zone capacity (take 8 xs) fault e in
-    record {
-      before = 0;
-      inside = omega arith;
-      why = bad.why;
-      is = bad.is ∙ ap (λ (k : ℕ). ZoneRow k bad.why) (let same : zone ≡ zone + 0 = omega arith in same);
-      same = λ ys same. ap (λ (r : Result CountedZone LoadFault). r >>= λ z. zones_in (zone + 1) capacity n (drop 8 ys) >>= λ zs. Ok (z ∷ zs)) (ap (zone_in zone capacity) same ∙ e);
-    }
-
-later_found : (zone capacity n : ℕ) (xs : List ℕ) (z : CountedZone) (fault : LoadFault) → zone_in zone capacity (take 8 xs) ≡ Ok z → IsFoundAt (zone + 1) capacity n (drop 8 xs) fault → IsFoundAt zone capacity (suc n) xs fault
-later_found zone capacity n xs z fault first found =
-    let k = found.before in
-    record {
-      before = k + 1;
-      inside = omega (arith, found.inside);
-      why = found.why;
-      is = found.is ∙ ap (λ (i : ℕ). ZoneRow i found.why) (let same : zone + 1 + k ≡ zone + (k + 1) = omega arith in same);
-      same = λ ys same.
-          let front : take 8 ys ≡ take 8 xs = agree_before 8 ((k + 1 + 1) * 8) ys xs (omega arith) same in
-          let rest : take ((k + 1) * 8) (drop 8 ys) ≡ take ((k + 1) * 8) (drop 8 xs) = agree_behind 8 ((k + 1) * 8) ((k + 1 + 1) * 8) ys xs (omega arith) same in
-          ap (λ (r : Result CountedZone LoadFault). r >>= λ z. zones_in (zone + 1) capacity n (drop 8 ys) >>= λ zs. Ok (z ∷ zs)) (ap (zone_in zone capacity) front ∙ first)
-          ∙ ap (λ (r : Result (List CountedZone) LoadFault). r >>= λ zs. Ok (z ∷ zs)) (found.same (drop 8 ys) rest);
-    }
-
-zones_found : (zone capacity n : ℕ) (xs : List ℕ) (fault : LoadFault) → zones_in zone capacity n xs ≡ Err fault → IsFoundAt zone capacity n xs fault
-zones_found zone capacity zero xs fault e = absurd cc
-zones_found zone capacity (suc n) xs fault e =
-    bind_fails (IsFoundAt zone capacity (suc n) xs) (zone_in zone capacity (take 8 xs)) (λ z. zones_in (zone + 1) capacity n (drop 8 xs) >>= λ zs. Ok (z ∷ zs)) fault e
-    (first_found zone capacity n xs)
-    (λ z first later.
-    bind_fails (IsFoundAt zone capacity (suc n) xs) (zones_in (zone + 1) capacity n (drop 8 xs)) (λ zs. Ok (z ∷ zs)) fault later
-    (λ why at. later_found zone capacity n xs z why first (zones_found (zone + 1) capacity n (drop 8 xs) why at))
-    (λ zs all none. absurd cc))
+use Rattle.image_store.proofs.RowFaults.{IsFirstBad, first_bad}
 
 -- ---- the end
 
@@ -135,8 +89,8 @@ whole_text bytes there =
     ap (λ (r : Result (Header × List ℕ) LoadFault). r >>= λ got. after_header got.0 got.1) (whole_header bytes there)
     ∙ bind_pair (header_told (take 64 bytes)) (drop 64 bytes)
 
-header_fails : (bytes : List ℕ) (fault : LoadFault) → 64 ≤ length bytes → header_told (take 64 bytes) ≡ Err fault → namespace_in bytes ≡ Err fault
-header_fails bytes fault there e = whole_text bytes there ∙ ap (λ (r : Result Header LoadFault). r >>= λ h. after_header h (drop 64 bytes)) e
+header_fault_is_told : (bytes : List ℕ) (fault : LoadFault) → 64 ≤ length bytes → header_told (take 64 bytes) ≡ Err fault → namespace_in bytes ≡ Err fault
+header_fault_is_told bytes fault there e = whole_text bytes there ∙ ap (λ (r : Result Header LoadFault). r >>= λ h. after_header h (drop 64 bytes)) e
 
 header_passes : (bytes : List ℕ) (h : Header) → 64 ≤ length bytes → header_told (take 64 bytes) ≡ Ok h → namespace_in bytes ≡ after_header h (drop 64 bytes)
 header_passes bytes h there e = whole_text bytes there ∙ ap (λ (r : Result Header LoadFault). r >>= λ h. after_header h (drop 64 bytes)) e
@@ -162,7 +116,7 @@ module _ (bytes other : List ℕ) (there : 64 ≤ length bytes) (longer : length
       let fits : 8 ≤ 64 = omega arith in
       let front : take 8 (take 64 other) ≡ take 8 (take 64 bytes) = take-take 8 64 other fits ∙ same ∙ sym (take-take 8 64 bytes fits) in
       let none_other : version_in (take 64 other) ≡ None = ap version_of front ∙ none in
-      header_fails other Magic (omega arith) (no_version (version_in (take 64 other)) (take 64 other) none_other)
+      header_fault_is_told other Magic (omega arith) (no_version (version_in (take 64 other)) (take 64 other) none_other)
 
   -- a fault behind the magic is found by the whole header at least
   abbrev IsBehind : LoadFault → Type 0
@@ -176,8 +130,8 @@ module _ (bytes other : List ℕ) (there : 64 ≤ length bytes) (longer : length
       bind_fails (IsOf bytes other) (ok_or (version_in (take 64 bytes)) Magic) (header_of (take 64 bytes)) fault e
       (λ first none. let known = unknown (version_in (take 64 bytes)) first none in subst (IsOf bytes other) known.1 (magic_is_of known.0))
       (λ version told later whole alone same.
-      let behind = header_of_fault IsBehind (λ why. le_refl 64) (take 64 bytes) version fault later in
-      header_fails other fault (omega arith) (ap header_told (header_same fault behind same) ∙ e))
+      let behind = subst IsBehind (sym (header_wrong version (take 64 bytes) fault later).is) (le_refl 64) in
+      header_fault_is_told other fault (omega arith) (ap header_told (header_same fault behind same) ∙ e))
 
 -- ---- behind the header
 
@@ -221,15 +175,15 @@ module _ (bytes other : List ℕ) (there : 64 ≤ length bytes) (longer : length
   rest_there inside = omega (arith, length-drop 64 bytes, length-drop 64 other)
 
   bad_is_of : (fault : LoadFault) → h.geometry.zones * 8 ≤ length (drop 64 bytes)
-      → IsFoundAt 0 h.geometry.capacity h.geometry.zones (take (h.geometry.zones * 8) (drop 64 bytes)) fault → IsOf bytes other fault
+      → IsFirstBad 0 h.geometry.capacity h.geometry.zones (take (h.geometry.zones * 8) (drop 64 bytes)) fault → IsOf bytes other fault
   bad_is_of fault inside found whole alone same =
-      let k = found.before in
+      let k = length found.before in
       let n = h.geometry.zones * 8 in
       let m = (k + 1) * 8 in
-      let end : fault_end bytes fault ≡ 64 + m = ap (fault_end bytes) found.is ∙ ap (λ (i : ℕ). 64 + (i + 1) * 8) (let e : 0 + k ≡ k = omega arith in e) in
+      let end : fault_end bytes fault ≡ 64 + m = ap (fault_end bytes) found.bad.is ∙ ap (λ (i : ℕ). 64 + (i + 1) * 8) (let e : 0 + k ≡ k = omega arith in e) in
       let front : take (64 + m) other ≡ take (64 + m) bytes = subst (λ (i : ℕ). take i other ≡ take i bytes) end same in
       let rest : take m (drop 64 other) ≡ take m (drop 64 bytes) = agree_behind 64 m (64 + m) other bytes refl front in
-      let less : m ≤ n = omega (arith, found.inside) in
+      let less : m ≤ n = omega (arith, found.few) in
       let cut : take m (take n (drop 64 other)) ≡ take m (take n (drop 64 bytes)) = take-take m n (drop 64 other) less ∙ rest ∙ sym (take-take m n (drop 64 bytes) less) in
       told_other (64 + m) (omega arith) front
       ∙ whole_rows h (drop 64 other) (rest_there inside)
@@ -272,7 +226,7 @@ module _ (bytes other : List ℕ) (there : 64 ≤ length bytes) (longer : length
         | inl inside ↦
             bind_fails (IsOf bytes other) (zones_in 0 s.capacity s.zones (take n (drop 64 bytes))) (λ zs. after_rows h zs (drop n (drop 64 bytes))) fault
             (sym (whole_rows h (drop 64 bytes) inside.1) ∙ e)
-            (λ first bad. bad_is_of first inside.1 (zones_found 0 s.capacity s.zones (take n (drop 64 bytes)) first bad))
+            (λ first bad. bad_is_of first inside.1 (first_bad 0 s.capacity s.zones (take n (drop 64 bytes)) first bad))
             (λ zs read later. after_is_of zs fault inside.1 read later)
         | inr short ↦ λ whole alone same. absurd (whole (sym (is_this {X = ZonedNamespace} Truncated fault (sym (short_rows h (drop 64 bytes) short.1) ∙ e))))
       ]

@@ -24,7 +24,7 @@ use Rattle.image_store.proofs.FilledBuffers.{Split}
 use Rattle.image_store.proofs.LoadedNamespaces.{kept_within}
 use Rattle.image_store.proofs.LoadStages.{after_blocks, after_header, after_limits, after_rows, after_total}
 use Rattle.image_store.proofs.ReadingCalls.{bind_fails, bind_ok, chosen, is_this, ok_is, wrong}
-use Rattle.image_store.proofs.HeaderFaults.{IsRead, header_first, header_is_read}
+use Rattle.image_store.proofs.HeaderFaults.{IsReadHeader, header_first, header_is_read}
 use Rattle.image_store.proofs.RowFaults.{first_bad, row_of_text}
 use Rattle.image_store.proofs.ToldRows.{Tell, are_told}
 
@@ -59,7 +59,7 @@ total_right : (total : Option ℕ) (zs : List CountedZone) (done : Unit {0}) →
 total_right None zs done e = tt
 total_right (Some total) zs done e = eqb-true total (written_blocks zs) (chosen (total == written_blocks zs) tt done (Total total (written_blocks zs)) e).0
 
-module _ (bytes : List ℕ) (h : Header) (there : 64 ≤ length bytes) (read : IsRead bytes h) where
+module _ (bytes : List ℕ) (h : Header) (there : 64 ≤ length bytes) (read : IsReadHeader bytes h) where
   abbrev given : Shape
   given = h.geometry
 

@@ -14,27 +14,27 @@ use Rattle.image_store.specs.steps.EmptyZone.{empty_counted_zone}
 use Rattle.program_interface.specs.Bytes.{pieces, spliced}
 use Rattle.image_store.specs.Geometry.{Shape}
 use Rattle.image_store.specs.Namespace.{ZoneBlocks, ZonedNamespace, zone_at, counted, grown, appended, namespace_with, all_empty, shape}
-use Rattle.image_store.proofs.BlocksOfBytes.{length-blocks, bytes-middle}
+use Rattle.image_store.proofs.BlocksOfBytes.{blocks_are_counted, bytes-middle}
 use Rattle.image_store.proofs.Shapes.{resized}
 use Rattle.image_store.proofs.ZonesInMemory.{HasRoom, length-zones, zone-at, zones-append, write_end}
 
 -- a zone's written blocks fit its capacity
-pub within_capacity : (state : ZoneState) (written capacity : ℕ) → IsZone state written capacity → written ≤ capacity
-within_capacity Empty written capacity h = grind (arith, nat_tests)
-within_capacity ImplicitlyOpened written capacity h = grind (arith, nat_tests)
-within_capacity ExplicitlyOpened written capacity h = grind (arith, nat_tests)
-within_capacity Closed written capacity h = grind (arith, nat_tests)
-within_capacity ReadOnly written capacity h = grind (arith, nat_tests)
-within_capacity Full written capacity h = grind (arith, nat_tests)
-within_capacity Offline written capacity h = grind (arith, nat_tests)
+pub written_is_within : (state : ZoneState) (written capacity : ℕ) → IsZone state written capacity → written ≤ capacity
+written_is_within Empty written capacity h = grind (arith, nat_tests)
+written_is_within ImplicitlyOpened written capacity h = grind (arith, nat_tests)
+written_is_within ExplicitlyOpened written capacity h = grind (arith, nat_tests)
+written_is_within Closed written capacity h = grind (arith, nat_tests)
+written_is_within ReadOnly written capacity h = grind (arith, nat_tests)
+written_is_within Full written capacity h = grind (arith, nat_tests)
+written_is_within Offline written capacity h = grind (arith, nat_tests)
 
 pub within : (s : Shape) (zs : List CountedZone) (xs : List ℕ) (z : ℕ) → IsFlat s zs xs → z < length zs → (get_or zs z no_counted_zone).written ≤ s.capacity
-within s zs xs z flat inside = within_capacity (get_or zs z no_counted_zone).state (get_or zs z no_counted_zone).written s.capacity (flat.fits z inside)
+within s zs xs z flat inside = written_is_within (get_or zs z no_counted_zone).state (get_or zs z no_counted_zone).written s.capacity (flat.fits z inside)
 
 -- a zone as it is seen is counted as it was
 pub counted_seen : (b c : ℕ) (r : CountedZone) (xs : List ℕ) → r.capacity ≡ c → counted c (zone_seen b r xs) ≡ r
 counted_seen b c r xs same =
-    ap (λ (n : ℕ). let z : CountedZone = record { state = r.state; written = n; capacity = c } in z) (length-blocks b r.written xs)
+    ap (λ (n : ℕ). let z : CountedZone = record { state = r.state; written = n; capacity = c } in z) (blocks_are_counted b r.written xs)
     ∙ ap (λ (n : ℕ). let z : CountedZone = record { state = r.state; written = r.written; capacity = n } in z) (sym same)
 
 pub counted_at : (s : Shape) (zs : List CountedZone) (xs : List ℕ) (z : ℕ) → IsFlat s zs xs → z < length zs → counted s.capacity (zone_at (namespace_of s zs xs) z) ≡ get_or zs z no_counted_zone
@@ -72,7 +72,7 @@ write_fits s zs xs z new flat inside whole allowed =
 grown_seen : (b c : ℕ) (r : CountedZone) (xs new : List ℕ) → r.capacity ≡ c → grown c (zone_seen b r xs) (as_blocks b new) ≡ record { state = (after_write r (block_count b new)).state; blocks = pieces b r.written xs ++ as_blocks b new }
 grown_seen b c r xs new same =
     ap (λ (z : CountedZone). let seen : ZoneBlocks = record { state = (after_write z (length (as_blocks b new))).state; blocks = pieces b r.written xs ++ as_blocks b new } in seen) (counted_seen b c r xs same)
-    ∙ ap (λ (n : ℕ). let seen : ZoneBlocks = record { state = (after_write r n).state; blocks = pieces b r.written xs ++ as_blocks b new } in seen) (length-blocks b (block_count b new) new)
+    ∙ ap (λ (n : ℕ). let seen : ZoneBlocks = record { state = (after_write r n).state; blocks = pieces b r.written xs ++ as_blocks b new } in seen) (blocks_are_counted b (block_count b new) new)
 
 -- writing into the room and counting the blocks appends them to the zone
 pub append_seen : (s : Shape) (zs : List CountedZone) (xs : List ℕ) (z : ℕ) (new : List ℕ) → IsFlat s zs xs → z < length zs
@@ -146,7 +146,7 @@ pub written_seen : (s : Shape) (zs : List CountedZone) (xs : List ℕ) (z most :
 written_seen s zs xs z most ns seen inside h =
     let same = ap (λ (m : ZonedNamespace). length (zone_at m z).blocks) seen in
     let count = ap (λ (zone : ZoneBlocks). length zone.blocks) (zone-at s.block s.capacity zs xs z inside) in
-    omega (arith, length-blocks s.block (get_or zs z no_counted_zone).written (drop (z * (s.capacity * s.block)) xs))
+    omega (arith, blocks_are_counted s.block (get_or zs z no_counted_zone).written (drop (z * (s.capacity * s.block)) xs))
 
 pub shape_seen : (s : Shape) (zs : List CountedZone) (xs : List ℕ) (ns : ZonedNamespace) → namespace_of s zs xs ≡ ns → IsFlat s zs xs → s ≡ shape ns
 shape_seen s zs xs ns seen flat =

@@ -15,6 +15,7 @@ mod BlocksRead
 mod Headers
 mod Shapes
 mod HeaderParts
+mod BadHeaders
 mod Upgrades
 mod Faults
 mod LoadStages
@@ -23,8 +24,8 @@ mod SpelledParts
 mod OnlyTextsLoad
 mod LoadedNamespaces
 mod CutTexts
+mod RowFaults
 mod FaultPlaces
 mod HeaderFaults
-mod RowFaults
 mod FirstFaults
 pub mod Proved

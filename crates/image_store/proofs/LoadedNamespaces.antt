@@ -17,13 +17,13 @@ use Rattle.program_interface.specs.Readings.{◌>>=◌}
 use Rattle.image_store.specs.Reading.{bytes_in, limits_kept, blocks_in}
 use Rattle.image_store.proofs.ReadingCalls.{bind_ok, ok_is, chosen}
 use Rattle.program_interface.proofs.Proved.{front_fit, rest_fit}
-use Rattle.image_store.proofs.ByteParts.{blocks_fit}
+use Rattle.image_store.proofs.ByteParts.{blocks_are_bytes}
 use Rattle.image_store.proofs.FilledBuffers.{bytes_parts, bytes_size}
 use Rattle.image_store.proofs.LoadStages.{HaveFit}
 use Rattle.image_store.proofs.OnlyTextsLoad.{size_read, text_parts}
-use Rattle.image_store.proofs.BlocksOfBytes.{length-blocks}
+use Rattle.image_store.proofs.BlocksOfBytes.{blocks_are_counted}
 use Rattle.image_store.proofs.Shapes.{resized}
-use Rattle.image_store.proofs.SoundImages.{block_whole}
+use Rattle.image_store.proofs.SoundImages.{blocks_are_whole}
 
 -- zones of whole blocks
 record AreWhole (block : ℕ) (zones : List ZoneBlocks) : Type 0 where
@@ -55,8 +55,8 @@ blocks_whole b (z ∷ zs) xs got fit e =
     let more = blocks_whole b zs a.0.1 c.0 (rest_fit a.0.0 a.0.1 all) c.1 in
     let first = zone_seen b z a.0.0 in
     subst (λ (x : List ZoneBlocks × List ℕ). AreWhole b x.0) (ok_is (first ∷ c.0.0, c.0.1) got c.2) (record {
-      whole = first_whole b first c.0.0 (λ i (h : i < length (pieces b z.written a.0.0)). block_whole b z.written i a.0.0 (omega (arith, length-blocks b z.written a.0.0)) (omega arith)) more;
-      bytes = first_bytes b first c.0.0 (blocks_fit b z.written a.0.0 (front_fit a.0.0 a.0.1 all)) more;
+      whole = first_whole b first c.0.0 (λ i (h : i < length (pieces b z.written a.0.0)). blocks_are_whole b z.written i a.0.0 (omega (arith, blocks_are_counted b z.written a.0.0)) (omega arith)) more;
+      bytes = first_bytes b first c.0.0 (blocks_are_bytes b z.written a.0.0 (front_fit a.0.0 a.0.1 all)) more;
     })
 
 pub kept_within : (limits : Limits) (zs : List CountedZone) (done : Unit {0}) → limits_kept limits zs ≡ Ok done → IsWithin zs limits

@@ -29,7 +29,7 @@ use Rattle.image_store.proofs.HeaderParts.{header_parts}
 use Rattle.image_store.proofs.Headers.{total_in}
 use Rattle.image_store.proofs.ImageFields.{counted_seen}
 use Rattle.image_store.proofs.LoadStages.{HaveFit, after_header, after_rows, after_total, after_limits, after_blocks, zones_fit}
-use Rattle.image_store.proofs.BlocksOfBytes.{bytes-blocks}
+use Rattle.image_store.proofs.BlocksOfBytes.{blocks_keep_bytes}
 use Rattle.image_store.proofs.Shapes.{resized}
 use Rattle.image_store.proofs.SpelledParts.{zeros_spelled, header_spelled}
 use Rattle.image_store.proofs.ToldRows.{row_right}
@@ -125,7 +125,7 @@ blocks_only b capacity (z ∷ zs) xs got same e =
     let a = bind_ok (bytes_in (z.written * b) xs) (λ front. blocks_in b zs front.1 >>= λ rest. Ok (zone_seen b z front.0 ∷ rest.0, rest.1)) got e in
     let c = bind_ok (blocks_in b zs a.0.1) (λ rest. Ok (zone_seen b z a.0.0 ∷ rest.0, rest.1)) got a.2 in
     let size = bytes_size (z.written * b) xs a.0 a.1 in
-    let front : concat (pieces b z.written a.0.0) ≡ a.0.0 = bytes-blocks b z.written a.0.0 ∙ take_all (z.written * b) a.0.0 (omega arith) in
+    let front : concat (pieces b z.written a.0.0) ≡ a.0.0 = blocks_keep_bytes b z.written a.0.0 ∙ take_all (z.written * b) a.0.0 (omega arith) in
     let rest = blocks_only b capacity zs a.0.1 c.0 (λ k h. same (suc k) (omega arith)) c.1 in
     subst (AreWritten capacity (z ∷ zs) xs) (ok_is (zone_seen b z a.0.0 ∷ c.0.0, c.0.1) got c.2) (record {
       spelled = append_assoc (concat (pieces b z.written a.0.0)) (blocks_text c.0.0) c.0.1

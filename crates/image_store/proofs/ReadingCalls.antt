@@ -1,5 +1,6 @@
 -- What calls that read answer, one after another.
 use Rattle.std.proofs.Common.{◌≡◌, Bool, true, false, cond, Result, Ok, Err, refl, ap, subst}
+use Rattle.zone_state.proofs.Proved.{guarded}
 use Rattle.image_store.specs.declared.fault.LoadFault.{LoadFault}
 use Rattle.image_store.specs.declared.fault.LoadFault.TheVariants.{Stream, Memory}
 use Rattle.image_store.specs.Loading.{LoadFails}
@@ -37,8 +38,7 @@ bind_fails {Y = Y} P (Err found) next fault e first later = subst P (is_this {X 
 
 -- what is only where a test holds
 pub chosen : {X : Type 0} (test : Bool) (x y : X) (first : LoadFault) → cond test (Ok x) (Err first) ≡ Ok y → (test ≡ true) × (x ≡ y)
-chosen true x y first e = (refl, cc)
-chosen false x y first e = absurd cc
+chosen test x y first e = let p = guarded test (Ok x) first y e in (p.0, ok_is x y p.1)
 
 -- and what comes of it where the test doesn't hold
 pub wrong : {X : Type 0} (test : Bool) (x : X) (first fault : LoadFault) → cond test (Ok x) (Err first) ≡ Err fault → (test ≡ false) × (first ≡ fault)

@@ -15,7 +15,7 @@ use Rattle.image_store.specs.ImageInMemory.{zone_seen, no_counted_zone, namespac
 use Rattle.program_interface.specs.Bytes.{pieces, spliced}
 use Rattle.image_store.specs.Geometry.{Shape}
 use Rattle.image_store.specs.Namespace.{ZoneBlocks, ZonedNamespace, zone_at, with_zone, arrived, with_state, namespace_with}
-use Rattle.image_store.proofs.BlocksOfBytes.{length-blocks}
+use Rattle.image_store.proofs.BlocksOfBytes.{blocks_are_counted}
 use Rattle.image_store.proofs.ZonesInMemory.{zone-at, zones-set}
 use Rattle.image_store.proofs.ImageFields.{write_fits}
 
@@ -53,8 +53,9 @@ written_zone ReadOnly written capacity false some fits other = let apart = eqb-f
 written_zone Full written capacity false some fits other = let apart = eqb-false written capacity other in (omega arith, grind (arith, nat_tests))
 written_zone Offline written capacity false some fits other = let apart = eqb-false written capacity other in (omega arith, grind (arith, nat_tests))
 
-pub after_write_zone : (z : CountedZone) (n : ℕ) → 1 ≤ n → write_check z z.written n ≡ Ok tt → IsZone (after_write z n).state (after_write z n).written z.capacity
-after_write_zone z n some allowed =
+-- a write that is allowed leaves the zone in a state that fits its blocks
+pub writes_keep_zones : (z : CountedZone) (n : ℕ) → 1 ≤ n → write_check z z.written n ≡ Ok tt → IsZone (after_write z n).state (after_write z n).written z.capacity
+writes_keep_zones z n some allowed =
     written_zone z.state (z.written + n) z.capacity (nat_eq (z.written + n) z.capacity) (omega arith) (is_allowed z z.written n allowed).has_room refl
 
 -- what holds of each of a list holds of each where one that it holds of is put in a place
@@ -82,7 +83,7 @@ flat_append s zs xs z new flat inside some whole allowed =
     let is = after_write was (block_count s.block new) in
     let at = z * (s.capacity * s.block) + was.written * s.block in
     let same = flat.capacities z inside in
-    let fits = after_write_zone was (block_count s.block new) some allowed in
+    let fits = writes_keep_zones was (block_count s.block new) some allowed in
     flat_set s zs xs (spliced at new xs) z is flat
     (length-spliced at new xs (write_fits s zs xs z new flat inside whole allowed))
     same
@@ -93,6 +94,6 @@ pub fits_seen : (s : Shape) (zs : List CountedZone) (xs : List ℕ) (z : ℕ) (n
     → IsZone to (kept to (length (zone_at ns z).blocks)) ns.capacity → IsZone to (kept to (get_or zs z no_counted_zone).written) s.capacity
 fits_seen s zs xs z ns to seen inside h =
     let count = ap (λ (zone : ZoneBlocks). length zone.blocks) (zone-at s.block s.capacity zs xs z inside)
-    ∙ length-blocks s.block (get_or zs z no_counted_zone).written (drop (z * (s.capacity * s.block)) xs) in
+    ∙ blocks_are_counted s.block (get_or zs z no_counted_zone).written (drop (z * (s.capacity * s.block)) xs) in
     subst (λ (n : ℕ). IsZone to (kept to n) s.capacity) count
     (subst (λ (m : ZonedNamespace). IsZone to (kept to (length (zone_at m z).blocks)) m.capacity) (sym seen) h)

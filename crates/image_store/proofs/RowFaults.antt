@@ -1,6 +1,7 @@
 -- The row that is refused is the first that tells no zone.
-use Rattle.std.proofs.Common.{◌≡◌, ℕ, ◌+◌, ◌-◌, ◌*◌, ◌<◌, zero, suc, List, [], ◌∷◌, length, take, drop, Ok, Err, ap, subst, ◌∙◌, arith}
+use Rattle.std.proofs.Common.{◌≡◌, ℕ, ◌+◌, ◌-◌, ◌*◌, ◌<◌, zero, suc, List, [], ◌∷◌, length, take, drop, Result, Ok, Err, ap, subst, ◌∙◌, arith}
 use Rattle.std.proofs.lemmas.List.{drop-drop, drop-take, take-take}
+use Rattle.program_interface.proofs.Proved.{agree_before, agree_behind}
 use Rattle.zone_state.specs.Zone.{CountedZone}
 use Rattle.image_store.specs.declared.fault.LoadFault.{LoadFault}
 use Rattle.program_interface.specs.Readings.{◌>>=◌}
@@ -9,12 +10,13 @@ use Rattle.image_store.specs.Reading.{zone_in, zones_in}
 use Rattle.image_store.proofs.ReadingCalls.{bind_fails}
 use Rattle.image_store.proofs.ToldRows.{IsBadRow, Tell, next_part, part, row_right, row_wrong, tell_more}
 
--- the first row that tells none
+-- the first row that tells none, which is found by the rows up to it
 pub record IsFirstBad (zone capacity n : ℕ) (rows : List ℕ) (fault : LoadFault) : Type 0 where
   pub before : List CountedZone
   pub few : length before < n
   pub each : Tell capacity rows before
   pub bad : IsBadRow (zone + length before) capacity (part rows (length before)) fault
+  pub same : (others : List ℕ) → take ((length before + 1) * 8) others ≡ take ((length before + 1) * 8) rows → zones_in zone capacity n others ≡ Err fault
 
 bad_here : (zone capacity n : ℕ) (rows : List ℕ) (fault : LoadFault) → zone_in zone capacity (take 8 rows) ≡ Err fault → IsFirstBad zone capacity (suc n) rows fault
 bad_here zone capacity n rows fault e =
@@ -24,6 +26,7 @@ bad_here zone capacity n rows fault e =
       few = omega arith;
       each = λ k h. absurd (omega arith);
       bad = subst (λ (i : ℕ). IsBadRow i capacity (take 8 rows) fault) at (row_wrong zone capacity (take 8 rows) fault e);
+      same = λ others same. ap (λ (r : Result CountedZone LoadFault). r >>= λ z. zones_in (zone + 1) capacity n (drop 8 others) >>= λ zs. Ok (z ∷ zs)) (ap (zone_in zone capacity) same ∙ e);
     }
 
 bad_later : (zone capacity n : ℕ) (rows : List ℕ) (z : CountedZone) (fault : LoadFault) → zone_in zone capacity (take 8 rows) ≡ Ok z → IsFirstBad (zone + 1) capacity n (drop 8 rows) fault → IsFirstBad zone capacity (suc n) rows fault
@@ -37,6 +40,11 @@ bad_later zone capacity n rows z fault first found =
       few = omega (arith, few);
       each = tell_more capacity rows z found.before (row_right zone capacity (take 8 rows) z first) found.each;
       bad = subst (λ (row : List ℕ). IsBadRow (zone + suc k) capacity row fault) (next_part rows k) here;
+      same = λ others same.
+          let front : take 8 others ≡ take 8 rows = agree_before 8 ((suc k + 1) * 8) others rows (omega arith) same in
+          let rest : take ((k + 1) * 8) (drop 8 others) ≡ take ((k + 1) * 8) (drop 8 rows) = agree_behind 8 ((k + 1) * 8) ((suc k + 1) * 8) others rows (omega arith) same in
+          ap (λ (r : Result CountedZone LoadFault). r >>= λ z. zones_in (zone + 1) capacity n (drop 8 others) >>= λ zs. Ok (z ∷ zs)) (ap (zone_in zone capacity) front ∙ first)
+          ∙ ap (λ (r : Result (List CountedZone) LoadFault). r >>= λ zs. Ok (z ∷ zs)) (found.same (drop 8 others) rest);
     }
 
 pub first_bad : (zone capacity n : ℕ) (rows : List ℕ) (fault : LoadFault) → zones_in zone capacity n rows ≡ Err fault → IsFirstBad zone capacity n rows fault

@@ -9,7 +9,7 @@ use Rattle.image_store.specs.Geometry.{Shape}
 use Rattle.image_store.specs.Namespace.{ZoneBlocks, no_zone, zone_at, shape}
 use Rattle.image_store.specs.Streams.{IsBegun}
 use Rattle.image_store.specs.Text.{header, written_blocks, zone_rows, blocks_text, text}
-use Rattle.image_store.proofs.BlocksOfBytes.{length-blocks}
+use Rattle.image_store.proofs.BlocksOfBytes.{blocks_are_counted}
 use Rattle.image_store.proofs.Sinks.{begins}
 use Rattle.image_store.proofs.ZonesInMemory.{length-zones, zone-at}
 use Rattle.image_store.proofs.ImageFields.{zones_counted, shape_seen}
@@ -44,7 +44,7 @@ blocks_step s zs xs i w z piece inside read same given =
     let known : z ≡ get_or zs i no_counted_zone = read ∙ get_or_default zs i z no_counted_zone inside in
     let count : w ≡ (get_or zs i no_counted_zone).written = same ∙ ap (λ (x : CountedZone). x.written) known in
     let seen = ap (λ (zone : ZoneBlocks). length zone.blocks) (zone-at s.block s.capacity zs xs i inside)
-    ∙ length-blocks s.block (get_or zs i no_counted_zone).written (drop (i * (s.capacity * s.block)) xs) in
+    ∙ blocks_are_counted s.block (get_or zs i no_counted_zone).written (drop (i * (s.capacity * s.block)) xs) in
     let whole : take w blocks ≡ blocks = take_all w blocks (omega arith) in
     let all : concat blocks ≡ piece = ap concat (sym whole) ∙ sym given in
     at_drop_more blocks_text zones i no_zone there

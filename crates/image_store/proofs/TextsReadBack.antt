@@ -1,11 +1,12 @@
 -- A text of a namespace is read as that namespace.
-use Rattle.std.proofs.Common.{◌≡◌, ℕ, ◌+◌, ◌*◌, ◌^◌, ◌<◌, ◌≤◌, suc, Bool, cond, List, [], ◌∷◌, ◌++◌, length, get_or, map, drop, Result, Ok, Err, refl, ap, sym, subst, ◌∙◌, append_assoc, arith, length-append}
-use Rattle.std.specs.List.{concat}
+use Rattle.std.proofs.Common.{◌≡◌, ℕ, ◌+◌, ◌*◌, ◌^◌, ◌<◌, ◌≤◌, suc, Bool, cond, List, [], ◌∷◌, ◌++◌, length, get_or, map, Result, Ok, Err, refl, ap, sym, subst, ◌∙◌, append_assoc, map-id, arith}
+use Rattle.std.specs.List.{concat, flat_map}
 use Rattle.std.proofs.lemmas.Bool.{eq-eqb, le-leb}
-use Rattle.std.proofs.lemmas.List.{append-nil, take_at, drop_at, get_or-map, length-map}
+use Rattle.std.proofs.lemmas.List.{append-nil, get_or-map, length-map}
+use Rattle.std.proofs.lemmas.List.Concat.{concat_is}
 use Rattle.std.proofs.lemmas.List.Elements.{All-from_get_or}
 use Rattle.std.proofs.lemmas.List.Sums.{sum_by-le}
-use Rattle.std.proofs.Math.Nat.{mul-le-mul, suc-mul}
+use Rattle.std.proofs.Math.Nat.{mul-le-mul}
 use Rattle.byteorder.specs.Numbers.{little_number-reads_back}
 use Rattle.zone_state.specs.State.{code_of, state_of}
 use Rattle.zone_state.specs.Zone.{CountedZone, IsZone}
@@ -14,7 +15,7 @@ use Rattle.zone_resources.specs.Admission.{IsWithin}
 use Rattle.zone_resources.specs.Counts.{open_count, active_count}
 use Rattle.zone_resources.specs.declared.admission.Limits.{Limits}
 use Rattle.program_interface.specs.Bytes.{pieces}
-use Rattle.program_interface.proofs.Proved.{length-flat_map-each}
+use Rattle.program_interface.proofs.Proved.{length-flat_map-each, pieces-flat_map}
 use Rattle.image_store.specs.declared.fault.LoadFault.{LoadFault}
 use Rattle.image_store.specs.declared.fault.LoadFault.TheVariants as fault
 use Rattle.image_store.specs.declared.fault.ZoneRowFault.TheVariants as row_fault
@@ -31,7 +32,7 @@ use Rattle.image_store.specs.Text.{header, written_blocks, zone_row, zone_rows, 
 use Rattle.image_store.specs.Version.{HasText}
 use Rattle.image_store.proofs.FilledBuffers.{Split, bytes_whole}
 use Rattle.image_store.proofs.Headers.{header_read, header_seen, total_in}
-use Rattle.image_store.proofs.ImageFields.{within_capacity}
+use Rattle.image_store.proofs.ImageFields.{written_is_within}
 use Rattle.image_store.proofs.LoadStages.{after_limits, past_header, past_rows, past_total, past_limits, past_blocks, past_end}
 
 -- rows that can be spelled
@@ -42,7 +43,7 @@ pub record CanSpell (capacity : ℕ) (z : CountedZone) : Type 0 where
 
 row_again : (zone capacity : ℕ) (z : CountedZone) → CanSpell capacity z → zone_in zone capacity (zone_row z) ≡ Ok z
 row_again zone capacity z can =
-    let most = within_capacity z.state z.written capacity can.fits in
+    let most = written_is_within z.state z.written capacity can.fits in
     let small = can.small in
     let number = little_number-reads_back 4 z.written [] (omega arith) in
     ap (λ (n : ℕ). zone_told zone (code_of z.state) (state_of (code_of z.state)) n capacity) number
@@ -57,7 +58,7 @@ rows_again zone capacity (z ∷ zs) can =
     ∙ ap (λ (r : Result (List CountedZone) LoadFault). r >>= λ more. Ok (z ∷ more)) (rows_again (zone + 1) capacity zs (λ k h. can (suc k) (omega arith)))
 
 pub length-rows : (zs : List CountedZone) → length (zone_rows zs) ≡ length zs * 8
-length-rows zs = length-flat_map-each zone_row 8 (λ z. refl) zs
+length-rows zs = length-flat_map-each zone_row 8 zs (λ k d h. refl)
 
 pub rows_read : (s : Shape) (zs : List CountedZone) (rest : List ℕ) → length zs ≡ s.zones → ((k : ℕ) → k < length zs → CanSpell s.capacity (get_or zs k no_counted_zone))
     → zone_rows_in s (zone_rows zs ++ rest) ≡ Ok (zs, rest)
@@ -69,30 +70,27 @@ rows_read s zs rest count can =
 pub limits_read : (limits : Limits) (zs : List CountedZone) → IsWithin zs limits → limits_kept limits zs ≡ Ok tt
 limits_read limits zs within = rw (le-leb (open_count zs) limits.open_limit within.opened, le-leb (active_count zs) limits.active_limit within.active) refl
 
--- blocks that are whole are cut from their bytes again
-pub blocks_again : (b : ℕ) (blocks : List (List ℕ)) → ((i : ℕ) → i < length blocks → length (get_or blocks i []) ≡ b) → pieces b (length blocks) (concat blocks) ≡ blocks
-blocks_again b [] whole = refl
-blocks_again b (x ∷ blocks) whole =
-    let size = whole 0 (omega arith) in
-    ap (λ (front : List ℕ). front ∷ pieces b (length blocks) (drop b (x ++ concat blocks))) (take_at x (concat blocks) b size)
-    ∙ (ap (λ (back : List ℕ). x ∷ pieces b (length blocks) back) (drop_at x (concat blocks) b size)
-    ∙ ap (λ (more : List (List ℕ)). x ∷ more) (blocks_again b blocks (λ i h. whole (suc i) (omega arith))))
+-- whole blocks have so many bytes in all,
+pub blocks_have_bytes : (b : ℕ) (blocks : List (List ℕ)) → ((i : ℕ) → i < length blocks → length (get_or blocks i []) ≡ b) → length (concat blocks) ≡ length blocks * b
+blocks_have_bytes b blocks whole =
+    ap length (concat_is blocks) ∙ length-flat_map-each (λ (x : List ℕ). x) b blocks (All-from_get_or (λ (x : List ℕ). length x ≡ b) blocks [] whole)
 
-pub length-bytes : (b : ℕ) (blocks : List (List ℕ)) → ((i : ℕ) → i < length blocks → length (get_or blocks i []) ≡ b) → length (concat blocks) ≡ length blocks * b
-length-bytes b [] whole = omega arith
-length-bytes b (x ∷ blocks) whole =
-    omega (arith, whole 0 (omega arith), length-bytes b blocks (λ i h. whole (suc i) (omega arith)), suc-mul (length blocks) b, length-append x (concat blocks))
+-- and are cut from these again
+pub blocks_are_cut_again : (b : ℕ) (blocks : List (List ℕ)) → ((i : ℕ) → i < length blocks → length (get_or blocks i []) ≡ b) → pieces b (length blocks) (concat blocks) ≡ blocks
+blocks_are_cut_again b blocks whole =
+    ap (pieces b (length blocks)) (concat_is blocks ∙ sym (append-nil (flat_map (λ (x : List ℕ). x) blocks)))
+    ∙ (pieces-flat_map (λ (x : List ℕ). x) b blocks [] (All-from_get_or (λ (x : List ℕ). length x ≡ b) blocks [] whole) ∙ map-id blocks)
 
 pub blocks_read : (b c : ℕ) (zones : List ZoneBlocks) (rest : List ℕ) → ((z i : ℕ) → i < length (get_or zones z no_zone).blocks → length (get_or (get_or zones z no_zone).blocks i []) ≡ b)
     → blocks_in b (map (counted c) zones) (blocks_text zones ++ rest) ≡ Ok (zones, rest)
 blocks_read b c [] rest whole = refl
 blocks_read b c (zone ∷ zones) rest whole =
-    let size = length-bytes b zone.blocks (whole 0) in
+    let size = blocks_have_bytes b zone.blocks (whole 0) in
     let parts = append_assoc (concat zone.blocks) (blocks_text zones) rest in
     ap (blocks_in b (map (counted c) (zone ∷ zones))) parts
     ∙ (ap (λ (r : Result Split LoadFault). r >>= λ front. blocks_in b (map (counted c) zones) front.1 >>= λ more. Ok (zone_seen b (counted c zone) front.0 ∷ more.0, more.1)) (bytes_whole (length zone.blocks * b) (concat zone.blocks) (blocks_text zones ++ rest) size)
     ∙ (ap (λ (r : Result (List ZoneBlocks × List ℕ) LoadFault). r >>= λ more. Ok (zone_seen b (counted c zone) (concat zone.blocks) ∷ more.0, more.1)) (blocks_read b c zones rest (λ z i h. whole (suc z) i h))
-    ∙ ap (λ (bs : List (List ℕ)). let seen : ZoneBlocks = record { state = zone.state; blocks = bs } in let r : Result (List ZoneBlocks × List ℕ) LoadFault = Ok (seen ∷ zones, rest) in r) (blocks_again b zone.blocks (whole 0))))
+    ∙ ap (λ (bs : List (List ℕ)). let seen : ZoneBlocks = record { state = zone.state; blocks = bs } in let r : Result (List ZoneBlocks × List ℕ) LoadFault = Ok (seen ∷ zones, rest) in r) (blocks_are_cut_again b zone.blocks (whole 0))))
 
 pub can_spell : (ns : ZonedNamespace) → IsNamespace ns → (k : ℕ) → k < length (counted_zones ns) → CanSpell ns.capacity (get_or (counted_zones ns) k no_counted_zone)
 can_spell ns sound k h =
@@ -105,7 +103,7 @@ can_spell ns sound k h =
 pub total_small : (ns : ZonedNamespace) → IsNamespace ns → written_blocks (counted_zones ns) < 2 ^ 64
 total_small ns sound =
     let each : (k : ℕ) → k < length (counted_zones ns) → (get_or (counted_zones ns) k no_counted_zone).written ≤ ns.capacity =
-    λ k h. let z = get_or (counted_zones ns) k no_counted_zone in within_capacity z.state z.written ns.capacity (can_spell ns sound k h).fits in
+    λ k h. let z = get_or (counted_zones ns) k no_counted_zone in written_is_within z.state z.written ns.capacity (can_spell ns sound k h).fits in
     let most = sum_by-le (λ z. z.written) ns.capacity (counted_zones ns) (All-from_get_or (λ (z : CountedZone). z.written ≤ ns.capacity) (counted_zones ns) no_counted_zone each) in
     let known = sound.shape in
     let zones : length (counted_zones ns) ≤ MOST_ZONES = let count = length-map ns.zones (counted ns.capacity) in let few = known.zones_most in omega arith in

@@ -42,7 +42,7 @@ whole-more f n x xs size h =
 pub length-whole : {X : Type 0} (f : X → List ℕ) → ((x : X) → length (f x) ≡ 64) → (n : ℕ) (xs : List X) → length (whole f n xs) ≡ n
 length-whole f each n xs =
     let shown = take (n / 64) xs in
-    length-padded n (flat_map f shown) (omega (arith, length-flat_map-each f 64 each shown, length-take (n / 64) xs))
+    length-padded n (flat_map f shown) (omega (arith, length-flat_map-each f 64 shown (λ k d h. each (get_or shown k d)), length-take (n / 64) xs))
 
 -- a piece put at a place, where it fits
 pub piece-fits : (old piece rest : List ℕ) (at : ℕ) → at ≤ length old → length piece ≡ 64 → take (at + 64) (take at old ++ (piece ++ rest)) ≡ take at old ++ piece

@@ -1,14 +1,15 @@
 -- What a report holds, and that it is written so.
-use Rattle.std.proofs.Common.{◌≡◌, ℕ, suc, ◌+◌, ◌-◌, ◌*◌, ◌/◌, ◌^◌, ◌≤◌, ◌<◌, min, Bool, true, false, cond, List, [], ◌∷◌, ◌++◌, length, map, take, drop, replicate, refl, ap, sym, ◌∙◌, arith, append_assoc, length-append, ⊎_elim}
-use Rattle.std.specs.List.{enumerate_from, flat_map}
+use Rattle.std.proofs.Common.{◌≡◌, ℕ, ◌+◌, ◌-◌, ◌*◌, ◌/◌, ◌^◌, ◌≤◌, ◌<◌, min, Bool, true, false, cond, List, ◌++◌, length, get_or, map, take, drop, replicate, refl, ap, sym, ◌∙◌, arith, append_assoc, length-append, ⊎_elim}
+use Rattle.std.specs.List.{All, enumerate_from, flat_map}
 use Rattle.std.proofs.lemmas.Bool.{cases_lt}
-use Rattle.std.proofs.lemmas.List.{take_all, drop_all, drop_at, take_at, take_min, drop-drop, length-drop, length-take, length-take-le, nil_from_length}
+use Rattle.std.proofs.lemmas.List.{take_all, drop_all, drop_at, take_min, drop-drop, length-drop, length-take, length-take-le, nil_from_length}
 use Rattle.std.proofs.lemmas.List.FromFn.{length-enumerate_from}
+use Rattle.std.proofs.lemmas.List.Sums.{count_by-le-length, length-filter}
 use Rattle.byteorder.specs.Endian.{little_bytes}
 use Rattle.byteorder.specs.Numbers.{little_number-reads_back}
 use Rattle.zone_state.specs.Zone.{CountedZone}
 use Rattle.program_interface.specs.Bytes.{pieces}
-use Rattle.program_interface.proofs.Proved.{length-flat_map-each}
+use Rattle.program_interface.proofs.Proved.{length-flat_map-each, pieces-flat_map}
 use Rattle.nvme_entry.specs.Filter.{lists}
 use Rattle.nvme_entry.specs.declared.filter.ZoneFilter.{ZoneFilter}
 use Rattle.nvme_entry.specs.Report.{descriptor_at, fitting, report_header, listed, matching, report, listed_zones}
@@ -100,22 +101,10 @@ number-in-header number rest small =
     ap (λ (ys : List ℕ). number_in ys) (append_assoc (little_bytes 8 number) (replicate 56 0) rest)
     ∙ little_number-reads_back 8 number (replicate 56 0 ++ rest) small
 
-pieces-flat : {X : Type 0} (f : X → List ℕ) → ((x : X) → length (f x) ≡ 64) → (xs : List X) (rest : List ℕ) → pieces 64 (length xs) (flat_map f xs ++ rest) ≡ map f xs
-pieces-flat f each [] rest = refl
-pieces-flat f each (x ∷ xs) rest =
-    let behind = flat_map f xs ++ rest in
-    ap (λ (ys : List ℕ). take 64 ys ∷ pieces 64 (length xs) (drop 64 ys)) (append_assoc (f x) (flat_map f xs) rest)
-    ∙ (ap (λ (ys : List ℕ). ys ∷ pieces 64 (length xs) (drop 64 (f x ++ behind))) (take_at (f x) behind 64 (each x))
-    ∙ (ap (λ (ys : List ℕ). f x ∷ pieces 64 (length xs) ys) (drop_at (f x) behind 64 (each x))
-    ∙ ap (λ (zs : List (List ℕ)). f x ∷ zs) (pieces-flat f each xs rest)))
-
-kept : {X : Type 0} (test : Bool) (x : X) (xs : List X) (n : ℕ) → length xs ≤ n → length (cond test (x ∷ xs) xs) ≤ suc n
-kept true x xs n few = omega arith
-kept false x xs n few = omega arith
-
 length-listed_zones : (filter : ZoneFilter) (zones : List (ℕ × CountedZone)) → length (listed_zones filter zones) ≤ length zones
-length-listed_zones filter [] = omega arith
-length-listed_zones filter (zone ∷ zones) = kept (lists filter zone.1.state) zone (listed_zones filter zones) (length zones) (length-listed_zones filter zones)
+length-listed_zones filter zones =
+    let test = λ (zone : ℕ × CountedZone). lists filter zone.1.state in
+    omega (arith, length-filter test zones, count_by-le-length test zones)
 
 length-matching : (zones : List CountedZone) (first : ℕ) (filter : ZoneFilter) → length (matching zones first filter) ≤ length zones
 length-matching zones first filter =
@@ -139,14 +128,15 @@ tells bytes partial size found given long few parts same_length =
     let small : number < 2 ^ 64 = omega (arith, told-few partial room found) in
     let back : drop 64 given ≡ flat_map f shown ++ zeros = ap (λ (ys : List ℕ). drop 64 ys) parts ∙ drop_at (report_header number) (whole f (bytes - 64) found) 64 (length-header number) in
     let count : length shown ≡ min room (length found) = length-take room found in
-    let size_shown : length (flat_map f shown) ≡ 64 * min room (length found) = omega (arith, length-flat_map-each f 64 (length-each size) shown, count) in
+    let each : All (λ zone. length (f zone) ≡ 64) shown = λ k d h. length-each size (get_or shown k d) in
+    let size_shown : length (flat_map f shown) ≡ 64 * min room (length found) = omega (arith, length-flat_map-each f 64 shown each, count) in
     let left : bytes - 64 - length (flat_map f shown) ≡ length given - (64 + 64 * min room (length found)) = omega arith in
     record {
       number = ap number_in parts ∙ (number-in-header number (whole f (bytes - 64) found) small ∙ sym (told partial room found));
       descriptors =
           ap (λ (ys : List ℕ). pieces 64 (min room (length found)) ys) back
           ∙ (ap (λ (k : ℕ). pieces 64 k (flat_map f shown ++ zeros)) (sym count)
-          ∙ (pieces-flat f (length-each size) shown zeros ∙ ap (λ (zs : List (ℕ × CountedZone)). map f zs) (sym (take_min room found))));
+          ∙ (pieces-flat_map f 64 shown zeros each ∙ ap (λ (zs : List (ℕ × CountedZone)). map f zs) (sym (take_min room found))));
       rest =
           sym (drop-drop (64 * min room (length found)) 64 given)
           ∙ (ap (λ (ys : List ℕ). drop (64 * min room (length found)) ys) back

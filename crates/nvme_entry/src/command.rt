@@ -219,21 +219,21 @@ pub enum StandardCommand {
         /// How many are written.
         blocks: BlockCount,
     },
-    /// Reads blocks from `lba` on (NVM Command Set 1.0, 3.2.4).
+    /// Reads blocks from `lba` on (NVM Command Set 1.0, 3.2.4; ZNS 1.1, 3.3.2).
     Read {
         /// The first block that is read.
         lba: u64,
         /// How many are read.
         blocks: BlockCount,
     },
-    /// Takes an action on the zone whose lowest address is `lba`, or on all zones that the action
+    /// Takes an action on the zone whose lowest address is `lba`, or on all zones that Select All
     /// takes (ZNS 1.1, 3.4.3).
     Send {
         /// The lowest block of the zone; ignored where all are taken.
         lba: u64,
         /// The action.
         action: Action,
-        /// Is it taken on all zones that it takes?
+        /// Is it taken on the zones that Select All takes, in place of one?
         select_all: bool,
     },
     /// Reports the zones that `filter` lists from the one that contains `lba` on; with `partial`

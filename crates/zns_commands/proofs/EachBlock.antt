@@ -1,10 +1,10 @@
 -- That each block that a Read gives is the zone's, or zeros where it isn't written.
 use Rattle.std.proofs.Common.{◌≡◌, ℕ, zero, suc, ◌+◌, ◌*◌, ◌<◌, List, [], ◌∷◌, ◌++◌, length, get_or, take, drop, replicate, Option, refl, ap, sym, subst, ◌∙◌, arith, length-append}
 use Rattle.std.specs.List.{concat}
-use Rattle.std.proofs.lemmas.List.{take_at, drop_at, drop-drop, get_or-take, get_or-drop, get_or-replicate, length-take, length-replicate}
-use Rattle.std.proofs.Math.Nat.{suc-mul}
+use Rattle.std.proofs.lemmas.List.{get_or-take, get_or-drop, get_or-replicate, length-take, length-replicate}
 use Rattle.zone_state.specs.declared.status.Status.{Status}
 use Rattle.image_store.specs.Namespace.{ZonedNamespace, zone_at, IsNamespace}
+use Rattle.image_store.proofs.Proved.{blocks_are_cut_again, blocks_are_parts}
 use Rattle.zns_commands.specs.Address.{zone_number, zone_offset}
 use Rattle.zns_commands.specs.Effect.{concluded}
 use Rattle.zns_commands.specs.Read.{blocks_read, read_effect}
@@ -40,16 +40,8 @@ whole_or_zeros block (x ∷ xs) (suc i) whole = whole_or_zeros block xs i (λ k 
 
 -- one of whole blocks, in their bytes
 block_in_bytes : (block i : ℕ) (xs : List (List ℕ)) → AreBlocks block xs → i < length xs → take block (drop (i * block) (concat xs)) ≡ get_or xs i []
-block_in_bytes block i [] whole inside = absurd (omega arith)
-block_in_bytes block zero (x ∷ xs) whole inside =
-    let start : zero * block ≡ 0 = omega arith in
-    ap (λ (n : ℕ). take block (drop n (x ++ concat xs))) start ∙ take_at x (concat xs) block (whole 0 (omega arith))
-block_in_bytes block (suc i) (x ∷ xs) whole inside =
-    let next : block + i * block ≡ suc i * block = omega (arith, suc-mul i block) in
-    ap (λ (n : ℕ). take block (drop n (x ++ concat xs))) (sym next)
-    ∙ (ap (take block) (sym (drop-drop (i * block) block (x ++ concat xs)))
-    ∙ (ap (λ (ys : List ℕ). take block (drop (i * block) ys)) (drop_at x (concat xs) block (whole 0 (omega arith)))
-    ∙ block_in_bytes block i xs (λ k below. whole (suc k) (omega arith)) (omega arith)))
+block_in_bytes block i xs whole inside =
+    sym (blocks_are_parts block (length xs) i (concat xs) inside) ∙ ap (λ (all : List (List ℕ)). get_or all i []) (blocks_are_cut_again block xs whole)
 
 each_block : (ns : ZonedNamespace) (z first count i : ℕ) → IsNamespace ns → i < count
     → take ns.block (drop (i * ns.block) (concat (blocks_read ns.block (zone_at ns z).blocks first count))) ≡ block_or_zeros ns z (first + i)

@@ -1,20 +1,16 @@
 -- Namespaces in which a zone gave way to another.
-use Rattle.std.proofs.Common.{◌≡◌, ◌≢◌, ℕ, ◌<◌, Bool, true, false, cond, List, length, Option, Some, None, Ok, refl, ap, sym, subst, ◌∙◌, get_or-set_other}
-use Rattle.std.specs.Prelude.{slice_set, nat_lt, MatchOption}
+use Rattle.std.proofs.Common.{◌≡◌, ◌≢◌, ℕ, ◌<◌, List, length, Option, Some, None, Ok, refl, ap, sym, subst, ◌∙◌, get_or-set_other}
+use Rattle.std.specs.Prelude.{slice_set}
 use Rattle.std.specs.Option.{ForSome}
 use Rattle.zone_state.specs.State.{is_open}
 use Rattle.zone_state.specs.Zone.{CountedZone, IsZone}
 use Rattle.zone_state.specs.declared.action.Action.TheVariants as action
 use Rattle.zone_state.specs.declared.state.ZoneState.{ZoneState}
 use Rattle.zone_state.specs.declared.state.ZoneState.TheVariants.{ImplicitlyOpened, Closed}
-use Rattle.zone_state.specs.declared.status.TheConstants.Status.{TOO_MANY_ACTIVE_ZONES}
-use Rattle.zone_resources.specs.Admission.{admission, open_admission, closing_or_refusal, zone_to_close, wanted_of, IsClosable, IsWithin, HoldsNoMore, after_closing, closed_in}
-use Rattle.zone_resources.specs.Counts.{open_count, active_count}
-use Rattle.zone_resources.specs.declared.admission.Limits.{Limits}
+use Rattle.zone_resources.specs.Admission.{wanted_of, IsClosable, IsWithin, HoldsNoMore, after_closing, closed_in}
 use Rattle.zone_resources.specs.declared.admission.Wanted.{Wanted}
-use Rattle.zone_resources.specs.declared.admission.Wanted.TheVariants.{OpenOnly, OpenAndActive}
 use Rattle.zone_resources.specs.declared.holds.Holds.{Holds}
-use Rattle.zone_resources.proofs.Proved.{admission_keeps_limits, closes_the_lowest, guarded}
+use Rattle.zone_resources.proofs.Proved.{admission_keeps_limits, admitted_closable}
 use Rattle.image_store.specs.Blocks.{as_blocks}
 use Rattle.image_store.specs.Namespace.{ZoneBlocks, ZonedNamespace, no_zone, zone_at, with_zone, counted, grown, counted_zones, IsNamespace, IsWithinLimits, arrived, with_state}
 use Rattle.zns_commands.specs.Address.{counted_zone_at}
@@ -23,30 +19,6 @@ use Rattle.zns_commands.specs.steps.Accepted.{CanGiveWay}
 use Rattle.zns_commands.specs.steps.Plans.{written_by}
 use Rattle.zns_commands.proofs.ClosableZones.{closable_zone, closable_state, other_zone}
 use Rattle.zns_commands.proofs.FittingZones.{FitsIn, action_fits, set_namespace, counted_zone_there, counted_zones_with, one_within, open_holds}
-
--- what is to be closed may be
-lowest_closable : (zones : List CountedZone) (holds : Holds) (lowest : ℕ) → zone_to_close holds zones ≡ Some lowest → IsClosable holds zones lowest
-lowest_closable zones holds lowest e =
-    let Is : Option ℕ → Type 0 = λ found. MatchOption found ((k : ℕ) → ¬ IsClosable holds zones k) (λ k. IsClosable holds zones k × ((j : ℕ) → j < k → ¬ IsClosable holds zones j)) in
-    let is : Is (Some lowest) = subst Is e (closes_the_lowest zones holds) in
-    is.0
-
--- the zone that gives way may be closed
-closing_closable : (zones : List CountedZone) (holds : Holds) (free : Bool) (found closed : Option ℕ)
-    → zone_to_close holds zones ≡ found → cond free (Ok None) (closing_or_refusal found) ≡ Ok closed → ForSome closed (IsClosable holds zones)
-closing_closable zones holds true found closed is_found admitted = λ k is. cc
-closing_closable zones holds false None closed is_found admitted = cc
-closing_closable zones holds false (Some lowest) closed is_found admitted = λ k is.
-    let same : lowest ≡ k = cc in
-    subst (λ (n : ℕ). IsClosable holds zones n) same (lowest_closable zones holds lowest is_found)
-
-pub admitted_closable : (zones : List CountedZone) (limits : Limits) (holds : Holds) (wanted : Wanted) (closed : Option ℕ)
-    → admission zones limits holds wanted ≡ Ok closed → ForSome closed (IsClosable holds zones)
-admitted_closable zones limits holds OpenOnly closed e =
-    closing_closable zones holds (nat_lt (open_count zones) limits.open_limit) (zone_to_close holds zones) closed refl e
-admitted_closable zones limits holds OpenAndActive closed e =
-    closing_closable zones holds (nat_lt (open_count zones) limits.open_limit) (zone_to_close holds zones) closed refl
-    (guarded (nat_lt (active_count zones) limits.active_limit) (open_admission zones limits holds) TOO_MANY_ACTIVE_ZONES closed e).1
 
 -- the counted zones, once the zone that gives way is closed
 closed_with_within : (ns : ZonedNamespace) (z : ℕ) (zone : ZoneBlocks) (gives : Option ℕ) → ForSome gives (λ k. k < length ns.zones)
@@ -144,7 +116,7 @@ room_sound ns z gives zone sound has fits less =
     set_namespace (closed ns gives) z zone (closed_namespace ns z gives sound has.give) (closed_fit ns gives zone fits) (has.limits zone less)
 
 -- the zone that gives way is another one
-closed_zone : (ns : ZonedNamespace) (z : ℕ) (gives : Option ℕ) → gives ≢ Some z → zone_at (closed ns gives) z ≡ zone_at ns z
+pub closed_zone : (ns : ZonedNamespace) (z : ℕ) (gives : Option ℕ) → gives ≢ Some z → zone_at (closed ns gives) z ≡ zone_at ns z
 closed_zone ns z None other = refl
 closed_zone ns z (Some k) other =
     get_or-set_other ns.zones k z (record { state = Closed; blocks = (zone_at ns k).blocks }) no_zone (λ (same : z ≡ k). other (ap Some (sym same)))

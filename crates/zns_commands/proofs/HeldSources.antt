@@ -1,10 +1,10 @@
 -- That a zone which a run reads from keeps its blocks, through every command and fault under the run's hold.
-use Rattle.std.proofs.Common.{◌≡◌, ℕ, zero, suc, Bool, true, false, cond, List, [], ◌∷◌, length, map, get_or, Option, None, Result, Ok, Err, refl, sym, subst}
-use Rattle.std.specs.Prelude.{nat_lt, ◌&&◌, ◌||◌}
+use Rattle.std.proofs.Common.{◌≡◌, ℕ, Bool, true, false, cond, List, Option, None, Result, Ok, Err, refl, sym, subst}
+use Rattle.std.specs.Prelude.{◌&&◌, ◌||◌}
 use Rattle.std.specs.Result.{result_err}
 use Rattle.std.proofs.lemmas.Bool.{or_parts}
 use Rattle.zone_state.specs.Transition.{transition}
-use Rattle.zone_state.specs.Zone.{fault_refusal, state_of_fault}
+use Rattle.zone_state.specs.Zone.{state_of_fault}
 use Rattle.zone_state.specs.declared.action.Action.{Action}
 use Rattle.zone_state.specs.declared.action.Action.TheVariants as action
 use Rattle.zone_state.specs.declared.state.FaultState.{FaultState}
@@ -16,7 +16,7 @@ use Rattle.zone_resources.specs.declared.holds.Holds.{Holds}
 use Rattle.zone_state.specs.Checks.{first_failed}
 use Rattle.nvme_entry.specs.declared.command.StandardCommand.{StandardCommand}
 use Rattle.nvme_entry.specs.declared.command.StandardCommand.TheVariants.{Write, Read, Send, Receive, Append}
-use Rattle.image_store.specs.Namespace.{ZoneBlocks, ZonedNamespace, no_zone, zone_at, with_zone, arrived, with_state}
+use Rattle.image_store.specs.Namespace.{ZoneBlocks, ZonedNamespace, zone_at, with_zone, arrived, with_state}
 use Rattle.zone_state.specs.State.{is_cleared}
 use Rattle.zone_state.proofs.Proved.{passed}
 use Rattle.zns_commands.specs.Address.{zone_number}
@@ -25,11 +25,13 @@ use Rattle.zns_commands.specs.Left.{Grows, HeldSourcesKeepBlocks}
 use Rattle.zns_commands.specs.Laws.{Commanded, Faulted}
 use Rattle.zns_commands.specs.Meaning.{checks_of, effect_of}
 use Rattle.zns_commands.specs.Resources.{closed}
-use Rattle.zns_commands.specs.Send.{send_checks, send_effect, takes, swept, led_to}
+use Rattle.zns_commands.specs.Send.{send_checks, send_effect, takes, led_to}
 use Rattle.zns_commands.specs.steps.Plans.{write_plan, zone_plan}
-use Rattle.zns_commands.proofs.HeldZones.{not_taken, not_refused, not_held}
+use Rattle.zns_commands.proofs.HeldZones.{not_taken, not_refused}
 use Rattle.zns_commands.proofs.KeptBlocks.{arrived_grows, grows_by_none, grows_on, replaced_grows, closed_grows, written_grows}
 use Rattle.zns_commands.proofs.Meanings.{after_command}
+use Rattle.zns_commands.proofs.PassedChecks.{taken_fault}
+use Rattle.zns_commands.proofs.Sweeps.{swept_at}
 use Rattle.zns_commands.proofs.Untouched.{effect_left}
 
 -- an action that forgets nothing clears no zone that it can be taken on
@@ -52,12 +54,6 @@ swept_one : (a : Action) (zone : ZoneBlocks) (taken : Bool) → forgets a ≡ fa
     → Grows zone.blocks (cond taken (arrived (led_to a zone.state) zone) zone).blocks
 swept_one a zone false e is = grows_by_none zone.blocks
 swept_one a zone true e is = arrived_grows (led_to a zone.state) zone (taken_leads a zone.state e is)
-
-swept_keeps : (a : Action) (zones : List ZoneBlocks) (z : ℕ) → forgets a ≡ false
-    → Grows (get_or zones z no_zone).blocks (get_or (map (swept a) zones) z no_zone).blocks
-swept_keeps a [] z e = grows_by_none (get_or [] z no_zone).blocks
-swept_keeps a (x ∷ xs) zero e = swept_one a x (takes a x.state) e refl
-swept_keeps a (x ∷ xs) (suc z) e = swept_keeps a xs z e
 
 -- a source refuses just the actions that forget
 forgets_none : (b forgetting source : Bool) → source ≡ true → (b || (forgetting && source)) ≡ false → forgetting ≡ false
@@ -95,7 +91,9 @@ module _ (ns : ZonedNamespace) (holds : Holds) (d : ℕ) (held : is_source holds
 
   all_kept : (lba : ℕ) (a : Action) (input : List ℕ) (forgetting : Bool) → forgets a ≡ forgetting
       → first_failed (send_checks ns holds lba a true input) ≡ None → Kept (send_effect ns holds lba a true)
-  all_kept lba a input false is none = swept_keeps a ns.zones d is
+  all_kept lba a input false is none =
+      let zone = zone_at ns d in
+      subst (λ (swept_zone : ZoneBlocks). Grows zone.blocks swept_zone.blocks) (sym (swept_at a ns.zones d)) (swept_one a zone (takes a zone.state) is refl)
   all_kept lba a input true is none =
       let refused = refuses_it (is_destination holds d) (forgets a) (is_source holds d) held is in
       let same = effect_left ns d holds (Send lba a true) input (not_taken ns holds lba a input d none refused) in
@@ -130,4 +128,4 @@ held_sources_keep_blocks (Commanded holds command input) ns d held =
     (effect_kept ns holds d held command input)
 held_sources_keep_blocks (Faulted holds z fault) ns d held =
     faulted_kept ns holds d held z fault (zone_fault_refusal ns holds z fault)
-    (λ done e. not_held (nat_lt z (length ns.zones)) (is_held holds z) (fault_refusal fault (zone_at ns z).state) done e)
+    (λ done e. (taken_fault ns holds z fault done e).1)

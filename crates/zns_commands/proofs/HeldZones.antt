@@ -1,21 +1,21 @@
 -- That a zone which a run appends to is touched by no command and no fault under the run's hold.
-use Rattle.std.proofs.Common.{◌≡◌, ℕ, zero, suc, ◌+◌, Bool, true, false, cond, nat_eq, List, [], ◌∷◌, length, map, get_or, Option, Some, None, Result, Ok, Err, refl, ap, subst, arith}
-use Rattle.std.specs.Prelude.{nat_lt, not, ◌&&◌, ◌||◌}
+use Rattle.std.proofs.Common.{◌≡◌, ℕ, zero, suc, ◌+◌, Bool, true, false, nat_eq, List, [], ◌∷◌, map, get_or, Option, Some, None, Ok, refl, ap, subst, arith}
+use Rattle.std.specs.Prelude.{not, ◌&&◌, ◌||◌}
 use Rattle.std.specs.List.{list_any, enumerate_from}
 use Rattle.std.specs.Option.{ForSome}
 use Rattle.std.proofs.lemmas.Bool.{eqb-true, not-true, or_parts}
-use Rattle.zone_state.specs.Zone.{CountedZone, fault_refusal}
+use Rattle.zone_state.specs.Zone.{CountedZone}
 use Rattle.zone_state.specs.declared.action.Action.{Action}
 use Rattle.zone_state.specs.declared.action.Action.TheVariants as action
 use Rattle.zone_state.specs.declared.state.ZoneState.{ZoneState}
 use Rattle.zone_state.specs.declared.state.ZoneState.TheVariants.{Offline}
 use Rattle.zone_state.specs.declared.status.TheConstants.Status.{ZONE_HELD}
 use Rattle.zone_state.specs.declared.status.Status.{Status}
-use Rattle.zone_state.specs.declared.zone.FaultRefused.{FaultRefused}
 use Rattle.zone_resources.specs.Admission.{wanted_of, IsClosable}
-use Rattle.zone_resources.specs.Holds.{names, is_destination, is_source, is_held, refuses, forgets}
+use Rattle.zone_resources.specs.Holds.{names, is_destination, is_source, refuses, forgets}
 use Rattle.zone_resources.specs.declared.admission.Wanted.{Wanted}
 use Rattle.zone_resources.specs.declared.holds.Holds.{Holds}
+use Rattle.zone_resources.proofs.Proved.{admitted_closable}
 use Rattle.zone_state.specs.Checks.{first_failed}
 use Rattle.zone_state.proofs.Proved.{demanded, passed}
 use Rattle.nvme_entry.specs.declared.command.StandardCommand.{StandardCommand}
@@ -31,9 +31,9 @@ use Rattle.zns_commands.specs.Resources.{room_by, room_for, closing_of}
 use Rattle.zns_commands.specs.Send.{send_checks, room_of, takes, held_among}
 use Rattle.zns_commands.specs.Write.{write_checks}
 use Rattle.zns_commands.specs.steps.Plans.{zone_plan}
-use Rattle.zns_commands.proofs.GivenWay.{admitted_closable}
 use Rattle.zns_commands.proofs.Meanings.{after_command}
-use Rattle.zns_commands.proofs.PassedChecks.{roomed}
+use Rattle.zns_commands.proofs.PassedChecks.{roomed, taken_fault}
+use Rattle.zns_commands.proofs.Sweeps.{none_offline}
 use Rattle.zns_commands.proofs.Untouched.{effect_left, faulted_left}
 
 -- the zone that gives way may be closed
@@ -50,13 +50,6 @@ room_closable ns holds action.Close state room = λ k is. cc
 room_closable ns holds action.Finish state room = λ k is. cc
 room_closable ns holds action.Reset state room = λ k is. cc
 room_closable ns holds action.Offline state room = λ k is. cc
-
-none_offline : (a : Action) → takes a Offline ≡ false
-none_offline action.Close = refl
-none_offline action.Finish = refl
-none_offline action.Open = refl
-none_offline action.Reset = refl
-none_offline action.Offline = refl
 
 not_both : (takes_it refuses_it more : Bool) → refuses_it ≡ true → ((takes_it && refuses_it) || more) ≡ false → takes_it ≡ false
 not_both true true more held e = cc
@@ -101,13 +94,6 @@ pub not_refused : (ns : ZonedNamespace) (holds : Holds) (lba : ℕ) (a : Action)
 not_refused ns holds lba a input none =
     let z = zone_number ns lba in
     not-true (refuses holds a z) (demanded (not (refuses holds a z)) ZONE_HELD (passed (send_checks ns holds lba a false input) 4 none))
-
--- a fault that isn't refused is of a zone that no run uses
-pub not_held : (inside held : Bool) (answer : Result Unit FaultRefused) (done : Unit {0})
-    → cond (inside && not held) answer (Err (record {})) ≡ Ok done → held ≡ false
-not_held true false answer done e = refl
-not_held true true answer done e = cc
-not_held false held answer done e = cc
 
 module _ (ns : ZonedNamespace) (holds : Holds) (d : ℕ) (held : is_destination holds d ≡ true) where
   -- a zone that is no destination is another
@@ -166,5 +152,5 @@ held_destinations_are_left (Commanded holds command input) ns d held =
 held_destinations_are_left (Faulted holds z fault) ns d held =
     faulted_left ns d z fault (zone_fault_refusal ns holds z fault)
     (λ done e.
-    let no = not_held (nat_lt z (length ns.zones)) (is_held holds z) (fault_refusal fault (zone_at ns z).state) done e in
+    let no = (taken_fault ns holds z fault done e).1 in
     other ns holds d held z (or_parts (is_source holds z) (is_destination holds z) no).1)

@@ -1,5 +1,5 @@
 -- That a zone which isn't cleared keeps its blocks through each step.
-use Rattle.std.proofs.Common.{◌≡◌, ℕ, zero, suc, Bool, true, false, cond, List, [], ◌∷◌, ◌++◌, get_or, set, map, Option, Some, None, Result, Ok, Err, refl, ap, sym, subst, ◌∙◌, append_assoc}
+use Rattle.std.proofs.Common.{◌≡◌, ℕ, zero, suc, Bool, true, false, cond, List, [], ◌∷◌, ◌++◌, get_or, set, Option, Some, None, Result, Ok, Err, refl, ap, sym, subst, ◌∙◌, append_assoc}
 use Rattle.std.proofs.lemmas.List.{append-nil, length-map, length-set}
 use Rattle.zone_state.specs.Zone.{state_of_fault}
 use Rattle.zone_state.specs.declared.action.Action.{Action}
@@ -25,6 +25,7 @@ use Rattle.zns_commands.specs.Left.{Grows}
 use Rattle.zns_commands.specs.Laws.{NamespaceEvent, Commanded, Faulted, NoneClears, after, after_events}
 use Rattle.zns_commands.specs.steps.Plans.{write_plan, written_by, zone_plan}
 use Rattle.zns_commands.proofs.Meanings.{after_command}
+use Rattle.zns_commands.proofs.Sweeps.{swept_at}
 
 -- a list of blocks grows by none,
 pub grows_by_none : (blocks : List (List ℕ)) → Grows blocks blocks
@@ -94,17 +95,13 @@ taken_grows : (taken : Bool) (to : ZoneState) (zone : ZoneBlocks)
 taken_grows true to zone stays = arrived_grows to zone stays
 taken_grows false to zone stays = grows_by_none zone.blocks
 
-swept_grows : (a : Action) (zones : List ZoneBlocks) (z : ℕ)
-    → is_cleared (get_or (map (swept a) zones) z no_zone).state ≡ false
-    → Grows (get_or zones z no_zone).blocks (get_or (map (swept a) zones) z no_zone).blocks
-swept_grows a [] z stays = grows_by_none (get_or [] z no_zone).blocks
-swept_grows a (x ∷ xs) zero stays = taken_grows (takes a x.state) (led_to a x.state) x stays
-swept_grows a (x ∷ xs) (suc z) stays = swept_grows a xs z stays
-
 send_grows : (ns : ZonedNamespace) (holds : Holds) (lba : ℕ) (a : Action) (select_all : Bool) (z : ℕ)
     → is_cleared (zone_at (send_effect ns holds lba a select_all) z).state ≡ false
     → Grows (zone_at ns z).blocks (zone_at (send_effect ns holds lba a select_all) z).blocks
-send_grows ns holds lba a true z stays = swept_grows a ns.zones z stays
+send_grows ns holds lba a true z stays =
+    let zone = zone_at ns z in
+    subst (λ (swept_zone : ZoneBlocks). is_cleared swept_zone.state ≡ false → Grows zone.blocks swept_zone.blocks) (sym (swept_at a ns.zones z))
+    (taken_grows (takes a zone.state) (led_to a zone.state) zone) stays
 send_grows ns holds lba a false z stays =
     let plan = zone_plan ns holds lba a in moved_grows ns plan.closing plan.zone z plan.to stays
 

@@ -1,8 +1,7 @@
 -- That actions on one zone and faults keep a namespace sound.
-use Rattle.std.proofs.Common.{◌≡◌, ℕ, ◌<◌, Bool, true, false, cond, length, Option, None, Result, Ok, Err, refl, sym, subst, arith}
-use Rattle.std.specs.Prelude.{nat_lt, ◌&&◌, not}
-use Rattle.std.proofs.lemmas.Bool.{ltb-true, le-leb}
-use Rattle.zone_state.specs.Zone.{IsZone, kept, state_of_fault, fault_refusal}
+use Rattle.std.proofs.Common.{◌≡◌, ℕ, ◌<◌, Bool, true, false, length, Option, None, Result, Ok, Err, refl, sym, subst, arith}
+use Rattle.std.proofs.lemmas.Bool.{le-leb}
+use Rattle.zone_state.specs.Zone.{IsZone, kept, state_of_fault}
 use Rattle.zone_state.specs.declared.action.Action.{Action}
 use Rattle.zone_state.specs.declared.action.Action.TheVariants as action
 use Rattle.zone_state.specs.declared.state.FaultState.{FaultState}
@@ -11,7 +10,6 @@ use Rattle.zone_state.specs.declared.state.ZoneState.{ZoneState}
 use Rattle.zone_state.specs.declared.state.ZoneState.TheVariants.{Empty, ImplicitlyOpened, Closed, ReadOnly, Offline}
 use Rattle.zone_state.specs.declared.zone.FaultRefused.{FaultRefused}
 use Rattle.zone_resources.specs.Admission.{wanted_of, HoldsNoMore}
-use Rattle.zone_resources.specs.Holds.{is_held}
 use Rattle.zone_resources.specs.declared.holds.Holds.{Holds}
 use Rattle.zone_resources.proofs.Proved.{idle_holds_no_more}
 use Rattle.image_store.specs.Namespace.{ZoneBlocks, ZonedNamespace, zone_at, IsNamespace, arrived, with_state}
@@ -21,6 +19,7 @@ use Rattle.zns_commands.specs.Resources.{room_by, closed}
 use Rattle.zns_commands.specs.Send.{room_of, led_to}
 use Rattle.zns_commands.proofs.FittingZones.{FitsIn, action_fits, no_bytes, zone_fits, one_sound}
 use Rattle.zns_commands.proofs.GivenWay.{has_room, room_sound, moved_is}
+use Rattle.zns_commands.proofs.PassedChecks.{taken_fault}
 
 -- a zone that comes into a state
 pub arrived_fits : (b c : ℕ) (to : ZoneState) (zone : ZoneBlocks)
@@ -81,12 +80,6 @@ moved_sound ns holds z action.Finish gives sound inside room = no_room_sound ns 
 moved_sound ns holds z action.Reset gives sound inside room = no_room_sound ns holds z action.Reset gives sound inside refl room
 moved_sound ns holds z action.Offline gives sound inside room = no_room_sound ns holds z action.Offline gives sound inside refl room
 
--- a fault that isn't refused is of a zone
-pub answer_passed : (inside held : Bool) (answer : Result Unit FaultRefused) (done : Unit {0})
-    → cond (inside && not held) answer (Err (record {})) ≡ Ok done → inside ≡ true
-answer_passed true held answer done e = refl
-answer_passed false held answer done e = cc
-
 fault_fits : (fault : FaultState) (s : ZoneState) (w c : ℕ) → IsZone s w c → IsZone (state_of_fault fault) (kept (state_of_fault fault) w) c
 fault_fits fault.ReadOnly s w c h = (h.0, le-leb w c (written_is_within s w c h))
 fault_fits fault.Offline s w c h = (h.0, refl)
@@ -112,6 +105,4 @@ faulted_by_sound ns z fault (Err none) sound inside = sound
 pub fault_sound : (ns : ZonedNamespace) (holds : Holds) (z : ℕ) (fault : FaultState) → IsNamespace ns → IsNamespace (faulted ns holds z fault)
 fault_sound ns holds z fault sound =
     faulted_by_sound ns z fault (zone_fault_refusal ns holds z fault) sound
-    (λ done e.
-    ltb-true z (length ns.zones)
-    (answer_passed (nat_lt z (length ns.zones)) (is_held holds z) (fault_refusal fault (zone_at ns z).state) done e))
+    (λ done e. (taken_fault ns holds z fault done e).0)

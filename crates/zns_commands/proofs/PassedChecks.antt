@@ -1,20 +1,21 @@
 -- What is known where no check fails, and that none fails where a command succeeds.
 use Rattle.std.proofs.Common.{◌≡◌, ℕ, suc, ◌+◌, ◌*◌, ◌/◌, ◌%◌, ◌<◌, ◌≤◌, Bool, true, false, cond, List, [], ◌∷◌, ◌++◌, length, Option, Some, None, Result, Ok, Err, refl, ap, subst, ◌∙◌, arith}
-use Rattle.std.specs.Prelude.{nat_lt, nat_le, nat_eq, not}
+use Rattle.std.specs.Prelude.{◌&&◌, nat_lt, nat_le, nat_eq, not}
 use Rattle.std.specs.List.{AllByRecursion}
 use Rattle.std.proofs.Math.Nat.{div-lt_iff_lt-mul, mul-div_cancel, mul-le-mul_right, suc-mul}
 use Rattle.std.specs.Option.{option_or}
 use Rattle.std.specs.Result.{result_err}
-use Rattle.std.proofs.lemmas.Bool.{eqb-true, leb-true, ltb-true}
+use Rattle.std.proofs.lemmas.Bool.{and_parts, eqb-true, leb-true, ltb-true, not-true}
 use Rattle.std.proofs.lemmas.Nat.{mod-mul-add}
-use Rattle.zone_state.specs.Zone.{CountedZone, checks_of_write, write_check, write_refusal}
+use Rattle.zone_state.specs.Zone.{CountedZone, checks_of_write, fault_refusal, write_check, write_refusal}
+use Rattle.zone_state.specs.declared.state.FaultState.{FaultState}
 use Rattle.zone_state.specs.declared.state.ZoneState.{ZoneState}
 use Rattle.zone_state.specs.declared.state.ZoneState.TheVariants.{ReadOnly, Full, Offline}
 use Rattle.zone_state.specs.declared.status.Status.{Status}
 use Rattle.zone_state.specs.declared.status.TheConstants.Status.{SUCCESS, INVALID_FIELD_IN_COMMAND, LBA_OUT_OF_RANGE, ZONE_BOUNDARY_ERROR, ZONE_INVALID_WRITE, ZONE_IS_FULL, ZONE_IS_READ_ONLY, ZONE_IS_OFFLINE, ZONE_HELD, TOO_MANY_OPEN_ZONES, TOO_MANY_ACTIVE_ZONES}
 use Rattle.zone_resources.specs.Admission.{open_admission, closing_or_refusal, zone_to_close, wanted_of}
 use Rattle.zone_resources.specs.Counts.{open_count, active_count}
-use Rattle.zone_resources.specs.Holds.{is_destination}
+use Rattle.zone_resources.specs.Holds.{is_destination, is_held}
 use Rattle.zone_resources.specs.declared.admission.Limits.{Limits}
 use Rattle.zone_resources.specs.declared.admission.Wanted.{Wanted}
 use Rattle.zone_resources.specs.declared.admission.Wanted.TheVariants.{OpenOnly, OpenAndActive}
@@ -22,12 +23,13 @@ use Rattle.zone_resources.specs.declared.holds.Holds.{Holds}
 use Rattle.nvme_entry.specs.declared.command.StandardCommand.TheVariants.{Write, Read, Append}
 use Rattle.nvme_entry.specs.declared.command.TheConstants.{MOST_TRANSFER}
 use Rattle.zone_state.specs.Checks.{demand, first_failed, unless_failed}
-use Rattle.zone_state.proofs.Proved.{demanded, is_allowed, passed}
+use Rattle.zone_state.proofs.Proved.{demanded, guarded, is_allowed, passed}
 use Rattle.program_interface.proofs.Proved.{all_append}
 use Rattle.image_store.specs.Namespace.{ZonedNamespace, zone_at, counted_zones, IsNamespace}
 use Rattle.zns_commands.specs.Address.{counted_zone_at, zone_number, block_total, lowest_checks, range_checks}
 use Rattle.zns_commands.specs.Effect.{Effect, concluded}
 use Rattle.zns_commands.specs.Append.{append_address_checks, append_checks, append_effect}
+use Rattle.zns_commands.specs.Fault.{zone_fault_refusal}
 use Rattle.zns_commands.specs.Read.{read_refusal, read_checks, read_effect}
 use Rattle.zns_commands.specs.Resources.{room_by, room_for, closing_of}
 use Rattle.zns_commands.specs.Write.{write_address_checks, write_checks, write_effect, zone_write_checks}
@@ -41,6 +43,15 @@ roomed (Err status) none = cc
 allowed : (r : Result Unit Status) → result_err r ≡ None → r ≡ Ok tt
 allowed (Ok done) none = refl
 allowed (Err status) none = cc
+
+-- a fault that isn't refused is of a zone, and of one that no run uses
+pub taken_fault : (ns : ZonedNamespace) (holds : Holds) (z : ℕ) (fault : FaultState) (done : Unit {0}) → zone_fault_refusal ns holds z fault ≡ Ok done
+    → (z < length ns.zones) × (is_held holds z ≡ false)
+taken_fault ns holds z fault done e =
+    let inside = nat_lt z (length ns.zones) in
+    let free = not (is_held holds z) in
+    let both = and_parts inside free (guarded (inside && free) (fault_refusal fault (zone_at ns z).state) (record {}) done e).0 in
+    (ltb-true z (length ns.zones) both.0, not-true (is_held holds z) both.1)
 
 -- an address of the namespace is in one of its zones
 pub zone_inside : (ns : ZonedNamespace) (lba : ℕ) → IsNamespace ns → lba < block_total ns → zone_number ns lba < length ns.zones

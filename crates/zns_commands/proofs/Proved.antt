@@ -1,8 +1,6 @@
 -- Laws of this crate, proved, and lemmas: what the proofs of other crates cite of it.
-use Rattle.zns_commands.specs.Held.{HeldCommandsAreRefused}
 use Rattle.zns_commands.specs.Left.{HeldDestinationsAreLeft, ShapesAreKept, HeldSourcesKeepBlocks}
-use Rattle.zns_commands.specs.Laws.{AddedBlocksAreAppended, AddedBlocksKeepNamespacesSound, EmptyIsNamespace, EventsKeepNamespaces, RefusedCommandsChangeNothing}
-use Rattle.zns_commands.proofs.HeldCommands as held
+use Rattle.zns_commands.specs.Laws.{AddedBlocksKeepNamespacesSound, EmptyIsNamespace, EventsKeepNamespaces, RefusedCommandsChangeNothing}
 use Rattle.zns_commands.proofs.HeldSources as held_sources
 use Rattle.zns_commands.proofs.HeldZones as held_zones
 use Rattle.zns_commands.proofs.KeptBlocks.{event_shape}
@@ -23,9 +21,6 @@ empty_is_namespace = sound_events.empty_is_namespace
 pub added_blocks_keep_namespaces_sound : AddedBlocksKeepNamespacesSound
 added_blocks_keep_namespaces_sound = open_zones.added_blocks_keep_namespaces_sound
 
-pub added_blocks_are_appended : AddedBlocksAreAppended
-added_blocks_are_appended = open_zones.added_blocks_are_appended
-
 pub held_destinations_are_left : HeldDestinationsAreLeft
 held_destinations_are_left = held_zones.held_destinations_are_left
 
@@ -34,9 +29,6 @@ held_sources_keep_blocks = held_sources.held_sources_keep_blocks
 
 pub shapes_are_kept : ShapesAreKept
 shapes_are_kept = event_shape
-
-pub held_commands_are_refused : HeldCommandsAreRefused
-held_commands_are_refused = held.held_commands_are_refused
 
 pub refused_commands_change_nothing : RefusedCommandsChangeNothing
 refused_commands_change_nothing = refusals.refused_commands_change_nothing

@@ -1,11 +1,10 @@
 -- That commands and faults leave the zones that they do not touch.
-use Rattle.std.proofs.Common.{◌≡◌, ℕ, zero, suc, Bool, true, false, nat_eq, List, [], ◌∷◌, get_or, map, Option, Some, None, Result, Ok, Err, refl, sym, ◌∙◌, get_or-set_other}
+use Rattle.std.proofs.Common.{◌≡◌, ℕ, Bool, true, false, nat_eq, List, Option, Some, None, Result, Ok, Err, refl, subst, sym, ◌∙◌, get_or-set_other}
 use Rattle.std.proofs.lemmas.Bool.{cond-false, eqb-false, or_parts}
 use Rattle.zone_state.specs.Zone.{state_of_fault}
 use Rattle.zone_state.specs.declared.action.Action.{Action}
 use Rattle.zone_state.specs.declared.state.FaultState.{FaultState}
 use Rattle.zone_state.specs.declared.state.ZoneState.{ZoneState}
-use Rattle.zone_state.specs.declared.state.ZoneState.TheVariants.{Closed}
 use Rattle.zone_state.specs.declared.zone.FaultRefused.{FaultRefused}
 use Rattle.zone_resources.specs.Holds.{names}
 use Rattle.zone_resources.specs.declared.holds.Holds.{Holds}
@@ -19,26 +18,23 @@ use Rattle.zns_commands.specs.Left.{is_either, touches, OtherZonesAreLeft}
 use Rattle.zns_commands.specs.Laws.{Commanded, Faulted}
 use Rattle.zns_commands.specs.Meaning.{effect_of}
 use Rattle.zns_commands.specs.Resources.{closed}
-use Rattle.zns_commands.specs.Send.{send_effect, takes, swept, led_to}
+use Rattle.zns_commands.specs.Send.{send_effect, takes, led_to}
 use Rattle.zns_commands.specs.declared.write.WritePlan.{WritePlan}
 use Rattle.zns_commands.specs.steps.Plans.{write_plan, written_by, zone_plan}
+use Rattle.zns_commands.proofs.GivenWay.{closed_zone}
 use Rattle.zns_commands.proofs.Meanings.{after_command}
-
-swept_left : (a : Action) (zones : List ZoneBlocks) (z : ℕ) → takes a (get_or zones z no_zone).state ≡ false
-    → get_or (map (swept a) zones) z no_zone ≡ get_or zones z no_zone
-swept_left a [] z other = refl
-swept_left a (x ∷ xs) zero other = cond-false (takes a x.state) (arrived (led_to a x.state) x) x other
-swept_left a (x ∷ xs) (suc z) other = swept_left a xs z other
+use Rattle.zns_commands.proofs.Sweeps.{swept_at}
 
 module _ (ns : ZonedNamespace) (d : ℕ) where
   abbrev Left : ZonedNamespace → Type 0
   Left m = zone_at m d ≡ zone_at ns d
 
   closed_left : (gives : Option ℕ) → names d gives ≡ false → Left (closed ns gives)
-  closed_left None other = refl
-  closed_left (Some k) other =
-      get_or-set_other ns.zones k d (record { state = Closed; blocks = (zone_at ns k).blocks }) no_zone
-      (λ (same : d ≡ k). eqb-false k d other (sym same))
+  closed_left gives other =
+      closed_zone ns d gives
+      (λ (is : gives ≡ Some d).
+      let named : nat_eq d d ≡ false = subst (λ (one : Option ℕ). names d one ≡ false) is other in
+      eqb-false d d named refl)
 
   set_left : (m : ZonedNamespace) (z : ℕ) (zone : ZoneBlocks) → nat_eq z d ≡ false → Left m → Left (with_zone m z zone)
   set_left m z zone other left = get_or-set_other m.zones z d zone no_zone (λ (same : d ≡ z). eqb-false z d other (sym same)) ∙ left
@@ -57,7 +53,8 @@ module _ (ns : ZonedNamespace) (d : ℕ) where
 
   sent_left : (holds : Holds) (lba : ℕ) (a : Action) (select_all : Bool) (input : List ℕ)
       → touches ns (Commanded holds (Send lba a select_all) input) d ≡ false → Left (send_effect ns holds lba a select_all)
-  sent_left holds lba a true input other = swept_left a ns.zones d other
+  sent_left holds lba a true input other =
+      let zone = zone_at ns d in swept_at a ns.zones d ∙ cond-false (takes a zone.state) (arrived (led_to a zone.state) zone) zone other
   sent_left holds lba a false input other =
       let plan = zone_plan ns holds lba a in moved_left plan.closing plan.zone plan.to other
 

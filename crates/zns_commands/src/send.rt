@@ -176,8 +176,8 @@ fn sweep(image: &mut Image, action: Action)
     }
 }
 
-/// Takes a zone send action, on one zone or on all that it takes, and changes nothing where it is
-/// refused.
+/// Takes a zone send action, on one zone or on all zones that Select All takes, and changes nothing
+/// where it is refused.
 pub fn send(
     image: &mut Image,
     holds: &Holds,

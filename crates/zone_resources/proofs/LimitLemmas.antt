@@ -1,5 +1,6 @@
 -- Admission, and a zone that comes to hold no more, keep zones within their limits.
-use Rattle.std.proofs.Common.{◌≡◌, ◌≢◌, ℕ, ◌+◌, ◌<◌, ◌≤◌, Bool, true, false, cond, List, length, arith, Option, Some, None, Result, Ok, Err, refl, sym, ◌∙◌}
+use Rattle.std.proofs.Common.{◌≡◌, ◌≢◌, ℕ, ◌+◌, ◌<◌, ◌≤◌, Bool, true, false, cond, List, length, arith, Option, Some, None, Ok, refl, sym, subst, ◌∙◌}
+use Rattle.std.specs.Option.{ForSome}
 use Rattle.std.specs.Prelude.{nat_lt, slice_get, slice_set}
 use Rattle.std.proofs.lemmas.Bool.{ltb-true}
 use Rattle.std.proofs.lemmas.List.{length-set, get_or-set_other}
@@ -8,8 +9,8 @@ use Rattle.zone_state.specs.State.{is_open, is_active}
 use Rattle.zone_state.specs.Zone.{CountedZone, in_state}
 use Rattle.zone_state.specs.declared.state.ZoneState.{ZoneState}
 use Rattle.zone_state.specs.declared.state.ZoneState.TheVariants.{Empty, ImplicitlyOpened, ExplicitlyOpened, Closed, ReadOnly, Full, Offline}
-use Rattle.zone_state.specs.declared.status.Status.{Status}
 use Rattle.zone_state.specs.declared.status.TheConstants.Status.{TOO_MANY_ACTIVE_ZONES}
+use Rattle.zone_state.proofs.Proved.{guarded}
 use Rattle.zone_resources.proofs.AdmissionLemmas.{closes_at}
 use Rattle.zone_resources.proofs.CountLemmas.{counts_follow_one}
 use Rattle.zone_resources.specs.Admission.{admission, open_admission, closing_or_refusal, zone_to_close, wanted_of, IsClosable, IsWithin, after_closing, AdmissionKeepsLimits, ReleaseKeepsLimits, IdleHoldsNoMore}
@@ -52,23 +53,32 @@ room_of_closed zones limits holds k within h =
           there;
     })
 
-room_in : (zones : List CountedZone) (limits : Limits) (holds : Holds) (closed : Option ℕ) (free : Bool) (found : Option ℕ)
-    → IsWithin zones limits → nat_lt (open_count zones) limits.open_limit ≡ free → zone_to_close holds zones ≡ found
-    → cond free (Ok None) (closing_or_refusal found) ≡ Ok closed
-    → HasRoom zones (after_closing closed zones) limits
-room_in zones limits holds closed true found within is_free is_found admitted =
-    let same : closed ≡ None = cc in
-    rw same (record { opened = ltb-true _ _ is_free; active = refl; others = λ number zone there _. there })
-room_in zones limits holds closed false None within is_free is_found admitted = cc
-room_in zones limits holds closed false (Some k) within is_free is_found admitted =
-    let same : closed ≡ Some k = cc in
-    rw same (room_of_closed zones limits holds k within ((closes_at zones holds (Some k) is_found).0))
+-- an open resource is free where no zone gives way, and one that does may be closed
+record CanOpen (zones : List CountedZone) (limits : Limits) (holds : Holds) (closed : Option ℕ) : Type 0 where
+  pub free : closed ≡ None → open_count zones < limits.open_limit
+  pub closable : ForSome closed (IsClosable holds zones)
 
-pub room_of_admission : (zones : List CountedZone) (limits : Limits) (holds : Holds) (closed : Option ℕ)
-    → IsWithin zones limits → open_admission zones limits holds ≡ Ok closed
-    → HasRoom zones (after_closing closed zones) limits
-room_of_admission zones limits holds closed within admitted =
-    room_in zones limits holds closed (nat_lt (open_count zones) limits.open_limit) (zone_to_close holds zones) within refl refl admitted
+can_open : (zones : List CountedZone) (limits : Limits) (holds : Holds) (closed : Option ℕ) (free : Bool) (found : Option ℕ)
+    → nat_lt (open_count zones) limits.open_limit ≡ free → zone_to_close holds zones ≡ found
+    → cond free (Ok None) (closing_or_refusal found) ≡ Ok closed → CanOpen zones limits holds closed
+can_open zones limits holds closed true found is_free is_found admitted = record { free = λ none. ltb-true _ _ is_free; closable = λ k is. cc }
+can_open zones limits holds closed false None is_free is_found admitted = cc
+can_open zones limits holds closed false (Some k) is_free is_found admitted =
+    let same : Some k ≡ closed = cc in
+    subst (CanOpen zones limits holds) same (record {
+      free = λ none. cc;
+      closable = λ j is. let one : k ≡ j = cc in subst (IsClosable holds zones) one (closes_at zones holds (Some k) is_found).0;
+    })
+
+admitted_opens : (zones : List CountedZone) (limits : Limits) (holds : Holds) (closed : Option ℕ) → open_admission zones limits holds ≡ Ok closed
+    → CanOpen zones limits holds closed
+admitted_opens zones limits holds closed =
+    can_open zones limits holds closed (nat_lt (open_count zones) limits.open_limit) (zone_to_close holds zones) refl refl
+
+room_of_admission : (zones : List CountedZone) (limits : Limits) (holds : Holds) (closed : Option ℕ)
+    → IsWithin zones limits → CanOpen zones limits holds closed → HasRoom zones (after_closing closed zones) limits
+room_of_admission zones limits holds None within can = record { opened = can.free refl; active = refl; others = λ number zone there _. there }
+room_of_admission zones limits holds (Some k) within can = room_of_closed zones limits holds k within (can.closable k refl)
 
 pub one_if-le-one : (b : Bool) → one_if b ≤ 1
 one_if-le-one true = omega arith
@@ -88,12 +98,6 @@ wants ReadOnly wanted e = cc
 wants Full wanted e = cc
 wants Offline wanted e = cc
 
--- what passes a guard
-pub guarded : (b : Bool) (r : Result (Option ℕ) Status) (s : Status) (closed : Option ℕ)
-    → cond b r (Err s) ≡ Ok closed → (b ≡ true) × (r ≡ Ok closed)
-guarded true r s closed e = (refl, e)
-guarded false r s closed e = cc
-
 -- what `admission` tests of the active limit
 active_room : (zones : List CountedZone) (limits : Limits) (holds : Holds) (wanted : Wanted) (closed : Option ℕ)
     → admission zones limits holds wanted ≡ Ok closed
@@ -103,6 +107,12 @@ active_room zones limits holds OpenAndActive closed e =
     let free = nat_lt (active_count zones) limits.active_limit in
     let passed = guarded free (open_admission zones limits holds) TOO_MANY_ACTIVE_ZONES closed e in
     (passed.1, λ _. ltb-true _ _ passed.0)
+
+-- the zone that gives way may be closed
+pub admitted_closable : (zones : List CountedZone) (limits : Limits) (holds : Holds) (wanted : Wanted) (closed : Option ℕ)
+    → admission zones limits holds wanted ≡ Ok closed → ForSome closed (IsClosable holds zones)
+admitted_closable zones limits holds wanted closed admitted =
+    (admitted_opens zones limits holds closed (active_room zones limits holds wanted closed admitted).0).closable
 
 -- the count of active zones stays within its limit
 active_within : (wanted : Wanted) (was is : ZoneState) (before after limit : ℕ)
@@ -119,7 +129,7 @@ active_within OpenOnly was is before after limit follow within less active =
 pub admission_keeps_limits : AdmissionKeepsLimits
 admission_keeps_limits zones limits holds wanted closed within admitted =
     let tests = active_room zones limits holds wanted closed admitted in
-    let room = room_of_admission zones limits holds closed within tests.0 in (
+    let room = room_of_admission zones limits holds closed within (admitted_opens zones limits holds closed tests.0) in (
       record { opened = omega (arith, room.opened); active = rw room.active within.active },
       λ number was is there wants_it.
           let want = wants was.state wanted wants_it in

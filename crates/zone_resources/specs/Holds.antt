@@ -23,7 +23,7 @@ is_destination holds zone = list_any (names zone) holds.destinations
 abbrev pub is_held : Holds → ℕ → Bool
 is_held holds zone = is_source holds zone || is_destination holds zone
 
--- does the action forget the blocks of a zone that it takes? (ZNS 1.1, 3.4.3)
+-- does the action forget the blocks of a zone that it is taken on? (ZNS 1.1, 3.4.3)
 abbrev pub forgets : Action → Bool
 forgets action.Reset = true
 forgets action.Offline = true

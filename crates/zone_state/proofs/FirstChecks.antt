@@ -1,5 +1,5 @@
 -- Ordered lists of checks, and the first that fails.
-use Rattle.std.proofs.Common.{◌≡◌, ℕ, zero, suc, Bool, true, false, List, [], ◌∷◌, ◌++◌, get_or, Option, Some, None, Ok, refl, ap, ◌∙◌}
+use Rattle.std.proofs.Common.{◌≡◌, ℕ, zero, suc, Bool, true, false, cond, List, [], ◌∷◌, ◌++◌, get_or, Option, Some, None, Result, Ok, Err, refl, ap, ◌∙◌}
 use Rattle.std.specs.Option.{option_or}
 use Rattle.zone_state.specs.Checks.{demand, first_failed, unless_failed}
 use Rattle.zone_state.specs.FirstCheck.{FailsFirst, FirstFailedIsFirst, NoneFails, NoFaultWhereNoneFails}
@@ -44,6 +44,11 @@ passed (Some fault ∷ checks) i none = cc
 pub demanded : {F : Type 0} (test : Bool) (fault : F) → demand test fault ≡ None → test ≡ true
 demanded true fault none = refl
 demanded false fault none = cc
+
+-- what a guard lets through
+pub guarded : {X F : Type 0} (test : Bool) (r : Result X F) (fault : F) (x : X) → cond test r (Err fault) ≡ Ok x → (test ≡ true) × (r ≡ Ok x)
+guarded true r fault x e = (refl, e)
+guarded false r fault x e = cc
 
 -- where a value is given, no check fails
 pub none_failed : {X F : Type 0} (why : Option F) (x y : X) → unless_failed why x ≡ Ok y → why ≡ None

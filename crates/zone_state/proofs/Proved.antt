@@ -3,7 +3,7 @@ use Rattle.zone_state.specs.FirstCheck.{FirstFailedIsFirst, NoFaultWhereNoneFail
 pub use Rattle.zone_state.proofs.AllowedWrites.{IsAllowed, allowed_passes, is_allowed}
 use Rattle.zone_state.proofs.FirstChecks as checks
 pub use Rattle.zone_state.proofs.Codes.{codes_are_distinct}
-pub use Rattle.zone_state.proofs.FirstChecks.{demanded, joined, none_failed, passed, value_given}
+pub use Rattle.zone_state.proofs.FirstChecks.{demanded, guarded, joined, none_failed, passed, value_given}
 pub use Rattle.zone_state.proofs.WrittenStates.{written_twice}
 
 pub first_failed_is_first : (F : Type 0) → FirstFailedIsFirst F

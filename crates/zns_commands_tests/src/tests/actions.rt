@@ -24,7 +24,7 @@ fn actions_change_states(rt: HostRuntime) -> Result<(), Fail> {
         send(32, Action::Reset, Status::LBA_OUT_OF_RANGE),
         send(24, Action::Reset, OK),
         Step::Leaves([EMPTY, EMPTY, EMPTY, EMPTY]),
-        // All zones of the states that an action takes.
+        // All zones that Select All takes.
         Step::Begin,
         append(0, 1, OK),
         send(8, Action::Open, OK),

@@ -114,7 +114,7 @@ pub fn send(lba: u64, action: Action, status: Status) -> Step {
     Step::Execute(command, 0, status)
 }
 
-/// An action on all zones that it takes.
+/// An action on all zones that Select All takes.
 pub fn send_all(action: Action, status: Status) -> Step {
     let command = StandardCommand::Send {
         lba: 99,

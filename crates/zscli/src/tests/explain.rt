@@ -167,7 +167,7 @@ const ANSWERED: &[Act] = &[
         "zscli explain replies --commands commands",
         "\
 queue 1, command 3: write of 1 block from LBA 10 on: refused: Zone Is Full (type 1h, code B9h): a write to a Full zone
-queue 1, command 3: open of all zones that it takes: done
+queue 1, command 3: open of all zones that Select All takes: done
 queue 1, command 8: result of slot 0: 2 bytes
 queue 1, command 9: load of 0 bytes into slot 0: refused: Program Refused (type 7h, code C2h; profile): the bytes \
 are no program, or it is not accepted; slot 3, reason 10 (an emit over the limit)
