@@ -32,9 +32,7 @@ module _ (ns : ZonedNamespace) (d : ℕ) where
   closed_left : (gives : Option ℕ) → names d gives ≡ false → Left (closed ns gives)
   closed_left gives other =
       closed_zone ns d gives
-      (λ (is : gives ≡ Some d).
-      let named : nat_eq d d ≡ false = subst (λ (one : Option ℕ). names d one ≡ false) is other in
-      eqb-false d d named refl)
+      (λ (is : gives ≡ Some d). let named : nat_eq d d ≡ false = subst (λ (one : Option ℕ). names d one ≡ false) is other in eqb-false d d named refl)
 
   set_left : (m : ZonedNamespace) (z : ℕ) (zone : ZoneBlocks) → nat_eq z d ≡ false → Left m → Left (with_zone m z zone)
   set_left m z zone other left = get_or-set_other m.zones z d zone no_zone (λ (same : d ≡ z). eqb-false z d other (sym same)) ∙ left
