@@ -57,37 +57,24 @@ both_fit (Err fault) b P Q p q = tt
 
 -- ---- numbers
 
+-- what holds of all numbers of a range holds of what is in it
+in_range_fits : (a b : ℕ) (P : ℤ → Type 0) → ((n : ℕ) → n ≤ b → P (pos n)) → ((n : ℕ) → n ≤ a → P (negsuc n)) → (z : ℤ) → IfOk (in_range (negsuc a) (pos b) z) P
+in_range_fits a b P above below (pos n) =
+    cond_both (leb n b) (Ok (pos n)) (Err OutOfRange) (λ r. IfOk r P) (λ is. above n (leb-true n b is)) (λ _. tt)
+in_range_fits a b P above below (negsuc n) =
+    cond_both (leb n a && true) (Ok (negsuc n)) (Err OutOfRange) (λ r. IfOk r P) (λ is. below n (leb-true n a (and_parts (leb n a) true is).0)) (λ _. tt)
+
 short_fits : (z : ℤ) → IfOk (short_of z) (FitsSigned w16)
-short_fits (pos n) =
-    cond_both (leb n 32767) (Ok (pos n)) (Err OutOfRange) (λ r. IfOk r (FitsSigned w16))
-    (λ is. let low = leb-true n 32767 is in omega (arith, ints)) (λ _. tt)
-short_fits (negsuc n) =
-    cond_both (leb n 32767 && true) (Ok (negsuc n)) (Err OutOfRange) (λ r. IfOk r (FitsSigned w16))
-    (λ is. let low = leb-true n 32767 (and_parts (leb n 32767) true is).0 in omega (arith, ints)) (λ _. tt)
+short_fits = in_range_fits 32767 32767 (FitsSigned w16) (λ n low. omega (arith, ints)) (λ n low. omega (arith, ints))
 
 long_fits : (z : ℤ) → IfOk (long_of z) (FitsSigned w32)
-long_fits (pos n) =
-    cond_both (leb n 2147483647) (Ok (pos n)) (Err OutOfRange) (λ r. IfOk r (FitsSigned w32))
-    (λ is. let low = leb-true n 2147483647 is in omega (arith, ints)) (λ _. tt)
-long_fits (negsuc n) =
-    cond_both (leb n 2147483647 && true) (Ok (negsuc n)) (Err OutOfRange) (λ r. IfOk r (FitsSigned w32))
-    (λ is. let low = leb-true n 2147483647 (and_parts (leb n 2147483647) true is).0 in omega (arith, ints)) (λ _. tt)
+long_fits = in_range_fits 2147483647 2147483647 (FitsSigned w32) (λ n low. omega (arith, ints)) (λ n low. omega (arith, ints))
 
 wide_in_range : (z : ℤ) → IfOk (in_range (negsuc 9223372036854775807) (pos 18446744073709551615) z) (λ x. cast_unsigned w64 x < 2 ^ 64)
-wide_in_range (pos n) =
-    cond_both (leb n 18446744073709551615) (Ok (pos n)) (Err OutOfRange) (λ r. IfOk r (λ x. cast_unsigned w64 x < 2 ^ 64))
-    (λ is. let low = leb-true n 18446744073709551615 is in omega (arith, ints)) (λ _. tt)
-wide_in_range (negsuc n) =
-    cond_both (leb n 9223372036854775807 && true) (Ok (negsuc n)) (Err OutOfRange) (λ r. IfOk r (λ x. cast_unsigned w64 x < 2 ^ 64))
-    (λ is. let low = leb-true n 9223372036854775807 (and_parts (leb n 9223372036854775807) true is).0 in omega (arith, ints)) (λ _. tt)
+wide_in_range = in_range_fits 9223372036854775807 18446744073709551615 (λ x. cast_unsigned w64 x < 2 ^ 64) (λ n low. omega (arith, ints)) (λ n low. omega (arith, ints))
 
 word_in_range : (z : ℤ) → IfOk (in_range (negsuc 2147483647) (pos 4294967295) z) (λ x. cast_unsigned w32 x < 2 ^ 32)
-word_in_range (pos n) =
-    cond_both (leb n 4294967295) (Ok (pos n)) (Err OutOfRange) (λ r. IfOk r (λ x. cast_unsigned w32 x < 2 ^ 32))
-    (λ is. let low = leb-true n 4294967295 is in omega (arith, ints)) (λ _. tt)
-word_in_range (negsuc n) =
-    cond_both (leb n 2147483647 && true) (Ok (negsuc n)) (Err OutOfRange) (λ r. IfOk r (λ x. cast_unsigned w32 x < 2 ^ 32))
-    (λ is. let low = leb-true n 2147483647 (and_parts (leb n 2147483647) true is).0 in omega (arith, ints)) (λ _. tt)
+word_in_range = in_range_fits 2147483647 4294967295 (λ x. cast_unsigned w32 x < 2 ^ 32) (λ n low. omega (arith, ints)) (λ n low. omega (arith, ints))
 
 immediate_fits : (text : List ℕ) → IfOk (immediate_told text) (FitsSigned w32)
 unfolding immediate_told

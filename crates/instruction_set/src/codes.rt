@@ -145,13 +145,17 @@ impl Operation {
         }
     }
 
-    /// Do offsets tell several operations of its code?
+    /// Do offsets tell several operations of its code (RFC 9669, 4.1)?
     pub fn has_variants(self) -> bool
         ensures { result ≡ has_variants self }
     {
         matches!(
             self,
-            Operation::Divide | Operation::Modulo | Operation::Move
+            Operation::Divide
+                | Operation::SignedDivide
+                | Operation::Modulo
+                | Operation::SignedModulo
+                | Operation::Move
         )
     }
 

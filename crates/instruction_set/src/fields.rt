@@ -1,6 +1,6 @@
 //! The fields of a slot.
 
-/// The fields of a slot of 8 bytes (RFC 9669, 3.1).
+/// The fields of a slot of 8 bytes (RFC 9669, 3.1, of whose two byte orders it is the little-endian one: profile).
 #[derive(Clone, Copy, Debug, PartialEq, Eq)]
 pub struct Fields {
     /// The opcode: what the instruction does.

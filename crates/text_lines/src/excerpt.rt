@@ -9,8 +9,8 @@ const MOST: usize = 40;
 
 /// The first bytes of a text, at most 40, which a sentence shows when the text itself is gone.
 ///
-/// It is shown on one line between quotation marks: what is not printable ASCII as Rust escapes it, and `..`
-/// behind the last mark where the text goes on.
+/// It is shown on one line between quotation marks: quotation marks, `\` and what is not printable ASCII as Rust
+/// escapes them, and `..` behind the last mark where the text goes on.
 #[derive(Clone, Copy, Debug, PartialEq, Eq)]
 pub struct Excerpt {
     bytes: [u8; MOST],

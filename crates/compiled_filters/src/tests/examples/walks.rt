@@ -77,6 +77,8 @@ fn add_records(trial: &mut Trial, numbers: &mut Numbers, count: usize) -> Result
             trial.expect_frame(data)?;
         }
     }
+    // a length of 0 ends the block
+    trial.add(&[0])?;
     Ok(trial.fill_block()?)
 }
 
