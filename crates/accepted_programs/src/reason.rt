@@ -31,7 +31,7 @@ pub enum Reason {
     /// A helper other than emit.
     #[error("a helper other than 1")]
     UnknownHelper = 7,
-    /// An emit from an address that may lie in no area.
+    /// An emit from an address that may lie in no area, nor at the end of one.
     #[error("an emit from an unknown address")]
     EmitAddress = 8,
     /// An emit that may be of no bytes, or whose bytes may not all lie in the area.

@@ -107,7 +107,7 @@ fn and_action<'a>(
     and_command(command, and_identifiers(alloc, and_zones(alloc, action)))
 }
 
-/// A command that takes either a zone or all of them.
+/// A command that is given either a zone or Select All.
 fn and_zones<'a>(
     alloc: Global,
     command: Result<Command<'a>, AllocError>,

@@ -12,7 +12,7 @@ use thiserror::Error;
 use zone_resources::Limits;
 use zone_state::ZoneState;
 
-/// Why a header tells no geometry.
+/// What is wrong with a header behind its magic.
 #[derive(Clone, Copy, Debug, PartialEq, Eq, Error)]
 pub enum HeaderFault {
     /// Those of its numbers that are none of a geometry.
@@ -56,7 +56,7 @@ pub enum LoadFault {
     /// The text begins as that of no version.
     #[error("the first 8 bytes are neither ZNSIMG01 nor ZNSIMG02")]
     Magic,
-    /// Why the header tells no geometry.
+    /// What is wrong with the header behind its magic.
     #[error("header: {0}")]
     Header(HeaderFault),
     /// The lowest zone whose row tells none, and why.

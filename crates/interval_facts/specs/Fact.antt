@@ -23,7 +23,7 @@ abbrev pub ContainsWord : Fact → ℕ → Type 0
 ContainsWord (Words b) w = IsWithin b w × (w < 2 ^ 64)
 ContainsWord (Pointer area low high) w = IsAtOffset (record { area = area; low = low; high = high }) w × (w < 2 ^ 64)
 
--- how far from its area a pointer is known, either way
+-- how far from its area's address a pointer is known, either way
 abbrev pub farthest : ℤ
 farthest = pos (2 ^ 20)
 

@@ -17,7 +17,7 @@ pub enum Fact {
     Pointer { area: Area, low: i32, high: i32 },
 }
 
-/// How far from its area a pointer is known, either way.
+/// How far from its area's address a pointer is known, either way.
 const FARTHEST: i128 = 1 << 20;
 
 /// The bounds of one word.

@@ -28,7 +28,7 @@ pub enum Opcode {
     Write,
     /// 02h: reads blocks.
     Read,
-    /// 79h: an action on a zone, or on all.
+    /// 79h: an action on a zone, or on those that Select All takes.
     ZoneManagementSend,
     /// 7Ah: a report of zones.
     ZoneManagementReceive,
@@ -229,7 +229,7 @@ pub enum StandardCommand {
     /// Takes an action on the zone whose lowest address is `lba`, or on all zones that Select All
     /// takes (ZNS 1.1, 3.4.3).
     Send {
-        /// The lowest block of the zone; ignored where all are taken.
+        /// The lowest block of the zone; ignored with Select All.
         lba: u64,
         /// The action.
         action: Action,

@@ -139,7 +139,7 @@ fn calls_unknown(instruction: &Instruction) -> bool
     }
 }
 
-/// May it be that the address to emit from lies in no area?
+/// May it be that the address to emit from lies in no area, nor at the end of one?
 #[inline]
 fn emits_from_nowhere<D: Domain>(block: BlockSize, facts: &Facts<D>) -> bool
     ensures { result ≡ is_none (area_of D.operations block facts.now 1 (pos 0) 0) }

@@ -1,13 +1,11 @@
 -- That Select All leaves each zone that it takes as the action on that zone alone does, and what refuses it.
-use Rattle.std.proofs.Common.{◌≡◌, ℕ, zero, suc, ◌+◌, ◌*◌, ◌%◌, ◌<◌, ◌≤◌, Bool, true, false, cond, List, [], ◌∷◌, length, get_or, map, Option, None, Result, Ok, refl, ap, sym, subst, ◌∙◌, arith}
+use Rattle.std.proofs.Common.{◌≡◌, ℕ, suc, ◌+◌, ◌*◌, ◌%◌, ◌<◌, ◌≤◌, Bool, true, false, cond, List, [], ◌∷◌, length, get_or, map, Option, None, Result, Ok, refl, ap, sym, subst, ◌∙◌, arith}
 use Rattle.std.specs.Prelude.{nat_eq, nat_le, nat_lt, not, ◌&&◌, ◌||◌}
 use Rattle.std.specs.Result.{result_err, result_unwrap_or}
 use Rattle.std.proofs.lemmas.Bool.{eq-eqb, leb-true, le-leb, lt-ltb}
 use Rattle.std.proofs.lemmas.List.{get_or-map, get_or-set_same}
-use Rattle.std.proofs.lemmas.List.Sums.{sum_by-cons}
 use Rattle.zone_state.specs.Checks.{demand, first_failed}
 use Rattle.zone_state.specs.Transition.{transition}
-use Rattle.zone_state.specs.Zone.{CountedZone}
 use Rattle.zone_state.specs.declared.action.Action.{Action}
 use Rattle.zone_state.specs.declared.action.Action.TheVariants as action
 use Rattle.zone_state.specs.declared.state.ZoneState.{ZoneState}
@@ -18,13 +16,15 @@ use Rattle.zone_resources.specs.Counts.{open_count, one_if}
 use Rattle.zone_resources.specs.Holds.{refuses}
 use Rattle.zone_resources.specs.declared.holds.Holds.{Holds}
 use Rattle.image_store.specs.Namespace.{ZoneBlocks, ZonedNamespace, no_zone, zone_at, arrived, counted, counted_zones, with_state, IsNamespace}
-use Rattle.zns_commands.specs.Address.{block_total}
+use Rattle.zns_commands.specs.Address.{block_total, counted_zone_at}
 use Rattle.zns_commands.specs.Effect.{Effect, concluded, success_effect}
 use Rattle.zns_commands.specs.Laws.{Commanded}
 use Rattle.zns_commands.specs.Resources.{closed, closing_of, room_for}
 use Rattle.zns_commands.specs.SelectAll.{EachHasRoom, NoneIsHeld, SelectAllIsEachAlone, SelectAllIsRefusedByHoldsAndLimits, TakenZonesMove, sent_to_all, sent_to_one}
 use Rattle.zns_commands.specs.Send.{all_effect, all_fit, gives_way_to, held_among, led_to, room_of, swept, taken_among, takes}
 use Rattle.nvme_entry.specs.declared.command.StandardCommand.TheVariants.{Send}
+use Rattle.zone_resources.proofs.Proved.{one_if-le-count_in}
+use Rattle.zns_commands.proofs.FittingZones.{counted_zone_there}
 use Rattle.zns_commands.proofs.HeldZones.{held_from, held_is_left}
 use Rattle.zns_commands.proofs.PassedChecks.{lowest_of, no_success}
 use Rattle.zns_commands.proofs.SweptZones.{opened_count}
@@ -44,20 +44,7 @@ taken_zones_move action.Reset Full is = (_, refl)
 taken_zones_move action.Offline ReadOnly is = (_, refl)
 taken_zones_move action state is = absurd cc
 
--- a zone that is taken counts
-taken_counts : (a : Action) (c : ℕ) (zones : List ZoneBlocks) (z : ℕ) → z < length zones → takes a (get_or zones z no_zone).state ≡ true
-    → 1 ≤ taken_among (map (counted c) zones) a
-taken_counts a c [] z inside is = absurd (omega arith)
-taken_counts a c (x ∷ xs) zero inside is =
-    let parts = sum_by-cons (λ (zone : CountedZone). one_if (takes a zone.state)) (counted c x) (map (counted c) xs) in
-    let one : one_if (takes a x.state) ≡ 1 = ap one_if is in
-    omega (arith, parts, one)
-taken_counts a c (x ∷ xs) (suc z) inside is =
-    let parts = sum_by-cons (λ (zone : CountedZone). one_if (takes a zone.state)) (counted c x) (map (counted c) xs) in
-    let rest = taken_counts a c xs z (omega arith) is in
-    omega (arith, parts, rest)
-
--- so each that would be opened finds an open resource
+-- each that would be opened is counted, so it finds an open resource
 free_for : (ns : ZonedNamespace) (holds : Holds) (state : ZoneState) → takes action.Open state ≡ true
     → nat_lt (open_count (counted_zones ns)) ns.limits.open_limit ≡ true → room_for ns holds state ≡ Ok None
 free_for ns holds Closed is free = rw free refl
@@ -66,9 +53,10 @@ free_for ns holds state is free = absurd cc
 room_is_free : (ns : ZonedNamespace) (holds : Holds) (a : Action) (z : ℕ) → z < length ns.zones → takes a (zone_at ns z).state ≡ true
     → all_fit ns a ≡ true → room_of ns holds a (zone_at ns z).state ≡ Ok None
 room_is_free ns holds action.Open z inside is fit =
-    let some = taken_counts action.Open ns.capacity ns.zones z inside is in
+    let count = one_if-le-count_in (takes action.Open) (counted_zones ns) z (counted_zone_at ns z) (counted_zone_there ns z inside) in
+    let one : one_if (takes action.Open (zone_at ns z).state) ≡ 1 = ap one_if is in
     let few = leb-true (open_count (counted_zones ns) + taken_among (counted_zones ns) action.Open) ns.limits.open_limit fit in
-    free_for ns holds (zone_at ns z).state is (lt-ltb (open_count (counted_zones ns)) ns.limits.open_limit (omega (arith, some, few)))
+    free_for ns holds (zone_at ns z).state is (lt-ltb (open_count (counted_zones ns)) ns.limits.open_limit (omega (arith, count, one, few)))
 room_is_free ns holds action.Close z inside is fit = refl
 room_is_free ns holds action.Finish z inside is fit = refl
 room_is_free ns holds action.Reset z inside is fit = refl
@@ -110,7 +98,7 @@ done_alone ns holds a z to sound inside is leads free fit =
     named ns holds a z sound inside
     ∙ passes ns z (refuses holds a z) (transition a from) (room_of ns holds a from) from to free leads (room_is_free ns holds a z inside is fit)
 
--- an action on all zones, by whether one is held and whether each has room
+-- an action with Select All, by whether a zone is held and whether each has room
 abbrev decided : ZonedNamespace → Action → Bool → Bool → Effect
 decided ns a held fit =
     concluded (first_failed (demand (not held) ZONE_HELD ∷ demand fit TOO_MANY_OPEN_ZONES ∷ [])) ns (success_effect (all_effect ns a) 0 [])

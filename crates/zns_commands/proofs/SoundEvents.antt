@@ -1,9 +1,10 @@
 -- That commands and faults keep a namespace sound.
-use Rattle.std.proofs.Common.{◌≡◌, ℕ, zero, suc, ◌<◌, Bool, true, false, List, [], ◌∷◌, length, map, replicate, None, refl, ap, sym, subst, arith}
+use Rattle.std.proofs.Common.{◌≡◌, ℕ, suc, ◌<◌, Bool, true, false, List, [], ◌∷◌, length, map, replicate, None, refl, ap, sym, subst, ◌∙◌, arith}
+use lib.LanesLaws.{map-replicate}
 use Rattle.std.specs.Prelude.{nat_lt}
 use Rattle.std.proofs.lemmas.Bool.{ltb-true}
 use Rattle.std.proofs.lemmas.List.{length-replicate, get_or-replicate}
-use Rattle.std.proofs.lemmas.List.Sums.{sum_by-cons}
+use Rattle.std.proofs.lemmas.List.Folds.{sum_by-replicate}
 use Rattle.zone_state.specs.State.{is_open, is_active}
 use Rattle.zone_state.specs.Zone.{CountedZone}
 use Rattle.zone_state.specs.declared.action.Action.{Action}
@@ -72,13 +73,11 @@ events_keep_namespaces (event ∷ events) ns sound some =
 
 empty_counts : (test : ZoneState → Bool) (c n : ℕ) → test Empty ≡ false
     → count_in test (map (counted c) (replicate n (record { state = Empty; blocks = [] }))) ≡ 0
-empty_counts test c zero none = refl
-empty_counts test c (suc n) none =
-    let rest = empty_counts test c n none in
-    let first : one_if (test Empty) ≡ 0 = ap one_if none in
-    let both = sum_by-cons (λ (z : CountedZone). one_if (test z.state)) (counted c (record { state = Empty; blocks = [] }))
-    (map (counted c) (replicate n (record { state = Empty; blocks = [] }))) in
-    omega arith
+empty_counts test c n none =
+    let empty : ZoneBlocks = record { state = Empty; blocks = [] } in
+    ap (count_in test) (map-replicate (counted c) n empty)
+    ∙ sum_by-replicate (λ (z : CountedZone). one_if (test z.state)) n (counted c empty)
+    ∙ rw none (omega arith)
 
 pub empty_is_namespace : EmptyIsNamespace
 empty_is_namespace s known =

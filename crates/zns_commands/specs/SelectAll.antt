@@ -18,7 +18,7 @@ use Rattle.zns_commands.specs.Send.{takes, all_effect}
 abbrev pub TakenZonesMove : Type 0
 TakenZonesMove = (action : Action) (state : ZoneState) → takes action state ≡ true → (to : ZoneState) × (transition action state ≡ Ok to)
 
--- an action on all zones, without data, whatever the address
+-- an action with Select All, without data, whatever the address
 abbrev pub sent_to_all : ZonedNamespace → Holds → Action → ℕ → Effect
 sent_to_all ns holds action lba = meaning ns holds (Send lba action true) []
 
@@ -26,16 +26,16 @@ sent_to_all ns holds action lba = meaning ns holds (Send lba action true) []
 abbrev pub sent_to_one : ZonedNamespace → Holds → Action → ℕ → Effect
 sent_to_one ns holds action z = meaning ns holds (Send (z * ns.size) action false) []
 
--- what an action on all zones leaves of one of them
+-- what an action with Select All leaves of a zone
 pub record IsLeftAsAlone (ns : ZonedNamespace) (holds : Holds) (action : Action) (lba z : ℕ) : Type 0 where
-  -- where it takes the zone, the action on that zone alone isn't refused either, and leaves it so;
+  -- where Select All takes the zone, the action on that zone alone isn't refused either, and leaves it so;
   pub alone : takes action (zone_at ns z).state ≡ true → (sent_to_one ns holds action z).status ≡ SUCCESS
   pub taken : takes action (zone_at ns z).state ≡ true
       → zone_at (sent_to_all ns holds action lba).namespace z ≡ zone_at (sent_to_one ns holds action z).namespace z
   -- any other zone is as it was
   pub other : takes action (zone_at ns z).state ≡ false → zone_at (sent_to_all ns holds action lba).namespace z ≡ zone_at ns z
 
--- an action on all zones that isn't refused leaves each as the action on it alone does, if it takes it
+-- Select All that isn't refused leaves each zone that it takes as the action on it alone does, and any other as it was
 abbrev pub SelectAllIsEachAlone : Type 0
 SelectAllIsEachAlone =
     (ns : ZonedNamespace) (holds : Holds) (action : Action) (lba z : ℕ) → IsNamespace ns → z < length ns.zones
@@ -50,7 +50,7 @@ abbrev pub EachHasRoom : ZonedNamespace → Action → Type 0
 EachHasRoom ns action.Open = open_count (counted_zones (all_effect ns action.Open)) ≤ ns.limits.open_limit
 EachHasRoom ns _ = Unit {0}
 
--- the status of an action on all zones
+-- the status of an action with Select All
 pub record HasStatus (ns : ZonedNamespace) (holds : Holds) (action : Action) (lba : ℕ) : Type 0 where
   -- a hold on one zone that would be taken refuses all,
   pub held : (z : ℕ) → z < length ns.zones → takes action (zone_at ns z).state ≡ true → refuses holds action z ≡ true
@@ -60,6 +60,6 @@ pub record HasStatus (ns : ZonedNamespace) (holds : Holds) (action : Action) (lb
   -- and nothing else does
   pub done : NoneIsHeld ns holds action → EachHasRoom ns action → (sent_to_all ns holds action lba).status ≡ SUCCESS
 
--- what refuses an action on all zones
+-- what refuses an action with Select All
 abbrev pub SelectAllIsRefusedByHoldsAndLimits : Type 0
 SelectAllIsRefusedByHoldsAndLimits = (ns : ZonedNamespace) (holds : Holds) (action : Action) (lba : ℕ) → HasStatus ns holds action lba

@@ -21,7 +21,7 @@ count_in-set test zones number was is there =
     rw read at (sum_by-set (λ z. one_if (test z.state)) zones number is was within)
 
 -- each zone is in the count that it is counted in
-one_if-le-count_in : (test : ZoneState → Bool) (zones : List CountedZone) (number : ℕ) (was : CountedZone)
+pub one_if-le-count_in : (test : ZoneState → Bool) (zones : List CountedZone) (number : ℕ) (was : CountedZone)
     → slice_get zones number ≡ Some was → one_if (test was.state) ≤ count_in test zones
 one_if-le-count_in test zones number was there =
     let within : number < length zones = slice_get_within zones number was there in

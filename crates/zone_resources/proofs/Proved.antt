@@ -1,6 +1,6 @@
 -- What the proofs of other crates cite of this one: laws, and lemmas of counts, admission and holds.
 use Rattle.zone_resources.specs.Admission.{AdmissionKeepsLimits, IdleHoldsNoMore, ReleaseKeepsLimits}
-pub use Rattle.zone_resources.proofs.CountLemmas.{counts_follow_one}
+pub use Rattle.zone_resources.proofs.CountLemmas.{counts_follow_one, one_if-le-count_in}
 use Rattle.zone_resources.proofs.LimitLemmas as limited
 pub use Rattle.zone_resources.proofs.LimitLemmas.{admitted_closable, one_if-le-one, wants}
 pub use Rattle.zone_resources.proofs.Users.{there, users_name_zones}

@@ -49,7 +49,7 @@ pub struct Status {
     pub code: u8,
 }
 
-/// Generic command status (NVMe Base 2.0, 3.3.3.2; LBA Out of Range is of the NVM Command Set 1.0).
+/// Generic command status (NVMe Base 2.0, 3.3.3.2).
 impl Status {
     /// The command is done.
     pub const SUCCESS: Status = Status {
@@ -133,7 +133,7 @@ impl Status {
     };
 }
 
-/// Vendor specific status: what the commands of this project answer (profile).
+/// Vendor specific status (profile): what the holds of runs and the commands for programs are refused with.
 impl Status {
     /// An active run holds the zone against the command.
     pub const ZONE_HELD: Status = Status {

@@ -10,7 +10,7 @@ const PAST: Status = Status::LBA_OUT_OF_RANGE;
 /// Addresses of no block.
 const OUTSIDE: [u64; 6] = [32, 33, 39, 1 << 32, u64::MAX - 1, u64::MAX];
 
-/// Each command at an address of no block. Only an action on all zones doesn't look at it.
+/// Each command at an address of no block. Only an action with Select All doesn't look at it.
 fn outside(lba: u64) -> [Step; 13] {
     let reset_all = StandardCommand::Send {
         lba,
