@@ -1,4 +1,4 @@
-// Writes programs to load, and times DPDK's load of them.
+// Writes programs to load, and times DPDK's load of them, which verifies and compiles.
 //
 // loads write FOLDER               writes NAME.bin of each program for our verifier
 // loads time NAME ROUNDS REPEATS   prints the number of instructions and DPDK's best time of a load

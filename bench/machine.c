@@ -4,7 +4,7 @@
 // machine time NAME STEPS ROUNDS REPEATS
 //                               prints R0 and the steps, and DPDK's best time of an instruction in picoseconds
 //
-// Other words end it with status 2, and a program that DPDK doesn't load with status 1.
+// Another number of words ends it with status 2, and a program that DPDK doesn't load with status 1.
 //
 // Both get the same instructions. Only the register that has the block's address at entry differs:
 // R2 for our machine, R1 for DPDK's.

@@ -29,7 +29,8 @@ awk "BEGIN {
     printf \"a turn over 4096 blocks: %d ns; a Read: %d ns, ratio %.2f; DPDK's bare run: %d ns, ratio %.2f\n\", $turn, $read, $turn / $read, $theirs, $turn / $theirs
     printf \"a turn over 64 blocks: %d ns; DPDK's bare run: %d ns, ratio %.2f\n\", $cached, $theirs_cached, $cached / $theirs_cached
 }"
-"$bench" "$work/filter.bin" 20 | sed -n '4,$p'
+"$bench" "$work/filter.bin" 20 > "$work/rates"
+sed -n '4,$p' "$work/rates"
 
 # 256 Appends of 128 KiB to four zones, and as many Reads
 rounds=${ROUNDS:-5}

@@ -21,7 +21,7 @@ Prints the line of a command file that submits an entry, made of words. Many suc
 which `exec` runs.
 
 An entry goes to queue 1 and has command identifier 1, where `--queue` and `--cid` say nothing else. \
-Numbers are in decimal, or behind `0x` in hexadecimal, as `explain` prints addresses. A file with data is whole \
+Numbers are in decimal, or behind `0x` in hexadecimal, as `explain` prints the addresses of a report. A file with data is whole \
 blocks, of 512 bytes where `--block` says nothing else, and has at most 131072 bytes. So has a program's file here; \
 a program that a Load accepts has at most 32768.";
 

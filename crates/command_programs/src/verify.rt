@@ -39,8 +39,8 @@ steps, or emit more than E bytes
   4 a write to R10                9 an emit of an unknown length
   5 a load outside               10 an emit over the limit
 
-With --explain lines behind the first say more: of an accepted program the most steps and bytes that a \
-block can take; of a refused one the instruction, the reason with its numbers, and what is known of each \
+With --explain lines behind the first say more: of an accepted program how many steps and bytes a block takes at \
+most, the steps as many as it has instructions; of a refused one the instruction, the reason with its numbers, and what is known of each \
 register that the instruction reads.";
 
 const EXAMPLE: &str = "\
@@ -108,7 +108,8 @@ pub fn verify<'a, F: Files, O: Write>(
     }
 }
 
-/// Prints that a program of so many instructions is accepted and, if that is asked for, the most that a block can take.
+/// Prints that a program of so many instructions is accepted and, if that is asked for, how many steps and bytes a block
+/// takes at most.
 fn print_accepted<O: Write>(
     instructions: usize,
     most_emitted: Option<usize>,
