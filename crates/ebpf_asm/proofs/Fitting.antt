@@ -1,5 +1,5 @@
 -- What a line is read as fits the fields of an instruction.
-use Rattle.std.proofs.Common.{◌≡◌, ℕ, ℤ, pos, negsuc, ◌-ℤ◌, ◌+◌, ◌-◌, ◌%◌, ◌<◌, ◌^◌, Bool, true, false, ◌&&◌, cond, eqb, leb, List, length, get_or, drop, map, Option, Some, None, Result, Ok, Err, refl, arith}
+use Rattle.std.proofs.Common.{◌≡◌, ℕ, ℤ, pos, negsuc, ◌-ℤ◌, ◌+◌, ◌-◌, ◌%◌, ◌<◌, ◌≤◌, ◌^◌, Bool, true, false, ◌&&◌, cond, eqb, leb, List, length, get_or, drop, map, Option, Some, None, Result, Ok, Err, refl, arith}
 use Rattle.std.specs.Prelude.{FitsSigned, IfOk, ok_or, codes}
 use Rattle.std.specs.Int.{w16, w32, w64, cast_signed, cast_unsigned}
 use Rattle.std.specs.List.{AllByRecursion, before_first, position_or_len}

@@ -17,4 +17,4 @@ returns-in-Err c =
 pub loop-index-preserved : goal.loop-index-preserved
 loop-index-preserved c =
     made_more c.args.lines.now c.loop-index.index c.index-lines-index.result (label_in c.args.labels.now) c.loop-index.slot c.slots_of-slot.result c.loop-index.bytes.items c.push_instruction.new.bytes.items c.in-Ok-Some.instruction c.in-Ok.instruction
-    c.loop-index-test.true c.index-lines-index.is (search rules) c.in-Ok.ensures c.in_ok-push_instruction.ensures c.slots_of-slot.ensures c.loop-index.invariant
+    c.loop-index-test.true c.index-lines-index.is (search rules) c.in-Ok.ensures c.in_ok-push_instruction.ensures.added c.slots_of-slot.ensures c.loop-index.invariant
