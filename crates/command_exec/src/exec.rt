@@ -4,7 +4,7 @@ ghost use Rattle.std.specs.Prelude.{◌≡◌, ◌≢◌, ◌≤◌, ◌<◌, �
 ghost use Rattle.interval_domain.specs.Intervals.{intervals};
 ghost use Rattle.pushdown.specs.JoinedEvents.{HasServedAndDrained};
 ghost use Rattle.command_files.specs.Arguments.{value_of};
-ghost use Rattle.command_files.specs.Made.{MakesOne};
+ghost use Rattle.command_files.specs.Made.{KeepsOthers, MakesOne};
 ghost use Rattle.command_exec.specs.Saved.{Executes, ExecutesFirst, HasBegun, HasPrinted, SavesAll, SavesFirst};
 
 use clap::{Arg, ArgMatches, Command};
@@ -94,6 +94,8 @@ pub fn exec<'a, F: Files, O: Write>(
     ensures stopped { result ≡ Err Failure.CannotPrint → ExecutesFirst F.Reader.tells F.Writer.tells (F.contents files.old) (value_of matches.now IMAGE.now) (value_of matches.now COMMANDS.now) (F.made files.old) (F.made files.new) }
     ensures made { OnOk result (MakesOne (value_of matches.now IMAGE.now) (F.made files.old) (F.made files.new)) }
     ensures one { result ≡ Err Failure.CannotPrint → MakesOne (value_of matches.now IMAGE.now) (F.made files.old) (F.made files.new) }
+    ensures others { OnOk result (KeepsOthers (value_of matches.now IMAGE.now) (F.contents files.old) (F.contents files.new)) }
+    ensures others_stopped { result ≡ Err Failure.CannotPrint → KeepsOthers (value_of matches.now IMAGE.now) (F.contents files.old) (F.contents files.new) }
     ensures kept { IfErr result (λ failure. failure ≢ Failure.CannotPrint → F.made files.new ≡ F.made files.old) }
     ensures contents { IfErr result (λ failure. failure ≢ Failure.CannotPrint → F.contents files.new ≡ F.contents files.old) }
 {
@@ -124,6 +126,8 @@ fn run<'a, F: Files, O: Write>(
     ensures stopped { result ≡ Err Failure.CannotPrint → SavesFirst F.Writer.tells events.now image path.now (F.made files.old) (F.made files.new) }
     ensures made { OnOk result (MakesOne path.now (F.made files.old) (F.made files.new)) }
     ensures one { result ≡ Err Failure.CannotPrint → MakesOne path.now (F.made files.old) (F.made files.new) }
+    ensures others { OnOk result (KeepsOthers path.now (F.contents files.old) (F.contents files.new)) }
+    ensures others_stopped { result ≡ Err Failure.CannotPrint → KeepsOthers path.now (F.contents files.old) (F.contents files.new) }
     ensures kept { IfErr result (λ failure. failure ≢ Failure.CannotPrint → F.made files.new ≡ F.made files.old) }
     ensures contents { IfErr result (λ failure. failure ≢ Failure.CannotPrint → F.contents files.new ≡ F.contents files.old) }
 {

@@ -1,14 +1,22 @@
--- What the proofs of other crates cite of this one: the failure of a file that can't be written.
-use Rattle.std.proofs.Common.{◌≡◌, ℕ, List}
+-- What the proofs of other crates cite of this one.
+use Rattle.std.proofs.Common.{◌≡◌, ℕ, List, Option, subst}
 use Rattle.std.specs.Borrow.{Bor}
 use Rattle.command_failure.specs.declared.failure.Failure.{Failure}
 use Rattle.command_failure.specs.declared.failure.Failure.TheVariants.{CannotWrite, NoMemory}
 use Rattle.command_failure.specs.declared.file_cause.FileCause.{FileCause}
+use Rattle.command_files.specs.Made.{KeepsOthers}
 use Rattle.command_files.specs.UserTold.{IsUnwritten}
 
--- it has what that of this file has for any cause, and what want of memory has
+-- the failure of a file that can't be written has what that of this file has for any cause, and what want of memory has
 pub unwritten_holds : (path : Bor (List ℕ)) (P : Failure → Type 0) → ((told : Bor (List ℕ)) (cause : FileCause) → told ≡ path → P (CannotWrite told cause)) → P NoMemory
     → (failure : Failure) → IsUnwritten path failure → P failure
 unwritten_holds path P refused none (CannotWrite told cause) is = refused told cause is
 unwritten_holds path P refused none NoMemory is = none
 unwritten_holds path P refused none _ is = absurd is
+
+-- a file was replaced, of the name that was wanted, behind what left the bytes of all names as they were
+pub others_kept : (path wanted : List ℕ) (before between after : List ℕ → Option (List ℕ)) → path ≡ wanted → between ≡ before
+    → KeepsOthers path between after → KeepsOthers wanted before after
+others_kept path wanted before between after same kept others =
+    subst (λ (name : List ℕ). KeepsOthers name before after) same
+    (subst (λ (contents : List ℕ → Option (List ℕ)). KeepsOthers path contents after) kept others)

@@ -20,7 +20,11 @@ pub record MakesOne (path : List ℕ) (before after : Option (List Made)) : Type
 abbrev pub MakesAtMostOne : Option (List Made) → Option (List Made) → Type 0
 MakesAtMostOne before after = (after ≡ before) ⊎ ((path : List ℕ) × MakesOne path before after)
 
+-- the bytes of every name but this are what they were
+abbrev pub KeepsOthers : List ℕ → (List ℕ → Option (List ℕ)) → (List ℕ → Option (List ℕ)) → Type 0
+KeepsOthers path before after = (name : List ℕ) → name ≢ path → after name ≡ before name
+
 -- the bytes of this name, where they are told, are these, and those of every other name are what they were
 pub record HasReplaced (path bytes : List ℕ) (before after : List ℕ → Option (List ℕ)) : Type 0 where
   pub same : IfSome (after path) (λ told. told ≡ bytes)
-  pub others : (name : List ℕ) → name ≢ path → after name ≡ before name
+  pub others : KeepsOthers path before after

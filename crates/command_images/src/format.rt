@@ -2,7 +2,7 @@
 
 ghost use Rattle.std.specs.Prelude.{◌≡◌, IfErr, IfOk, OnOk, OnErr};
 ghost use Rattle.command_files.specs.Arguments.{value_of};
-ghost use Rattle.command_files.specs.Made.{MakesOne};
+ghost use Rattle.command_files.specs.Made.{KeepsOthers, MakesOne};
 ghost use Rattle.image_store.specs.Geometry.{tested};
 ghost use Rattle.command_images.specs.Images.{IsAskedFor, MakesEmpty};
 ghost use Rattle.command_images.specs.UserTold.{FormatFails, RefusesShape};
@@ -95,6 +95,7 @@ pub fn format<'a, F: Files>(
     ensures empty { OnOk result (MakesEmpty F.Writer.tells matches.now (value_of matches.now IMAGE.now) (F.made files.old) (F.made files.new)) }
     ensures failed { IfErr result (FormatFails matches.now (value_of matches.now IMAGE.now)) }
     ensures made { OnOk result (MakesOne (value_of matches.now IMAGE.now) (F.made files.old) (F.made files.new)) }
+    ensures others { OnOk result (KeepsOthers (value_of matches.now IMAGE.now) (F.contents files.old) (F.contents files.new)) }
     ensures kept { OnErr result (F.made files.new ≡ F.made files.old) }
     ensures contents { OnErr result (F.contents files.new ≡ F.contents files.old) }
 {

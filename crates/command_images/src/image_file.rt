@@ -3,7 +3,7 @@
 ghost use Rattle.std.specs.Prelude.{◌≡◌, ◌≢◌, IfOk, IfErr, IfSome, OnOk, OnErr};
 ghost use Rattle.image_store.specs.Reading.{namespace_in};
 ghost use Rattle.image_store.specs.Text.{text};
-ghost use Rattle.command_files.specs.Made.{MakesOne, then_made};
+ghost use Rattle.command_files.specs.Made.{KeepsOthers, MakesOne, then_made};
 ghost use Rattle.command_files.specs.UserTold.{IsUnwritten};
 ghost use Rattle.command_images.specs.UserTold.{LoadingFails};
 ghost use Rattle.command_images.specs.steps.Told.{told_of_image};
@@ -57,6 +57,7 @@ fn refused<'a>(path: &'a str, fault: LoadFault) -> Failure<'a>
 pub fn save<'a, F: Files>(image: &Image, path: &'a str, files: &mut F) -> Result<(), Failure<'a>>
     ensures saved { OnOk result (F.Writer.tells → F.made files.new ≡ then_made (F.made files.old) path.now (text image.now)) }
     ensures made { OnOk result (MakesOne path.now (F.made files.old) (F.made files.new)) }
+    ensures others { OnOk result (KeepsOthers path.now (F.contents files.old) (F.contents files.new)) }
     ensures kept { OnErr result (F.made files.new ≡ F.made files.old) }
     ensures contents { OnErr result (F.contents files.new ≡ F.contents files.old) }
     ensures unwritten { IfErr result (IsUnwritten path.entry) }

@@ -2,7 +2,7 @@
 
 ghost use Rattle.std.specs.Prelude.{◌≡◌, IfErr, OnOk, OnErr};
 ghost use Rattle.command_files.specs.Arguments.{value_of};
-ghost use Rattle.command_files.specs.Made.{MakesOne};
+ghost use Rattle.command_files.specs.Made.{KeepsOthers, MakesOne};
 ghost use Rattle.command_images.specs.Images.{MakesAnew};
 ghost use Rattle.command_images.specs.UserTold.{UpgradeFails};
 
@@ -59,6 +59,7 @@ pub fn upgrade<'a, F: Files>(
     ensures same { OnOk result (MakesAnew F.Reader.tells F.Writer.tells (F.contents files.old (value_of matches.now IMAGE.now)) (value_of matches.now IMAGE.now) (F.made files.old) (F.made files.new)) }
     ensures failed { IfErr result (UpgradeFails F.Reader.tells (F.contents files.old (value_of matches.now IMAGE.now)) (value_of matches.now IMAGE.now)) }
     ensures made { OnOk result (MakesOne (value_of matches.now IMAGE.now) (F.made files.old) (F.made files.new)) }
+    ensures others { OnOk result (KeepsOthers (value_of matches.now IMAGE.now) (F.contents files.old) (F.contents files.new)) }
     ensures kept { OnErr result (F.made files.new ≡ F.made files.old) }
     ensures contents { OnErr result (F.contents files.new ≡ F.contents files.old) }
 {

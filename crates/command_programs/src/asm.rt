@@ -3,7 +3,7 @@
 ghost use Rattle.std.specs.Prelude.{◌≡◌, IfErr, IfSome, OnOk, OnErr};
 ghost use Rattle.ebpf_asm.specs.Assembly.{assembled};
 ghost use Rattle.command_files.specs.Arguments.{value_of};
-ghost use Rattle.command_files.specs.Made.{MakesOne};
+ghost use Rattle.command_files.specs.Made.{KeepsOthers, MakesOne};
 ghost use Rattle.command_programs.specs.MakesProgram.{MakesProgram};
 ghost use Rattle.command_programs.specs.UserTold.{AsmFails};
 ghost use Rattle.command_programs.specs.steps.Told.{IsToldOfAssembly, MakesNone};
@@ -71,6 +71,7 @@ pub fn asm<'a, F: Files>(
     ensures program { OnOk result (IfSome (F.contents files.old (value_of matches.now TEXT.now)) (λ text. MakesProgram (F.made files.old) (F.made files.new) (value_of matches.now PROGRAM.now) (assembled text))) }
     ensures failed { IfErr result (AsmFails (F.contents files.old) (value_of matches.now TEXT.now) (value_of matches.now PROGRAM.now)) }
     ensures made { OnOk result (MakesOne (value_of matches.now PROGRAM.now) (F.made files.old) (F.made files.new)) }
+    ensures others { OnOk result (KeepsOthers (value_of matches.now PROGRAM.now) (F.contents files.old) (F.contents files.new)) }
     ensures kept { OnErr result (F.made files.new ≡ F.made files.old) }
     ensures contents { OnErr result (F.contents files.new ≡ F.contents files.old) }
 {
@@ -96,6 +97,7 @@ fn make<'a, F: Files>(
     ensures program { OnOk result (MakesProgram (F.made files.old) (F.made files.new) path.now (assembled text.now)) }
     ensures failed { IfErr result (MakesNone source.entry path.entry text.now) }
     ensures made { OnOk result (MakesOne path.now (F.made files.old) (F.made files.new)) }
+    ensures others { OnOk result (KeepsOthers path.now (F.contents files.old) (F.contents files.new)) }
     ensures kept { OnErr result (F.made files.new ≡ F.made files.old) }
     ensures contents { OnErr result (F.contents files.new ≡ F.contents files.old) }
 {

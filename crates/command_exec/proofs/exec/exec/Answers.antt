@@ -1,4 +1,6 @@
-use Rattle.std.proofs.Common.{rules}
+use Rattle.std.proofs.Common.{◌∙◌, rules}
+use Rattle.std.proofs.lemmas.Result.{on_ok_weaker}
+use Rattle.command_files.proofs.Proved.{others_kept}
 use Rattle.command_exec.proofs.Saving.{executes, executes_first}
 use Rattle.command_exec.proofs.exec.exec.Goals as goal
 
@@ -19,3 +21,13 @@ returns-in-Ok-clause-stopped g c = λ stops.
     (g.F.Files.made c.args.files.now) (g.F.Files.made c.read.new.files) (g.F.Files.made c.run.new.files)
     c.load.ensures.contents c.required-path.ensures c.required-commands.ensures (search rules) c.in_ok-file.ensures.bytes c.as_slice.ensures.value c.in-Ok.ensures.events
     _ c.in_ok-image.ensures.image (c.run.ensures.stopped stops) (search rules)
+
+pub returns-in-Ok-clause-others : goal.returns-in-Ok-clause-others
+returns-in-Ok-clause-others g c =
+    on_ok_weaker c.run.result
+    (others_kept c.required-path.result.now _ _ _ _ c.required-path.ensures (c.read.ensures.contents ∙ c.load.ensures.contents)) c.run.ensures.others
+
+pub returns-in-Ok-clause-others_stopped : goal.returns-in-Ok-clause-others_stopped
+returns-in-Ok-clause-others_stopped g c = λ stops.
+    others_kept c.required-path.result.now _ _ _ _ c.required-path.ensures (c.read.ensures.contents ∙ c.load.ensures.contents)
+    (c.run.ensures.others_stopped stops)

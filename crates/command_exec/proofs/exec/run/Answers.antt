@@ -17,3 +17,9 @@ returns-clause-stopped g c = λ _.
     saves_first g.F.Writer.Sink.tells c.args.events.now c.args.image c.image-2.result.now c.args.path.now (g.F.Files.made c.args.files.now) (g.F.Files.made c.save.new.files)
     c.serve_and_drain-done.new.device c.in_ok-save.ensures.saved c.image-2.ensures.value
     c.new-device.result c.new-device.ensures c.in-Err.ensures.stopped
+
+pub returns-in-Ok-clause-others : goal.returns-in-Ok-clause-others
+returns-in-Ok-clause-others g c = c.in_ok-save.ensures.others
+
+pub returns-clause-others_stopped : goal.returns-clause-others_stopped
+returns-clause-others_stopped g c = λ _. c.in_ok-save.ensures.others

@@ -1,4 +1,6 @@
-use Rattle.std.proofs.lemmas.Result.{err_from_is_err_and, IfErr-weaker}
+use Rattle.std.proofs.Common.{refl}
+use Rattle.std.proofs.lemmas.Result.{err_from_is_err_and, IfErr-weaker, on_ok_weaker}
+use Rattle.command_files.proofs.Proved.{others_kept}
 use Rattle.command_images.proofs.Making.{format_of_shape, format_of_writing, makes_empty}
 use Rattle.command_images.proofs.format.format.Goals as goal
 
@@ -16,3 +18,7 @@ returns-in_err-geometry-clause-failed g c =
 pub returns-clause-failed : goal.returns-clause-failed
 returns-clause-failed g c =
     IfErr-weaker c.save.result _ _ (format_of_writing c.required.result _ c.required.ensures c.args.matches.now) c.save.ensures.unwritten
+
+pub returns-clause-others : goal.returns-clause-others
+returns-clause-others g c =
+    on_ok_weaker c.save.result (others_kept c.required.result.now _ (g.F.Files.contents c.args.files.now) _ _ c.required.ensures refl) c.save.ensures.others

@@ -1,5 +1,6 @@
 use Rattle.std.proofs.Common.{List, ℕ, subst}
-use Rattle.std.proofs.lemmas.Result.{err_from_is_err_and, IfErr-weaker}
+use Rattle.std.proofs.lemmas.Result.{err_from_is_err_and, IfErr-weaker, on_ok_weaker}
+use Rattle.command_files.proofs.Proved.{others_kept}
 use Rattle.command_images.specs.UserTold.{UpgradeFails}
 use Rattle.command_images.proofs.Making.{makes_anew, upgrade_of_loading, upgrade_of_writing}
 use Rattle.command_images.proofs.upgrade.upgrade.Goals as goal
@@ -18,3 +19,7 @@ returns-in_err-image-clause-failed g c =
 pub returns-clause-failed : goal.returns-clause-failed
 returns-clause-failed g c =
     IfErr-weaker c.save.result _ _ (upgrade_of_writing c.required-path.result _ c.required-path.ensures g.F.Reader.Source.tells _) c.save.ensures.unwritten
+
+pub returns-clause-others : goal.returns-clause-others
+returns-clause-others g c =
+    on_ok_weaker c.save.result (others_kept c.required-path.result.now _ _ _ _ c.required-path.ensures c.load.ensures.contents) c.save.ensures.others

@@ -1,7 +1,8 @@
 use Rattle.std.proofs.Common.{rules}
 use Rattle.std.specs.Prelude.{codes}
-use Rattle.std.proofs.lemmas.Result.{err_from_is_err_and, IfErr-weaker}
+use Rattle.std.proofs.lemmas.Result.{err_from_is_err_and, IfErr-weaker, on_ok_weaker}
 use Rattle.command_files.specs.Arguments.{value_of}
+use Rattle.command_files.proofs.Proved.{others_kept}
 use Rattle.command_programs.proofs.Assembling.{fails_none, fails_unread, makes_program}
 use Rattle.command_programs.proofs.asm.asm.Goals as goal
 
@@ -22,3 +23,7 @@ returns-clause-failed g c =
     IfErr-weaker c.make.result _ _
     (fails_none (g.F.Files.contents c.args.files.now) c.required-source.result c.required.result _ _ c.required-source.ensures c.required.ensures
     c.in_ok-text.text.items c.as_slice.result.now c.as_slice.ensures.value c.in_ok-text.ensures.bytes) c.make.ensures.failed
+
+pub returns-clause-others : goal.returns-clause-others
+returns-clause-others g c =
+    on_ok_weaker c.make.result (others_kept c.required.result.now _ _ _ _ c.required.ensures c.read.ensures.contents) c.make.ensures.others

@@ -1,4 +1,5 @@
-use Rattle.std.proofs.lemmas.Result.{IfErr-weaker}
+use Rattle.std.proofs.lemmas.Result.{IfErr-weaker, on_ok_weaker}
+use Rattle.command_files.specs.Made.{HasReplaced}
 use Rattle.command_files.proofs.Proved.{unwritten_holds}
 use Rattle.command_programs.specs.steps.Told.{MakesNone}
 use Rattle.command_programs.proofs.Assembling.{none_of_fault}
@@ -11,3 +12,7 @@ returns-in-Ok-clause-failed g c =
 
 pub returns-in-Err-clause-failed : goal.returns-in-Err-clause-failed
 returns-in-Err-clause-failed g c = none_of_fault c.args.source c.args.path c.args.text.now c.in-Err.fault c.refused.result c.refused.ensures c.in-Err.ensures
+
+pub returns-in-Ok-clause-others : goal.returns-in-Ok-clause-others
+returns-in-Ok-clause-others g c =
+    on_ok_weaker c.write.result (λ (replaced : HasReplaced c.args.path.now _ _ _). replaced.others) c.write.ensures.replaced
