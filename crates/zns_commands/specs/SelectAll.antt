@@ -52,7 +52,7 @@ EachHasRoom ns _ = Unit {0}
 
 -- the status of an action with Select All
 pub record HasStatus (ns : ZonedNamespace) (holds : Holds) (action : Action) (lba : ℕ) : Type 0 where
-  -- a hold on one zone that would be taken refuses all,
+  -- a zone that would be taken and is held against the action refuses all,
   pub held : (z : ℕ) → z < length ns.zones → takes action (zone_at ns z).state ≡ true → refuses holds action z ≡ true
       → (sent_to_all ns holds action lba).status ≡ ZONE_HELD
   -- so do the limits where they leave one without room,
