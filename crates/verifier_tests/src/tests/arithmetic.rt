@@ -200,9 +200,9 @@ const INDICES: &[Row] = &[
     ),
     // A byte swap of a known word takes all of its 64 bits.
     Text(
-        "ldxb r6, [r2+0]\nlddw r6, 0x10000000000\nle64 r6\nrsh r6, 40\nadd r2, r6\nldxb r0, [r2+510]\nexit",
+        "lddw r6, 0x10000000000\nle64 r6\nrsh r6, 40\nadd r2, r6\nldxb r0, [r2-1]\nexit",
         0,
-        Accepted(7),
+        Accepted(6),
     ),
 ];
 
