@@ -11,6 +11,7 @@ use program_interface::BlockSize;
 /// All bytes of a file: one at least, and no more than a command moves.
 pub(crate) fn read_data<'a, F: Files>(path: &'a str, files: &mut F) -> Result<Vec<u8>, Failure<'a>>
     ensures made { F.made files.new ≡ F.made files.old }
+    ensures contents { F.contents files.new ≡ F.contents files.old }
     ensures least { IfOk result (λ bytes. 1 ≤ vec_len bytes) }
     ensures most { IfOk result (λ bytes. vec_len bytes ≤ MOST_TRANSFER) }
 {

@@ -69,6 +69,7 @@ pub fn entry<'a, F: Files, O: Write>(
 ) -> Result<(), Failure<'a>>
     ensures printed { OnOk result (PrintsEntry (O.contents out.old) (O.contents out.new)) }
     ensures made { F.made files.new ≡ F.made files.old }
+    ensures contents { F.contents files.new ≡ F.contents files.old }
 {
     match matches.subcommand() {
         Some((name, matches)) => submit(alloc, line, name, matches, files, out),
@@ -87,6 +88,7 @@ fn submit<'a, F: Files, O: Write>(
 ) -> Result<(), Failure<'a>>
     ensures printed { OnOk result (PrintsEntry (O.contents out.old) (O.contents out.new)) }
     ensures made { F.made files.new ≡ F.made files.old }
+    ensures contents { F.contents files.new ≡ F.contents files.old }
 {
     let identifiers = Identifiers::of_words(matches)?;
     let asked = words_asked(alloc, line, name, matches, files)?;
@@ -107,7 +109,8 @@ fn words_asked<'a, F: Files>(
     matches: &ArgMatches<'a>,
     files: &mut F,
 ) -> Result<Asked, Failure<'a>>
-    ensures { F.made files.new ≡ F.made files.old }
+    ensures made { F.made files.new ≡ F.made files.old }
+    ensures contents { F.contents files.new ≡ F.contents files.old }
 {
     match name {
         transfers::APPEND => transfers::append(matches, files),

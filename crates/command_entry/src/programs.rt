@@ -88,7 +88,8 @@ pub(crate) fn load<'a, F: Files>(
     matches: &ArgMatches<'a>,
     files: &mut F,
 ) -> Result<Asked, Failure<'a>>
-    ensures { F.made files.new ≡ F.made files.old }
+    ensures made { F.made files.new ≡ F.made files.old }
+    ensures contents { F.contents files.new ≡ F.contents files.old }
 {
     let slot = slot(matches, SLOT)?;
     let limit = number(matches, EMIT)?;

@@ -81,7 +81,8 @@ pub(crate) fn append<'a, F: Files>(
     matches: &ArgMatches<'a>,
     files: &mut F,
 ) -> Result<Asked, Failure<'a>>
-    ensures { F.made files.new ≡ F.made files.old }
+    ensures made { F.made files.new ≡ F.made files.old }
+    ensures contents { F.contents files.new ≡ F.contents files.old }
 {
     let (lba, blocks, data) = address_and_data(matches, files)?;
     Ok(Asked::standard(StandardCommand::Append { lba, blocks }, data))
@@ -92,7 +93,8 @@ pub(crate) fn write<'a, F: Files>(
     matches: &ArgMatches<'a>,
     files: &mut F,
 ) -> Result<Asked, Failure<'a>>
-    ensures { F.made files.new ≡ F.made files.old }
+    ensures made { F.made files.new ≡ F.made files.old }
+    ensures contents { F.contents files.new ≡ F.contents files.old }
 {
     let (lba, blocks, data) = address_and_data(matches, files)?;
     Ok(Asked::standard(StandardCommand::Write { lba, blocks }, data))
@@ -111,7 +113,8 @@ fn address_and_data<'a, F: Files>(
     matches: &ArgMatches<'a>,
     files: &mut F,
 ) -> Result<(u64, BlockCount, Vec<u8>), Failure<'a>>
-    ensures { F.made files.new ≡ F.made files.old }
+    ensures made { F.made files.new ≡ F.made files.old }
+    ensures contents { F.contents files.new ≡ F.contents files.old }
 {
     let lba = address(matches, LBA)?;
     let block = block_size(number(matches, BLOCK)?)?;

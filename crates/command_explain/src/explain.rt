@@ -71,7 +71,8 @@ pub fn explain<'a, F: Files, O: Write>(
     files: &mut F,
     out: &mut O,
 ) -> Result<(), Failure<'a>>
-    ensures { F.made files.new ≡ F.made files.old }
+    ensures made { F.made files.new ≡ F.made files.old }
+    ensures contents { F.contents files.new ≡ F.contents files.old }
 {
     let path = required(matches, FILE);
     let file = read(path, files)?;
@@ -89,7 +90,8 @@ fn submissions<'a, F: Files>(
     path: &'a str,
     files: &mut F,
 ) -> Result<Waiting, Failure<'a>>
-    ensures { F.made files.new ≡ F.made files.old }
+    ensures made { F.made files.new ≡ F.made files.old }
+    ensures contents { F.contents files.new ≡ F.contents files.old }
 {
     let file = read(path, files)?;
     let events = parse(alloc, file.as_slice()).map_err(|fault| Failure::of_commands(path, fault))?;

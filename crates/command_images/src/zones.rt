@@ -53,7 +53,8 @@ pub fn zones<'a, F: Files, O: Write>(
     files: &mut F,
     out: &mut O,
 ) -> Result<(), Failure<'a>>
-    ensures { F.made files.new ≡ F.made files.old }
+    ensures made { F.made files.new ≡ F.made files.old }
+    ensures contents { F.contents files.new ≡ F.contents files.old }
 {
     let image = image_file::load(alloc, required(matches, IMAGE), files)?;
     printed(print(image.zones(), out))

@@ -14,40 +14,40 @@ use Rattle.command_programs.specs.UserTold.{AsmFails}
 use Rattle.command_programs.specs.steps.Told.{IsToldOfAssembly, MakesNone}
 
 -- a text was read, and then a program was made of it, of the files that the command line names
-module _ (contents : List ℕ → Option (List ℕ)) (source path text slice asked named : List ℕ) (before then after : Option (List Made))
-    (is_asked : source ≡ asked) (is_named : path ≡ named) (slice_is : slice ≡ text) (kept : then ≡ before) where
-  pub makes_program : {T E : Type 0} (result : Result T E) → IfSome (contents source) (λ bytes. text ≡ bytes)
-      → OnOk result (MakesProgram then after path (assembled slice))
+module _ (contents : List ℕ → Option (List ℕ)) (text_file program_file text slice asked named : List ℕ) (before then after : Option (List Made))
+    (is_asked : text_file ≡ asked) (is_named : program_file ≡ named) (slice_is : slice ≡ text) (kept : then ≡ before) where
+  pub makes_program : {T E : Type 0} (result : Result T E) → IfSome (contents text_file) (λ bytes. text ≡ bytes)
+      → OnOk result (MakesProgram then after program_file (assembled slice))
       → OnOk result (IfSome (contents asked) (λ bytes. MakesProgram before after named (assembled bytes)))
   makes_program (Err error) is makes = tt
   makes_program (Ok done) is makes =
       subst (λ (s : List ℕ). IfSome (contents s) (λ bytes. MakesProgram before after named (assembled bytes))) is_asked
-      (IfSome_then (contents source) is (λ bytes same. subst (λ (b : List ℕ). MakesProgram before after named (assembled b)) (slice_is ∙ same)
+      (IfSome_then (contents text_file) is (λ bytes same. subst (λ (b : List ℕ). MakesProgram before after named (assembled b)) (slice_is ∙ same)
       (subst (λ (p : List ℕ). MakesProgram before after p (assembled slice)) is_named
-      (subst (λ (made : Option (List Made)). MakesProgram made after path (assembled slice)) kept makes))))
+      (subst (λ (made : Option (List Made)). MakesProgram made after program_file (assembled slice)) kept makes))))
 
 -- what is told of an error of assembling is the text's fault, or want of memory
-pub none_of_fault : (source path : Bor (List ℕ)) (text : List ℕ) (error : AssembleFault) (failure : Failure) → IsToldOfAssembly source error failure
-    → IfSome (fault_in error) (λ fault. assembled text ≡ Err fault) → MakesNone source path text failure
-none_of_fault source path text (Fault fault) (AssemblyRefused told refusal) is found = (is.0, found ∙ ap Err (sym is.1))
-none_of_fault source path text (Fault fault) _ is found = absurd is
-none_of_fault source path text Memory failure is found = subst (λ (f : Failure). MakesNone source path text f) (sym is) tt
+pub none_of_fault : (text_file program_file : Bor (List ℕ)) (text : List ℕ) (error : AssembleFault) (failure : Failure) → IsToldOfAssembly text_file error failure
+    → IfSome (fault_in error) (λ fault. assembled text ≡ Err fault) → MakesNone text_file program_file text failure
+none_of_fault text_file program_file text (Fault fault) (AssemblyRefused told refusal) is found = (is.0, found ∙ ap Err (sym is.1))
+none_of_fault text_file program_file text (Fault fault) _ is found = absurd is
+none_of_fault text_file program_file text Memory failure is found = subst (λ (f : Failure). MakesNone text_file program_file text f) (sym is) tt
 
 -- the text file couldn't be read
-pub fails_unread : (contents : List ℕ → Option (List ℕ)) (source : Bor (List ℕ)) (asked named : List ℕ) → source.now ≡ asked
-    → (failure : Failure) → IsUnread source failure → AsmFails contents asked named failure
-fails_unread contents source asked named is_asked (CannotRead told cause) is = ap (λ (b : Bor (List ℕ)). b.now) is ∙ is_asked
-fails_unread contents source asked named is_asked NoMemory is = tt
-fails_unread contents source asked named is_asked _ is = absurd is
+pub fails_unread : (contents : List ℕ → Option (List ℕ)) (text_file : Bor (List ℕ)) (asked named : List ℕ) → text_file.now ≡ asked
+    → (failure : Failure) → IsUnread text_file failure → AsmFails contents asked named failure
+fails_unread contents text_file asked named is_asked (CannotRead told cause) is = ap (λ (b : Bor (List ℕ)). b.now) is ∙ is_asked
+fails_unread contents text_file asked named is_asked NoMemory is = tt
+fails_unread contents text_file asked named is_asked _ is = absurd is
 
 -- no program was made of what was read
-module _ (contents : List ℕ → Option (List ℕ)) (source path : Bor (List ℕ)) (asked named : List ℕ) (is_asked : source.now ≡ asked) (is_named : path.now ≡ named) where
-  pub fails_none : (text slice : List ℕ) → slice ≡ text → IfSome (contents source.now) (λ bytes. text ≡ bytes)
-      → (failure : Failure) → MakesNone source path slice failure → AsmFails contents asked named failure
+module _ (contents : List ℕ → Option (List ℕ)) (text_file program_file : Bor (List ℕ)) (asked named : List ℕ) (is_asked : text_file.now ≡ asked) (is_named : program_file.now ≡ named) where
+  pub fails_none : (text slice : List ℕ) → slice ≡ text → IfSome (contents text_file.now) (λ bytes. text ≡ bytes)
+      → (failure : Failure) → MakesNone text_file program_file slice failure → AsmFails contents asked named failure
   fails_none text slice slice_is is (AssemblyRefused told refusal) fails = (
     ap (λ (b : Bor (List ℕ)). b.now) fails.0 ∙ is_asked,
     subst (λ (s : List ℕ). IfSome (contents s) (λ bytes. assembled bytes ≡ Err refusal.fault)) is_asked
-        (IfSome_then (contents source.now) is (λ bytes same. ap assembled (sym (slice_is ∙ same)) ∙ fails.1)),
+        (IfSome_then (contents text_file.now) is (λ bytes same. ap assembled (sym (slice_is ∙ same)) ∙ fails.1)),
   )
   fails_none text slice slice_is is (CannotWrite told cause) fails = ap (λ (b : Bor (List ℕ)). b.now) fails ∙ is_named
   fails_none text slice slice_is is NoMemory fails = tt

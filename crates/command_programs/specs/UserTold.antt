@@ -7,8 +7,8 @@ use Rattle.command_failure.specs.declared.failure.Failure.TheVariants.{NoMemory,
 -- why `asm` makes no program: the first fault of the text file's bytes, where this is told, a file that can't be read or
 -- written, or want of memory, and nothing else
 abbrev pub AsmFails : (List ℕ → Option (List ℕ)) → List ℕ → List ℕ → Failure → Type 0
-AsmFails contents source path (AssemblyRefused told refusal) = (told.now ≡ source) × IfSome (contents source) (λ text. assembled text ≡ Err refusal.fault)
-AsmFails contents source path (CannotRead told cause) = told.now ≡ source
-AsmFails contents source path (CannotWrite told cause) = told.now ≡ path
-AsmFails contents source path NoMemory = Unit {0}
-AsmFails contents source path _ = ⊥
+AsmFails contents text_file program_file (AssemblyRefused told refusal) = (told.now ≡ text_file) × IfSome (contents text_file) (λ text. assembled text ≡ Err refusal.fault)
+AsmFails contents text_file program_file (CannotRead told cause) = told.now ≡ text_file
+AsmFails contents text_file program_file (CannotWrite told cause) = told.now ≡ program_file
+AsmFails contents text_file program_file NoMemory = Unit {0}
+AsmFails contents text_file program_file _ = ⊥

@@ -75,11 +75,11 @@ pub fn asm<'a, F: Files>(
     ensures kept { OnErr result (F.made files.new ≡ F.made files.old) }
     ensures contents { OnErr result (F.contents files.new ≡ F.contents files.old) }
 {
-    let source = required(matches, TEXT);
-    let text = read(source, files)?;
+    let text_file = required(matches, TEXT);
+    let text = read(text_file, files)?;
     make(
         alloc,
-        source,
+        text_file,
         text.as_slice(),
         required(matches, PROGRAM),
         files,
@@ -89,13 +89,13 @@ pub fn asm<'a, F: Files>(
 /// Makes a file of the program that a text assembles to.
 fn make<'a, F: Files>(
     alloc: Global,
-    source: &'a str,
+    text_file: &'a str,
     text: &[u8],
     path: &'a str,
     files: &mut F,
 ) -> Result<(), Failure<'a>>
     ensures program { OnOk result (MakesProgram (F.made files.old) (F.made files.new) path.now (assembled text.now)) }
-    ensures failed { IfErr result (MakesNone source.entry path.entry text.now) }
+    ensures failed { IfErr result (MakesNone text_file.entry path.entry text.now) }
     ensures made { OnOk result (MakesOne path.now (F.made files.old) (F.made files.new)) }
     ensures others { OnOk result (KeepsOthers path.now (F.contents files.old) (F.contents files.new)) }
     ensures kept { OnErr result (F.made files.new ≡ F.made files.old) }
@@ -103,7 +103,7 @@ fn make<'a, F: Files>(
 {
     match assemble(alloc, text) {
         Ok(program) => write(path, program.as_slice(), files),
-        Err(fault) => Err(refused(source, text, fault)),
+        Err(fault) => Err(refused(text_file, text, fault)),
     }
 }
 

@@ -15,7 +15,8 @@ pub(crate) fn program_in_file<'a, F: Files>(
     path: &'a str,
     files: &mut F,
 ) -> Result<Program, Failure<'a>>
-    ensures { F.made files.new ≡ F.made files.old }
+    ensures made { F.made files.new ≡ F.made files.old }
+    ensures contents { F.contents files.new ≡ F.contents files.old }
 {
     let file = read(path, files)?;
     decode(alloc, file.as_slice()).map_err(|fault| refused(path, file.as_slice(), fault))

@@ -108,7 +108,8 @@ pub fn trace<'a, F: Files, O: Write>(
     files: &mut F,
     out: &mut O,
 ) -> Result<(), Failure<'a>>
-    ensures { F.made files.new ≡ F.made files.old }
+    ensures made { F.made files.new ≡ F.made files.old }
+    ensures contents { F.contents files.new ≡ F.contents files.old }
 {
     let asked = asked_for(matches)?;
     let program = program_in_file(alloc, required(matches, PROGRAM), files)?;

@@ -59,7 +59,8 @@ pub fn unpack<'a, F: Files, O: Write>(
     files: &mut F,
     out: &mut O,
 ) -> Result<(), Failure<'a>>
-    ensures { F.made files.new ≡ F.made files.old }
+    ensures made { F.made files.new ≡ F.made files.old }
+    ensures contents { F.contents files.new ≡ F.contents files.old }
 {
     let block = block_size(number(matches, BLOCK)?)?;
     let path = required(matches, FILE);

@@ -86,7 +86,8 @@ pub fn verify<'a, F: Files, O: Write>(
     files: &mut F,
     out: &mut O,
 ) -> Result<(), Failure<'a>>
-    ensures { F.made files.new ≡ F.made files.old }
+    ensures made { F.made files.new ≡ F.made files.old }
+    ensures contents { F.contents files.new ≡ F.contents files.old }
 {
     let block = number(matches, BLOCK)?;
     let program = program_in_file(alloc, required(matches, PROGRAM), files)?;

@@ -26,7 +26,8 @@ pub enum FaultKind {
     /// A field that has the number of a register has one over 10 (RFC 9669, 3.1).
     #[error("there are the registers 0 to {last} alone", last = REGISTERS - 1)]
     Register = 24,
-    /// A field that the instruction doesn't use isn't 0 (RFC 9669, 3.1).
+    /// A field that the instruction doesn't use isn't 0 (RFC 9669, 3.1), or of a wide instruction's second slot anything but
+    /// the immediate (RFC 9669, 3.2).
     #[error("a field that the instruction does not use is not 0")]
     UnusedField = 25,
     /// A wide instruction is the last slot (RFC 9669, 3.2).

@@ -77,6 +77,10 @@ fn show_instruction<W: fmt::Write>(
         ),
         FaultKind::NotInProfile => write!(f, ": {}, which is left out here", left_out(opcode)),
         FaultKind::Register => write!(f, ", registers {dst} and {src}: {kind}"),
+        FaultKind::UnusedField if Opcode::named(opcode) == Some(Opcode::LoadImmediate) => write!(
+            f,
+            ", registers {dst} and {src}, offset {offset}: {kind}, here or in the second slot"
+        ),
         FaultKind::UnusedField | FaultKind::Value => write!(
             f,
             ", registers {dst} and {src}, offset {offset}, immediate {immediate}: {kind}"

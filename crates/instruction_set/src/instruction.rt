@@ -220,7 +220,7 @@ impl Instruction {
     }
 
     /// An instruction's immediate as a word: sign-extended to 64 bits, also for unsigned arithmetic
-    /// (RFC 9669, 4.1) and for unsigned compares (profile).
+    /// (RFC 9669, 4.1) and for unsigned compares (RFC 9669, 4.3).
     #[inline(always)]
     pub fn immediate_word(immediate: i32) -> u64
         ensures { result ≡ immediate_word immediate }

@@ -30,6 +30,7 @@ pub fn command<'a, F: Files, O: Write>(
 ) -> Result<(), Failure<'a>>
     ensures one { MakesAtMostOne (F.made files.old) (F.made files.new) }
     ensures kept { IfErr result (λ failure. failure ≢ Failure.CannotPrint → F.made files.new ≡ F.made files.old) }
+    ensures contents { IfErr result (λ failure. failure ≢ Failure.CannotPrint → F.contents files.new ≡ F.contents files.old) }
 {
     let mut line = command_line(alloc)?;
     match line.try_get_matches_from_mut(words) {
@@ -56,6 +57,7 @@ fn perform<'a, F: Files, O: Write>(
 ) -> Result<(), Failure<'a>>
     ensures one { MakesAtMostOne (F.made files.old) (F.made files.new) }
     ensures kept { IfErr result (λ failure. failure ≢ Failure.CannotPrint → F.made files.new ≡ F.made files.old) }
+    ensures contents { IfErr result (λ failure. failure ≢ Failure.CannotPrint → F.contents files.new ≡ F.contents files.old) }
 {
     match matches.subcommand() {
         Some((format::NAME, matches)) => format::format(alloc, matches, files),
@@ -78,6 +80,7 @@ fn perform_without_image<'a, F: Files, O: Write>(
 ) -> Result<(), Failure<'a>>
     ensures one { MakesAtMostOne (F.made files.old) (F.made files.new) }
     ensures kept { OnErr result (F.made files.new ≡ F.made files.old) }
+    ensures contents { OnErr result (F.contents files.new ≡ F.contents files.old) }
 {
     match name {
         asm::NAME => asm::asm(alloc, matches, files),

@@ -21,10 +21,10 @@ IsToldOfAssembly path assembly.Memory failure = failure ≡ NoMemory
 
 -- why no program is made of a text: its first fault, a file that can't be written, or want of memory
 abbrev pub MakesNone : Bor (List ℕ) → Bor (List ℕ) → List ℕ → Failure → Type 0
-MakesNone source path text (AssemblyRefused told refusal) = (told ≡ source) × (assembled text ≡ Err refusal.fault)
-MakesNone source path text (CannotWrite told cause) = told ≡ path
-MakesNone source path text NoMemory = Unit {0}
-MakesNone source path text _ = ⊥
+MakesNone text_file program_file text (AssemblyRefused told refusal) = (told ≡ text_file) × (assembled text ≡ Err refusal.fault)
+MakesNone text_file program_file text (CannotWrite told cause) = told ≡ program_file
+MakesNone text_file program_file text NoMemory = Unit {0}
+MakesNone text_file program_file text _ = ⊥
 
 -- of bytes that are no program: the file, and the fault with its slot
 abbrev pub told_of_program : Bor (List ℕ) → List ℕ → DecodeFault → Failure

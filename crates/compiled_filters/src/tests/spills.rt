@@ -3,8 +3,8 @@
 //! the C and the block alone.
 //!
 //! Each filter has a word on the stack that has to be known when it is loaded again, behind an emit or where branches meet:
-//! were it any bytes, its first use would be refused. Which slots load these words stands beside the filter, as `zscli
-//! disasm --slots` numbers them.
+//! were it any bytes, an access or an emit that goes by it would be refused. Which slots load such words stands beside the
+//! filter, as `zscli disasm --slots` numbers them.
 
 mod addresses;
 mod branches;

@@ -36,7 +36,7 @@ fn fields_of_a_row(rt: HostRuntime) -> Result<(), Fail> {
     check(&rt, rt.alloc(), &FIELDS)
 }
 
-/// Slot 42 loads the address of scratch, slot 48 that of the context. Slots 17 and 38 load the bound.
+/// Slot 42 loads the address of scratch, slot 48 that of the context.
 const LISTS: Filter = Filter {
     name: "lists.c",
     emit: 62,

@@ -109,7 +109,7 @@ fn the_least_and_the_greatest(rt: HostRuntime) -> Result<(), Fail> {
     check(&rt, rt.alloc(), &EXTREMES)
 }
 
-/// Slots 36, 52, 63 and 68 load the number of entries that came from one list, slot 76 the address of the context.
+/// Slot 76 loads the address of the context.
 const MERGE: Filter = Filter {
     name: "merge.c",
     emit: 72,

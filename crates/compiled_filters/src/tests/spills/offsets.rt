@@ -138,8 +138,7 @@ fn columns_that_a_head_names(rt: HostRuntime) -> Result<(), Fail> {
     check(&rt, rt.alloc(), &COLUMNS)
 }
 
-/// Slots 23, 34, 50, 51 and 54 load numbers that lengths are made of, slots 58 and 62 the addresses of the context and of
-/// scratch.
+/// Slots 23 and 34 load numbers that lengths are made of, slots 58 and 62 the addresses of the context and of scratch.
 const LENGTHS: Filter = Filter {
     name: "lengths.c",
     emit: 84,
