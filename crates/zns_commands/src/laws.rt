@@ -90,8 +90,8 @@ pub fn shapes_are_kept()
 {}
 
 /// A Write, an Append or an action is refused on a zone that an active run appends to, and Reset and Offline on one
-/// that a run reads from, and so is Select All where it would take such a zone: with Zone Held where the data and the
-/// address are right.
+/// that a run reads from, and so is Select All where it would take a zone that is held against its action: with Zone
+/// Held where the data and the address are right.
 pub fn held_commands_are_refused()
     ensures { HeldCommandsAreRefused }
 {}

@@ -77,7 +77,7 @@ const STATUSES: &[StatusWords] = &[
     StatusWords {
         status: Status::TOO_MANY_OPEN_ZONES,
         name: "Too Many Open Zones",
-        sentence: "an open resource is wanted, none is free and no zone can be closed",
+        sentence: "more zones would be open than may be, and none gives way",
     },
     StatusWords {
         status: Status::INVALID_ZONE_STATE_TRANSITION,

@@ -120,7 +120,7 @@ impl Status {
         code: 0xBD,
     };
 
-    /// An open resource is wanted, none is free, and no zone can be closed.
+    /// More zones would be open than may be, and none gives way.
     pub const TOO_MANY_OPEN_ZONES: Status = Status {
         kind: StatusType::CommandSpecific,
         code: 0xBE,
@@ -133,7 +133,7 @@ impl Status {
     };
 }
 
-/// Vendor specific status (profile): what the holds of runs and the commands for programs are refused with.
+/// Vendor specific status (profile), of what runs hold and of the commands for programs.
 impl Status {
     /// An active run holds the zone against the command.
     pub const ZONE_HELD: Status = Status {
