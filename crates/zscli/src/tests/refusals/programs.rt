@@ -41,7 +41,10 @@ const PROGRAMS: &[Act] = &[
         "p, slot 0: opcode 95h, registers 0 and 0, offset 0, immediate -1: a field that the instruction does not use is not 0\n\
          program refused 0 25\n",
     ),
-    Act::Put("p", &[(b"\x18\x01\0\0\x05\0\0\0", 1), (b"\0\0\x01\0\0\0\0\0", 1)]),
+    Act::Put(
+        "p",
+        &[(b"\x18\x01\0\0\x05\0\0\0", 1), (b"\0\0\x01\0\0\0\0\0", 1)],
+    ),
     Act::Refuses(
         "zscli disasm p",
         "p, slot 0: opcode 18h, registers 1 and 0, offset 0: a field that the instruction does not use is not 0, here or in \
