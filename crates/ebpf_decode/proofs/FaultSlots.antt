@@ -5,17 +5,14 @@ use Rattle.ebpf_decode.specs.declared.fault.FaultKind.{FaultKind}
 use Rattle.instruction_set.specs.declared.fields.Fields.{Fields}
 use Rattle.instruction_set.specs.declared.instruction.Instruction.{Instruction}
 use Rattle.ebpf_decode.specs.Laws.{FaultIsInside}
-use Rattle.ebpf_decode.specs.Reading.{at_first_slot, begins_wide, begun, length_fault, read_slots, slots_at, then_read, with_front}
+use Rattle.ebpf_decode.specs.Reading.{at_first_slot, begins_wide, begun, length_fault, read_slots, slots_at, then_read}
 use Rattle.program_interface.specs.declared.TheConstants.{MOST_SLOTS}
 use Rattle.program_interface.specs.Readings.{unless_fault}
+use Rattle.program_interface.proofs.Proved.{fault_behind}
 use Rattle.std.proofs.lemmas.Result.{IfErr-at_err}
 use Rattle.std.specs.List.{slice_get}
 use Rattle.ebpf_decode.proofs.Programs.{few_slots}
 use Rattle.ebpf_decode.proofs.Slots.{length-slots}
-
-pub fault_behind : (front : List (Option Instruction)) (read : Result (List (Option Instruction)) Fault) (fault : Fault) → with_front front read ≡ Err fault → read ≡ Err fault
-fault_behind front (Ok slots) fault e = absurd cc
-fault_behind front (Err other) fault e = e
 
 -- a fault lies at the slot that is read, or behind it
 fault_from : (s count : ℕ) (fault : Fault) (after : Bool → Result (List (Option Instruction)) Fault)

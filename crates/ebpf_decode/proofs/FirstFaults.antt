@@ -14,13 +14,13 @@ use Rattle.instruction_set.specs.Program.{is_wide}
 use Rattle.instruction_set.specs.Spelling.{Fits, slots_spelled}
 use Rattle.program_interface.specs.Bytes.{AreBytes}
 use Rattle.program_interface.specs.Readings.{unless_fault}
+use Rattle.program_interface.proofs.Proved.{fault_behind}
 use Rattle.ebpf_decode.specs.FirstFault.{Begins, FailsFirst, IsFirstFault, IsOfSlot, IsTold}
 use Rattle.ebpf_decode.specs.Laws.{FaultIsFirst}
 use Rattle.ebpf_decode.specs.Opcodes.{opcode_named}
 use Rattle.ebpf_decode.specs.Reading.{at_first_slot, checks, first_failed, instruction_with, length_checks, length_fault, read, read_named, read_slots, slots_at, then_read}
 use Rattle.ebpf_decode.proofs.SpelledAreRead.{read-again}
 use Rattle.ebpf_decode.proofs.Bytes.{slots-fields}
-use Rattle.ebpf_decode.proofs.FaultSlots.{fault_behind}
 use Rattle.ebpf_decode.proofs.NoFault.{none-fails}
 use Rattle.ebpf_decode.proofs.Programs.{are-fields-in}
 use Rattle.ebpf_decode.proofs.ReadAreSpelled.{AreFields, AreFieldsIn, read-takes}

@@ -10,10 +10,10 @@ use Rattle.instruction_set.specs.declared.instruction.Instruction.{Instruction}
 use Rattle.instruction_set.specs.declared.instruction.Instruction.TheVariants.{LoadImmediate}
 use Rattle.instruction_set.specs.Program.{IsProgram, is_wide, slots_of}
 use Rattle.ebpf_decode.specs.FirstFault.{Begins}
-use Rattle.ebpf_decode.specs.Reading.{at_first_slot, decoded_program, length_checks, length_fault, read, read_slots, slots_at, then_read, with_front}
+use Rattle.ebpf_decode.specs.Reading.{at_first_slot, decoded_program, length_checks, length_fault, read, read_slots, slots_at, then_read}
 use Rattle.instruction_set.specs.Spelling.{Fits, first_slot, instructions_of, program_bytes, second_slot, slot_bytes, slots_spelled, spelling}
 use Rattle.program_interface.specs.declared.TheConstants.{MOST_SLOTS}
-use Rattle.program_interface.specs.Readings.{unless_fault}
+use Rattle.program_interface.specs.Readings.{unless_fault, with_front}
 use Rattle.std.proofs.lemmas.Bool.{eq-eqb, eqb-false, eqb-true, le-ltb, ltb-false, ne_eqb, not-false, not_from_true}
 use Rattle.std.proofs.lemmas.List.Concat.{flat_map-append}
 use Rattle.std.proofs.lemmas.Result.{IfOk-at_ok}
@@ -160,7 +160,7 @@ read-program : (is : List Instruction) (s : ℕ) → AllByRecursion Fits is → 
 read-program [] s fits = refl
 read-program (LoadImmediate dst value ∷ is) s fits =
     read-first (LoadImmediate dst value) s (option_to_list (second_slot (LoadImmediate dst value)) ++ flat_map slots_spelled is) fits.0 refl
-    ∙ ap (λ r. with_front (Some (LoadImmediate dst value) ∷ []) (with_front (None ∷ []) r)) (read-program is (s + 1 + 1) fits.1)
+    ∙ ap (λ (r : Result (List (Option Instruction)) Fault). with_front (Some (LoadImmediate dst value) ∷ []) (with_front (None ∷ []) r)) (read-program is (s + 1 + 1) fits.1)
 read-program (i ∷ is) s fits =
     read-first i s (flat_map slots_spelled is) fits.0 refl ∙ ap (with_front (Some i ∷ [])) (read-program is (s + 1) fits.1)
 

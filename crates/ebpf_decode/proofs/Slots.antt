@@ -1,12 +1,14 @@
 -- The slots of bytes, and reading them one by one.
-use Rattle.std.proofs.Common.{◌≡◌, ℕ, zero, suc, ◌+◌, ◌*◌, ◌<◌, ◌≤◌, Bool, List, [], ◌∷◌, ◌++◌, length, drop, Option, Some, Result, Ok, Err, refl, sym, ap, ◌∙◌, append_assoc, add-one, arith}
+use Rattle.std.proofs.Common.{◌≡◌, ℕ, zero, suc, ◌+◌, ◌*◌, ◌<◌, ◌≤◌, Bool, List, [], ◌∷◌, ◌++◌, length, drop, Option, Some, Result, Ok, Err, refl, sym, ap, ◌∙◌, add-one, arith}
 use Rattle.std.specs.List.{slice_get}
 use Rattle.std.proofs.lemmas.List.{append-nil, drop-drop, drop_all}
 use Rattle.ebpf_decode.specs.declared.fault.Fault.{Fault}
 use Rattle.ebpf_decode.specs.declared.fault.FaultKind.{FaultKind}
 use Rattle.instruction_set.specs.declared.fields.Fields.{Fields}
 use Rattle.instruction_set.specs.declared.instruction.Instruction.{Instruction}
-use Rattle.ebpf_decode.specs.Reading.{begins_wide, begun, fields_at, read_slots, slots_at, then_read, with_front}
+use Rattle.ebpf_decode.specs.Reading.{begins_wide, begun, fields_at, read_slots, slots_at, then_read}
+use Rattle.program_interface.specs.Readings.{with_front}
+use Rattle.program_interface.proofs.Proved.{with_front-more}
 
 pub slots-get : (count : ℕ) (bytes : List ℕ) (k : ℕ) → k < count → slice_get (slots_at count bytes) k ≡ Some (fields_at (drop (8 * k) bytes))
 slots-get zero bytes k h = absurd (omega arith)
@@ -40,18 +42,13 @@ read-at fs s f second h =
     ∙ ap (λ n. then_read (begun second f n) s (λ wide. read_slots wide (s + 1) (drop (suc s) fs))) (get-drop fs (suc s))
     ∙ ap (λ n. then_read (begun second f (slice_get fs n)) s (λ wide. read_slots wide (s + 1) (drop n fs))) (sym (add-one s))
 
-pub with_front-more : (front : List (Option Instruction)) (found : Option Instruction) (read : Result (List (Option Instruction)) Fault)
-    → with_front front (with_front (found ∷ []) read) ≡ with_front (front ++ found ∷ []) read
-with_front-more front found (Ok slots) = ap (λ xs. Ok xs) (sym (append_assoc front (found ∷ []) slots))
-with_front-more front found (Err fault) = refl
-
 -- one more slot
 pub goes_on : (fs : List Fields) (s : ℕ) (f : Fields) (second : Bool) (found : Option Instruction) (front : List (Option Instruction)) (total : Result (List (Option Instruction)) Fault)
     → slice_get fs s ≡ Some f → begun second f (slice_get fs (s + 1)) ≡ Ok found
     → with_front front (read_slots second s (drop s fs)) ≡ total
     → with_front (front ++ found ∷ []) (read_slots (begins_wide found) (s + 1) (drop (s + 1) fs)) ≡ total
 goes_on fs s f second found front total here read so_far =
-    sym (with_front-more front found (read_slots (begins_wide found) (s + 1) (drop (s + 1) fs)))
+    sym (with_front-more front (found ∷ []) (read_slots (begins_wide found) (s + 1) (drop (s + 1) fs)))
     ∙ ap (λ r. with_front front (then_read r s (λ wide. read_slots wide (s + 1) (drop (s + 1) fs)))) (sym read)
     ∙ ap (with_front front) (sym (read-at fs s f second here))
     ∙ so_far

@@ -1,5 +1,5 @@
 -- Reading bytes: the program that they spell, or their first fault.
-use Rattle.std.specs.Prelude.{ℕ, zero, suc, pos, ◌+◌, ◌*◌, ◌/◌, ◌%◌, ◌^◌, ◌==◌, nat_le, nat_lt, Bool, true, false, not, ◌&&◌, ◌||◌, List, [], ◌∷◌, ◌++◌, length, drop, slice_get, slice_index, find, Option, Some, None, is_none, option_map, Result, Ok, Err, ok_or}
+use Rattle.std.specs.Prelude.{ℕ, zero, suc, pos, ◌+◌, ◌*◌, ◌/◌, ◌%◌, ◌^◌, ◌==◌, nat_le, nat_lt, Bool, true, false, not, ◌&&◌, ◌||◌, List, [], ◌∷◌, length, drop, slice_get, slice_index, find, Option, Some, None, is_none, option_map, Result, Ok, Err, ok_or}
 use Rattle.std.specs.Ordering.{int_eq}
 use Rattle.std.specs.Int.{w16, w32, cast_signed, cast_unsigned}
 use Rattle.std.specs.Option.{option_or}
@@ -27,7 +27,7 @@ use Rattle.instruction_set.specs.Program.{is_wide}
 use Rattle.program_interface.specs.declared.TheConstants.{MOST_SLOTS}
 use Rattle.program_interface.specs.declared.registers.TheConstants.{REGISTERS}
 use Rattle.program_interface.specs.Bytes.{field}
-use Rattle.program_interface.specs.Readings.{unless_fault}
+use Rattle.program_interface.specs.Readings.{unless_fault, with_front}
 
 -- the fields of the slot at the front of bytes (RFC 9669, 3.1)
 abbrev pub fields_at : List ℕ → Fields
@@ -146,10 +146,6 @@ read_named (Some opcode) f next = unless_fault (first_fault opcode f next) (ok_o
 -- the instruction of a slot, where the next slot is known, or its first fault
 abbrev pub read : Fields → Option Fields → Result Instruction FaultKind
 read f next = read_named (opcode_named f.opcode) f next
-
--- slots with these in front of them, where they have no fault
-abbrev pub with_front : List (Option Instruction) → Result (List (Option Instruction)) Fault → Result (List (Option Instruction)) Fault
-with_front front = result_map_both (λ slots. front ++ slots) (λ fault. fault)
 
 -- what begins at a slot: nothing at a wide instruction's second
 abbrev pub begun : Bool → Fields → Option Fields → Result (Option Instruction) FaultKind
