@@ -5,13 +5,13 @@ use Rattle.std.proofs.Math.Nat.{div-add-mod', mul-div_cancel, suc-mul}
 use Rattle.std.proofs.Math.Seq.{take-add}
 use Rattle.std.proofs.lemmas.Bool.{cases_lt}
 use Rattle.std.proofs.lemmas.List.{append-nil, drop-take, length-take, length-take-le, take-append-le, take-take, take_all, take_at}
-use Rattle.program_interface.proofs.Proved.{agree_before, agree_behind, all_drop, all_take}
+use Rattle.program_interface.proofs.Proved.{agree_before, agree_behind, all_drop, all_take, fault_behind}
 use Rattle.emit_append.proofs.ByteLists.{AllBytes, FitsByte, by_recursion}
-use Rattle.program_interface.specs.Readings.{◌>>=◌}
-use Rattle.emit_append.specs.Unpacking.{AreFrames, CanBegin, Reading, RefusedIsLowest, frames_at, output_block_at, output_blocks_at, then_read}
+use Rattle.program_interface.specs.Readings.{◌>>=◌, with_front}
+use Rattle.emit_append.specs.Unpacking.{AreFrames, CanBegin, Reading, RefusedIsLowest, frames_at, output_block_at, output_blocks_at}
 use Rattle.emit_append.proofs.UnpackedFrames.{block_before, frames-read, no_blocks, only-frames}
 use Rattle.emit_append.proofs.ReadBack.{length-blocks}
-use Rattle.emit_append.proofs.RefusedBlocks.{IsRefused, behind_err, cut_off, cut_twice, is_refused, length_cut_off, zeros_of}
+use Rattle.emit_append.proofs.RefusedBlocks.{IsRefused, cut_off, cut_twice, is_refused, length_cut_off, zeros_of}
 
 -- ---- blocks
 
@@ -47,7 +47,7 @@ module _ (count block place : ℕ) (bytes : List ℕ) (at : ℕ) (positive : 0 <
       let refused : output_block_at place (take block other) ≡ Err at =
       ap (λ n. frames_at n place (take block other)) (other_size ∙ sym size)
       ∙ d.there (take block other) upto far (other_size ∙ sym size) first in
-      ap (λ reading. reading >>= λ records. then_read records (output_blocks_at others block (place + block) (drop block other))) refused
+      ap (λ reading. reading >>= λ records. with_front records (output_blocks_at others block (place + block) (drop block other))) refused
 
   refused_here : output_block_at place (take block bytes) ≡ Err at → IsRefusedAmong (suc count) block place bytes at
   refused_here is =
@@ -90,8 +90,8 @@ module _ (count block place : ℕ) (bytes : List ℕ) (at : ℕ) (positive : 0 <
       ∙ agree_behind block (upto - block) upto (take (suc count * block) other) (take (suc count * block) bytes) (omega (arith, far)) same
       ∙ ap (take (upto - block)) (ap (λ n. drop block (take n bytes)) all ∙ drop-take block (count * block) bytes) in
       let refused = next (drop block other) others (upto - block) (omega (arith, whole, blocks, left)) (omega (arith, some, left)) (omega (arith, far)) behind in
-      ap (λ reading. reading >>= λ records. then_read records (output_blocks_at others block (place + block) (drop block other))) (ap (output_block_at place) first ∙ read)
-      ∙ ap (then_read front) refused
+      ap (λ reading. reading >>= λ records. with_front records (output_blocks_at others block (place + block) (drop block other))) (ap (output_block_at place) first ∙ read)
+      ∙ ap (with_front front) refused
 
   refused_later : (front : List (List ℕ)) → output_block_at place (take block bytes) ≡ Ok front →
       IsRefusedAmong count block (place + block) (drop block bytes) at → IsRefusedAmong (suc count) block place bytes at
@@ -118,10 +118,10 @@ module _ (count block place : ℕ) (bytes : List ℕ) (at : ℕ) (positive : 0 <
         ];
       }
 
-  by_block : (first : Reading) → output_block_at place (take block bytes) ≡ first → (first >>= λ records. then_read records (output_blocks_at count block (place + block) (drop block bytes))) ≡ Err at →
+  by_block : (first : Reading) → output_block_at place (take block bytes) ≡ first → (first >>= λ records. with_front records (output_blocks_at count block (place + block) (drop block bytes))) ≡ Err at →
       (output_blocks_at count block (place + block) (drop block bytes) ≡ Err at → IsRefusedAmong count block (place + block) (drop block bytes) at) →
       IsRefusedAmong (suc count) block place bytes at
-  by_block (Ok front) read is next = refused_later front read (next (behind_err front _ at is))
+  by_block (Ok front) read is next = refused_later front read (next (fault_behind front _ at is))
   by_block (Err other) read is next = refused_here (read ∙ is)
 
 refused_among : (count block place : ℕ) (bytes : List ℕ) (at : ℕ) → 0 < block → count * block ≤ length bytes → AllBytes bytes → output_blocks_at count block place bytes ≡ Err at →

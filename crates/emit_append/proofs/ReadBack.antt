@@ -9,11 +9,12 @@ use Rattle.std.proofs.Math.Nat.{mul-div_cancel, suc-mul}
 use Rattle.byteorder.specs.Endian.{little_number}
 use Rattle.byteorder.specs.Numbers.{little_number-reads_back}
 use Rattle.program_interface.specs.Frame.{frame, frames}
+use Rattle.program_interface.specs.Readings.{with_front}
 use Rattle.emit_append.specs.PackedLaw.{FitBlock}
 use Rattle.program_interface.specs.Bytes.{padded}
 use Rattle.program_interface.proofs.Proved.{all_append, length-padded}
 use Rattle.emit_append.specs.Packing.{Layout, behind, beginning, laid_out, packed}
-use Rattle.emit_append.specs.Unpacking.{PackedFramesReadBack, output_block_at, output_blocks_at, frame_length, then_read, unpacked, zeros_at}
+use Rattle.emit_append.specs.Unpacking.{PackedFramesReadBack, output_block_at, output_blocks_at, frame_length, unpacked, zeros_at}
 use Rattle.emit_append.proofs.Layouts.{laid-behind, laid-beginning}
 use Rattle.emit_append.proofs.FramesRead.{block-frame, block-zeros}
 
@@ -41,7 +42,7 @@ front_length bytes rest small = front_two _ _ (bytes ++ rest) ∙ little_number-
 
 -- a frame in front, and then what is read after it
 frame-read : (at : ℕ) (bytes rest : List ℕ) → 0 < length bytes → length bytes < 2 ^ 16 →
-    output_block_at at (frame bytes ++ rest) ≡ then_read (bytes ∷ []) (output_block_at (at + (2 + length bytes)) rest)
+    output_block_at at (frame bytes ++ rest) ≡ with_front (bytes ∷ []) (output_block_at (at + (2 + length bytes)) rest)
 frame-read at bytes rest some small =
     let front = front_length bytes rest small in
     let long : 2 + length bytes ≤ length (frame bytes ++ rest) = omega (arith, length-append bytes rest) in
@@ -49,15 +50,15 @@ frame-read at bytes rest some small =
     let whole : take (length bytes) (bytes ++ rest) ≡ bytes = take_at bytes rest (length bytes) refl in
     let after : drop (2 + length bytes) (frame bytes ++ rest) ≡ rest = sym (drop-drop (length bytes) 2 (frame bytes ++ rest)) ∙ drop_at bytes rest (length bytes) refl in
     (rw front at one)
-    ∙ ap (λ b. then_read (b ∷ []) (output_block_at (at + (2 + length bytes)) (drop (2 + length bytes) (frame bytes ++ rest)))) whole
-    ∙ ap (λ left. then_read (bytes ∷ []) (output_block_at (at + (2 + length bytes)) left)) after
+    ∙ ap (λ b. with_front (b ∷ []) (output_block_at (at + (2 + length bytes)) (drop (2 + length bytes) (frame bytes ++ rest)))) whole
+    ∙ ap (λ left. with_front (bytes ∷ []) (output_block_at (at + (2 + length bytes)) left)) after
 
 group-read : (at count : ℕ) (records : List (List ℕ)) → AreRecords records → output_block_at at (frames records ++ replicate count 0) ≡ Ok records
 group-read at count [] are = block-zeros at (replicate count 0) (no_frame count) ∙ zeros-read at count
 group-read at count (bytes ∷ records) are =
     ap (output_block_at at) (append_assoc (frame bytes) (frames records) (replicate count 0))
     ∙ frame-read at bytes (frames records ++ replicate count 0) are.0.0 are.0.1
-    ∙ ap (then_read (bytes ∷ [])) (group-read (at + (2 + length bytes)) count records are.1)
+    ∙ ap (with_front (bytes ∷ [])) (group-read (at + (2 + length bytes)) count records are.1)
 
 -- Groups of records as they are laid out: the records in the room that is left, and those of each block.
 record Grouped (block room : ℕ) (groups : List (List (List ℕ))) (layout : Layout) : Type 0 where

@@ -1,5 +1,5 @@
 -- The place that one block is refused at.
-use Rattle.std.proofs.Common.{◌≡◌, ℕ, zero, suc, ◌+◌, ◌-◌, ◌≤◌, ◌<◌, List, [], ◌∷◌, ◌++◌, length, take, drop, replicate, Ok, Err, refl, ap, sym, ◌∙◌, arith, length-append, length-drop, append_assoc, inl, inr, subst, ⊎_elim}
+use Rattle.std.proofs.Common.{◌≡◌, ℕ, zero, suc, ◌+◌, ◌-◌, ◌≤◌, ◌<◌, List, [], ◌∷◌, ◌++◌, length, take, drop, replicate, Err, refl, ap, sym, ◌∙◌, arith, length-append, length-drop, append_assoc, inl, inr, subst, ⊎_elim}
 use Rattle.std.specs.Prelude.{◌==◌, false}
 use Rattle.std.proofs.Math.Seq.{take-append-add}
 use Rattle.std.proofs.lemmas.Bool.{cases_lt}
@@ -7,9 +7,10 @@ use Rattle.std.proofs.lemmas.Bool.Decides.{eqb_tells}
 use Rattle.std.proofs.lemmas.List.{length-replicate, length-take-le, replicate-append-replicate}
 use Rattle.byteorder.specs.Endian.{little_number}
 use Rattle.program_interface.specs.Frame.{frame}
-use Rattle.program_interface.proofs.Proved.{agree_before, agree_behind, all_drop}
+use Rattle.program_interface.specs.Readings.{with_front}
+use Rattle.program_interface.proofs.Proved.{agree_before, agree_behind, all_drop, fault_behind}
 use Rattle.emit_append.proofs.ByteLists.{AllBytes, FitsByte}
-use Rattle.emit_append.specs.Unpacking.{Reading, after_frame, frame_length, frame_record, frames_at, then_read, zeros_at}
+use Rattle.emit_append.specs.Unpacking.{after_frame, frame_length, frame_record, frames_at, zeros_at}
 use Rattle.emit_append.proofs.FramesRead.{step-frame, step-short, step-zeros}
 use Rattle.emit_append.proofs.UnpackedFrames.{IsFrames, frame_before, framed, no_frames, record_length}
 use Rattle.emit_append.proofs.ReadBack.{front_two}
@@ -128,10 +129,6 @@ pub record IsRefused (steps place : ℕ) (rest : List ℕ) (at : ℕ) : Type 0 w
   pub before : IsFrames (cut_off offset rest) records
   pub there : (other : List ℕ) (upto : ℕ) → offset + 2 ≤ upto → length other ≡ length rest → take upto other ≡ take upto rest → frames_at steps place other ≡ Err at
 
-pub behind_err : (records : List (List ℕ)) (reading : Reading) (at : ℕ) → then_read records reading ≡ Err at → reading ≡ Err at
-behind_err records (Ok more) at is = absurd cc
-behind_err records (Err place) at is = is
-
 byte_refused : (steps place : ℕ) (rest : List ℕ) (at : ℕ) → frame_length rest ≡ 0 → zeros_at place rest ≡ Err at → IsRefused (suc steps) place rest at
 byte_refused steps place rest at none is =
     let d = is_byte place rest at is in
@@ -183,8 +180,8 @@ refused_behind steps place rest at are some long next =
           next.there (drop (2 + n) other) (upto - (2 + n)) (omega (arith, far)) (omega (arith, sizes, left, length-drop (2 + n) other))
           (agree_behind (2 + n) (upto - (2 + n)) upto other rest (omega (arith, far)) same) in
           step-frame steps place other (omega (arith, front, some)) (omega (arith, front, sizes, long))
-          ∙ ap (λ m. then_read (take m (drop 2 other) ∷ []) (frames_at steps (place + (2 + m)) (drop (2 + m) other))) front
-          ∙ ap (then_read (take n (drop 2 other) ∷ [])) behind;
+          ∙ ap (λ m. with_front (take m (drop 2 other) ∷ []) (frames_at steps (place + (2 + m)) (drop (2 + m) other))) front
+          ∙ ap (with_front (take n (drop 2 other) ∷ [])) behind;
     }
 
 some_bytes : (rest : List ℕ) → 0 < frame_length rest → 0 < length rest
@@ -204,7 +201,7 @@ is_refused (suc steps) place rest at few are is =
     refused_length steps place rest at some short (some_bytes rest some) same_place)
     (λ long.
     let left = length-drop (2 + frame_length rest) rest in
-    let behind = behind_err (frame_record rest ∷ []) _ at (sym (step-frame steps place rest some long) ∙ is) in
+    let behind = fault_behind (frame_record rest ∷ []) _ at (sym (step-frame steps place rest some long) ∙ is) in
     refused_behind steps place rest at are some long
     (is_refused steps (place + (2 + frame_length rest)) (after_frame rest) at (omega (arith, few, long, left)) (all_drop FitsByte (2 + frame_length rest) rest are) behind))
     (cases_lt (length rest) (2 + frame_length rest)))

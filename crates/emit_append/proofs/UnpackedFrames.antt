@@ -7,11 +7,11 @@ use Rattle.std.proofs.lemmas.Bool.Decides.{eqb_tells}
 use Rattle.std.proofs.lemmas.List.{drop-drop, length-replicate, length-take-le}
 use Rattle.byteorder.specs.Endian.{little_bytes}
 use Rattle.program_interface.specs.Frame.{frame, frames}
-use Rattle.program_interface.specs.Readings.{◌>>=◌}
+use Rattle.program_interface.specs.Readings.{◌>>=◌, with_front}
 use Rattle.program_interface.specs.Bytes.{padded}
 use Rattle.program_interface.proofs.Proved.{all_drop, all_take, front_spelled}
 use Rattle.emit_append.proofs.ByteLists.{AllBytes, FitsByte, by_place, by_recursion}
-use Rattle.emit_append.specs.Unpacking.{AreFrames, Reading, UnpackedIsFrames, after_frame, frame_length, frame_record, frames_at, output_blocks_at, then_read, unpacked, zeros_at}
+use Rattle.emit_append.specs.Unpacking.{AreFrames, Reading, UnpackedIsFrames, after_frame, frame_length, frame_record, frames_at, output_blocks_at, unpacked, zeros_at}
 use Rattle.emit_append.proofs.FramesRead.{step-frame, step-short, step-zeros}
 use Rattle.emit_append.proofs.GroupsOfBlocks.{parts_fit}
 use Rattle.emit_append.proofs.ReadBack.{all_bounded, blocks-read, front_two, length-blocks}
@@ -91,7 +91,7 @@ framed (low ∷ high ∷ more) are long =
     ∙ ap (λ bytes. (bytes ++ take n more) ++ after_frame rest) (sym front)
 
 after-frame : (rest : List ℕ) (records : List (List ℕ)) (reading : Reading) → AllBytes rest → 0 < frame_length rest → 2 + frame_length rest ≤ length rest →
-    then_read (frame_record rest ∷ []) reading ≡ Ok records → ((more : List (List ℕ)) → reading ≡ Ok more → IsFrames (after_frame rest) more) → IsFrames rest records
+    with_front (frame_record rest ∷ []) reading ≡ Ok records → ((more : List (List ℕ)) → reading ≡ Ok more → IsFrames (after_frame rest) more) → IsFrames rest records
 after-frame rest records (Ok more) are some long is behind =
     let all : records ≡ frame_record rest ∷ more = cc in
     let front : 0 < length (frame_record rest) = omega (arith, record_length rest long, some) in
@@ -115,7 +115,7 @@ only-frames (suc steps) at rest records few are is =
     (λ none. only-zeros at rest records (sym (step-zeros steps at rest (omega arith)) ∙ is))
     (cases_lt 0 (frame_length rest))
 
-after-block : (block : ℕ) (bytes : List ℕ) (records : List (List ℕ)) (first others : Reading) → block ≤ length bytes → (first >>= λ front. then_read front others) ≡ Ok records →
+after-block : (block : ℕ) (bytes : List ℕ) (records : List (List ℕ)) (first others : Reading) → block ≤ length bytes → (first >>= λ front. with_front front others) ≡ Ok records →
     ((front : List (List ℕ)) → first ≡ Ok front → IsFrames (take block bytes) front) →
     ((more : List (List ℕ)) → others ≡ Ok more → AreFrames block more (drop block bytes)) → AreFrames block records bytes
 after-block block bytes records (Ok front) (Ok more) long is here behind =

@@ -4,7 +4,7 @@ use Rattle.std.specs.List.{AllByRecursion, concat, flat_map}
 use Rattle.std.specs.declared.alloc.Global.{Global}
 use Rattle.byteorder.specs.Endian.{little_number}
 use Rattle.program_interface.specs.Frame.{frames}
-use Rattle.program_interface.specs.Readings.{◌>>=◌}
+use Rattle.program_interface.specs.Readings.{◌>>=◌, with_front}
 use Rattle.emit_append.specs.declared.fault.UnpackFault.{UnpackFault}
 use Rattle.emit_append.specs.declared.fault.UnpackFault.TheVariants.{At, Memory}
 use Rattle.program_interface.specs.Bytes.{AreBytes, padded}
@@ -14,10 +14,6 @@ use Rattle.emit_append.specs.Packing.{packed}
 -- the records, or the first byte that is refused, by its number
 abbrev pub Reading : Type 0
 Reading = Result (List (List ℕ)) ℕ
-
--- these records, and those that are read after them
-abbrev pub then_read : List (List ℕ) → Reading → Reading
-then_read records reading = reading >>= λ more. Ok (records ++ more)
 
 -- The bytes after the last frame hold no record, and have to be zeros.
 abbrev pub zeros_at : ℕ → List ℕ → Reading
@@ -42,7 +38,7 @@ frames_at zero at rest = Ok []
 frames_at (suc steps) at rest =
     if frame_length rest == 0 then zeros_at at rest else
     if nat_lt (length rest) (2 + frame_length rest) then Err at else
-    then_read (frame_record rest ∷ []) (frames_at steps (at + (2 + frame_length rest)) (after_frame rest))
+    with_front (frame_record rest ∷ []) (frames_at steps (at + (2 + frame_length rest)) (after_frame rest))
 
 -- the records of a block whose first byte is byte `at`
 abbrev pub output_block_at : ℕ → List ℕ → Reading
@@ -53,7 +49,7 @@ unfoldable pub output_blocks_at : ℕ → ℕ → ℕ → List ℕ → Reading
 output_blocks_at zero block at [] = Ok []
 output_blocks_at zero block at (byte ∷ rest) = Err at
 output_blocks_at (suc count) block at bytes =
-    output_block_at at (take block bytes) >>= λ records. then_read records (output_blocks_at count block (at + block) (drop block bytes))
+    output_block_at at (take block bytes) >>= λ records. with_front records (output_blocks_at count block (at + block) (drop block bytes))
 
 -- the records of the blocks that these bytes are
 abbrev pub unpacked : ℕ → List ℕ → Reading

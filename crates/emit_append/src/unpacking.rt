@@ -2,7 +2,8 @@
 
 ghost use Rattle.std.specs.Prelude.{◌≡◌, ◌+◌, ◌^◌, ◌<◌, [], length};
 ghost use Rattle.program_interface.specs.Gives.{Gives};
-ghost use Rattle.emit_append.specs.Unpacking.{output_block_at, frame_length as length_in_front, byte_told, record_bytes, then_read, unpacked, zeros_at};
+ghost use Rattle.program_interface.specs.Readings.{with_front};
+ghost use Rattle.emit_append.specs.Unpacking.{output_block_at, frame_length as length_in_front, byte_told, record_bytes, unpacked, zeros_at};
 
 use crate::fault::UnpackFault;
 use byteorder::{ByteOrder, LittleEndian};
@@ -43,7 +44,7 @@ fn read_block(
     records: &mut Vec<Vec<u8>>,
 ) -> Result<(), UnpackFault>
     requires { at + length block.now < 2 ^ 64 }
-    ensures { Gives byte_told (λ _. record_bytes records.new.items) result (then_read (record_bytes records.old.items) (output_block_at at block.now)) }
+    ensures { Gives byte_told (λ _. record_bytes records.new.items) result (with_front (record_bytes records.old.items) (output_block_at at block.now)) }
 {
     let mut rest = block;
     let mut byte = at;
