@@ -1,26 +1,19 @@
 -- Reading rows one after the other, as a loop does.
-use Rattle.std.proofs.Common.{◌≡◌, ℕ, suc, ◌-◌, ◌+◌, ◌≤◌, ◌<◌, List, [], ◌∷◌, ◌++◌, take, drop, Result, Ok, Err, refl, sym, ap, ◌∙◌, append_assoc, arith}
+use Rattle.std.proofs.Common.{◌≡◌, ℕ, suc, ◌-◌, ◌+◌, ◌≤◌, ◌<◌, List, [], ◌∷◌, ◌++◌, take, drop, Result, Ok, Err, sym, ap, ◌∙◌, arith}
 use Rattle.std.proofs.lemmas.List.{append-nil}
 use Rattle.zone_state.specs.Zone.{CountedZone}
 use Rattle.image_store.specs.declared.fault.LoadFault.{LoadFault}
 use Rattle.image_store.specs.declared.fault.LoadFault.TheVariants.{Stream, Memory}
 use Rattle.image_store.specs.Loading.{LoadFails}
-use Rattle.program_interface.specs.Readings.{◌>>=◌}
+use Rattle.program_interface.specs.Readings.{◌>>=◌, with_front}
+use Rattle.program_interface.proofs.Proved.{with_front-more}
 use Rattle.image_store.specs.Reading.{zone_in, zones_in}
-
--- what was read before, and what is still read
-abbrev pub with_front : List CountedZone → Result (List CountedZone) LoadFault → Result (List CountedZone) LoadFault
-with_front front read = read >>= λ zs. Ok (front ++ zs)
-
-regroup : (front : List CountedZone) (z : CountedZone) (read : Result (List CountedZone) LoadFault) → with_front front (read >>= λ zs. Ok (z ∷ zs)) ≡ with_front (front ++ z ∷ []) read
-regroup front z (Ok zs) = ap (λ (all : List CountedZone). let r : Result (List CountedZone) LoadFault = Ok all in r) (sym (append_assoc front (z ∷ []) zs))
-regroup front z (Err fault) = refl
 
 pub goes_on : (front : List CountedZone) (capacity count i : ℕ) (bytes : List ℕ) (z : CountedZone) (total : Result (List CountedZone) LoadFault) → i < count → zone_in i capacity (take 8 bytes) ≡ Ok z
     → with_front front (zones_in i capacity (count - i) bytes) ≡ total → with_front (front ++ z ∷ []) (zones_in (i + 1) capacity (count - (i + 1)) (drop 8 bytes)) ≡ total
 goes_on front capacity count i bytes z total lt h so_far =
     let k : count - i ≡ suc (count - (i + 1)) = omega arith in
-    sym (regroup front z (zones_in (i + 1) capacity (count - (i + 1)) (drop 8 bytes)))
+    sym (with_front-more front (z ∷ []) (zones_in (i + 1) capacity (count - (i + 1)) (drop 8 bytes)))
     ∙ (sym (ap (λ (n : ℕ). with_front front (zones_in i capacity n bytes)) k ∙ ap (λ r. with_front front (r >>= λ first. zones_in (i + 1) capacity (count - (i + 1)) (drop 8 bytes) >>= λ zs. Ok (first ∷ zs))) h)
     ∙ so_far)
 

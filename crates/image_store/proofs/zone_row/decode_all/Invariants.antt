@@ -1,6 +1,6 @@
 use Rattle.std.proofs.Common.{◌≡◌, ◌*◌, ◌-◌, length}
+use Rattle.program_interface.specs.Readings.{with_front}
 use Rattle.image_store.specs.Reading.{zones_in}
-use Rattle.image_store.proofs.ZoneRowsRead.{with_front}
 use Rattle.image_store.proofs.zone_row.decode_all.Given as goal
 
 abbrev pub invariant-loop-zone : goal.invariant-loop-zone
