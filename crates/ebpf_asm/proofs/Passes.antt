@@ -8,6 +8,8 @@ use Rattle.std.proofs.lemmas.Bool.{ltb-false}
 use Rattle.std.proofs.lemmas.Slice.Eq.{bytes_eq-Decides}
 use Rattle.instruction_set.specs.declared.instruction.Instruction.{Instruction}
 use Rattle.instruction_set.specs.Spelling.{spelling}
+use Rattle.program_interface.specs.Readings.{with_front}
+use Rattle.program_interface.proofs.Proved.{with_front-more}
 use Rattle.ebpf_asm.specs.declared.fault.Fault.{Fault}
 use Rattle.ebpf_asm.specs.declared.fault.FaultKind.{FaultKind}
 use Rattle.ebpf_asm.specs.declared.fault.FaultKind.TheVariants.{TooLong}
@@ -133,19 +135,10 @@ HasRead-fault before rest all line twice kind labels slots h known told = told_h
 
 -- ---- the second pass
 
--- these bytes before those that are still to come
-abbrev pub joined : List ℕ → Result (List ℕ) Fault → Result (List ℕ) Fault
-joined front (Ok bytes) = Ok (front ++ bytes)
-joined front (Err fault) = Err fault
-
 -- what the second pass knows before these lines
 pub record HasMade (left all : List Line) (labels : LabelMap) (number slot : ℕ) (bytes : List ℕ) : Type 0 where
-  pub so_far : joined bytes (bytes_from labels number slot left) ≡ bytes_from labels 1 0 all
+  pub so_far : with_front bytes (bytes_from labels number slot left) ≡ bytes_from labels 1 0 all
   pub room : slot + slot_count left ≤ 4096
-
-joined-joined : (front : List ℕ) (number : ℕ) (instruction : Instruction) (later : Result (List ℕ) Fault) → joined front (before_later number (Ok instruction) later) ≡ joined (front ++ spelling instruction) later
-joined-joined front number instruction (Ok bytes) = ap (λ (b : List ℕ). Ok b) (sym (append_assoc front (spelling instruction) bytes))
-joined-joined front number instruction (Err fault) = refl
 
 -- a line without an instruction
 pub HasMade-nothing : (left all : List Line) (line : Line) (labels : LabelMap) (number slot : ℕ) (bytes : List ℕ) → ((instruction : Instruction) → line.instruction ≡ Ok (Some instruction) → ⊥)
@@ -157,16 +150,16 @@ HasMade-nothing left all line labels number slot bytes none h = at line.instruct
 
     at : (instruction : Result (Option Instruction) FaultKind) → line.instruction ≡ instruction → HasMade left all labels (number + 1) slot bytes
     at (Ok (Some instruction)) e = absurd (none instruction e)
-    at (Ok None) e = record { so_far = ap (λ s. joined bytes (bytes_from labels (number + 1) s left)) (omega (arith, ap slots_of_instruction e)) ∙ ap (λ i. joined bytes (bytes_in_front labels number slot i line.target (bytes_from labels (number + 1) (slot + slots_in line) left))) (sym e) ∙ h.so_far; room = omega (arith, h.room, ap slots_of_instruction e) }
-    at (Err kind) e = record { so_far = ap (λ s. joined bytes (bytes_from labels (number + 1) s left)) (omega (arith, ap slots_of_instruction e)) ∙ ap (λ i. joined bytes (bytes_in_front labels number slot i line.target (bytes_from labels (number + 1) (slot + slots_in line) left))) (sym e) ∙ h.so_far; room = omega (arith, h.room, ap slots_of_instruction e) }
+    at (Ok None) e = record { so_far = ap (λ s. with_front bytes (bytes_from labels (number + 1) s left)) (omega (arith, ap slots_of_instruction e)) ∙ ap (λ i. with_front bytes (bytes_in_front labels number slot i line.target (bytes_from labels (number + 1) (slot + slots_in line) left))) (sym e) ∙ h.so_far; room = omega (arith, h.room, ap slots_of_instruction e) }
+    at (Err kind) e = record { so_far = ap (λ s. with_front bytes (bytes_from labels (number + 1) s left)) (omega (arith, ap slots_of_instruction e)) ∙ ap (λ i. with_front bytes (bytes_in_front labels number slot i line.target (bytes_from labels (number + 1) (slot + slots_in line) left))) (sym e) ∙ h.so_far; room = omega (arith, h.room, ap slots_of_instruction e) }
 
 pub HasMade-more : (left all : List Line) (line : Line) (labels : LabelMap) (number slot n : ℕ) (bytes more : List ℕ) (instruction made : Instruction) → line.instruction ≡ Ok (Some instruction) → Ok made ≡ resolved labels slot instruction line.target
     → more ≡ bytes ++ spelling made → n ≡ slots_in line → HasMade (line ∷ left) all labels number slot bytes → HasMade left all labels (number + 1) (slot + n) more
 HasMade-more left all line labels number slot n bytes more instruction made e r m taken h =
     let later = bytes_from labels (number + 1) (slot + slots_in line) left in
     record {
-      so_far = ap (λ s. joined more (bytes_from labels (number + 1) (slot + s) left)) taken ∙ ap (λ b. joined b later) m ∙ sym (joined-joined bytes number made later)
-          ∙ ap (λ i. joined bytes (before_later number i later)) r ∙ ap (λ i. joined bytes (bytes_in_front labels number slot i line.target later)) (sym e) ∙ h.so_far;
+      so_far = ap (λ s. with_front more (bytes_from labels (number + 1) (slot + s) left)) taken ∙ ap (λ b. with_front b later) m ∙ sym (with_front-more bytes (spelling made) later)
+          ∙ ap (λ i. with_front bytes (before_later number i later)) r ∙ ap (λ i. with_front bytes (bytes_in_front labels number slot i line.target later)) (sym e) ∙ h.so_far;
       room = omega (arith, h.room);
     }
 
@@ -174,7 +167,7 @@ pub HasMade-fault : (left all : List Line) (line : Line) (labels : LabelMap) (nu
     → HasMade (line ∷ left) all labels number slot bytes → bytes_from labels 1 0 all ≡ Err (record { line = number; kind = kind })
 HasMade-fault left all line labels number slot bytes instruction kind e r h =
     let later = bytes_from labels (number + 1) (slot + slots_in line) left in
-    sym h.so_far ∙ ap (λ i. joined bytes (bytes_in_front labels number slot i line.target later)) e ∙ ap (λ i. joined bytes (before_later number i later)) (sym r)
+    sym h.so_far ∙ ap (λ i. with_front bytes (bytes_in_front labels number slot i line.target later)) e ∙ ap (λ i. with_front bytes (before_later number i later)) (sym r)
 
 -- ---- both, over the lines that the assembler holds
 

@@ -7,7 +7,7 @@ use Rattle.instruction_set.specs.declared.instruction.Instruction.{Instruction}
 use Rattle.instruction_set.specs.declared.instruction.Instruction.TheVariants.{Jump, JumpLong, Branch}
 use Rattle.instruction_set.specs.Spelling.{spelling}
 use Rattle.program_interface.specs.declared.TheConstants.{MOST_SLOTS}
-use Rattle.program_interface.specs.Readings.{unless_fault}
+use Rattle.program_interface.specs.Readings.{unless_fault, with_front}
 use Rattle.ebpf_asm.specs.declared.fault.Fault.{Fault}
 use Rattle.ebpf_asm.specs.declared.fault.AssembleFault.{AssembleFault}
 use Rattle.ebpf_asm.specs.declared.fault.AssembleFault.TheVariants as errors
@@ -101,8 +101,7 @@ resolved labels slot instruction (Some name) = jump_to instruction slot (labels 
 -- the bytes of a line's instruction, before the bytes of the later lines
 abbrev pub before_later : ℕ → Result Instruction FaultKind → Result (List ℕ) Fault → Result (List ℕ) Fault
 before_later number (Err kind) later = Err (record { line = number; kind = kind })
-before_later number (Ok instruction) (Err fault) = Err fault
-before_later number (Ok instruction) (Ok bytes) = Ok (spelling instruction ++ bytes)
+before_later number (Ok instruction) later = with_front (spelling instruction) later
 
 -- the bytes of a line's instruction in front of those of later lines
 abbrev pub bytes_in_front : LabelMap → ℕ → ℕ → Result (Option Instruction) FaultKind → Option (List ℕ) → Result (List ℕ) Fault → Result (List ℕ) Fault
