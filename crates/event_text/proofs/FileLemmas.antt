@@ -3,7 +3,8 @@ use Rattle.std.proofs.Common.{◌≡◌, ℕ, ◌+◌, List, [], ◌∷◌, ◌+
 use Rattle.std.proofs.lemmas.List.{map-append}
 use Rattle.std.specs.Str.Lines.{lines}
 use Rattle.device_events.specs.declared.event.Event.{Event}
-use Rattle.event_text.specs.CommandFile.{ToldEvent, told_of, line_told, line_before, event_before, events_from}
+use Rattle.program_interface.specs.Readings.{with_front}
+use Rattle.event_text.specs.CommandFile.{ToldEvent, told_of, line_told, line_before, events_from}
 
 -- what lines tell, behind events
 abbrev pub events_behind : List ToldEvent → Result (List ToldEvent) ℕ → Result (List ToldEvent) ℕ
@@ -14,7 +15,7 @@ behind_nothing : (later : Result (List ToldEvent) ℕ) → events_behind [] late
 behind_nothing (Ok later) = refl
 behind_nothing (Err line) = refl
 
-behind_one : (first : List ToldEvent) (event : ToldEvent) (later : Result (List ToldEvent) ℕ) → events_behind first (event_before event later) ≡ events_behind (first ++ event ∷ []) later
+behind_one : (first : List ToldEvent) (event : ToldEvent) (later : Result (List ToldEvent) ℕ) → events_behind first (with_front (event ∷ []) later) ≡ events_behind (first ++ event ∷ []) later
 behind_one first event (Ok later) = ap Ok (sym (append_assoc first (event ∷ []) later))
 behind_one first event (Err line) = refl
 

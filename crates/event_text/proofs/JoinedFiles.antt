@@ -4,7 +4,8 @@ use Rattle.std.specs.Char.{is_newline}
 use Rattle.std.specs.List.{slice_split, onto_first}
 use Rattle.std.specs.Str.Lines.{lines, lines_of_parts, strip_carriage_return}
 use Rattle.std.proofs.lemmas.List.Splits.{length-slice_split}
-use Rattle.event_text.specs.CommandFile.{ToldEvent, line_told, line_before, event_before, events_from}
+use Rattle.program_interface.specs.Readings.{with_front}
+use Rattle.event_text.specs.CommandFile.{ToldEvent, line_told, line_before, events_from}
 use Rattle.event_text.specs.Laws.{EventsAreByLine, ended, told_by_both}
 
 -- ---- lines
@@ -44,7 +45,7 @@ lines-behind front behind =
 
 -- ---- events
 
-one_more : (event : ToldEvent) (count : ℕ) (first later : Result (List ToldEvent) ℕ) → event_before event (told_by_both count first later) ≡ told_by_both count (event_before event first) later
+one_more : (event : ToldEvent) (count : ℕ) (first later : Result (List ToldEvent) ℕ) → with_front (event ∷ []) (told_by_both count first later) ≡ told_by_both count (with_front (event ∷ []) first) later
 one_more event count (Err line) later = refl
 one_more event count (Ok events) (Ok later) = refl
 one_more event count (Ok events) (Err line) = refl

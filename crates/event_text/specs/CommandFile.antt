@@ -6,6 +6,7 @@ use Rattle.std.specs.Str.{bytes_eq}
 use Rattle.std.specs.Str.Lines.{lines}
 use Rattle.std.specs.Result.{result_ok}
 use Rattle.hex.specs.Hex.{decode_of, decode_sized}
+use Rattle.program_interface.specs.Readings.{with_front}
 use Rattle.zone_state.specs.Words.{fault_word}
 use Rattle.zone_state.specs.declared.state.FaultState.{FaultState}
 use Rattle.zone_state.specs.declared.state.FaultState.TheVariants.{ReadOnly, Offline}
@@ -78,16 +79,11 @@ words_told (name ∷ words) = option_map Some (event_named name words)
 abbrev pub line_told : List ℕ → Option (Option ToldEvent)
 line_told line = if list_all is_ascii line then words_told (words_of (uncommented line)) else None
 
--- an event of a line, and those of the lines behind it
-abbrev pub event_before : ToldEvent → Result (List ToldEvent) ℕ → Result (List ToldEvent) ℕ
-event_before first (Ok later) = Ok (first ∷ later)
-event_before first (Err line) = Err line
-
 -- what a line of this number tells, and the lines behind it: a line that is refused decides
 abbrev pub line_before : ℕ → Option (Option ToldEvent) → Result (List ToldEvent) ℕ → Result (List ToldEvent) ℕ
 line_before number None later = Err number
 line_before number (Some None) later = later
-line_before number (Some (Some first)) later = event_before first later
+line_before number (Some (Some first)) later = with_front (first ∷ []) later
 
 -- the events of lines that are counted from a number on, or the number of the lowest that is refused
 abbrev pub events_from : ℕ → List (List ℕ) → Result (List ToldEvent) ℕ
