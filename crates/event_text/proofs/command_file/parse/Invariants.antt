@@ -1,12 +1,12 @@
 use Rattle.std.proofs.Common.{◌≡◌, ◌≤◌, ◌+◌, length, map}
 use Rattle.std.specs.Str.Lines.{lines}
+use Rattle.program_interface.specs.Readings.{with_front}
 use Rattle.event_text.specs.CommandFile.{told_of, events_in, events_from}
-use Rattle.event_text.proofs.FileLemmas.{events_behind}
 use Rattle.event_text.proofs.command_file.parse.Given as goal
 
 abbrev pub invariant-loop-rest : goal.invariant-loop-rest
 invariant-loop-rest l = record {
-  read : events_in l.file ≡ events_behind (map told_of l.events.items) (events_from l.number (lines l.rest));
+  read : events_in l.file ≡ with_front (map told_of l.events.items) (events_from l.number (lines l.rest));
   counted : l.number + length l.rest ≤ length l.file + 1;
 }
 
