@@ -1,5 +1,5 @@
 -- Command files (profile): a list of events as text, one on a line.
-use Rattle.std.specs.Prelude.{◌≡◌, ℕ, ◌+◌, ◌^◌, nat_lt, List, [], ◌∷◌, Option, Some, None, option_and_then, option_map, Result, Ok, Err, codes, if◌then◌else◌}
+use Rattle.std.specs.Prelude.{ℕ, ◌+◌, ◌^◌, nat_lt, List, [], ◌∷◌, Option, Some, None, option_and_then, option_map, Result, Ok, Err, codes, if◌then◌else◌}
 use Rattle.std.specs.List.{list_all}
 use Rattle.std.specs.Char.{is_ascii}
 use Rattle.std.specs.Str.{bytes_eq}
@@ -94,7 +94,7 @@ events_from number (line ∷ rest) = line_before number (line_told line) (events
 abbrev pub events_in : List ℕ → Result (List ToldEvent) ℕ
 events_in file = events_from 1 (lines file)
 
--- the fault has the number of the lowest line that is refused, or memory ran out
-abbrev pub RefusesFile : ParseFault → Result (List ToldEvent) ℕ → Type 0
-RefusesFile (Line number fault) meant = meant ≡ Err number
-RefusesFile Memory meant = Unit {0}
+-- the line that a fault tells; none where memory ran out
+abbrev pub refused_line : ParseFault → Option ℕ
+refused_line (Line number fault) = Some number
+refused_line Memory = None

@@ -7,14 +7,15 @@
 //! fault ZONE offline
 //! ```
 
-ghost use Rattle.std.specs.Prelude.{◌≡◌, ◌^◌, map, option_and_then, Ok, IfOk, IfErr};
+ghost use Rattle.std.specs.Prelude.{◌≡◌, ◌^◌, map, option_and_then};
 ghost use Rattle.std.specs.Str.{bytes_eq};
+ghost use Rattle.program_interface.specs.Gives.{Gives};
 ghost use Rattle.zone_state.specs.Words.{fault_word};
 ghost use Rattle.text_lines.specs.Number.{decimal_of};
 ghost use Rattle.event_text.specs.Words.{words_of};
 ghost use Rattle.event_text.specs.declared.command_file.EventFault.TheVariants.{Refused};
 ghost use Rattle.event_text.specs.declared.command_file.ParseFault.TheVariants.{Memory};
-ghost use Rattle.event_text.specs.CommandFile.{told_of, below, submission_of, turn_of, fault_of, state_named, event_named as named_event, line_told, events_in, RefusesFile};
+ghost use Rattle.event_text.specs.CommandFile.{told_of, below, submission_of, turn_of, fault_of, state_named, event_named as named_event, line_told, events_in, refused_line};
 ghost use Rattle.event_text.specs.steps.ReadLines.{entry_fault as fault_of_entry, data_fault as fault_of_data, GivesEvent, GivesLine};
 
 use crate::fault::LineFault;
@@ -56,8 +57,7 @@ enum EventFault {
 /// The lowest line that isn't of the form, or want of memory for that line or one before it.
 #[tactic(auto, using(crate::proofs::FileLemmas::event_read, crate::proofs::FileLemmas::nothing_read, crate::proofs::FileLemmas::line_refused, crate::proofs::FileLemmas::all_read, crate::proofs::FileLemmas::none_read))]
 pub fn parse(alloc: Global, file: &[u8]) -> Result<Vec<Event>, ParseFault>
-    ensures events { IfOk result (λ events. events_in file.now ≡ Ok (map told_of events.items)) }
-    ensures refused { IfErr result (λ error. RefusesFile error (events_in file.now)) }
+    ensures { Gives refused_line (λ events. map told_of events.items) result (events_in file.now) }
 {
     let mut events = Vec::new(alloc);
     let mut rest = file;

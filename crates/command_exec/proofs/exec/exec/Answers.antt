@@ -10,7 +10,7 @@ returns-in-Ok-clause-executed g c =
     c.required-path.result.now _ c.required-commands.result.now _
     c.in_ok-file.file.items c.as_slice.result.now c.in_ok-image.image c.in-Ok.events.items
     (g.F.Files.made c.args.files.now) (g.F.Files.made c.read.new.files) (g.F.Files.made c.run.new.files)
-    c.load.ensures.contents c.required-path.ensures c.required-commands.ensures (search rules) c.in_ok-file.ensures.bytes c.as_slice.ensures.value c.in-Ok.ensures.events
+    c.load.ensures.contents c.required-path.ensures c.required-commands.ensures (search rules) c.in_ok-file.ensures.bytes c.as_slice.ensures.value c.in-Ok.ensures
     _ _ _ c.run.result c.in_ok-image.ensures.image c.run.ensures.saved (search rules)
 
 pub returns-in-Ok-clause-stopped : goal.returns-in-Ok-clause-stopped
@@ -19,7 +19,7 @@ returns-in-Ok-clause-stopped g c = λ stops.
     c.required-path.result.now _ c.required-commands.result.now _
     c.in_ok-file.file.items c.as_slice.result.now c.in_ok-image.image c.in-Ok.events.items
     (g.F.Files.made c.args.files.now) (g.F.Files.made c.read.new.files) (g.F.Files.made c.run.new.files)
-    c.load.ensures.contents c.required-path.ensures c.required-commands.ensures (search rules) c.in_ok-file.ensures.bytes c.as_slice.ensures.value c.in-Ok.ensures.events
+    c.load.ensures.contents c.required-path.ensures c.required-commands.ensures (search rules) c.in_ok-file.ensures.bytes c.as_slice.ensures.value c.in-Ok.ensures
     _ c.in_ok-image.ensures.image (c.run.ensures.stopped stops) (search rules)
 
 pub returns-in-Ok-clause-others : goal.returns-in-Ok-clause-others
