@@ -7,9 +7,8 @@ mod Round
 mod RoundOperands
 mod RoundLines
 mod RoundProgram
-mod Listings
-mod SlotListings
 mod SlotFronts
+mod SlotListings
 mod EachLine
 mod Fitting
 mod Programs

@@ -7,7 +7,7 @@ use Rattle.ebpf_asm.specs.Laws.{SlotsRise, SlotsStandInFront}
 use Rattle.ebpf_asm.specs.Listing.{line_text, line_with_slot, lines_from, listing, slot_text}
 
 -- the instructions of slots, each with its slot, where the first slot has this number
-abbrev placed : ℕ → List (Option Instruction) → List (ℕ × Instruction)
+abbrev pub placed : ℕ → List (Option Instruction) → List (ℕ × Instruction)
 placed first [] = []
 placed first (Some instruction ∷ rest) = (first, instruction) ∷ placed (first + 1) rest
 placed first (None ∷ rest) = placed (first + 1) rest
@@ -26,13 +26,13 @@ all_rise first least [] h = tt
 all_rise first least (Some instruction ∷ rest) h = (h, all_rise (first + 1) (first + 1) rest (omega arith))
 all_rise first least (None ∷ rest) h = all_rise (first + 1) least rest (omega (arith, h))
 
-are_in_front : (first : ℕ) (slots : List (Option Instruction))
+pub are_in_front : (first : ℕ) (slots : List (Option Instruction))
     → lines_from first slots ≡ flat_map (λ (line : ℕ × Instruction). slot_text line.0 ++ line_text line.1) (placed first slots)
 are_in_front first [] = refl
 are_in_front first (Some instruction ∷ rest) = ap (λ (lines : List ℕ). line_with_slot first instruction ++ lines) (are_in_front (first + 1) rest)
 are_in_front first (None ∷ rest) = are_in_front (first + 1) rest
 
-are_listed : (first : ℕ) (slots : List (Option Instruction)) → listing slots ≡ flat_map (λ (line : ℕ × Instruction). line_text line.1) (placed first slots)
+pub are_listed : (first : ℕ) (slots : List (Option Instruction)) → listing slots ≡ flat_map (λ (line : ℕ × Instruction). line_text line.1) (placed first slots)
 are_listed first [] = refl
 are_listed first (Some instruction ∷ rest) = ap (λ (lines : List ℕ). line_text instruction ++ lines) (are_listed (first + 1) rest)
 are_listed first (None ∷ rest) = are_listed (first + 1) rest

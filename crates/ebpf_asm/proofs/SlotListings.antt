@@ -1,64 +1,64 @@
 -- The listing of one more slot, with slots and without.
 use Rattle.std.proofs.Common.{◌≡◌, ℕ, zero, suc, ◌+◌, ◌<◌, List, [], ◌∷◌, ◌++◌, length, take, Option, Some, None, refl, sym, ap, ◌∙◌, arith, add-zero, add-one}
-use Rattle.std.proofs.lemmas.List.{append-nil, append_assoc}
+use Rattle.std.specs.List.{flat_map}
+use Rattle.std.proofs.lemmas.List.{append-nil}
+use Rattle.std.proofs.lemmas.List.Concat.{flat_map-append}
 use Rattle.instruction_set.specs.declared.instruction.Instruction.{Instruction}
 use Rattle.instruction_set.specs.Program.{instruction_at}
 use Rattle.ebpf_asm.specs.declared.listing.Slots.{Slots}
 use Rattle.ebpf_asm.specs.declared.listing.Slots.TheVariants.{Without, With}
-use Rattle.ebpf_asm.specs.Listing.{line_with_slot, lines_from, listing_with_slots}
 use Rattle.ebpf_asm.specs.steps.Listed.{listed, listed_line}
-use Rattle.ebpf_asm.proofs.Listings.{listing-instruction, listing-no_instruction}
+use Rattle.ebpf_asm.proofs.SlotFronts.{placed, are_in_front, are_listed}
 
-slot_line : ℕ → Option Instruction → List ℕ
-slot_line slot None = []
-slot_line slot (Some instruction) = line_with_slot slot instruction
+-- the instruction that begins at a slot, with that slot; none where none begins
+placed_at : ℕ → Option Instruction → List (ℕ × Instruction)
+placed_at slot None = []
+placed_at slot (Some instruction) = (slot, instruction) ∷ []
 
-lines-suc : (first : ℕ) (slots : List (Option Instruction)) (i : ℕ) → i < length slots
-    → lines_from first (take (suc i) slots) ≡ lines_from first (take i slots) ++ slot_line (first + i) (instruction_at slots i)
-unfolding slot_line
-lines-suc first [] i lt = absurd (omega (arith, lt))
-lines-suc first (Some instruction ∷ rest) zero lt =
-    append-nil (line_with_slot first instruction) ∙ ap (λ n. line_with_slot n instruction) (sym (add-zero first))
-lines-suc first (None ∷ rest) zero lt = refl
-lines-suc first (Some instruction ∷ rest) (suc i) lt =
+placed-suc : (first : ℕ) (slots : List (Option Instruction)) (i : ℕ) → i < length slots
+    → placed first (take (suc i) slots) ≡ placed first (take i slots) ++ placed_at (first + i) (instruction_at slots i)
+unfolding placed_at
+placed-suc first [] i lt = absurd (omega (arith, lt))
+placed-suc first (Some instruction ∷ rest) zero lt = ap (λ n. placed_at n (Some instruction)) (sym (add-zero first))
+placed-suc first (None ∷ rest) zero lt = refl
+placed-suc first (Some instruction ∷ rest) (suc i) lt =
     let shifted : first + 1 + i ≡ first + suc i = omega arith in
-    let front = line_with_slot first instruction in
-    ap (λ t. front ++ t) (lines-suc (first + 1) rest i (omega (arith, lt)))
-    ∙ sym (append_assoc front (lines_from (first + 1) (take i rest)) (slot_line (first + 1 + i) (instruction_at rest i)))
-    ∙ ap (λ n. front ++ lines_from (first + 1) (take i rest) ++ slot_line n (instruction_at rest i)) shifted
-lines-suc first (None ∷ rest) (suc i) lt =
+    let front = placed_at first (Some instruction) in
+    ap (λ lines. front ++ lines) (placed-suc (first + 1) rest i (omega (arith, lt)))
+    ∙ ap (λ n. front ++ (placed (first + 1) (take i rest) ++ placed_at n (instruction_at rest i))) shifted
+placed-suc first (None ∷ rest) (suc i) lt =
     let shifted : first + 1 + i ≡ first + suc i = omega arith in
-    lines-suc (first + 1) rest i (omega (arith, lt))
-    ∙ ap (λ n. lines_from (first + 1) (take i rest) ++ slot_line n (instruction_at rest i)) shifted
+    placed-suc (first + 1) rest i (omega (arith, lt))
+    ∙ ap (λ n. placed (first + 1) (take i rest) ++ placed_at n (instruction_at rest i)) shifted
 
-lines-more : (slots : List (Option Instruction)) (i : ℕ) → i < length slots
-    → listing_with_slots (take (i + 1) slots) ≡ listing_with_slots (take i slots) ++ slot_line i (instruction_at slots i)
-lines-more slots i lt =
+-- the line of an instruction that is given with its slot
+abbrev text_of : Slots → ℕ × Instruction → List ℕ
+text_of how line = listed_line how line.0 line.1
+
+-- either listing is the lines of the instructions in their order
+listed_is : (how : Slots) (slots : List (Option Instruction)) → listed how slots ≡ flat_map (text_of how) (placed 0 slots)
+listed_is Without slots = are_listed 0 slots
+listed_is With slots = are_in_front 0 slots
+
+listed-more : (how : Slots) (slots : List (Option Instruction)) (i : ℕ) → i < length slots
+    → listed how (take (i + 1) slots) ≡ listed how (take i slots) ++ flat_map (text_of how) (placed_at i (instruction_at slots i))
+listed-more how slots i lt =
     let first : 0 + i ≡ i = omega arith in
-    ap (λ n. listing_with_slots (take n slots)) (add-one i) ∙ lines-suc 0 slots i lt
-    ∙ ap (λ n. listing_with_slots (take i slots) ++ slot_line n (instruction_at slots i)) first
-
-lines-instruction : (slots : List (Option Instruction)) (i : ℕ) (instruction : Instruction) → i < length slots → Some instruction ≡ instruction_at slots i
-    → listing_with_slots (take (i + 1) slots) ≡ listing_with_slots (take i slots) ++ line_with_slot i instruction
-unfolding slot_line
-lines-instruction slots i instruction lt e =
-    lines-more slots i lt ∙ ap (λ o. listing_with_slots (take i slots) ++ slot_line i o) (sym e)
-
-lines-no_instruction : (slots : List (Option Instruction)) (i : ℕ) → i < length slots → None ≡ instruction_at slots i
-    → listing_with_slots (take (i + 1) slots) ≡ listing_with_slots (take i slots)
-unfolding slot_line
-lines-no_instruction slots i lt e =
-    lines-more slots i lt ∙ ap (λ o. listing_with_slots (take i slots) ++ slot_line i o) (sym e)
-    ∙ append-nil (listing_with_slots (take i slots))
-
--- ---- both listings
+    ap (λ n. listed how (take n slots)) (add-one i) ∙ listed_is how (take (suc i) slots) ∙ ap (flat_map (text_of how)) (placed-suc 0 slots i lt)
+    ∙ flat_map-append (text_of how) (placed 0 (take i slots)) (placed_at (0 + i) (instruction_at slots i))
+    ∙ ap (λ t. t ++ flat_map (text_of how) (placed_at (0 + i) (instruction_at slots i))) (sym (listed_is how (take i slots)))
+    ∙ ap (λ n. listed how (take i slots) ++ flat_map (text_of how) (placed_at n (instruction_at slots i))) first
 
 pub listed-instruction : (how : Slots) (slots : List (Option Instruction)) (i : ℕ) (instruction : Instruction) → i < length slots → Some instruction ≡ instruction_at slots i
     → listed how (take (i + 1) slots) ≡ listed how (take i slots) ++ listed_line how i instruction
-listed-instruction Without slots i instruction lt e = listing-instruction slots i instruction lt e
-listed-instruction With slots i instruction lt e = lines-instruction slots i instruction lt e
+unfolding placed_at
+listed-instruction how slots i instruction lt e =
+    listed-more how slots i lt ∙ ap (λ o. listed how (take i slots) ++ flat_map (text_of how) (placed_at i o)) (sym e)
+    ∙ ap (λ t. listed how (take i slots) ++ t) (append-nil (listed_line how i instruction))
 
 pub listed-no_instruction : (how : Slots) (slots : List (Option Instruction)) (i : ℕ) → i < length slots → None ≡ instruction_at slots i
     → listed how (take (i + 1) slots) ≡ listed how (take i slots)
-listed-no_instruction Without slots i lt e = listing-no_instruction slots i lt e
-listed-no_instruction With slots i lt e = lines-no_instruction slots i lt e
+unfolding placed_at
+listed-no_instruction how slots i lt e =
+    listed-more how slots i lt ∙ ap (λ o. listed how (take i slots) ++ flat_map (text_of how) (placed_at i o)) (sym e)
+    ∙ append-nil (listed how (take i slots))
