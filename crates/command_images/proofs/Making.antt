@@ -7,8 +7,8 @@ use Rattle.image_store.specs.Geometry.{Shape, shape_checks, tested}
 use Rattle.image_store.specs.Namespace.{ZonedNamespace, all_empty}
 use Rattle.image_store.specs.Reading.{namespace_in}
 use Rattle.image_store.specs.Text.{text}
-use Rattle.zone_state.specs.Checks.{first_failed}
-use Rattle.zone_state.proofs.Proved.{value_given}
+use Rattle.program_interface.specs.Checks.{first_failed}
+use Rattle.program_interface.proofs.Proved.{value_given}
 use Rattle.command_failure.specs.declared.failure.Failure.{Failure}
 use Rattle.command_failure.specs.declared.failure.Failure.TheVariants.{CannotWrite, NoMemory, NotInRange}
 use Rattle.command_files.specs.Made.{Made, then_made}

@@ -1,7 +1,7 @@
 -- What is refused is the first fault.
-use Rattle.std.proofs.Common.{◌≡◌, ℕ, suc, ◌+◌, ◌/◌, Bool, true, false, cond, find, option_map, List, [], ◌∷◌, ◌++◌, length, take, Option, Some, None, Result, Ok, Err, is_none, refl, sym, ap, ◌∙◌, append_assoc, arith, inl, inr}
+use Rattle.std.proofs.Common.{◌≡◌, ℕ, suc, ◌+◌, ◌/◌, Bool, true, false, option_map, List, [], ◌∷◌, length, take, Option, Some, None, Result, Ok, Err, is_some, refl, sym, ap, ◌∙◌, arith, inl, inr}
 use Rattle.std.proofs.lemmas.Result.{IfErr-at_err}
-use Rattle.std.specs.Option.{ok_or}
+use Rattle.std.specs.Option.{ok_or, option_or}
 use Rattle.std.specs.Result.{result_map_both}
 use Rattle.std.specs.List.{AllByRecursion, flat_map, slice_get}
 use Rattle.ebpf_decode.specs.declared.fault.Fault.{Fault}
@@ -13,56 +13,32 @@ use Rattle.instruction_set.specs.declared.instruction.Instruction.{Instruction}
 use Rattle.instruction_set.specs.Program.{is_wide}
 use Rattle.instruction_set.specs.Spelling.{Fits, slots_spelled}
 use Rattle.program_interface.specs.Bytes.{AreBytes}
+use Rattle.program_interface.specs.Checks.{demand, first_failed}
 use Rattle.program_interface.specs.Readings.{unless_fault}
-use Rattle.program_interface.proofs.Proved.{fault_behind}
-use Rattle.ebpf_decode.specs.FirstFault.{Begins, FailsFirst, IsFirstFault, IsOfSlot, IsTold}
+use Rattle.program_interface.proofs.Proved.{fault_behind, first_failed_is_first, joined, no_fault_where_none_fails}
+use Rattle.ebpf_decode.specs.FirstFault.{Begins, IsFirstFault, IsOfSlot, IsTold, slot_checks}
 use Rattle.ebpf_decode.specs.Laws.{FaultIsFirst}
 use Rattle.ebpf_decode.specs.Opcodes.{opcode_named}
-use Rattle.ebpf_decode.specs.Reading.{at_first_slot, checks, first_failed, instruction_with, length_checks, length_fault, read, read_named, read_slots, slots_at, then_read}
+use Rattle.ebpf_decode.specs.Reading.{at_first_slot, checks, first_fault, instruction_with, length_checks, length_fault, read, read_named, read_slots, slots_at, then_read}
 use Rattle.ebpf_decode.proofs.SpelledAreRead.{read-again}
 use Rattle.ebpf_decode.proofs.Bytes.{slots-fields}
-use Rattle.ebpf_decode.proofs.NoFault.{none-fails}
 use Rattle.ebpf_decode.proofs.Programs.{are-fields-in}
 use Rattle.ebpf_decode.proofs.ReadAreSpelled.{AreFields, AreFieldsIn, read-takes}
 
--- ---- the first of some checks
-
-failed-at : (b : Bool) (test : Bool × FaultKind) (tests : List (Bool × FaultKind)) (kind : FaultKind) → test.0 ≡ b
-    → option_map (λ (t : Bool × FaultKind). t.1) (cond b (Some test) (find (λ (t : Bool × FaultKind). t.0) tests)) ≡ Some kind
-    → (first_failed tests ≡ Some kind → FailsFirst kind tests) → FailsFirst kind (test ∷ tests)
-failed-at true test tests kind is e later =
-    let same : test.1 ≡ kind = cc in
-    let whole : test ≡ (true, kind) = rw (← is, ← same) refl in
-    record { before = []; after = tests; are = ap (λ t. t ∷ tests) whole; pass = tt }
-failed-at false test tests kind is e later =
-    let first = later e in
-    record { before = test ∷ first.before; after = first.after; are = ap (λ ts. test ∷ ts) first.are; pass = (is, first.pass) }
-
-fails-first : (tests : List (Bool × FaultKind)) (kind : FaultKind) → first_failed tests ≡ Some kind → FailsFirst kind tests
-fails-first [] kind e = absurd cc
-fails-first (test ∷ tests) kind e = failed-at test.0 test tests kind refl e (fails-first tests kind)
-
 -- ---- what is told of a slot
 
-with-value : (tests : List (Bool × FaultKind)) (found : Option Instruction) (kind : FaultKind) (fault : Option FaultKind) → first_failed tests ≡ fault
-    → unless_fault fault (ok_or found kinds.Value) ≡ Err kind → FailsFirst kind (tests ++ (is_none found, kinds.Value) ∷ [])
-with-value tests found kind (Some told) is e =
-    let same : told ≡ kind = IfErr-at_err (λ k. told ≡ k) e refl in
-    let first = fails-first tests kind (is ∙ ap (λ k. Some k) same) in
-    record {
-      before = first.before;
-      after = first.after ++ (is_none found, kinds.Value) ∷ [];
-      are = ap (λ ts. ts ++ (is_none found, kinds.Value) ∷ []) first.are ∙ append_assoc first.before ((true, kind) ∷ first.after) ((is_none found, kinds.Value) ∷ []);
-      pass = first.pass;
-    }
-with-value tests (Some i) kind None is e = absurd cc
-with-value tests None kind None is e =
-    let same : kinds.Value ≡ kind = IfErr-at_err (λ k. kinds.Value ≡ k) e refl in
-    record { before = tests; after = []; are = ap (λ k. tests ++ (true, k) ∷ []) same; pass = none-fails tests is }
+value_is_last : (fault : Option FaultKind) (found : Option Instruction) (kind : FaultKind) → unless_fault fault (ok_or found kinds.Value) ≡ Err kind
+    → option_or fault (first_failed (demand (is_some found) kinds.Value ∷ [])) ≡ Some kind
+value_is_last (Some told) found kind e = cc
+value_is_last None (Some i) kind e = absurd cc
+value_is_last None None kind e = cc
 
 told : (named : Option Opcode) (f : Fields) (next : Option Fields) (kind : FaultKind) → read_named named f next ≡ Err kind → IsTold kind named f next
 told None f next kind e = IfErr-at_err (λ k. k ≡ kinds.Opcode) e refl
-told (Some opcode) f next kind e = with-value (checks opcode f next) (instruction_with opcode f next) kind (first_failed (checks opcode f next)) refl e
+told (Some opcode) f next kind e =
+    let found = instruction_with opcode f next in
+    let value = demand (is_some found) kinds.Value in
+    (first_failed_is_first FaultKind (slot_checks opcode f next) kind).0 (joined (checks opcode f next) (value ∷ []) ∙ value_is_last (first_fault opcode f next) found kind e)
 
 begins-none : (f : Fields) (next : Option Fields) (kind : FaultKind) (i : Instruction) → read f next ≡ Err kind → Begins f next i → ⊥
 begins-none f next kind i failed begins =
@@ -176,10 +152,10 @@ by-length : (bytes : List ℕ) (fault : Fault) (found : Option FaultKind) → Ar
 by-length bytes fault (Some kind) fits is e =
     inl (record {
       slot = IfErr-at_err (λ f. f.slot ≡ 0) e refl;
-      told = fails-first (length_checks (length bytes)) fault.kind (is ∙ ap (λ k. Some k) (IfErr-at_err (λ f. kind ≡ f.kind) e refl));
+      told = (first_failed_is_first FaultKind (length_checks (length bytes)) fault.kind).0 (is ∙ ap (λ k. Some k) (IfErr-at_err (λ f. kind ≡ f.kind) e refl));
     })
 by-length bytes fault None fits is e =
-    inr (none-fails (length_checks (length bytes)) is, of-slot (slots_at (length bytes / 8) bytes) fault (slots-fields (length bytes / 8) bytes fits) e)
+    inr ((no_fault_where_none_fails FaultKind (length_checks (length bytes))).0 is, of-slot (slots_at (length bytes / 8) bytes) fault (slots-fields (length bytes / 8) bytes fits) e)
 
 pub fault_is_first : FaultIsFirst
 fault_is_first bytes fault fits e = by-length bytes fault (length_fault (length bytes)) fits refl e

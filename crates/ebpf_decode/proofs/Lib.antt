@@ -5,5 +5,4 @@ mod Bytes
 mod SpelledAreRead
 mod FaultSlots
 mod FirstFaults
-mod NoFault
 pub mod Proved

@@ -1,5 +1,5 @@
 -- What is read from slots is spelled by them.
-use Rattle.std.proofs.Common.{◌≡◌, ℕ, suc, ◌+◌, ◌*◌, ◌/◌, ◌%◌, ◌^◌, ◌≤◌, Bool, true, false, not, cond, eqb, ltb, option_map, List, [], ◌∷◌, ◌++◌, length, Option, Some, None, Result, Ok, Err, refl, sym, ap, ◌∙◌, arith}
+use Rattle.std.proofs.Common.{◌≡◌, ℕ, suc, ◌+◌, ◌*◌, ◌/◌, ◌%◌, ◌^◌, ◌≤◌, Bool, true, false, cond, eqb, leb, option_map, List, [], ◌∷◌, ◌++◌, length, Option, Some, None, Result, Ok, Err, refl, sym, ap, ◌∙◌, arith}
 use Rattle.std.specs.Prelude.{IsSome, option_to_list}
 use Rattle.std.specs.Result.{result_map_both}
 use Rattle.std.specs.List.{AllByRecursion, flat_map, slice_get}
@@ -14,14 +14,13 @@ use Rattle.ebpf_decode.specs.Reading.{at_first_slot, decoded_program, length_che
 use Rattle.instruction_set.specs.Spelling.{Fits, first_slot, instructions_of, program_bytes, second_slot, slot_bytes, slots_spelled, spelling}
 use Rattle.program_interface.specs.declared.TheConstants.{MOST_SLOTS}
 use Rattle.program_interface.specs.Readings.{unless_fault, with_front}
-use Rattle.std.proofs.lemmas.Bool.{eq-eqb, eqb-false, eqb-true, le-ltb, ltb-false, ne_eqb, not-false, not_from_true}
+use Rattle.std.proofs.lemmas.Bool.{eq-eqb, eqb-false, eqb-true, le-leb, leb-true, ne_eqb, not-true}
 use Rattle.std.proofs.lemmas.List.Concat.{flat_map-append}
 use Rattle.std.proofs.lemmas.Result.{IfOk-at_ok}
 use Rattle.ebpf_decode.proofs.SpelledAreRead.{read-again}
 use Rattle.program_interface.specs.Bytes.{AreBytes}
-use Rattle.program_interface.proofs.Proved.{no_fault}
+use Rattle.program_interface.proofs.Proved.{demanded, no_fault, no_fault_where_none_fails}
 use Rattle.ebpf_decode.proofs.Bytes.{FitSlot, fits-32, length-slots_bytes, slots-again, slots-bytes, slots-fields}
-use Rattle.ebpf_decode.proofs.NoFault.{none-fails}
 use Rattle.ebpf_decode.proofs.Slots.{length-slots}
 use Rattle.ebpf_decode.proofs.ReadAreSpelled.{AreFields, AreFieldsIn, read-takes}
 
@@ -122,17 +121,17 @@ program_bytes-slots_of is = ap (flat_map spelling) (instructions_of-slots_of is)
 -- bytes whose length has no fault have no more slots than a program may
 pub few_slots : (bytes : List ℕ) → length_fault (length bytes) ≡ None → length bytes / 8 ≤ MOST_SLOTS
 few_slots bytes length_is =
-    ltb-false _ _ (none-fails (length_checks (length bytes)) length_is).1.1.0
+    leb-true _ _ (demanded _ _ ((no_fault_where_none_fails FaultKind (length_checks (length bytes))).0 length_is).1.1.0)
 
 -- slots that are read from bytes are a program, spelled by the bytes
 pub program-read : (bytes : List ℕ) (slots : List (Option Instruction)) → AreBytes bytes → length_fault (length bytes) ≡ None
     → read_slots false 0 (slots_at (length bytes / 8) bytes) ≡ Ok slots → IsProgram slots × (bytes ≡ program_bytes slots)
 program-read bytes slots fits length_is e =
     let count = length bytes / 8 in
-    let good = none-fails (length_checks (length bytes)) length_is in
-    let whole : length bytes % 8 ≡ 0 = eqb-true _ _ (not-false _ good.0) in
+    let good = (no_fault_where_none_fails FaultKind (length_checks (length bytes))).0 length_is in
+    let whole : length bytes % 8 ≡ 0 = eqb-true _ _ (demanded _ _ good.0) in
     let few : count ≤ MOST_SLOTS = few_slots bytes length_is in
-    let some : length bytes ≡ 0 → ⊥ = eqb-false _ _ good.1.0 in
+    let some : length bytes ≡ 0 → ⊥ = eqb-false _ _ (not-true _ (demanded _ _ good.1.0)) in
     let spelled = slots-take (slots_at count bytes) slots (slots-fields count bytes fits) e in
     let long : length slots ≡ count =
     ap length spelled.layout ∙ length-slots_of spelled.instructions ∙ ap length (sym spelled.spelled) ∙ length-slots count bytes in (
@@ -184,9 +183,9 @@ program-again slots program =
     let count : length (flat_map slot_bytes fs) / 8 ≡ length fs = omega arith in
     let some = program.some in
     let most = program.most in
-    let whole : not (eqb (length (flat_map slot_bytes fs) % 8) 0) ≡ false = not_from_true _ (eq-eqb _ _ (omega arith)) in
+    let whole : eqb (length (flat_map slot_bytes fs) % 8) 0 ≡ true = eq-eqb _ _ (omega arith) in
     let filled : eqb (length (flat_map slot_bytes fs)) 0 ≡ false = ne_eqb _ _ (λ none. omega arith) in
-    let few : ltb MOST_SLOTS (length (flat_map slot_bytes fs) / 8) ≡ false = le-ltb _ _ (omega arith) in
+    let few : leb (length (flat_map slot_bytes fs) / 8) MOST_SLOTS ≡ true = le-leb _ _ (omega arith) in
     let no_length_fault : length_fault (length (flat_map slot_bytes fs)) ≡ None = rw (whole, filled, few) refl in
     ap decoded_program bytes
     ∙ ap (λ k. unless_fault (option_map at_first_slot k) (read_slots false 0 (slots_at (length (flat_map slot_bytes fs) / 8) (flat_map slot_bytes fs)))) no_length_fault

@@ -3,10 +3,11 @@ use Rattle.std.proofs.Common.{◌≡◌, FitsSigned, ℕ, ℤ, pos, ◌+◌, ◌
 use Rattle.std.specs.Ordering.{int_eq}
 use Rattle.std.specs.Int.{w16, w32, cast_signed, cast_unsigned}
 use Rattle.std.specs.Option.{ok_or, option_or}
-use Rattle.std.proofs.lemmas.Bool.{agree_below_at, and_parts, eqb-true, leb-false, not-false, or_parts}
+use Rattle.std.proofs.lemmas.Bool.{agree_below_at, and_parts, eqb-true, leb-false, not-false, not-true, or_parts}
 use Rattle.std.proofs.lemmas.Bool.Decides.{Decides-int_eq}
 use Rattle.std.proofs.lemmas.Int.{ints, to_z-of_z}
-use Rattle.program_interface.proofs.Proved.{found_passes, found_where_ok, no_fault}
+use Rattle.program_interface.proofs.Proved.{demanded, found_passes, found_where_ok, no_fault, no_fault_where_none_fails}
+use Rattle.ebpf_decode.specs.declared.fault.FaultKind.{FaultKind}
 use Rattle.ebpf_decode.specs.declared.fault.FaultKind.TheVariants as kinds
 use Rattle.program_interface.specs.declared.registers.TheConstants.{REGISTERS}
 use Rattle.instruction_set.specs.declared.fields.Fields.{Fields}
@@ -30,7 +31,6 @@ use Rattle.ebpf_decode.specs.Opcodes.{opcode_named, uses}
 use Rattle.instruction_set.specs.Program.{is_wide}
 use Rattle.ebpf_decode.specs.Reading.{checks, first_fault, has_more, has_no_register, has_unused, instruction_with, is_load_immediate, read, read_named, signed_move, source_of}
 use Rattle.instruction_set.specs.Spelling.{CALL, EXIT, HasValue, IMM, JA, LD, LDX, MEM, MEMSX, NEG, ST, STX, access_opcode, arithmetic_class, extension_offset, extension_width, first_slot, jump_class, kept_bits, operation_code, operation_offset, operation_opcode, relation_code, second_slot, signed_size_code, size_code, slot, swap_opcode}
-use Rattle.ebpf_decode.proofs.NoFault.{none-fails}
 
 -- ---- opcodes
 
@@ -256,11 +256,11 @@ read-named f next i None is fits others e = absurd cc
 read-named f next i (Some opcode) is fits others e =
     let u = no_fault (first_fault opcode f next) (ok_or (instruction_with opcode f next) kinds.Value) i e in
     let found = found_where_ok (instruction_with opcode f next) kinds.Value i u.1 in
-    let v = none-fails (checks opcode f next) u.0 in
-    let w = or_parts (has_unused (uses opcode) f) (is_load_immediate opcode && has_more next) v.1.1.1.0 in
-    let used = is_used (uses opcode) f v.1.1.0 w.0 in
+    let v = (no_fault_where_none_fails FaultKind (checks opcode f next)).0 u.0 in
+    let w = or_parts (has_unused (uses opcode) f) (is_load_immediate opcode && has_more next) (not-true _ (demanded _ _ v.1.1.1.0)) in
+    let used = is_used (uses opcode) f (not-true _ (demanded _ _ v.1.1.0)) w.0 in
     let named : is_of (Some opcode) f.opcode ≡ true = ap (λ m. is_of m f.opcode) (sym is) ∙ named-is f.opcode fits.opcode in
-    let spelled = row opcode f next i named used v.1.0 w.1 fits others found in
+    let spelled = row opcode f next i named used (not-true _ (demanded _ _ v.1.0)) w.1 fits others found in
     record {
       fits = record {
         dst = subst (λ (s : Fields). s.dst < 11) (sym spelled.0) used.low_dst;

@@ -1,5 +1,5 @@
 -- What a refusal tells: which fault, where, and that nothing before it is at fault.
-use Rattle.std.specs.Prelude.{◌≡◌, ℕ, ◌+◌, ◌/◌, Bool, true, false, cond, List, [], ◌∷◌, ◌++◌, length, take, slice_get, Option, Some, None, is_none, ◌⊎◌}
+use Rattle.std.specs.Prelude.{◌≡◌, ℕ, ◌+◌, ◌/◌, cond, List, [], ◌∷◌, ◌++◌, length, take, slice_get, Option, Some, None, is_some, ◌⊎◌}
 use Rattle.std.specs.List.{AllByRecursion, flat_map}
 use Rattle.ebpf_decode.specs.declared.fault.Fault.{Fault}
 use Rattle.ebpf_decode.specs.declared.fault.FaultKind.{FaultKind}
@@ -9,28 +9,19 @@ use Rattle.instruction_set.specs.declared.fields.Fields.{Fields}
 use Rattle.instruction_set.specs.declared.instruction.Instruction.{Instruction}
 use Rattle.instruction_set.specs.Program.{is_wide}
 use Rattle.instruction_set.specs.Spelling.{Fits, first_slot, second_slot, slots_spelled}
+use Rattle.program_interface.specs.Checks.{demand}
+use Rattle.program_interface.specs.FirstCheck.{FailsFirst, NoneFails}
 use Rattle.ebpf_decode.specs.Opcodes.{opcode_named}
 use Rattle.ebpf_decode.specs.Reading.{checks, instruction_with, length_checks, slots_at}
 
--- none of these checks fails
-abbrev pub NoneFails : List (Bool × FaultKind) → Type 0
-NoneFails checks = AllByRecursion (λ check. check.0 ≡ false) checks
-
--- the check of this kind fails, and none before it does
-pub record FailsFirst (kind : FaultKind) (checks : List (Bool × FaultKind)) : Type 0 where
-  pub before : List (Bool × FaultKind)
-  pub after : List (Bool × FaultKind)
-  pub are : checks ≡ before ++ (true, kind) ∷ after
-  pub pass : NoneFails before
-
 -- the checks of a slot whose opcode is known: those of its fields, and at last of their values
-abbrev pub slot_checks : Opcode → Fields → Option Fields → List (Bool × FaultKind)
-slot_checks opcode f next = checks opcode f next ++ (is_none (instruction_with opcode f next), kinds.Value) ∷ []
+abbrev pub slot_checks : Opcode → Fields → Option Fields → List (Option FaultKind)
+slot_checks opcode f next = checks opcode f next ++ demand (is_some (instruction_with opcode f next)) kinds.Value ∷ []
 
 -- the kind that is told of a slot, by what its opcode names
 abbrev pub IsTold : FaultKind → Option Opcode → Fields → Option Fields → Type 0
 IsTold kind None f next = kind ≡ kinds.Opcode
-IsTold kind (Some opcode) f next = FailsFirst kind (slot_checks opcode f next)
+IsTold kind (Some opcode) f next = FailsFirst (slot_checks opcode f next) kind
 
 -- an instruction that begins at a slot: it is spelled by the slot, and by the next one where it is wide
 pub record Begins (f : Fields) (next : Option Fields) (i : Instruction) : Type 0 where
@@ -41,7 +32,7 @@ pub record Begins (f : Fields) (next : Option Fields) (i : Instruction) : Type 0
 -- a fault of the length is told at slot 0
 pub record IsOfLength (bytes : List ℕ) (fault : Fault) : Type 0 where
   pub slot : fault.slot ≡ 0
-  pub told : FailsFirst fault.kind (length_checks (length bytes))
+  pub told : FailsFirst (length_checks (length bytes)) fault.kind
 
 -- a fault of one of these slots
 pub record IsOfSlot (slots : List Fields) (fault : Fault) : Type 0 where

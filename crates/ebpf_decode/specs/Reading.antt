@@ -1,5 +1,5 @@
 -- Reading bytes: the program that they spell, or their first fault.
-use Rattle.std.specs.Prelude.{ℕ, zero, suc, pos, ◌+◌, ◌*◌, ◌/◌, ◌%◌, ◌^◌, ◌==◌, nat_le, nat_lt, Bool, true, false, not, ◌&&◌, ◌||◌, List, [], ◌∷◌, length, drop, slice_get, slice_index, find, Option, Some, None, is_none, option_map, Result, Ok, Err, ok_or}
+use Rattle.std.specs.Prelude.{ℕ, zero, suc, pos, ◌+◌, ◌*◌, ◌/◌, ◌%◌, ◌^◌, ◌==◌, nat_le, Bool, true, false, not, ◌&&◌, ◌||◌, List, [], ◌∷◌, length, drop, slice_get, slice_index, Option, Some, None, is_none, option_map, Result, Ok, Err, ok_or}
 use Rattle.std.specs.Ordering.{int_eq}
 use Rattle.std.specs.Int.{w16, w32, cast_signed, cast_unsigned}
 use Rattle.std.specs.Option.{option_or}
@@ -28,6 +28,7 @@ use Rattle.program_interface.specs.declared.TheConstants.{MOST_SLOTS}
 use Rattle.program_interface.specs.declared.registers.TheConstants.{REGISTERS}
 use Rattle.program_interface.specs.Bytes.{field}
 use Rattle.program_interface.specs.Readings.{unless_fault, with_front}
+use Rattle.program_interface.specs.Checks.{demand, first_failed}
 
 -- the fields of the slot at the front of bytes (RFC 9669, 3.1)
 abbrev pub fields_at : List ℕ → Fields
@@ -73,17 +74,13 @@ abbrev pub has_more : Option Fields → Bool
 has_more None = false
 has_more (Some f) = not (f.opcode == 0) || not (f.dst == 0) || not (f.src == 0) || not (int_eq f.offset (pos 0))
 
--- the fault of the first of these checks that fails
-abbrev pub first_failed : List (Bool × FaultKind) → Option FaultKind
-first_failed checks = option_map (λ check. check.1) (find (λ check. check.0) checks)
-
--- the checks of an instruction whose opcode is known, in order; each is true where it fails
-abbrev pub checks : Opcode → Fields → Option Fields → List (Bool × FaultKind)
+-- the checks of an instruction whose opcode is known, in order
+abbrev pub checks : Opcode → Fields → Option Fields → List (Option FaultKind)
 checks opcode f next =
-    (is_left_out opcode f, kinds.NotInProfile)
-    ∷ (is_load_immediate opcode && is_none next, kinds.CutWide)
-    ∷ (has_no_register (uses opcode) f, kinds.Register)
-    ∷ (has_unused (uses opcode) f || (is_load_immediate opcode && has_more next), kinds.UnusedField)
+    demand (not (is_left_out opcode f)) kinds.NotInProfile
+    ∷ demand (not (is_load_immediate opcode && is_none next)) kinds.CutWide
+    ∷ demand (not (has_no_register (uses opcode) f)) kinds.Register
+    ∷ demand (not (has_unused (uses opcode) f || (is_load_immediate opcode && has_more next))) kinds.UnusedField
     ∷ []
 
 -- the first fault of an instruction whose opcode is known
@@ -168,9 +165,9 @@ read_slots second s [] = Ok []
 read_slots second s (f ∷ rest) = then_read (begun second f (slice_get rest 0)) s (λ wide. read_slots wide (s + 1) rest)
 
 -- the checks of a program's length, in order
-abbrev pub length_checks : ℕ → List (Bool × FaultKind)
+abbrev pub length_checks : ℕ → List (Option FaultKind)
 length_checks len =
-    (not (len % 8 == 0), kinds.Length) ∷ (len == 0, kinds.Empty) ∷ (nat_lt MOST_SLOTS (len / 8), kinds.TooLong) ∷ []
+    demand (len % 8 == 0) kinds.Length ∷ demand (not (len == 0)) kinds.Empty ∷ demand (nat_le (len / 8) MOST_SLOTS) kinds.TooLong ∷ []
 
 -- what is wrong with a number of bytes
 abbrev pub length_fault : ℕ → Option FaultKind

@@ -1,8 +1,8 @@
 -- What is wrong with a header that is refused, behind the magic of its version.
 use Rattle.std.proofs.Common.{◌≡◌, nat_le, Bool, true, false, List, [], ◌∷◌, drop, Option, Some, None, Result, Ok, Err, refl, sym, subst, ℕ}
 use Rattle.std.proofs.lemmas.Bool.{leb-false}
-use Rattle.zone_state.proofs.Proved.{first_failed_is_first}
-use Rattle.zone_state.specs.Checks.{demand, first_failed, unless_failed}
+use Rattle.program_interface.proofs.Proved.{first_failed_is_first}
+use Rattle.program_interface.specs.Checks.{demand, first_failed, unless_failed}
 use Rattle.image_store.specs.declared.fault.LoadFault.{LoadFault}
 use Rattle.image_store.specs.declared.fault.LoadFault.TheVariants.{Header as BadHeader}
 use Rattle.image_store.specs.declared.fault.HeaderFault.{HeaderFault}

@@ -11,8 +11,8 @@ use Rattle.image_store.specs.declared.geometry.GeometryRefusal.{GeometryRefusal}
 use Rattle.image_store.specs.declared.header.Header.{Header}
 use Rattle.image_store.specs.declared.version.Version.{Version}
 use Rattle.image_store.specs.declared.version.Version.TheVariants.{One, Two}
-use Rattle.zone_state.specs.Checks.{first_failed, unless_failed}
-use Rattle.zone_state.proofs.Proved.{demanded, none_failed, passed}
+use Rattle.program_interface.specs.Checks.{first_failed, unless_failed}
+use Rattle.program_interface.proofs.Proved.{demanded, none_failed, passed}
 use Rattle.image_store.specs.Geometry.{Shape, IsShape, shape_checks}
 use Rattle.program_interface.specs.Readings.{◌>>=◌}
 use Rattle.program_interface.proofs.Proved.{found_passes, found_where_ok}

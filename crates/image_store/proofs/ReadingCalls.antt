@@ -1,6 +1,6 @@
 -- What calls that read answer, one after another.
 use Rattle.std.proofs.Common.{◌≡◌, Bool, true, false, cond, Result, Ok, Err, refl, ap, subst}
-use Rattle.zone_state.proofs.Proved.{guarded}
+use Rattle.program_interface.proofs.Proved.{guarded}
 use Rattle.image_store.specs.declared.fault.LoadFault.{LoadFault}
 use Rattle.image_store.specs.declared.fault.LoadFault.TheVariants.{Stream, Memory}
 use Rattle.image_store.specs.Loading.{LoadFails}

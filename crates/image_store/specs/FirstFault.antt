@@ -1,6 +1,6 @@
 -- What a refusal of a text tells: which fault, where, and that no test before its own fails (profile).
 use Rattle.std.specs.Prelude.{ℕ, ◌≡◌, ◌≢◌, ◌+◌, ◌*◌, ◌<◌, ◌≤◌, ◌⊎◌, true, false, List, length, get_or, take, drop, Some, None, IfSome, Err}
-use Rattle.zone_state.specs.FirstCheck.{FailsFirst}
+use Rattle.program_interface.specs.FirstCheck.{FailsFirst}
 use Rattle.zone_state.specs.State.{state_of}
 use Rattle.zone_state.specs.Zone.{CountedZone, fits_state}
 use Rattle.zone_resources.specs.Admission.{IsWithin}

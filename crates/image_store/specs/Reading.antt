@@ -14,7 +14,7 @@ use Rattle.program_interface.specs.Bytes.{field}
 use Rattle.image_store.specs.declared.fault.LoadFault.{LoadFault}
 use Rattle.image_store.specs.declared.fault.LoadFault.TheVariants as fault
 use Rattle.image_store.specs.declared.fault.ZoneRowFault.TheVariants as row_fault
-use Rattle.zone_state.specs.Checks.{demand, first_failed, unless_failed}
+use Rattle.program_interface.specs.Checks.{demand, first_failed, unless_failed}
 use Rattle.image_store.specs.ImageInMemory.{zone_seen}
 use Rattle.image_store.specs.declared.fault.HeaderFault.TheVariants as header_fault
 use Rattle.image_store.specs.declared.header.Header.{Header}

@@ -6,7 +6,7 @@ use Rattle.byteorder.specs.Numbers.{little_from-bytes, little_number-reads_back}
 use Rattle.zone_state.specs.declared.status.TheConstants.Status.{INVALID_FIELD_IN_COMMAND, INVALID_NAMESPACE_OR_FORMAT}
 use Rattle.program_interface.specs.Readings.{unless_fault}
 use Rattle.program_interface.proofs.Proved.{byte_is}
-use Rattle.zone_state.specs.Checks.{demand, first_failed}
+use Rattle.program_interface.specs.Checks.{demand, first_failed}
 use Rattle.nvme_entry.specs.steps.EntryFields.{HasFields}
 use Rattle.nvme_entry.specs.Entry.{asked, decoded, decoded_by, fuse_of, identifier_of, namespace_identifier, opcode_of}
 use Rattle.nvme_entry.specs.declared.command.Opcode.{Opcode}

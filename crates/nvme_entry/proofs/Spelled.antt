@@ -10,7 +10,7 @@ use Rattle.zone_state.specs.declared.status.TheConstants.Status.{INVALID_FIELD_I
 use Rattle.zone_state.specs.Transition.{action_of}
 use Rattle.program_interface.specs.Readings.{unless_fault}
 use Rattle.program_interface.proofs.Proved.{found_where_ok}
-use Rattle.zone_state.specs.Checks.{demand, first_failed}
+use Rattle.program_interface.specs.Checks.{demand, first_failed}
 use Rattle.nvme_entry.specs.Entry.{asked, asked_blocks, command_of, decoded_by, dwords_of, fuse_of, namespace_identifier, opcode_of, starting_lba}
 use Rattle.nvme_entry.specs.EntryLaws.{AsksFor, FieldsAreSpelled, SpelledEntriesAreDecoded, Spells}
 use Rattle.program_interface.specs.Bytes.{field}

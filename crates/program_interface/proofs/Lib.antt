@@ -1,6 +1,7 @@
 mod AllOf
 mod ByteParts
 mod ContextFields
+mod FirstChecks
 mod FirstPassed
 mod Lengths
 pub mod Proved

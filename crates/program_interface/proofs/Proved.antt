@@ -1,8 +1,17 @@
--- Lemmas that the proofs of other crates cite.
+-- What the proofs of other crates cite of this one: laws, and lemmas.
+use Rattle.program_interface.specs.FirstCheck.{FirstFailedIsFirst, NoFaultWhereNoneFails}
 pub use Rattle.program_interface.proofs.AllOf.{all_append, all_at, all_drop, all_from, all_same, all_set, all_take}
 pub use Rattle.program_interface.proofs.ByteParts.{both_fit, bytes_from, bytes_to, front_fit, length-spliced, low_first, rest_fit, spliced_fit}
+use Rattle.program_interface.proofs.FirstChecks as checks
+pub use Rattle.program_interface.proofs.FirstChecks.{demanded, guarded, joined, none_failed, passed, value_given}
 pub use Rattle.program_interface.proofs.FirstPassed.{AreNumbered, all_fail, found_passes, less_fails}
 pub use Rattle.program_interface.proofs.Lengths.{length-flat_map-each, length-padded, pieces-flat_map}
 pub use Rattle.program_interface.proofs.Readings.{fault_behind, found_where_ok, no_fault, with_front-more}
 pub use Rattle.program_interface.proofs.SameFronts.{agree_before, agree_behind}
 pub use Rattle.program_interface.proofs.SpelledBytes.{byte_is, bytes_spelled, front_spelled}
+
+pub first_failed_is_first : (F : Type 0) → FirstFailedIsFirst F
+first_failed_is_first = checks.first_failed_is_first
+
+pub no_fault_where_none_fails : (F : Type 0) → NoFaultWhereNoneFails F
+no_fault_where_none_fails = checks.no_fault_where_none_fails

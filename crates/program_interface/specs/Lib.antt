@@ -7,3 +7,5 @@ pub mod Registers
 pub mod Frame
 pub mod Readings
 pub mod Gives
+pub mod Checks
+pub mod FirstCheck

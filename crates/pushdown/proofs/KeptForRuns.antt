@@ -7,8 +7,8 @@ use Rattle.std.proofs.lemmas.List.Folds.{list_any_at}
 use Rattle.zone_state.specs.declared.status.TheConstants.Status.{PROGRAM_IN_USE}
 use Rattle.zone_resources.specs.Holds.{is_source, names}
 use Rattle.zone_resources.specs.declared.holds.Holds.{Holds}
-use Rattle.zone_state.specs.Checks.{first_failed}
-use Rattle.zone_state.proofs.Proved.{demanded, passed}
+use Rattle.program_interface.specs.Checks.{first_failed}
+use Rattle.program_interface.proofs.Proved.{demanded, passed}
 use Rattle.nvme_entry.specs.declared.command.LoadCommand.{LoadCommand}
 use Rattle.word_domain.specs.Domain.{Operations}
 use Rattle.image_store.specs.Namespace.{zone_at}

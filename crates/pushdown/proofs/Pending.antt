@@ -1,7 +1,7 @@
 -- An entry whose reply is Pending is a Run that is admitted.
 use Rattle.std.proofs.Common.{◌≡◌, ℕ, Bool, true, false, Option, Some, None, Result, Ok, Err, refl, ap}
 use Rattle.zone_state.specs.declared.status.Status.{Status}
-use Rattle.zone_state.specs.Checks.{first_failed}
+use Rattle.program_interface.specs.Checks.{first_failed}
 use Rattle.nvme_entry.specs.Entry.{decoded}
 use Rattle.nvme_entry.specs.declared.command.Command.{Command}
 use Rattle.nvme_entry.specs.declared.command.Command.TheVariants as commands

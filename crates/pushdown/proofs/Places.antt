@@ -4,7 +4,7 @@ use Rattle.std.specs.Prelude.{not, is_some}
 use Rattle.std.specs.List.{list_any}
 use Rattle.std.proofs.lemmas.Bool.{not-true}
 use Rattle.zone_state.specs.declared.status.TheConstants.Status.{ZONE_HELD}
-use Rattle.zone_state.proofs.Proved.{demanded, passed}
+use Rattle.program_interface.proofs.Proved.{demanded, passed}
 use Rattle.zone_resources.specs.Holds.{is_destination, names}
 use Rattle.zone_resources.specs.declared.holds.TheConstants.{RUNS}
 use Rattle.nvme_entry.specs.declared.command.RunCommand.{RunCommand}

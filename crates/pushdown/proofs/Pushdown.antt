@@ -7,7 +7,7 @@ use Rattle.zone_state.specs.State.{is_open}
 use Rattle.zone_state.specs.declared.state.ZoneState.TheVariants.{Offline}
 use Rattle.zone_state.specs.declared.status.Status.{Status}
 use Rattle.zone_state.specs.declared.status.TheConstants.Status.{DESTINATION_NOT_OPEN}
-use Rattle.zone_state.proofs.Proved.{demanded, passed}
+use Rattle.program_interface.proofs.Proved.{demanded, passed}
 use Rattle.nvme_entry.specs.declared.command.Command.TheVariants as commands
 use Rattle.nvme_entry.specs.declared.command.RunCommand.{RunCommand}
 use Rattle.instruction_set.specs.Program.{instruction_count}

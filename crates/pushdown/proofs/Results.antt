@@ -6,8 +6,8 @@ use Rattle.std.specs.declared.alloc.Global.{Global}
 use Rattle.std.proofs.lemmas.Bool.Decides.{eqb_tells}
 use Rattle.zone_state.specs.declared.status.Status.{Status}
 use Rattle.zone_state.specs.declared.status.TheConstants.Status.{SUCCESS, NO_SUCH_PROGRAM}
-use Rattle.zone_state.specs.Checks.{first_failed}
-use Rattle.zone_state.proofs.Proved.{demanded, passed}
+use Rattle.program_interface.specs.Checks.{first_failed}
+use Rattle.program_interface.proofs.Proved.{demanded, passed}
 use Rattle.nvme_entry.specs.declared.command.Command.{Command}
 use Rattle.nvme_entry.specs.declared.command.Command.TheVariants as commands
 use Rattle.nvme_entry.specs.declared.command.RunCommand.{RunCommand}

@@ -11,8 +11,8 @@ use Rattle.zone_state.specs.declared.status.TheConstants.Status.{INVALID_FIELD_I
 use Rattle.zone_resources.specs.Holds.{is_destination}
 use Rattle.zone_resources.specs.declared.holds.Holds.{Holds}
 use Rattle.zone_resources.specs.declared.holds.TheConstants.{RUNS}
-use Rattle.zone_state.specs.Checks.{first_failed}
-use Rattle.zone_state.proofs.Proved.{demanded, passed}
+use Rattle.program_interface.specs.Checks.{first_failed}
+use Rattle.program_interface.proofs.Proved.{demanded, passed}
 use Rattle.nvme_entry.specs.declared.command.LoadCommand.{LoadCommand}
 use Rattle.nvme_entry.specs.declared.command.RunCommand.{RunCommand}
 use Rattle.nvme_entry.specs.declared.program_slot.TheConstants.{PROGRAM_SLOTS}

@@ -4,7 +4,7 @@ use Rattle.zone_state.specs.declared.state.FaultState.{FaultState}
 use Rattle.zone_state.specs.declared.status.Status.{Status}
 use Rattle.zone_state.specs.declared.status.TheConstants.Status.{SUCCESS, INVALID_FIELD_IN_COMMAND, NO_SUCH_PROGRAM, PROGRAM_REFUSED, PROGRAM_IN_USE, WANT_OF_MEMORY}
 use Rattle.zone_state.specs.declared.zone.FaultRefused.{FaultRefused}
-use Rattle.zone_state.specs.Checks.{demand, first_failed}
+use Rattle.program_interface.specs.Checks.{demand, first_failed}
 use Rattle.nvme_entry.specs.Entry.{decoded, identifier_of}
 use Rattle.nvme_entry.specs.declared.command.Command.{Command}
 use Rattle.nvme_entry.specs.declared.command.Command.TheVariants as commands

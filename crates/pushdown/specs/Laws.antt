@@ -2,7 +2,7 @@
 use Rattle.std.specs.Prelude.{◌≤◌, ◌*◌, ℕ, Bool, true, false, ◌≡◌, ◌≢◌, ◌+◌, List, [], ◌∷◌, length, map, Vec, Option, Some, None, Ok, ◌⊎◌, is_some}
 use Rattle.std.specs.List.{AllByRecursion, concat, flat_map}
 use Rattle.std.specs.declared.alloc.Global.{Global}
-use Rattle.zone_state.specs.Checks.{first_failed}
+use Rattle.program_interface.specs.Checks.{first_failed}
 use Rattle.zone_state.specs.State.{is_open}
 use Rattle.zone_state.specs.declared.status.Status.{Status}
 use Rattle.zone_state.specs.declared.status.TheConstants.Status.{SUCCESS}

@@ -6,8 +6,8 @@ use Rattle.std.proofs.Math.ListN.{get_or-map}
 use Rattle.zone_state.specs.declared.status.Status.{Status}
 use Rattle.zone_state.specs.declared.status.TheConstants.Status.{INVALID_FIELD_IN_COMMAND, NO_SUCH_PROGRAM, NO_RUN_FREE}
 use Rattle.zone_resources.specs.declared.holds.Holds.{Holds}
-use Rattle.zone_state.specs.Checks.{demand, first_failed}
-use Rattle.zone_state.proofs.Proved.{joined}
+use Rattle.program_interface.specs.Checks.{demand, first_failed}
+use Rattle.program_interface.proofs.Proved.{joined}
 use Rattle.nvme_entry.specs.declared.command.RunCommand.{RunCommand}
 use Rattle.image_store.specs.Namespace.{ZonedNamespace}
 use Rattle.image_store.specs.declared.geometry.ZoneBlock.{ZoneBlock}

@@ -6,8 +6,8 @@ use Rattle.std.proofs.lemmas.List.{map-set}
 use Rattle.std.proofs.lemmas.Bool.{eqb-false, not-true, or_parts}
 use Rattle.zone_state.specs.declared.status.Status.{Status}
 use Rattle.zone_state.specs.declared.status.TheConstants.Status.{PROGRAM_IN_USE, SUCCESS}
-use Rattle.zone_state.specs.Checks.{first_failed}
-use Rattle.zone_state.proofs.Proved.{demanded, passed}
+use Rattle.program_interface.specs.Checks.{first_failed}
+use Rattle.program_interface.proofs.Proved.{demanded, passed}
 use Rattle.nvme_entry.specs.declared.command.LoadCommand.{LoadCommand}
 use Rattle.program_interface.specs.RunSizes.{Sizes}
 use Rattle.accepted_programs.proofs.Proved.{set_known}

@@ -3,7 +3,7 @@
 ghost use Rattle.std.specs.Prelude.{◌≡◌, ◌<◌, List, Option, IfOk, IfErr};
 ghost use Rattle.std.specs.List.{list_any};
 ghost use Rattle.std.specs.Result.{result_err};
-ghost use Rattle.zone_state.specs.Checks.{first_failed};
+ghost use Rattle.program_interface.specs.Checks.{first_failed};
 ghost use Rattle.pushdown.specs.Happenings.{load_checks};
 ghost use Rattle.runner.specs.steps.Answered.{HasLoaded};
 ghost use Rattle.runner.specs.DeviceState.{device_state};

@@ -14,7 +14,7 @@ use Rattle.zone_resources.specs.declared.holds.Holds.{Holds}
 use Rattle.nvme_entry.specs.declared.command.StandardCommand.TheVariants.{Receive}
 use Rattle.nvme_entry.specs.declared.command.TheConstants.{MOST_TRANSFER}
 use Rattle.nvme_entry.specs.declared.filter.ZoneFilter.TheVariants as filters
-use Rattle.zone_state.specs.Checks.{demand, first_failed}
+use Rattle.program_interface.specs.Checks.{demand, first_failed}
 use Rattle.nvme_entry.specs.ReportLaws.{ReportsZones, number_in, descriptors_in, descriptor_room}
 use Rattle.nvme_entry.specs.Report.{report, descriptor_at, matching, listed_zones}
 use Rattle.image_store.specs.Namespace.{ZonedNamespace, counted, counted_zones, IsNamespace}

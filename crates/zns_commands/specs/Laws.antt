@@ -17,7 +17,7 @@ use Rattle.program_interface.specs.Bytes.{AreBytes}
 use Rattle.image_store.specs.Blocks.{block_count}
 use Rattle.image_store.specs.Geometry.{Shape, IsShape}
 use Rattle.image_store.specs.Namespace.{ZonedNamespace, zone_at, appended, block_at, IsNamespace, all_empty, counted_zones}
-use Rattle.zone_state.specs.FirstCheck.{FailsFirst, NoneFails}
+use Rattle.program_interface.specs.FirstCheck.{FailsFirst, NoneFails}
 use Rattle.zone_state.specs.State.{is_cleared}
 use Rattle.zns_commands.specs.Address.{block_total, zone_number, zone_offset}
 use Rattle.zns_commands.specs.Effect.{Effect, success_effect, refused_effect}

@@ -3,7 +3,7 @@ use Rattle.std.specs.Prelude.{ℕ, ◌==◌, nat_le, List, [], ◌∷◌, length
 use Rattle.zone_state.specs.declared.status.Status.{Status}
 use Rattle.zone_state.specs.declared.status.TheConstants.Status.{INVALID_FIELD_IN_COMMAND}
 use Rattle.nvme_entry.specs.declared.command.TheConstants.{MOST_TRANSFER}
-use Rattle.zone_state.specs.Checks.{demand}
+use Rattle.program_interface.specs.Checks.{demand}
 
 -- a transfer of so many bytes, of which these stand beside the entry
 abbrev pub transfer_checks : ℕ → ℕ → List ℕ → List (Option Status)

@@ -1,4 +1,3 @@
-mod FirstChecks
 mod AllowedWrites
 mod Codes
 mod WrittenStates

@@ -1,7 +1,6 @@
 //! Laws of the definitions that the contracts of this crate cite. Each function does nothing: what
 //! it ensures is the law.
 
-ghost use Rattle.zone_state.specs.FirstCheck.{FirstFailedIsFirst, NoFaultWhereNoneFails};
 ghost use Rattle.zone_state.specs.State.{CodesAreDistinct};
 ghost use Rattle.zone_state.specs.Transition.{ActionsRepeat, OfflineIsFinal};
 ghost use Rattle.zone_state.specs.Zone.{WritesJoin};
@@ -25,14 +24,4 @@ pub fn offline_is_final()
 /// Where a write fits, two writes of its blocks, one behind the other, fit too, and leave the zone that it leaves.
 pub fn writes_join()
     ensures { WritesJoin }
-{}
-
-/// Of an ordered list of checks the first that fails decides: the fault that is told is its own.
-pub fn first_failed_is_first<F>()
-    ensures { FirstFailedIsFirst F }
-{}
-
-/// An ordered list of checks has no fault just where none of them fails.
-pub fn no_fault_where_none_fails<F>()
-    ensures { NoFaultWhereNoneFails F }
 {}

@@ -1,7 +1,7 @@
 -- Which slots are used, and what the bytes of a program come to.
 use Rattle.std.specs.Prelude.{ℕ, Bool, false, ◌≡◌, ◌==◌, List, [], Option, Some, None, Ok}
 use Rattle.zone_state.specs.declared.status.TheConstants.Status.{PROGRAM_REFUSED}
-use Rattle.zone_state.specs.Checks.{first_failed}
+use Rattle.program_interface.specs.Checks.{first_failed}
 use Rattle.nvme_entry.specs.declared.command.LoadCommand.{LoadCommand}
 use Rattle.ebpf_decode.specs.Reading.{decoded_program}
 use Rattle.instruction_set.specs.declared.instruction.Instruction.{Instruction}

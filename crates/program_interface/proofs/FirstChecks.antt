@@ -1,18 +1,19 @@
 -- Ordered lists of checks, and the first that fails.
 use Rattle.std.proofs.Common.{◌≡◌, ℕ, zero, suc, Bool, true, false, cond, List, [], ◌∷◌, ◌++◌, get_or, Option, Some, None, Result, Ok, Err, refl, ap, ◌∙◌}
 use Rattle.std.specs.Option.{option_or}
-use Rattle.zone_state.specs.Checks.{demand, first_failed, unless_failed}
-use Rattle.zone_state.specs.FirstCheck.{FailsFirst, FirstFailedIsFirst, NoneFails, NoFaultWhereNoneFails}
+use Rattle.program_interface.specs.Checks.{demand, first_failed, unless_failed}
+use Rattle.program_interface.specs.FirstCheck.{FailsFirst, FirstFailedIsFirst, NoneFails, NoFaultWhereNoneFails}
+use Rattle.program_interface.proofs.Readings.{no_fault}
 
 none_fails : {F : Type 0} (checks : List (Option F)) → first_failed checks ≡ None → NoneFails checks
 none_fails [] e = tt
 none_fails (None ∷ rest) e = (refl, none_fails rest e)
 none_fails (Some fault ∷ rest) e = absurd cc
 
-no_fault : {F : Type 0} (checks : List (Option F)) → NoneFails checks → first_failed checks ≡ None
-no_fault [] pass = refl
-no_fault (None ∷ rest) pass = no_fault rest pass.1
-no_fault (Some fault ∷ rest) pass = let e = pass.0 in absurd cc
+none_found : {F : Type 0} (checks : List (Option F)) → NoneFails checks → first_failed checks ≡ None
+none_found [] pass = refl
+none_found (None ∷ rest) pass = none_found rest pass.1
+none_found (Some fault ∷ rest) pass = let e = pass.0 in absurd cc
 
 first_is : {F : Type 0} (checks : List (Option F)) (fault : F) → first_failed checks ≡ Some fault → FailsFirst checks fault
 first_is [] fault e = absurd cc
@@ -30,7 +31,7 @@ pub first_failed_is_first : (F : Type 0) → FirstFailedIsFirst F
 first_failed_is_first F = λ checks fault. (first_is checks fault, λ first. ap first_failed first.are ∙ first_behind first.before first.after fault first.pass)
 
 pub no_fault_where_none_fails : (F : Type 0) → NoFaultWhereNoneFails F
-no_fault_where_none_fails F = λ checks. (none_fails checks, no_fault checks)
+no_fault_where_none_fails F = λ checks. (none_fails checks, none_found checks)
 
 -- where no check fails, each passes,
 pub passed : {F : Type 0} (checks : List (Option F)) (i : ℕ) → first_failed checks ≡ None → get_or checks i None ≡ None
@@ -52,8 +53,7 @@ guarded false r fault x e = cc
 
 -- where a value is given, no check fails
 pub none_failed : {X F : Type 0} (why : Option F) (x y : X) → unless_failed why x ≡ Ok y → why ≡ None
-none_failed None x y given = refl
-none_failed (Some fault) x y given = cc
+none_failed why x y given = (no_fault why (Ok x) y given).0
 
 -- and the value is the one that was to be given
 pub value_given : {X F : Type 0} (why : Option F) (x y : X) → Ok y ≡ unless_failed why x → y ≡ x

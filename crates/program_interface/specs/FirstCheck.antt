@@ -1,7 +1,7 @@
 -- What the first check that fails is.
 use Rattle.std.specs.Prelude.{◌≡◌, ◌↔◌, List, ◌∷◌, ◌++◌, Option, Some, None}
 use Rattle.std.specs.List.{AllByRecursion}
-use Rattle.zone_state.specs.Checks.{first_failed}
+use Rattle.program_interface.specs.Checks.{first_failed}
 
 -- none of these checks fails
 abbrev pub NoneFails : {F : Type 0} → List (Option F) → Type 0

@@ -1,6 +1,7 @@
 -- Ordered lists of checks: the first that fails decides.
-use Rattle.std.specs.Prelude.{Bool, List, [], ◌∷◌, Option, Some, None, Result, Ok, Err, if◌then◌else◌}
+use Rattle.std.specs.Prelude.{Bool, List, [], ◌∷◌, Option, Some, None, Result, Ok, if◌then◌else◌}
 use Rattle.std.specs.Option.{option_or}
+use Rattle.program_interface.specs.Readings.{unless_fault}
 
 -- a check that fails with this fault where the test doesn't hold
 abbrev pub demand : {F : Type 0} → Bool → F → Option F
@@ -13,5 +14,4 @@ first_failed (check ∷ checks) = option_or check (first_failed checks)
 
 -- the value, where no check fails
 abbrev pub unless_failed : {X F : Type 0} → Option F → X → Result X F
-unless_failed None x = Ok x
-unless_failed (Some fault) x = Err fault
+unless_failed fault x = unless_fault fault (Ok x)

@@ -1,5 +1,0 @@
-use Rattle.zone_state.proofs.FirstChecks.{no_fault_where_none_fails}
-use Rattle.zone_state.proofs.laws.no_fault_where_none_fails.Goals as goal
-
-pub returns : goal.returns
-returns g c = no_fault_where_none_fails _
