@@ -34,7 +34,7 @@ pub fn check_readable(image: &Image, zone: u32) -> Result<(), Status>
     Ok(())
 }
 
-/// The checks of a read: where it begins.
+/// Makes the checks of a read, and gives the block that it begins at.
 fn check_read(
     image: &Image,
     lba: u64,

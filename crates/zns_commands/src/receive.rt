@@ -17,7 +17,7 @@ use crate::transfer::check_transfer;
 use image_store::Image;
 use nvme_entry::{DwordCount, MOST_TRANSFER, Report, Status, ZoneFilter};
 
-/// The checks of a report: the zone that it begins at.
+/// Makes the checks of a report, and gives the zone that it begins at.
 fn check_report(image: &Image, lba: u64, dwords: DwordCount, input: &[u8]) -> Result<u32, Status>
     ensures { result ≡ unless_failed (first_failed (receive_checks image.now lba dwords input.now)) (zone_number image.now lba) }
 {
