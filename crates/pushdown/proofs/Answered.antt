@@ -19,7 +19,7 @@ use Rattle.pushdown.specs.EventReplies.{Happening, Submission, completed, submis
 use Rattle.device_events.specs.Replies.{without_data}
 use Rattle.pushdown.specs.Happenings.{result_by, start_by, submitted, why_not_run}
 use Rattle.pushdown.specs.Laws.{IsAnswered, IsLoaded, OnlyLoadsChangeSlots, RefusedLeavesState}
-use Rattle.pushdown.specs.State.{State, free_place, holds_at, program_at, with_namespace}
+use Rattle.pushdown.specs.State.{State, free_place, holds_at, loaded_at, with_namespace}
 use Rattle.device_events.specs.declared.reply.Reply.TheVariants as reply
 use Rattle.pushdown.proofs.Loads.{loading_is}
 
@@ -35,7 +35,7 @@ module _ {D : Type 0} (operations : Operations D) (starved : Bool) (sub : Submis
       → IsReplied (start_by why free sub s command)
   start_replied (Some status) free command is at = unchanged status 0 0 []
   start_replied None None command is at =
-      let checks = admission_checks s.namespace (holds_at s) (is_some (free_place s)) (program_at s command.slot) command sub.input in
+      let checks = admission_checks s.namespace (holds_at s) (is_some (free_place s)) (loaded_at s command.slot) command sub.input in
       let there = demanded (is_some (free_place s)) NO_RUN_FREE (passed checks 7 is) in
       let nowhere = ap is_some at in
       cc
@@ -60,7 +60,7 @@ module _ {D : Type 0} (operations : Operations D) (starved : Bool) (sub : Submis
       })
   replied (Ok (commands.Load load)) = inr (loading_is operations sub s load starved).answered
   replied (Ok (commands.Run command)) = start_replied (why_not_run sub s command) (free_place s) command refl refl
-  replied (Ok (commands.Result slot)) = result_replied (program_at s slot) (first_failed (transfer_checks 0 0 sub.input))
+  replied (Ok (commands.Result slot)) = result_replied (loaded_at s slot) (first_failed (transfer_checks 0 0 sub.input))
 
   -- ---- slots
 
@@ -104,7 +104,7 @@ module _ {D : Type 0} (operations : Operations D) (starved : Bool) (sub : Submis
   changes_slots (Ok (commands.Standard c)) is = inl refl
   changes_slots (Ok (commands.Load load)) is = load_changes load is
   changes_slots (Ok (commands.Run command)) is = start_changes (why_not_run sub s command) (free_place s) command
-  changes_slots (Ok (commands.Result slot)) is = result_changes (program_at s slot) (first_failed (transfer_checks 0 0 sub.input))
+  changes_slots (Ok (commands.Result slot)) is = result_changes (loaded_at s slot) (first_failed (transfer_checks 0 0 sub.input))
 
 module _ {D : Type 0} (operations : Operations D) where
   pub refused_leaves_state : RefusedLeavesState operations

@@ -14,7 +14,7 @@ use Rattle.pushdown.specs.AnyOrder.{AreSameTurns, ComeToTheSame, IsUnshared, Tur
 use Rattle.pushdown.specs.Draining.{replies_to_turns, state_after_turns}
 use Rattle.pushdown.specs.Happenings.{slots_left, take_turn, turned, turned_at}
 use Rattle.pushdown.specs.Outcome.{Ending, Turn}
-use Rattle.pushdown.specs.State.{Place, State, place_at, program_at}
+use Rattle.pushdown.specs.State.{Place, State, loaded_at, place_at}
 use Rattle.pushdown.proofs.Commuting.{Empty, OwnAll, kept, reply_after, state_of_both, stays_own, turns_keep}
 use Rattle.pushdown.proofs.Places.{AreApart}
 use Rattle.pushdown.proofs.SameTurns.{in_any_order}
@@ -166,10 +166,10 @@ own_in s slot apart unshared = record {
 }
 
 module _ (s : State) (apart : AreApart s.places) (first second : List ℕ) (same : AreSameTurns first second) where
-  same_result : (slot : ℕ) → IsUnshared s slot → program_at (state_after_turns first s) slot ≡ program_at (state_after_turns second s) slot
+  same_result : (slot : ℕ) → IsUnshared s slot → loaded_at (state_after_turns first s) slot ≡ loaded_at (state_after_turns second s) slot
   same_result slot unshared =
       sym (alone_same slot (state_after_turns first s).slots)
-      ∙ ap (λ (x : Seen). program_at x.state slot) (same_after 0 (alone slot) (one_seen slot) first second s (own_in s slot apart unshared) same)
+      ∙ ap (λ (x : Seen). loaded_at x.state slot) (same_after 0 (alone slot) (one_seen slot) first second s (own_in s slot apart unshared) same)
       ∙ alone_same slot (state_after_turns second s).slots
 
   own_all : ((slot : ℕ) → IsUnshared s slot) → OwnAll s

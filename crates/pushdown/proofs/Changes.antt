@@ -17,7 +17,7 @@ use Rattle.pushdown.specs.EventReplies.{Submission, submission_of}
 use Rattle.pushdown.specs.Happenings.{admitted_place, happens, just_loaded, loading, result_by, start_by, submitted, take_turn, turn_state, turned, turned_at, why_not_run}
 use Rattle.pushdown.specs.Outcome.{Turn}
 use Rattle.pushdown.specs.Events.{CarriesBytes}
-use Rattle.pushdown.specs.State.{Place, State, free_place, holds_at, place_at, program_at, with_namespace, with_place, with_slot}
+use Rattle.pushdown.specs.State.{Place, State, free_place, holds_at, loaded_at, place_at, with_namespace, with_place, with_slot}
 use Rattle.device_events.specs.declared.event.Event.{Event}
 use Rattle.device_events.specs.declared.event.Event.TheVariants as event
 use Rattle.pushdown.proofs.Loads.{TakesSlot, loading_is}
@@ -83,7 +83,7 @@ module _ {D : Type 0} (operations : Operations D) (P : State → Type 0) (s : St
     after_entry starved sub (Ok (commands.Run command)) is are =
         after_start (why_not_run sub s command) (free_place s) sub command refl refl (decoded_has sub.entry (commands.Run command) is)
     after_entry starved sub (Ok (commands.Result slot)) is are =
-        after_result (program_at s slot) (first_failed (transfer_checks 0 0 sub.input)) sub
+        after_result (loaded_at s slot) (first_failed (transfer_checks 0 0 sub.input)) sub
 
   pub after_event : (starved : Bool) (e : Event) → HoldsAfter e → P (happens operations s starved e).state
   after_event starved (event.Submit queue entry input) holds =

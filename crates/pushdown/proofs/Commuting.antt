@@ -8,7 +8,7 @@ use Rattle.pushdown.specs.Admission.{Loaded, SameProgram}
 use Rattle.pushdown.specs.Draining.{state_after_turns}
 use Rattle.pushdown.specs.Happenings.{added, keeping, place_left, slots_left, take_turn, turn_state, turned, turned_at}
 use Rattle.pushdown.specs.Outcome.{Ending, Turn}
-use Rattle.pushdown.specs.State.{Place, State, place_at, program_at}
+use Rattle.pushdown.specs.State.{Place, State, loaded_at, place_at}
 use Rattle.pushdown.proofs.Changes.{after_turn}
 use Rattle.pushdown.proofs.OthersEvents.{turned_leaves}
 use Rattle.pushdown.proofs.KeptForRuns.{left_program, same_program}
@@ -146,13 +146,13 @@ state_of_both s a b own differs =
 
 -- ---- turns leave each slot its program
 
-turn_keeps : (s : State) (run : ℕ) (slot : ℕ) → SameProgram (program_at s slot) (program_at (turned s run).state slot)
+turn_keeps : (s : State) (run : ℕ) (slot : ℕ) → SameProgram (loaded_at s slot) (loaded_at (turned s run).state slot)
 turn_keeps s run slot =
-    after_turn (λ (t : State). SameProgram (program_at s slot) (program_at t slot)) s run (same_program (program_at s slot))
+    after_turn (λ (t : State). SameProgram (loaded_at s slot) (loaded_at t slot)) s run (same_program (loaded_at s slot))
     (λ place turn later at is. left_program s place turn.ending slot)
 
-pub turns_keep : (runs : List ℕ) (s : State) (slot : ℕ) → SameProgram (program_at s slot) (program_at (state_after_turns runs s) slot)
-turns_keep [] s slot = same_program (program_at s slot)
+pub turns_keep : (runs : List ℕ) (s : State) (slot : ℕ) → SameProgram (loaded_at s slot) (loaded_at (state_after_turns runs s) slot)
+turns_keep [] s slot = same_program (loaded_at s slot)
 turns_keep (run ∷ runs) s slot =
     let first = turn_keeps s run slot in
     let later = turns_keep runs (turned s run).state slot in

@@ -14,7 +14,7 @@ use Rattle.emit_append.proofs.Proved.{packed_frames_read_back}
 use Rattle.pushdown.specs.Admission.{source_blocks, task_of}
 use Rattle.pushdown.specs.BlockRuns.{Task, block_runs_of, groups_of}
 use Rattle.pushdown.specs.Laws.{AreEmitted, OutcomeUnpacks}
-use Rattle.pushdown.specs.State.{program_at}
+use Rattle.pushdown.specs.State.{loaded_at}
 use Rattle.pushdown.proofs.BlockRuns.{IsDone}
 use Rattle.pushdown.proofs.Outcomes.{outcome_is_packed}
 use Rattle.pushdown.proofs.States.{all_exit, groups_within, reached_fine, ready, runs_all_done}
@@ -43,7 +43,7 @@ pub outcome_unpacks : {D : Type 0} (operations : Operations D) → AcceptedNever
 outcome_unpacks operations never s reached sub command run admitted =
     let fine = reached_fine operations never s reached in
     let none = admitted.passed in
-    let task = task_of s.namespace (program_at s command.slot) command in
+    let task = task_of s.namespace (loaded_at s command.slot) command in
     let source = source_blocks s.namespace command in
     let block_runs = block_runs_of task source in
     let block = task.sizes.block in

@@ -18,7 +18,7 @@ use Rattle.pushdown.specs.Admission.{Loaded, SameProgram}
 use Rattle.pushdown.specs.Laws.{EventsKeepForRuns, KeepsFor}
 use Rattle.pushdown.specs.Happenings.{happens, just_loaded, keeping, load_checks, slots_left}
 use Rattle.pushdown.specs.Outcome.{Ending}
-use Rattle.pushdown.specs.State.{Place, State, in_use, place_at, program_at, source_of, uses}
+use Rattle.pushdown.specs.State.{Place, State, in_use, loaded_at, place_at, source_of, uses}
 use Rattle.device_events.specs.declared.event.Event.{Event}
 use Rattle.pushdown.proofs.Added.{added_grows, added_shape}
 use Rattle.pushdown.proofs.Changes.{after_event}
@@ -44,10 +44,10 @@ set_program (x ∷ xs) (suc i) (suc j) new same = set_program xs i j new same
 
 -- a turn leaves each slot its program
 pub left_program : (s : State) (p : Place) (ending : Option Ending) (slot : ℕ)
-    → SameProgram (program_at s slot) (get_or (slots_left s p ending) slot None)
-left_program s p None slot = same_program (program_at s slot)
+    → SameProgram (loaded_at s slot) (get_or (slots_left s p ending) slot None)
+left_program s p None slot = same_program (loaded_at s slot)
 left_program s p (Some ending) slot =
-    let old = program_at s p.slot in set_program s.slots p.slot slot (keeping old ending.result) (keeping_same old ending.result)
+    let old = loaded_at s p.slot in set_program s.slots p.slot slot (keeping old ending.result) (keeping_same old ending.result)
 
 -- ---- what an active run holds
 
@@ -63,7 +63,7 @@ used_at places run place at =
 -- ---- events
 
 unchanged : (place : Place) (s : State) → KeepsFor place s s
-unchanged place s = record { source = grows_by_none (zone_at s.namespace place.source).blocks; program = same_program (program_at s place.slot); shape_kept = refl }
+unchanged place s = record { source = grows_by_none (zone_at s.namespace place.source).blocks; program = same_program (loaded_at s place.slot); shape_kept = refl }
 
 -- a Load doesn't take the slot of an active run
 not_loaded : (s : State) (run : ℕ) (place : Place) (load : LoadCommand) (input : List ℕ) → place_at s run ≡ Some place
@@ -81,7 +81,7 @@ module _ {D : Type 0} (operations : Operations D) where
     step = λ step same is. record {
       source = held_sources_keep_blocks step s.namespace place.source
           (subst (λ (holds : Holds). is_source holds place.source ≡ true) (sym same) (source_at s.places run place at));
-      program = same_program (program_at s place.slot);
+      program = same_program (loaded_at s place.slot);
       shape_kept = shapes_are_kept step s.namespace;
     };
     load = λ sub load t are takes.
@@ -89,12 +89,12 @@ module _ {D : Type 0} (operations : Operations D) where
         let other = get_or-set_other s.slots load.slot place.slot new None (not_loaded s run place load sub.input at takes.passed) in
         record {
           source = grows_by_none (zone_at s.namespace place.source).blocks;
-          program = subst (SameProgram (program_at s place.slot)) (sym other) (same_program (program_at s place.slot));
+          program = subst (SameProgram (loaded_at s place.slot)) (sym other) (same_program (loaded_at s place.slot));
           shape_kept = refl;
         };
     start = λ sub command first passed free some. record {
       source = grows_by_none (zone_at s.namespace place.source).blocks;
-      program = same_program (program_at s place.slot);
+      program = same_program (loaded_at s place.slot);
       shape_kept = refl;
     };
     turn = λ other p turn later is there first. record {

@@ -14,7 +14,7 @@ use Rattle.device_events.specs.Replies.{ReplyWithData, without_data}
 use Rattle.pushdown.specs.Laws.{PendingIsAdmitted}
 use Rattle.pushdown.specs.Happenings.{result_by, start_by, submitted, why_not_run}
 use Rattle.pushdown.specs.Pushdown.{IsAdmitted}
-use Rattle.pushdown.specs.State.{State, free_place, program_at}
+use Rattle.pushdown.specs.State.{State, free_place, loaded_at}
 use Rattle.device_events.specs.declared.reply.Reply.{Reply}
 use Rattle.device_events.specs.declared.reply.Reply.TheVariants as reply
 use Rattle.pushdown.proofs.Loads.{is_pending, loading_is}
@@ -55,7 +55,7 @@ module _ {D : Type 0} (operations : Operations D) where
       let both = start_pends (why_not_run sub s command) (free_place s) sub s command run is in
       (command, record { asked = e; passed = both.0; free = both.1 })
   pends starved sub s (Ok (commands.Result slot)) run e is =
-      absurd (given_pends (program_at s slot) (first_failed (transfer_checks 0 0 sub.input)) sub s run is)
+      absurd (given_pends (loaded_at s slot) (first_failed (transfer_checks 0 0 sub.input)) sub s run is)
 
   pub pending_is_admitted : PendingIsAdmitted operations
   pending_is_admitted s starved queue entry input run is =

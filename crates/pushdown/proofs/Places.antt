@@ -16,7 +16,7 @@ use Rattle.pushdown.specs.Admission.{admission_checks, destination_zone}
 use Rattle.pushdown.specs.EventReplies.{Submission}
 use Rattle.pushdown.specs.Happenings.{admitted_place, happens, place_left, turned, why_not_run}
 use Rattle.pushdown.specs.Outcome.{Ending, Turn}
-use Rattle.pushdown.specs.State.{Place, State, destination_of, free_place, holds_at, new_state, program_at}
+use Rattle.pushdown.specs.State.{Place, State, destination_of, free_place, holds_at, loaded_at, new_state}
 use Rattle.device_events.specs.declared.event.Event.{Event}
 use Rattle.pushdown.proofs.Changes.{after_event, after_turn}
 
@@ -74,7 +74,7 @@ pub admitted_free : (sub : Submission) (s : State) (command : RunCommand) → wh
 admitted_free sub s command none =
     let holds = holds_at s in
     let z = destination_zone s.namespace command in
-    let checks = admission_checks s.namespace holds (is_some (free_place s)) (program_at s command.slot) command sub.input in
+    let checks = admission_checks s.namespace holds (is_some (free_place s)) (loaded_at s command.slot) command sub.input in
     not-true (is_destination holds z) (demanded (not (is_destination holds z)) ZONE_HELD (passed checks 11 none))
 
 -- a run to a zone that no other has

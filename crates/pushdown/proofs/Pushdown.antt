@@ -25,7 +25,7 @@ use Rattle.pushdown.specs.Laws.{AdmittedStarts, StartsRun}
 use Rattle.pushdown.specs.Happenings.{admitted_place, happens, start_by, submitted}
 use Rattle.pushdown.specs.Outcome.{Turn, outcome}
 use Rattle.pushdown.specs.Pushdown.{ChangesDestinationAlone, DoesItsTurns, EndsWithLast, IsAdmitted, Pushdown, TellsFramesAndBlocks, blocks_at, no_turn, own_turns}
-use Rattle.pushdown.specs.State.{Place, State, free_place, holds_at, place_at, program_at, with_place}
+use Rattle.pushdown.specs.State.{Place, State, free_place, holds_at, loaded_at, place_at, with_place}
 use Rattle.device_events.specs.declared.event.Event.TheVariants as event
 use Rattle.device_events.specs.declared.reply.Reply.TheVariants as reply
 use Rattle.pushdown.proofs.Added.{added_leaves, added_shape, open_on}
@@ -74,7 +74,7 @@ module _ {D : Type 0} (operations : Operations D) (s : State) (queue : ℕ) (ent
 
   destination_on : IsAdmitted s sub command run → (zone_at s.namespace place.destination).state ≢ Offline
   destination_on admitted =
-      let checks = admission_checks s.namespace (holds_at s) (is_some (free_place s)) (program_at s command.slot) command sub.input in
+      let checks = admission_checks s.namespace (holds_at s) (is_some (free_place s)) (loaded_at s command.slot) command sub.input in
       let state = (zone_at s.namespace place.destination).state in
       open_on state (demanded (is_open state) DESTINATION_NOT_OPEN (passed checks 12 admitted.passed))
 
@@ -134,7 +134,7 @@ module _ {D : Type 0} (operations : Operations D) (s : State) (queue : ℕ) (ent
           program_left = next.program_left;
           same_blocks = λ ns same_size same_source.
               let of : ℕ → List (List ℕ) → List Turn =
-              λ block source. outcome (task_of (record s.namespace { block = block }) (program_at s command.slot) command) source in
+              λ block source. outcome (task_of (record s.namespace { block = block }) (loaded_at s command.slot) command) source in
               ap (λ (block : ℕ). of block (source_blocks ns command)) same_size ∙ ap (of s.namespace.block) same_source;
         }
 
@@ -153,7 +153,7 @@ module _ {D : Type 0} (operations : Operations D) (never : AcceptedNeverTraps op
   tells_frames_and_blocks admitted =
       let none = admitted.passed in
       let ns = s.namespace in
-      let task = task_of ns (program_at s command.slot) command in
+      let task = task_of ns (loaded_at s command.slot) command in
       let source = source_blocks ns command in
       let block_runs = block_runs_of task source in
       let some : 1 ≤ command.blocks = decoded_has entry (commands.Run command) admitted.asked in
@@ -180,7 +180,7 @@ pushdown operations never s reached queue entry input starved command run after 
     let sub = submission_of queue entry input.items in
     let fine = reached_fine operations never s reached in
     let block = reached.first.block in
-    let task = task_of s.namespace (program_at s command.slot) command in
+    let task = task_of s.namespace (loaded_at s command.slot) command in
     let block_runs = block_runs_of task (source_blocks s.namespace command) in
     let none = admitted.passed in
     let done = runs_all_done operations never block sub s command fine none in

@@ -27,7 +27,7 @@ use Rattle.pushdown.specs.Outcome.{Ending, Turn, ending_of}
 use Rattle.pushdown.specs.Pushdown.{IsAdmitted, block_runs, no_turn, now, own_turns, place, task}
 use Rattle.pushdown.specs.ReadBack.{IsCompleted, LoadSucceeds, NoEventReplaces, NoRunEnds, ResultGives, ResultsReadBack, Submits, after_turn}
 use Rattle.pushdown.specs.Reached.{IsReached}
-use Rattle.pushdown.specs.State.{Place, State, free_place, holds_at, place_at, program_at, uses}
+use Rattle.pushdown.specs.State.{Place, State, free_place, holds_at, loaded_at, place_at, uses}
 use Rattle.device_events.specs.declared.event.Event.{Event}
 use Rattle.device_events.specs.declared.event.Event.TheVariants as event
 use Rattle.pushdown.proofs.Answered.{only_loads_change_slots}
@@ -42,9 +42,9 @@ use Rattle.pushdown.proofs.TurnsDone.{left_other}
 -- ---- a slot that has a program has one
 
 module _ {D : Type 0} (operations : Operations D) where
-  event_leaves_some : (s : State) (starved : Bool) (e : Event) (slot : ℕ) → is_some (program_at s slot) ≡ true
-      → is_some (program_at (happens operations s starved e).state slot) ≡ true
-  event_leaves_some s starved e slot is = after_event operations (λ (t : State). is_some (program_at t slot) ≡ true) s starved e (record {
+  event_leaves_some : (s : State) (starved : Bool) (e : Event) (slot : ℕ) → is_some (loaded_at s slot) ≡ true
+      → is_some (loaded_at (happens operations s starved e).state slot) ≡ true
+  event_leaves_some s starved e slot is = after_event operations (λ (t : State). is_some (loaded_at t slot) ≡ true) s starved e (record {
     same = is;
     step = λ step same fit. is;
     load = λ sub load t are takes. set_some s.slots load.slot slot (just_loaded takes.program load.limit) is;
@@ -52,8 +52,8 @@ module _ {D : Type 0} (operations : Operations D) where
     turn = λ run place turn later own at first. (left_program s place turn.ending slot).loaded ∙ is;
   })
 
-  pub events_leave_some : (events : List Occurrence) (s : State) (slot : ℕ) → is_some (program_at s slot) ≡ true
-      → is_some (program_at (state_after operations events s) slot) ≡ true
+  pub events_leave_some : (events : List Occurrence) (s : State) (slot : ℕ) → is_some (loaded_at s slot) ≡ true
+      → is_some (loaded_at (state_after operations events s) slot) ≡ true
   events_leave_some [] s slot is = is
   events_leave_some (o ∷ os) s slot is =
       events_leave_some os (happens operations s o.starved o.event).state slot (event_leaves_some s o.starved o.event slot is)
@@ -63,10 +63,10 @@ module _ {D : Type 0} (operations : Operations D) where
 -- a slot with a program, and with these bytes as its result
 pub record HasResult (s : State) (slot : ℕ) (bytes : List ℕ) : Type 0 where
   pub loaded : Loaded
-  pub at : program_at s slot ≡ Some loaded
+  pub at : loaded_at s slot ≡ Some loaded
   pub result : loaded.result ≡ bytes
 
-keeping_has : (s : State) (slot : ℕ) (bytes : List ℕ) (old : Option Loaded) → program_at s slot ≡ old → is_some old ≡ true
+keeping_has : (s : State) (slot : ℕ) (bytes : List ℕ) (old : Option Loaded) → loaded_at s slot ≡ old → is_some old ≡ true
     → HasResult (record s { slots = set s.slots slot (keeping old (Some bytes)) }) slot bytes
 keeping_has s slot bytes (Some loaded) at is =
     let new : Loaded = record loaded { result = bytes } in
@@ -90,7 +90,7 @@ last_scratch_long task (run ∷ next ∷ block_runs) done some = last_scratch_lo
 module _ {D : Type 0} (operations : Operations D) (slot : ℕ) where
   left_by : (s : State) (run : ℕ) (p : Place) (turn : Turn) (later : List Turn) (ending : Option Ending) → place_at s run ≡ Some p
       → turn.ending ≡ ending → NoRunEnds slot s (take_turn s run p (turn ∷ later)).state
-      → get_or (slots_left s p ending) slot None ≡ program_at s slot
+      → get_or (slots_left s p ending) slot None ≡ loaded_at s slot
   left_by s run p turn later None at is none = refl
   left_by s run p turn later (Some ending) at is none = elim (eqb_tells p.slot slot) [
     | inl same ↦
@@ -104,7 +104,7 @@ module _ {D : Type 0} (operations : Operations D) (slot : ℕ) where
   ]
 
   event_leaves : (s : State) (starved : Bool) (e : Event) → NoRunEnds slot s (happens operations s starved e).state
-      → (LoadSucceeds slot e (happens operations s starved e).reply → ⊥) → program_at (happens operations s starved e).state slot ≡ program_at s slot
+      → (LoadSucceeds slot e (happens operations s starved e).reply → ⊥) → loaded_at (happens operations s starved e).state slot ≡ loaded_at s slot
   event_leaves s starved (event.Submit queue entry input) ends loads = elim (only_loads_change_slots operations s starved queue entry input) [
     | inl same ↦ ap (λ (xs : List (Option Loaded)). get_or xs slot None) same
     | inr loaded ↦
@@ -112,17 +112,17 @@ module _ {D : Type 0} (operations : Operations D) (slot : ℕ) where
         let is = loaded.1 in
         elim (eqb_tells load.slot slot) [
           | inl same ↦ absurd (loads (load, (is.asked, (same.1, is.reply))))
-          | inr differs ↦ ap (λ (t : State). program_at t slot) is.state
+          | inr differs ↦ ap (λ (t : State). loaded_at t slot) is.state
               ∙ get_or-set_other s.slots load.slot slot (Some (just_loaded is.program load.limit)) None (λ equal. differs.1 (sym equal))
         ]
   ]
   event_leaves s starved (event.Turn run) ends loads =
-      turn_changes (λ (t : State). NoRunEnds slot s t → program_at t slot ≡ program_at s slot) s run (λ none. refl)
+      turn_changes (λ (t : State). NoRunEnds slot s t → loaded_at t slot ≡ loaded_at s slot) s run (λ none. refl)
       (λ p turn later at is. left_by s run p turn later turn.ending at refl) ends
   event_leaves s starved (event.Fault zone state) ends loads = refl
 
   pub events_leave : (events : List Occurrence) (s : State) → NoEventReplaces operations slot events s
-      → program_at (state_after operations events s) slot ≡ program_at s slot
+      → loaded_at (state_after operations events s) slot ≡ loaded_at s slot
   events_leave [] s none = refl
   events_leave (o ∷ os) s none =
       events_leave os (happens operations s o.starved o.event).state none.1.1 ∙ event_leaves s o.starved o.event none.0 none.1.0
@@ -135,7 +135,7 @@ module _ {D : Type 0} (operations : Operations D) (s : State) (slot : ℕ) (byte
   given (event.Submit queue entry input) starved is =
       let sub = submission_of queue entry input.items in
       ap (λ (r : Result Command Status). submitted operations starved sub s r) is.0
-      ∙ ap (λ (xs : List ℕ). result_by (program_at s slot) (first_failed (transfer_checks 0 0 xs)) sub s) is.1
+      ∙ ap (λ (xs : List ℕ). result_by (loaded_at s slot) (first_failed (transfer_checks 0 0 xs)) sub s) is.1
       ∙ ap (λ (of : Option Loaded). result_by of None sub s) has.at
       ∙ ap (λ (xs : List ℕ). completed sub SUCCESS 0 0 xs s) has.result
   given (event.Turn run) starved is = absurd is
@@ -164,12 +164,12 @@ module _ {D : Type 0} (operations : Operations D) (never : AcceptedNeverTraps op
   then = after_turn operations s queue entry input starved command run events later
 
   module _ (admitted : IsAdmitted s sub command run) where
-    has_program : is_some (program_at before_turn command.slot) ≡ true
+    has_program : is_some (loaded_at before_turn command.slot) ≡ true
     has_program =
-        let checks = admission_checks s.namespace (holds_at s) (is_some (free_place s)) (program_at s command.slot) command sub.input in
+        let checks = admission_checks s.namespace (holds_at s) (is_some (free_place s)) (loaded_at s command.slot) command sub.input in
         let asked : Occurrence = record { event = event.Submit queue entry input; starved = starved } in
         events_leave_some operations (asked ∷ events) s command.slot
-        (demanded (is_some (program_at s command.slot)) NO_SUCH_PROGRAM (passed checks 2 admitted.passed))
+        (demanded (is_some (loaded_at s command.slot)) NO_SUCH_PROGRAM (passed checks 2 admitted.passed))
 
     leaves_result : own_turns run events + 1 ≡ length here.turns → HasResult then command.slot (last_scratch all_runs)
     leaves_result last =
@@ -178,7 +178,7 @@ module _ {D : Type 0} (operations : Operations D) (never : AcceptedNeverTraps op
         let does = theorem.does_its_turns (omega (arith, last)) in
         let ending = last_ending here.turns k last ∙ theorem.tells_frames_and_blocks.ending in
         let slots = does.then_slots ∙ ap (slots_left before_turn here) ending in
-        let old = program_at before_turn command.slot in
+        let old = loaded_at before_turn command.slot in
         let new = keeping_has before_turn command.slot (last_scratch all_runs) old refl has_program in
         record { loaded = new.loaded; at = ap (λ (xs : List (Option Loaded)). get_or xs command.slot None) slots ∙ new.at; result = new.result }
 

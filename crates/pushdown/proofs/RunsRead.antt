@@ -22,7 +22,7 @@ use Rattle.pushdown.specs.Outcome.{Turn, appended_by}
 use Rattle.pushdown.specs.Pushdown.{IsAdmitted, blocks_at, own_turns}
 use Rattle.pushdown.specs.ReadBack.{AppendedAreRead, AppendedByRunsReadsBack, EmittedAreRead, NoEventClears, ReadsGive, after_turn, destination, pointer, turns}
 use Rattle.pushdown.specs.Reached.{IsReached}
-use Rattle.pushdown.specs.State.{State, free_place, holds_at, program_at}
+use Rattle.pushdown.specs.State.{State, free_place, holds_at, loaded_at}
 use Rattle.device_events.specs.declared.event.Event.TheVariants as event
 use Rattle.pushdown.proofs.Emitted.{outcome_unpacks}
 use Rattle.pushdown.proofs.Pushdown.{pushdown}
@@ -33,7 +33,7 @@ use Rattle.pushdown.proofs.States.{IsFine, events_fine, reached_fine, turn_fine}
 -- no data stands beside a Run
 admitted_bytes : (s : State) (sub : Submission) (command : RunCommand) (run : ℕ) → IsAdmitted s sub command run → AreBytes sub.input
 admitted_bytes s sub command run admitted =
-    let checks = admission_checks s.namespace (holds_at s) (is_some (free_place s)) (program_at s command.slot) command sub.input in
+    let checks = admission_checks s.namespace (holds_at s) (is_some (free_place s)) (loaded_at s command.slot) command sub.input in
     let test = nat_eq (length sub.input) 0 in
     subst AreBytes (sym (nil_from_length sub.input (eqb-true (length sub.input) 0 (demanded test INVALID_FIELD_IN_COMMAND (passed checks 1 admitted.passed))))) (λ i. omega arith)
 

@@ -47,7 +47,7 @@ use Rattle.pushdown.specs.Happenings.{admitted_place, happens, just_loaded, keep
 use Rattle.pushdown.specs.Outcome.{Ending, Turn, appended_by, nothing_emitted, outcome}
 use Rattle.pushdown.specs.Pushdown.{EndsWithLast, Succeeds}
 use Rattle.pushdown.specs.Reached.{IsReached}
-use Rattle.pushdown.specs.State.{Place, State, free_place, holds_at, new_state, place_at, program_at, with_namespace, with_place, with_slot}
+use Rattle.pushdown.specs.State.{Place, State, free_place, holds_at, loaded_at, new_state, place_at, with_namespace, with_place, with_slot}
 use Rattle.device_events.specs.declared.event.Event.{Event}
 use Rattle.pushdown.proofs.Added.{added_block}
 use Rattle.pushdown.proofs.BlockRuns.{IsDone, IsReady, few_runs, runs_done, some_runs}
@@ -190,7 +190,7 @@ module _ {D : Type 0} (operations : Operations D) (never : AcceptedNeverTraps op
   -- a run that no check refuses
   module _ (sub : Submission) (s : State) (command : RunCommand) (h : IsFine s) (none : why_not_run sub s command ≡ None) where
     abbrev pub task : Task
-    task = task_of s.namespace (program_at s command.slot) command
+    task = task_of s.namespace (loaded_at s command.slot) command
 
     abbrev pub source : List (List ℕ)
     source = source_blocks s.namespace command
@@ -199,11 +199,11 @@ module _ {D : Type 0} (operations : Operations D) (never : AcceptedNeverTraps op
     block_runs = block_runs_of task source
 
     abbrev checks : List (Option Status)
-    checks = admission_checks s.namespace (holds_at s) (is_some (free_place s)) (program_at s command.slot) command sub.input
+    checks = admission_checks s.namespace (holds_at s) (is_some (free_place s)) (loaded_at s command.slot) command sub.input
 
     pub ready : IsReady task
     ready =
-        let slot = program_at s command.slot in
+        let slot = loaded_at s command.slot in
         slot_ready s.namespace slot command h.is h.size (all_at SlotIsFine s.slots command.slot None h.slots tt)
         (demanded (is_some slot) NO_SUCH_PROGRAM (passed checks 2 none))
 
@@ -290,7 +290,7 @@ module _ {D : Type 0} (operations : Operations D) (never : AcceptedNeverTraps op
   slots_fine : (s : State) (place : Place) (ending : Option Ending) → IsFine s → AllByRecursion SlotIsFine (slots_left s place ending)
   slots_fine s place None h = h.slots
   slots_fine s place (Some ending) h =
-      let slot = program_at s place.slot in
+      let slot = loaded_at s place.slot in
       all_set SlotIsFine s.slots place.slot (keeping slot ending.result) h.slots
       (kept_fine slot ending.result (all_at SlotIsFine s.slots place.slot None h.slots tt))
 
@@ -337,7 +337,7 @@ module _ {D : Type 0} (operations : Operations D) (never : AcceptedNeverTraps op
   events_fine (o ∷ os) s h are = events_fine os (happens operations s o.starved o.event).state (event_fine s o.starved o.event h are.0) are.1
 
   -- each loaded program is accepted
-  programs : (s : State) → IsFine s → (slot : ℕ) (loaded : Loaded) → program_at s slot ≡ Some loaded → IsAcceptedIn operations s.namespace loaded
+  programs : (s : State) → IsFine s → (slot : ℕ) (loaded : Loaded) → loaded_at s slot ≡ Some loaded → IsAcceptedIn operations s.namespace loaded
   programs s h slot loaded at =
       let fine = subst SlotIsFine at (all_at SlotIsFine s.slots slot None h.slots tt) in
       let judge : ℕ → Option Refusal = λ n. refusal operations loaded.program (record { block = n; limit = loaded.limit }) in

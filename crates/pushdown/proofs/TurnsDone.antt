@@ -17,7 +17,7 @@ use Rattle.pushdown.specs.Happenings.{added, happens, keeping, place_left, slots
 use Rattle.pushdown.specs.Outcome.{Ending, Turn, appended_by}
 use Rattle.zone_resources.specs.Counts.{one_if}
 use Rattle.pushdown.specs.Pushdown.{EndsWithLast, blocks_at, is_turn_of, no_turn, own_turns}
-use Rattle.pushdown.specs.State.{Place, State, place_at, program_at}
+use Rattle.pushdown.specs.State.{Place, State, loaded_at, place_at}
 use Rattle.device_events.specs.declared.event.Event.{Event}
 use Rattle.device_events.specs.declared.event.Event.TheVariants as event
 use Rattle.pushdown.proofs.Added.{added_leaves, is_added}
@@ -150,10 +150,10 @@ take_next (turn ∷ turns) (suc k) less =
 
 -- ---- the slot of a run's program
 
-pub left_other : (s : State) (place : Place) (ending : Option Ending) (slot : ℕ) → slot ≢ place.slot → get_or (slots_left s place ending) slot None ≡ program_at s slot
+pub left_other : (s : State) (place : Place) (ending : Option Ending) (slot : ℕ) → slot ≢ place.slot → get_or (slots_left s place ending) slot None ≡ loaded_at s slot
 left_other s place None slot differs = refl
 left_other s place (Some ending) slot differs =
-    get_or-set_other s.slots place.slot slot (keeping (program_at s place.slot) ending.result) None differs
+    get_or-set_other s.slots place.slot slot (keeping (loaded_at s place.slot) ending.result) None differs
 
 -- ---- the turns that a place had don't matter for what is left
 
@@ -178,8 +178,8 @@ pub record Next (s now : State) (run : ℕ) (place : Place) (turns : List Turn) 
   pub then_left : place_at (turned now run).state run ≡ place_left place (drop (k + 1) turns) (get_or turns k no_turn).ending
   pub then_slots : (turned now run).state.slots ≡ slots_left now place (get_or turns k no_turn).ending
   pub other_runs : (other : ℕ) → other ≢ run → place_at (turned now run).state other ≡ place_at now other
-  pub other_slots : (slot : ℕ) → slot ≢ place.slot → program_at (turned now run).state slot ≡ program_at now slot
-  pub program_left : SameProgram (program_at now place.slot) (program_at (turned now run).state place.slot)
+  pub other_slots : (slot : ℕ) → slot ≢ place.slot → loaded_at (turned now run).state slot ≡ loaded_at now slot
+  pub program_left : SameProgram (loaded_at now place.slot) (loaded_at (turned now run).state place.slot)
 
 pub next_is : (s now : State) (run : ℕ) (place : Place) (turns : List Turn) (k : ℕ) → Stands s now run place turns k → k < length turns
     → Next s now run place turns k
@@ -205,7 +205,7 @@ next_is s now run place turns k stands less =
       other_runs = λ other differs.
           ap (λ (h : Happening). place_at h.state other) took
           ∙ get_or-set_other now.places run other (place_left here later turn.ending) None differs;
-      other_slots = λ slot differs. ap (λ (h : Happening). program_at h.state slot) took ∙ left_other now here turn.ending slot differs;
-      program_left = subst (λ (h : Happening). SameProgram (program_at now place.slot) (program_at h.state place.slot)) (sym took)
+      other_slots = λ slot differs. ap (λ (h : Happening). loaded_at h.state slot) took ∙ left_other now here turn.ending slot differs;
+      program_left = subst (λ (h : Happening). SameProgram (loaded_at now place.slot) (loaded_at h.state place.slot)) (sym took)
           (left_program now here turn.ending place.slot);
     }

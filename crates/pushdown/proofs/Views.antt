@@ -11,7 +11,7 @@ use Rattle.pushdown.specs.EventReplies.{Submission}
 use Rattle.pushdown.specs.BlockRuns.{Task}
 use Rattle.pushdown.specs.Happenings.{admitted_place}
 use Rattle.pushdown.specs.Outcome.{Turn, at_admission, rest}
-use Rattle.pushdown.specs.State.{Place, program_at}
+use Rattle.pushdown.specs.State.{Place, loaded_at}
 use Rattle.pushdown.specs.View.{SeenAtAdmission, SeenStays, begun, to_come}
 use Rattle.pushdown.proofs.Rests.{rest_at_admission}
 
@@ -25,7 +25,7 @@ to_come_first ns sub command =
 
 pub seen_at_admission : SeenAtAdmission
 seen_at_admission sub s command =
-    let task = task_of s.namespace (program_at s command.slot) command in
+    let task = task_of s.namespace (loaded_at s command.slot) command in
     let with : List Turn → Place = λ turns. record (admitted_place sub s command) { turns = turns } in
     ap (λ (blocks : List (List ℕ)). with (rest task at_admission blocks)) (to_come_first s.namespace sub command)
     ∙ ap with (rest_at_admission task (source_blocks s.namespace command))

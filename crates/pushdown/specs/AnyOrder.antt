@@ -6,7 +6,7 @@ use Rattle.pushdown.specs.Admission.{SameProgram}
 use Rattle.device_events.specs.Replies.{ReplyWithData}
 use Rattle.pushdown.specs.Draining.{replies_to_turns, state_after_turns}
 use Rattle.pushdown.specs.Reached.{IsReached}
-use Rattle.pushdown.specs.State.{Place, State, place_at, program_at}
+use Rattle.pushdown.specs.State.{Place, State, loaded_at, place_at}
 
 -- each run has as many turns in the one list as in the other
 abbrev pub AreSameTurns : List ℕ → List ℕ → Type 0
@@ -27,8 +27,8 @@ IsUnshared s slot =
 pub record ComeToTheSame (s : State) (first second : List ℕ) : Type 0 where
   pub namespace : (state_after_turns first s).namespace ≡ (state_after_turns second s).namespace
   pub places : (state_after_turns first s).places ≡ (state_after_turns second s).places
-  pub programs : (slot : ℕ) → SameProgram (program_at (state_after_turns first s) slot) (program_at (state_after_turns second s) slot)
-  pub results : (slot : ℕ) → IsUnshared s slot → program_at (state_after_turns first s) slot ≡ program_at (state_after_turns second s) slot
+  pub programs : (slot : ℕ) → SameProgram (loaded_at (state_after_turns first s) slot) (loaded_at (state_after_turns second s) slot)
+  pub results : (slot : ℕ) → IsUnshared s slot → loaded_at (state_after_turns first s) slot ≡ loaded_at (state_after_turns second s) slot
   pub whole : ((slot : ℕ) → IsUnshared s slot) → state_after_turns first s ≡ state_after_turns second s
   pub replies : (run : ℕ) → own_replies run first (replies_to_turns first s) ≡ own_replies run second (replies_to_turns second s)
 

@@ -28,7 +28,7 @@ use Rattle.device_events.specs.Replies.{ReplyWithData, without_data}
 use Rattle.pushdown.specs.EventReplies.{Happening, Submission, completion, completed, refused, idle, submission_of}
 use Rattle.pushdown.specs.BlockRuns.{no_scratch}
 use Rattle.pushdown.specs.Outcome.{Turn, Ending, outcome}
-use Rattle.pushdown.specs.State.{Place, State, holds_at, program_at, place_at, in_use, free_place, with_namespace, with_slot, with_place}
+use Rattle.pushdown.specs.State.{Place, State, holds_at, loaded_at, place_at, in_use, free_place, with_namespace, with_slot, with_place}
 use Rattle.device_events.specs.declared.event.Event.{Event}
 use Rattle.device_events.specs.declared.event.Event.TheVariants as event
 use Rattle.device_events.specs.declared.reply.Reply.{Reply}
@@ -87,7 +87,7 @@ result_by (Some loaded) None sub s = completed sub SUCCESS 0 0 loaded.result s
 
 -- what a Result of a slot comes to
 abbrev pub giving_result : Submission → State → ℕ → Happening
-giving_result sub s slot = result_by (program_at s slot) (first_failed (transfer_checks 0 0 sub.input)) sub s
+giving_result sub s slot = result_by (loaded_at s slot) (first_failed (transfer_checks 0 0 sub.input)) sub s
 
 -- ---- Run
 
@@ -99,13 +99,13 @@ admitted_place sub s command = record {
   slot = command.slot;
   source = source_zone s.namespace command;
   destination = destination_zone s.namespace command;
-  turns = outcome (task_of s.namespace (program_at s command.slot) command) (source_blocks s.namespace command);
+  turns = outcome (task_of s.namespace (loaded_at s command.slot) command) (source_blocks s.namespace command);
 }
 
 -- the status of the first check that a run fails
 abbrev pub why_not_run : Submission → State → RunCommand → Option Status
 why_not_run sub s command =
-    run_refusal s.namespace (holds_at s) (is_some (free_place s)) (program_at s command.slot) command sub.input
+    run_refusal s.namespace (holds_at s) (is_some (free_place s)) (loaded_at s command.slot) command sub.input
 
 -- an admitted run takes the lowest free place, and its number; that there is one is among the checks
 abbrev pub start_by : Option Status → Option ℕ → Submission → State → RunCommand → Happening
@@ -138,7 +138,7 @@ place_left place later (Some ending) = None
 -- the slots after a turn: where it ends the run, its result is kept in its slot
 abbrev pub slots_left : State → Place → Option Ending → List (Option Loaded)
 slots_left s place None = s.slots
-slots_left s place (Some ending) = set s.slots place.slot (keeping (program_at s place.slot) ending.result)
+slots_left s place (Some ending) = set s.slots place.slot (keeping (loaded_at s place.slot) ending.result)
 
 -- the reply to a turn: the run's completion, where it ends the run
 abbrev pub turn_reply : ℕ → Place → Option Ending → ReplyWithData

@@ -34,7 +34,7 @@ use Rattle.pushdown.specs.Happenings.{added, admitted_place, happens, just_loade
 use Rattle.pushdown.specs.Outcome.{Ending, Progress, Turn, appended_by, at_admission, ending_of, last_turn, outcome, emitted_by, rest}
 use Rattle.pushdown.specs.Pushdown.{IsAdmitted, is_turn_of, success_of}
 use Rattle.pushdown.specs.Reached.{IsReached}
-use Rattle.pushdown.specs.State.{Place, State, place_at, program_at, with_slot}
+use Rattle.pushdown.specs.State.{Place, State, loaded_at, place_at, with_slot}
 use Rattle.device_events.specs.declared.event.Event.TheVariants as event
 use Rattle.device_events.specs.declared.reply.Reply.TheVariants as reply
 
@@ -180,7 +180,7 @@ TurnTakesFirst =
 -- what is kept for an active run: the blocks of its source, its program, and the shape of the namespace
 pub record KeepsFor (place : Place) (s t : State) : Type 0 where
   pub source : Grows (zone_at s.namespace place.source).blocks (zone_at t.namespace place.source).blocks
-  pub program : SameProgram (program_at s place.slot) (program_at t place.slot)
+  pub program : SameProgram (loaded_at s place.slot) (loaded_at t place.slot)
   pub shape_kept : shape t.namespace ≡ shape s.namespace
 
 -- every event keeps it, the turns of the run and of others among them
@@ -213,7 +213,7 @@ module _ {D : Type 0} (operations : Operations D) where
   -- each run fits, and what its next turn appends is appended
   pub record IsSoundState (s : State) : Type 0 where
     pub namespace : IsNamespace s.namespace
-    pub programs : (slot : ℕ) (loaded : Loaded) → program_at s slot ≡ Some loaded → IsAcceptedIn s.namespace loaded
+    pub programs : (slot : ℕ) (loaded : Loaded) → loaded_at s slot ≡ Some loaded → IsAcceptedIn s.namespace loaded
     pub rooms : (run : ℕ) (place : Place) → place_at s run ≡ Some place
         → RoomIn s.namespace.capacity (zone_at s.namespace place.destination) place.turns
     pub appends : (run : ℕ) (place : Place) (turn : Turn) (later : List Turn) → place_at s run ≡ Some place
@@ -269,7 +269,7 @@ abbrev pub OutcomeUnpacks : {D : Type 0} → Operations D → Type 0
 OutcomeUnpacks operations =
     (s : State) → IsReached operations s
     → (sub : Submission) (command : RunCommand) (run : ℕ) → IsAdmitted s sub command run
-    → let task = task_of s.namespace (program_at s command.slot) command in
+    → let task = task_of s.namespace (loaded_at s command.slot) command in
     let source = source_blocks s.namespace command in
     (records : List (List (List ℕ))) × (AreEmitted (block_runs_of task source) records
     × (unpacked task.sizes.block (concat (appended_by (outcome task source))) ≡ Ok (flat_map (λ group. group) records)))

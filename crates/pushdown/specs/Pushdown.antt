@@ -26,7 +26,7 @@ use Rattle.pushdown.specs.Events.{Occurrence, state_after}
 use Rattle.pushdown.specs.Happenings.{added, admitted_place, place_left, slots_left, turn_reply, turned, why_not_run}
 use Rattle.pushdown.specs.Outcome.{Ending, Turn, appended_by, ending_of, outcome, success}
 use Rattle.pushdown.specs.Reached.{IsReached}
-use Rattle.pushdown.specs.State.{Place, State, free_place, place_at, program_at}
+use Rattle.pushdown.specs.State.{Place, State, free_place, loaded_at, place_at}
 use Rattle.device_events.specs.declared.event.Event.{Event}
 use Rattle.device_events.specs.declared.event.Event.TheVariants as event
 
@@ -85,7 +85,7 @@ module _ {D : Type 0} (operations : Operations D) where
 
     -- what is fixed at admission: what the run is about, which with the source blocks decides its block runs and its turns
     abbrev pub task : Task
-    task = task_of s.namespace (program_at s command.slot) command
+    task = task_of s.namespace (loaded_at s command.slot) command
 
     -- its block runs
     abbrev pub block_runs : List BlockRun
@@ -128,11 +128,11 @@ module _ {D : Type 0} (operations : Operations D) where
       pub shape_kept : shape next.state.namespace ≡ shape now.namespace
       pub at_its_end : blocks_at next.state place.destination ≡ blocks_at now place.destination ++ turn.blocks
       pub other_runs : (other : ℕ) → other ≢ run → place_at next.state other ≡ place_at now other
-      pub other_slots : (slot : ℕ) → slot ≢ command.slot → program_at next.state slot ≡ program_at now slot
-      pub program_left : SameProgram (program_at now command.slot) (program_at next.state command.slot)
+      pub other_slots : (slot : ℕ) → slot ≢ command.slot → loaded_at next.state slot ≡ loaded_at now slot
+      pub program_left : SameProgram (loaded_at now command.slot) (loaded_at next.state command.slot)
       pub same_blocks : (ns : ZonedNamespace) → ns.block ≡ s.namespace.block
           → source_blocks ns command ≡ source_blocks s.namespace command
-          → outcome (task_of ns (program_at s command.slot) command) (source_blocks ns command) ≡ place.turns
+          → outcome (task_of ns (loaded_at s command.slot) command) (source_blocks ns command) ≡ place.turns
 
     -- 4. After k own turns the first k turns of those fixed at admission are done: their blocks stand in order
     -- directly behind what the destination held at admission, and the others are left. The reply to the next

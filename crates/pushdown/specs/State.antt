@@ -28,9 +28,9 @@ pub record State : Type 0 where
 abbrev pub new_state : ZonedNamespace → State
 new_state ns = record { namespace = ns; slots = replicate PROGRAM_SLOTS None; places = replicate RUNS None }
 
--- the program in a slot
-abbrev pub program_at : State → ℕ → Option Loaded
-program_at s slot = get_or s.slots slot None
+-- what is loaded in a slot
+abbrev pub loaded_at : State → ℕ → Option Loaded
+loaded_at s slot = get_or s.slots slot None
 
 -- the run at a place
 abbrev pub place_at : State → ℕ → Option Place

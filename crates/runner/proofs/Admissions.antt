@@ -17,7 +17,7 @@ use Rattle.zns_commands.specs.Address.{zone_block_in}
 use Rattle.pushdown.specs.Admission.{Loaded, address_checks, destination_checks, destination_zone, run_refusal, sizes_in, source_checks}
 use Rattle.pushdown.specs.EventReplies.{Submission}
 use Rattle.pushdown.specs.Happenings.{why_not_run}
-use Rattle.pushdown.specs.State.{program_at}
+use Rattle.pushdown.specs.State.{loaded_at}
 use Rattle.runner.specs.steps.Admitting.{AreZonesOf}
 use Rattle.runner.specs.DeviceState.{loaded_slot, device_state}
 use Rattle.runner.specs.steps.ActiveRuns.{held_by}
@@ -61,7 +61,7 @@ last_decides ns holds place_free slot command input source destination blocks no
 
 -- what a device tests is what is said of its state
 module _ (ns : ZonedNamespace) (slots : List (Option LoadedProgram)) (runs : List (Option ActiveRun)) where
-  pub program_is : (slot : ℕ) → program_at (device_state ns slots runs) slot ≡ loaded_slot (get_or slots slot None)
+  pub program_is : (slot : ℕ) → loaded_at (device_state ns slots runs) slot ≡ loaded_slot (get_or slots slot None)
   program_is slot = get_or-map loaded_slot slots slot None
 
   -- the sizes that the program of a slot was accepted for
@@ -90,6 +90,6 @@ module _ (ns : ZonedNamespace) (slots : List (Option LoadedProgram)) (runs : Lis
       ≡ run_refusal ns (held_by runs) (is_some (position is_none runs)) (loaded_slot (get_or slots command.slot None)) command sub.input
   why_is sub command ready =
       let s = device_state ns slots runs in
-      ap (λ (holds : Holds). run_refusal ns holds (is_some (position is_none s.places)) (program_at s command.slot) command sub.input) (sym (holds_are ns slots runs ready))
-      ∙ ap (λ (free : Option ℕ). run_refusal ns (held_by runs) (is_some free) (program_at s command.slot) command sub.input) (free_is ns slots runs)
+      ap (λ (holds : Holds). run_refusal ns holds (is_some (position is_none s.places)) (loaded_at s command.slot) command sub.input) (sym (holds_are ns slots runs ready))
+      ∙ ap (λ (free : Option ℕ). run_refusal ns (held_by runs) (is_some free) (loaded_at s command.slot) command sub.input) (free_is ns slots runs)
       ∙ ap (λ (slot : Option Loaded). run_refusal ns (held_by runs) (is_some (position is_none runs)) slot command sub.input) (program_is command.slot)
