@@ -36,8 +36,8 @@ module _ {D : Type 0} (operations : Operations D) where
 
 -- ---- what a device does with events
 
--- these are the occurrences of some events: memory may be refused to each, and only where it really is, which
--- no definition can say
+-- these are occurrences of these events, in order; at which of them memory is refused is left open, since no definition
+-- can say when there is none
 abbrev pub AreOccurrencesOf : List Event → List Occurrence → Type 0
 AreOccurrencesOf events occurrences = map (λ o. o.event) occurrences ≡ events
 
