@@ -1,4 +1,5 @@
--- A Write, an Append and a Run that entries spell have at least one block, and what is so spelled.
+-- That a Write, an Append and a Run that an entry is decoded to have at least one block, and that a command which has so,
+-- with bytes beside it, is one that entries can spell.
 use Rattle.std.proofs.Common.{◌≡◌, ℕ, ◌+◌, ◌≤◌, List, Ok, arith}
 use Rattle.zone_resources.specs.declared.holds.Holds.{Holds}
 use Rattle.nvme_entry.specs.Entry.{decoded}

@@ -1,4 +1,5 @@
--- Laws of runs: what is left of them, whose turns are fixed, the room for what they append, and what it is.
+-- Laws of runs: the rest and the outcome of one, its admission and its turns, and what holds of each state that events
+-- leave; and of entries: what a refused one leaves, and which change slots.
 use Rattle.std.specs.Prelude.{◌≤◌, ◌*◌, ℕ, Bool, true, false, ◌≡◌, ◌≢◌, ◌+◌, List, [], ◌∷◌, length, map, Vec, Option, Some, None, Ok, ◌⊎◌, is_some}
 use Rattle.std.specs.List.{AllByRecursion, concat, flat_map}
 use Rattle.std.specs.declared.alloc.Global.{Global}
