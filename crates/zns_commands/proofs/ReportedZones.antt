@@ -1,11 +1,10 @@
 -- That reports list every zone.
-use Rattle.std.proofs.Common.{◌≡◌, ℕ, zero, suc, ◌+◌, ◌-◌, ◌*◌, ◌<◌, ◌≤◌, min, Bool, true, false, List, [], ◌∷◌, ◌++◌, length, take, drop, Option, None, refl, ap, sym, subst, ◌∙◌, arith, ⊎_elim}
+use Rattle.std.proofs.Common.{◌≡◌, ℕ, zero, suc, ◌+◌, ◌-◌, ◌*◌, ◌/◌, ◌<◌, ◌≤◌, min, Bool, true, false, List, [], ◌∷◌, ◌++◌, length, take, drop, Option, None, refl, ap, sym, subst, ◌∙◌, arith, ⊎_elim}
 use Rattle.std.specs.Prelude.{nat_le, nat_lt, map}
 use Rattle.std.specs.List.{enumerate_from}
 use Rattle.std.proofs.lemmas.Bool.{cases_lt, le-leb, le-ltb, lt-ltb}
 use Rattle.std.proofs.lemmas.List.{drop_all, drop-drop, drop-map, length-drop, length-map, take-append-drop, take-map}
 use Rattle.std.proofs.lemmas.List.FromFn.{length-enumerate_from}
-use Rattle.std.proofs.lemmas.Nat.{le-div}
 use Rattle.std.proofs.Math.Nat.{mul-le-mul_right, suc-mul}
 use Rattle.zone_state.specs.Zone.{CountedZone}
 use Rattle.zone_state.specs.declared.status.Status.{Status}
@@ -13,6 +12,7 @@ use Rattle.zone_state.specs.declared.status.TheConstants.Status.{SUCCESS, INVALI
 use Rattle.zone_resources.specs.declared.holds.Holds.{Holds}
 use Rattle.nvme_entry.specs.declared.command.StandardCommand.TheVariants.{Receive}
 use Rattle.nvme_entry.specs.declared.command.TheConstants.{MOST_TRANSFER}
+use Rattle.nvme_entry.specs.declared.report.TheConstants.{REPORT_HEADER_BYTES}
 use Rattle.nvme_entry.specs.declared.filter.ZoneFilter.TheVariants as filters
 use Rattle.program_interface.specs.Checks.{demand, first_failed}
 use Rattle.nvme_entry.specs.ReportLaws.{ReportsZones, number_in, descriptors_in, descriptor_room}
@@ -75,7 +75,7 @@ record ListsOn (ns : ZonedNamespace) (dwords z : ℕ) (bytes : List ℕ) : Type 
   given : descriptors_in (number_in bytes) bytes ≡ take (number_in bytes) (drop z (all_descriptors ns))
 
 -- where there are some,
-lists_some : (ns : ZonedNamespace) (holds : Holds) (dwords z : ℕ) → IsNamespace ns → 64 ≤ 4 * dwords → 4 * dwords ≤ MOST_TRANSFER
+lists_some : (ns : ZonedNamespace) (holds : Holds) (dwords z : ℕ) → IsNamespace ns → REPORT_HEADER_BYTES ≤ 4 * dwords → 4 * dwords ≤ MOST_TRANSFER
     → z < length ns.zones → ListsOn ns dwords z (reported ns holds dwords z)
 lists_some ns holds dwords z sound room most inside =
     let size = ns.size in
@@ -116,11 +116,11 @@ lists_none ns holds dwords z past =
     let nothing : ListsOn ns dwords z [] = record { number = omega arith; given = refl } in
     subst (ListsOn ns dwords z) (sym refused) nothing
 
-module _ (ns : ZonedNamespace) (holds : Holds) (dwords room : ℕ) (sound : IsNamespace ns) (fits : 64 + 64 * room ≤ 4 * dwords)
-    (most : 4 * dwords ≤ MOST_TRANSFER) where
+module _ (ns : ZonedNamespace) (holds : Holds) (dwords room : ℕ) (sound : IsNamespace ns) (header : REPORT_HEADER_BYTES ≤ 4 * dwords)
+    (wide : room ≤ descriptor_room (4 * dwords)) (most : 4 * dwords ≤ MOST_TRANSFER) where
   lists_on : (z : ℕ) → ListsOn ns dwords z (reported ns holds dwords z)
   lists_on z =
-      ⊎_elim (λ inside. lists_some ns holds dwords z sound (omega (arith, fits)) most inside) (λ past. lists_none ns holds dwords z past)
+      ⊎_elim (λ inside. lists_some ns holds dwords z sound header most inside) (λ past. lists_none ns holds dwords z past)
       (cases_lt z (length ns.zones))
 
   -- reports from any zone on list the zones from it on, where they have room for them
@@ -140,7 +140,6 @@ module _ (ns : ZonedNamespace) (holds : Holds) (dwords room : ℕ) (sound : IsNa
       let lists = lists_on z in
       let k = number_in (reported ns holds dwords z) in
       let all = all_descriptors ns in
-      let wide : room ≤ descriptor_room (4 * dwords) = le-div room (4 * dwords - 64) 64 (omega arith) (omega (arith, fits)) in
       let later_inside : z + k ≤ length ns.zones = omega (arith, lists.number, inside) in
       let later_enough : length ns.zones ≤ z + k + reports * room = omega (arith, lists.number, wide, enough, suc-mul reports room) in
       let rest = rest_is_listed reports (z + k) later_inside later_enough in
@@ -148,6 +147,17 @@ module _ (ns : ZonedNamespace) (holds : Holds) (dwords room : ℕ) (sound : IsNa
       ∙ (ap (λ (xs : List (List ℕ)). take k (drop z all) ++ xs) (rest ∙ sym (drop-drop k z all))
       ∙ take-append-drop k (drop z all))
 
+-- what has room for descriptors has room for the header
+has_header : (bytes zones reports : ℕ) → 1 ≤ zones → zones ≤ reports * descriptor_room bytes → REPORT_HEADER_BYTES ≤ bytes
+has_header bytes zones reports some enough =
+    ⊎_elim (λ less.
+    let short : bytes - 64 ≡ 0 = omega (arith, less) in
+    let nothing : reports * descriptor_room bytes ≡ 0 = ap (λ (n : ℕ). reports * (n / 64)) short ∙ omega arith in
+    absurd (omega (arith, some, enough, nothing))) (λ fits. fits)
+    (cases_lt bytes REPORT_HEADER_BYTES)
+
 pub reports_every_zone : ReportsEveryZone
-reports_every_zone ns holds dwords room reports sound fits most enough =
-    rest_is_listed ns holds dwords room sound fits most reports 0 (omega arith) (omega (arith, enough))
+reports_every_zone ns holds dwords reports sound most enough =
+    let room = descriptor_room (4 * dwords) in
+    let header = has_header (4 * dwords) (length ns.zones) reports sound.shape.zones_some enough in
+    rest_is_listed ns holds dwords room sound header (omega arith) most reports 0 (omega arith) (omega (arith, enough))

@@ -9,6 +9,7 @@ use Rattle.zone_resources.specs.declared.holds.Holds.{Holds}
 use Rattle.nvme_entry.specs.declared.command.StandardCommand.{StandardCommand}
 use Rattle.nvme_entry.specs.declared.command.StandardCommand.TheVariants.{Write, Read, Send, Receive, Append}
 use Rattle.nvme_entry.specs.declared.command.TheConstants.{MOST_TRANSFER}
+use Rattle.nvme_entry.specs.declared.report.TheConstants.{REPORT_HEADER_BYTES}
 use Rattle.nvme_entry.specs.declared.filter.ZoneFilter.{ZoneFilter}
 use Rattle.nvme_entry.specs.declared.filter.ZoneFilter.TheVariants as filters
 use Rattle.nvme_entry.specs.ReportLaws.{ReportsZones, number_in, descriptors_in, descriptor_room}
@@ -159,7 +160,7 @@ WrittenBlocksReadBack =
 abbrev pub ReportsWhatMatches : Type 0
 ReportsWhatMatches =
     (ns : ZonedNamespace) (holds : Holds) (lba dwords : ℕ) (filter : ZoneFilter) (partial : Bool)
-    → IsNamespace ns → lba < block_total ns → 64 ≤ 4 * dwords → 4 * dwords ≤ MOST_TRANSFER
+    → IsNamespace ns → lba < block_total ns → REPORT_HEADER_BYTES ≤ 4 * dwords → 4 * dwords ≤ MOST_TRANSFER
     → let done = meaning ns holds (Receive lba dwords filter partial) [] in
     let found = matching (counted_zones ns) (zone_number ns lba) filter in
     (done.status ≡ SUCCESS) × ReportsZones done.output partial ns.size (min (descriptor_room (4 * dwords)) (length found)) found
@@ -179,6 +180,6 @@ listed_by ns holds dwords (suc reports) z =
 -- such reports from the first zone on list every zone once, in order, where together they have room for all
 abbrev pub ReportsEveryZone : Type 0
 ReportsEveryZone =
-    (ns : ZonedNamespace) (holds : Holds) (dwords room reports : ℕ)
-    → IsNamespace ns → 64 + 64 * room ≤ 4 * dwords → 4 * dwords ≤ MOST_TRANSFER → length ns.zones ≤ reports * room
+    (ns : ZonedNamespace) (holds : Holds) (dwords reports : ℕ)
+    → IsNamespace ns → 4 * dwords ≤ MOST_TRANSFER → length ns.zones ≤ reports * descriptor_room (4 * dwords)
     → listed_by ns holds dwords reports 0 ≡ all_descriptors ns
