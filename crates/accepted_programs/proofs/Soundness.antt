@@ -2,10 +2,10 @@
 use Rattle.std.specs.Prelude.{ℕ, zero, suc, ◌≡◌, ◌+◌, ◌<◌, ◌≤◌, true, List, length, drop, count_by, is_some, Option, Some, None}
 use Rattle.std.proofs.Common.{arith, inl, inr, ◌⊎◌, lit<, refl, ap, subst, ◌∙◌}
 use Rattle.std.proofs.lemmas.Bool.{cases_lt, cond_both}
-use Rattle.instruction_set.proofs.Proved.{begins_inside}
+use Rattle.instruction_set.proofs.Proved.{begins, begins_inside}
 use Rattle.instruction_set.specs.Program.{instruction_at, instruction_count}
 use Rattle.instruction_set.specs.declared.instruction.Instruction.{Instruction}
-use Rattle.program_meaning.proofs.Proved.{begins_at_instruction, decided_goes, keeps_group_limit, keeps_read_only, keeps_state, leads_to_instruction, runs_by_step_end}
+use Rattle.program_meaning.proofs.Proved.{decided_goes, keeps_group_limit, keeps_read_only, keeps_state, leads_to_instruction, runs_by_step_end}
 use Rattle.program_meaning.specs.Cause.{is_exit, least_cause}
 use Rattle.program_meaning.specs.Effect.{register}
 use Rattle.program_meaning.specs.BlockRun.{BlockRun, block_run_of, continued, ran}
@@ -225,7 +225,7 @@ module _ {D : Type 0} {IsFact : D → Type 0} {contains : D → ℕ → Type 0} 
 
   pub accepted_never_traps : AcceptedNeverTraps operations
   accepted_never_traps program is sizes are_sizes accepted =
-      never_traps program sizes (begins_at_instruction program is) (short_offsets program is) are_sizes accepted
+      never_traps program sizes (begins program is) (short_offsets program is) are_sizes accepted
 
   pub accepted_emits_no_more : AcceptedEmitsNoMore operations
   accepted_emits_no_more program is sizes are_sizes accepted bytes context scratch long starting =
@@ -233,11 +233,11 @@ module _ {D : Type 0} {IsFact : D → Type 0} {contains : D → ℕ → Type 0} 
       let run = starts program short sizes are_sizes accepted (most_emitted operations program sizes.block)
       (λ s holds. group_most program short sizes are_sizes s (facts_at operations sizes.block program s.slot)
       (begins_inside program s.slot holds.here) refl holds.known)
-      (begins_at_instruction program is) bytes context scratch long starting in
+      (begins program is) bytes context scratch long starting in
       run.group
 
   pub facts_are_met : FactsAreMet contains operations
   facts_are_met program is sizes are_sizes bytes context scratch long starting steps passed =
       let short = short_offsets program is in
-      let start = start_holds program short sizes are_sizes (begins_at_instruction program is) bytes context scratch long starting in
+      let start = start_holds program short sizes are_sizes (begins program is) bytes context scratch long starting in
       (comes program short sizes are_sizes steps 0 (at_start bytes context scratch) start passed).known
