@@ -48,8 +48,6 @@ impl<'a> Machine<'a> {
         ensures new { IsNew result }
         ensures block { block_length result ≡ length block.now }
         ensures slot { machine_slot result ≡ 0 }
-        ensures steps { steps_of result ≡ 0 }
-        ensures group_bytes { group_length result ≡ 0 }
         ensures same_scratch { scratch_name result ≡ scratch.entry.ghost_name }
     {
         Machine {
