@@ -55,7 +55,7 @@ impl Machine<'_> {
     fn add_frame(&mut self, area_offset: AreaOffset, size: usize, group: &mut [u8])
         requires room { area_offset.offset + size ≤ length_of (length self.old.block.now) area_offset.area }
         requires size { size < 2 ^ 16 }
-        requires fits { self.old.group_length + 2 + size ≤ length group.old }
+        requires fits { self.old.group_length + FRAME_LENGTH_BYTES + size ≤ length group.old }
         ensures state { (slot : ℕ) → state_at self.new slot group.new ≡ with_frame (state_at self.old slot group.old) (take size (bytes_from (memory_of self.old) (Some area_offset))) }
         ensures extends { Extends self.old self.new group.old group.new }
     {
