@@ -32,7 +32,7 @@ use Rattle.interval_facts.specs.Constants.{both_widened, constants}
 use Rattle.interval_facts.specs.Edge.{FactPair, as_facts, at_most, different, edge_of, equal, exchanged, fits, is_empty, less, narrowed, refine_of, refine_words, without}
 use Rattle.interval_facts.specs.Fact.{IsFact, bounds_of, farthest, full, is_single, join_of, loaded_of, pointer_to, range, widened}
 use Rattle.interval_facts.specs.Intervals.{intervals}
-use Rattle.interval_facts.specs.Range.{combined, difference, half, if_positive, number_count, product, quotient, remainder, shifted_left, shifted_left_by, shifted_right, sum}
+use Rattle.interval_facts.specs.Range.{combined, difference, half, if_unsigned, number_count, product, quotient, remainder, shifted_left, shifted_left_by, shifted_right, sum}
 use Rattle.interval_facts.specs.declared.fact.Fact.{Fact}
 use Rattle.interval_facts.specs.declared.fact.Fact.TheVariants.{Words, Pointer}
 use Rattle.interval_facts.specs.steps.Bounds.{OrderedPair}
@@ -76,8 +76,8 @@ module _ (w : Width) (d s : Bounds) (hd : IsOrdered d) (hs : IsOrdered s) where
       pick (nat_le 1 s.low && nat_lt d.high s.low) _ _ (λ _. hd)
       (λ _. pick (nat_le 1 s.low) _ _ (λ _. omega arith) (λ _. omega arith))
 
-  positive_is : (bounds : Bounds) → IsOrdered bounds → IsOrdered (if_positive w d s bounds)
-  positive_is bounds is = pick (nat_lt d.high (half w) && nat_lt s.high (half w)) _ _ (λ _. is) (λ _. omega arith)
+  unsigned_is : (bounds : Bounds) → IsOrdered bounds → IsOrdered (if_unsigned w d s bounds)
+  unsigned_is bounds is = pick (nat_lt d.high (half w) && nat_lt s.high (half w)) _ _ (λ _. is) (λ _. omega arith)
 
   left_by_is : (c : ℕ) → IsOrdered (shifted_left_by w c d)
   left_by_is c = pick (nat_lt (d.high * 2 ^ c) (number_count w)) _ _ (λ _. mul-le d.low (2 ^ c) d.high (2 ^ c) hd (omega arith)) (λ _. omega arith)
@@ -93,13 +93,13 @@ module _ (w : Width) (d s : Bounds) (hd : IsOrdered d) (hs : IsOrdered s) where
   combined_is Subtract = difference_is
   combined_is Multiply = product_is
   combined_is Divide = quotient_is
-  combined_is SignedDivide = positive_is (quotient d s) quotient_is
+  combined_is SignedDivide = unsigned_is (quotient d s) quotient_is
   combined_is Or = omega arith
   combined_is And = omega arith
   combined_is LeftShift = left_is
   combined_is RightShift = right_is
   combined_is Modulo = remainder_is
-  combined_is SignedModulo = positive_is (remainder d s) remainder_is
+  combined_is SignedModulo = unsigned_is (remainder d s) remainder_is
   combined_is Xor = omega arith
   combined_is Move = hs
   combined_is ArithmeticShift = pick (nat_lt d.high (half w)) _ _ (λ _. right_is) (λ _. omega arith)

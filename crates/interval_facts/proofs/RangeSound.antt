@@ -15,7 +15,7 @@ use Rattle.program_meaning.specs.Word.{bits, count, result_of, signed}
 use Rattle.program_meaning.proofs.Proved.{operations_keep_width}
 use Rattle.interval_facts.proofs.Numbers.{quotient_grows, wraps_once}
 use Rattle.interval_facts.specs.Fact.{IsWithin, is_single, range, single}
-use Rattle.interval_facts.specs.Range.{number_count, half, top, sum, difference, product, quotient, remainder, if_positive, conjunction, shifted_left, shifted_left_by, shifted_right, shifted_right_by, combined}
+use Rattle.interval_facts.specs.Range.{number_count, half, top, sum, difference, product, quotient, remainder, if_unsigned, conjunction, shifted_left, shifted_left_by, shifted_right, shifted_right_by, combined}
 use Rattle.word_domain.specs.declared.bounds.Bounds.{Bounds}
 
 -- the bounds that a test chooses are right where both are
@@ -115,27 +115,27 @@ signed_is Bits64 x h = to_z_pos w64 x h
 
 both_signed : (w : Width) (d s : Bounds) (x y : ℕ) → IsWithin d x → IsWithin s y
     → (nat_lt d.high (half w) && nat_lt s.high (half w)) ≡ true → (signed w x ≡ pos x) × (signed w y ≡ pos y)
-both_signed w d s x y hd hs positive =
-    let both = and_parts (nat_lt d.high (half w)) (nat_lt s.high (half w)) positive in
+both_signed w d s x y hd hs unsigned =
+    let both = and_parts (nat_lt d.high (half w)) (nat_lt s.high (half w)) unsigned in
     let dst = ltb-true d.high (half w) both.0 in
     let source = ltb-true s.high (half w) both.1 in
     (signed_is w x (omega arith), signed_is w y (omega arith))
 
 signed_quotient_law : (w : Width) (d s : Bounds) (x y : ℕ) → IsWithin d x → IsWithin s y → x < number_count w → y < number_count w
-    → IsWithin (if_positive w d s (quotient d s)) (result_of w SignedDivide x y)
+    → IsWithin (if_unsigned w d s (quotient d s)) (result_of w SignedDivide x y)
 signed_quotient_law w d s x y hd hs fx fy =
     either (nat_lt d.high (half w) && nat_lt s.high (half w)) _ _ (result_of w SignedDivide x y)
-    (λ positive.
-    let are = both_signed w d s x y hd hs positive in
+    (λ unsigned.
+    let are = both_signed w d s x y hd hs unsigned in
     rw (are.0, are.1) (quotient_law d s x y hd hs))
     (λ _. top_law w (result_of w SignedDivide x y) (operations_keep_width w SignedDivide x y fx fy))
 
 signed_remainder_law : (w : Width) (d s : Bounds) (x y : ℕ) → IsWithin d x → IsWithin s y → x < number_count w → y < number_count w
-    → IsWithin (if_positive w d s (remainder d s)) (result_of w SignedModulo x y)
+    → IsWithin (if_unsigned w d s (remainder d s)) (result_of w SignedModulo x y)
 signed_remainder_law w d s x y hd hs fx fy =
     either (nat_lt d.high (half w) && nat_lt s.high (half w)) _ _ (result_of w SignedModulo x y)
-    (λ positive.
-    let are = both_signed w d s x y hd hs positive in
+    (λ unsigned.
+    let are = both_signed w d s x y hd hs unsigned in
     rw (are.0, are.1) (remainder_law d s x y hd hs))
     (λ _. top_law w (result_of w SignedModulo x y) (operations_keep_width w SignedModulo x y fx fy))
 
@@ -180,8 +180,8 @@ arithmetic_shift_law : (w : Width) (d s : Bounds) (x y : ℕ) → IsWithin d x �
     → IsWithin (combined w ArithmeticShift d s) (result_of w ArithmeticShift x y)
 arithmetic_shift_law w d s x y hd hs fx fy =
     either (nat_lt d.high (half w)) _ _ (result_of w ArithmeticShift x y)
-    (λ positive.
-    let below = ltb-true d.high (half w) positive in
+    (λ unsigned.
+    let below = ltb-true d.high (half w) unsigned in
     rw (signed_is w x (omega arith)) (shifted_right_law w d s x y hd hs))
     (λ _. top_law w (result_of w ArithmeticShift x y) (operations_keep_width w ArithmeticShift x y fx fy))
 

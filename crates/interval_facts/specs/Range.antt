@@ -54,8 +54,8 @@ remainder d s =
     range 0 d.high
 
 -- bounds where both operands have no sign
-abbrev pub if_positive : Width → Bounds → Bounds → Bounds → Bounds
-if_positive w d s bounds = if nat_lt d.high (half w) && nat_lt s.high (half w) then bounds else top w
+abbrev pub if_unsigned : Width → Bounds → Bounds → Bounds → Bounds
+if_unsigned w d s bounds = if nat_lt d.high (half w) && nat_lt s.high (half w) then bounds else top w
 
 -- bits that both have: no more than the lesser of the greatest numbers
 abbrev pub conjunction : Bounds → Bounds → Bounds
@@ -83,13 +83,13 @@ combined w Add d s = sum w d s
 combined w Subtract d s = difference w d s
 combined w Multiply d s = product w d s
 combined w Divide d s = quotient d s
-combined w SignedDivide d s = if_positive w d s (quotient d s)
+combined w SignedDivide d s = if_unsigned w d s (quotient d s)
 combined w Or d s = top w
 combined w And d s = conjunction d s
 combined w LeftShift d s = shifted_left w d s
 combined w RightShift d s = shifted_right w d s
 combined w Modulo d s = remainder d s
-combined w SignedModulo d s = if_positive w d s (remainder d s)
+combined w SignedModulo d s = if_unsigned w d s (remainder d s)
 combined w Xor d s = top w
 combined w Move d s = s
 combined w ArithmeticShift d s = if nat_lt d.high (half w) then shifted_right w d s else top w

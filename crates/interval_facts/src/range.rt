@@ -3,7 +3,7 @@
 ghost use Rattle.std.specs.Prelude.{◌≡◌, ◌≤◌, ◌<◌, ◌^◌, ◌-◌, ◌+◌, nat_lt};
 ghost use Rattle.program_meaning.specs.Word.{bits, count};
 ghost use Rattle.interval_facts.specs.Fact.{range};
-ghost use Rattle.interval_facts.specs.Range.{number_count, top as top_of_width, half, sum, difference, product, quotient, remainder, if_positive, conjunction, shifted_left, shifted_left_by, shifted_right, shifted_right_by, combined};
+ghost use Rattle.interval_facts.specs.Range.{number_count, top as top_of_width, half, sum, difference, product, quotient, remainder, if_unsigned, conjunction, shifted_left, shifted_left_by, shifted_right, shifted_right_by, combined};
 ghost use Rattle.interval_facts.specs.steps.Bounds.{IsRange};
 
 use crate::fact::{is_single, single};
@@ -146,7 +146,7 @@ fn modulo(width: Width, dst: Bounds, source: Bounds) -> Bounds
 }
 
 /// Is none of these numbers negative, as signed ones of the width?
-fn is_positive(width: Width, bounds: Bounds) -> bool
+fn is_unsigned(width: Width, bounds: Bounds) -> bool
     ensures { result ≡ nat_lt bounds.high (half width) }
 {
     bounds.high <= greatest(width) / 2
@@ -198,21 +198,21 @@ pub fn combine(width: Width, operation: Operation, dst: Bounds, source: Bounds) 
     ensures value { result ≡ combined width operation dst source }
     ensures range { IsRange width result }
 {
-    let positive = is_positive(width, dst);
-    let both_positive = positive && is_positive(width, source);
+    let unsigned = is_unsigned(width, dst);
+    let both_unsigned = unsigned && is_unsigned(width, source);
     match operation {
         Operation::Add => add(width, dst, source),
         Operation::Subtract => subtract(width, dst, source),
         Operation::Multiply => multiply(width, dst, source),
         Operation::Divide => divide(width, dst, source),
-        Operation::SignedDivide if both_positive => divide(width, dst, source),
+        Operation::SignedDivide if both_unsigned => divide(width, dst, source),
         Operation::And => up_to(dst.high.min(source.high)),
         Operation::LeftShift => shift_left(width, dst, source),
         Operation::RightShift => shift_right(width, dst, source),
         Operation::Modulo => modulo(width, dst, source),
-        Operation::SignedModulo if both_positive => modulo(width, dst, source),
+        Operation::SignedModulo if both_unsigned => modulo(width, dst, source),
         Operation::Move => source,
-        Operation::ArithmeticShift if positive => shift_right(width, dst, source),
+        Operation::ArithmeticShift if unsigned => shift_right(width, dst, source),
         _ => top(width),
     }
 }
