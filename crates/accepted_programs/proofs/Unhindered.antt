@@ -24,6 +24,7 @@ use Rattle.program_meaning.specs.Word.{is_taken}
 use Rattle.program_meaning.specs.declared.cause.Cause.{Cause}
 use Rattle.program_meaning.specs.declared.cause.Cause.TheVariants as cause
 use Rattle.program_interface.specs.declared.area.Area.{Area}
+use Rattle.program_interface.specs.declared.frame.TheConstants.{FRAME_LENGTH_BYTES}
 use Rattle.program_interface.specs.RunSizes.{AreSizes, Sizes}
 use Rattle.word_domain.specs.Domain.{IsSound, Operations}
 use Rattle.program_meaning.proofs.Proved.{areas_are_apart, blocks_are_short}
@@ -160,28 +161,28 @@ module _ {D : Type 0} {IsFact : D → Type 0} {contains : D → ℕ → Type 0} 
     most = greatest_length operations facts
 
     -- the bytes to emit are within the limit
-    counted : nat_lt sizes.limit (facts.emitted + 2 + most) ≡ false → most < 2 ^ 64
+    counted : nat_lt sizes.limit (facts.emitted + FRAME_LENGTH_BYTES + most) ≡ false → most < 2 ^ 64
     counted within =
-        let room = ltb-false sizes.limit (facts.emitted + 2 + most) within in
+        let room = ltb-false sizes.limit (facts.emitted + FRAME_LENGTH_BYTES + most) within in
         let group = are_sizes.fits in
         let small = fits in
         omega (arith, room, group, small)
 
-    emits_well : (least == 0) ≡ false → nat_lt sizes.limit (facts.emitted + 2 + most) ≡ false
+    emits_well : (least == 0) ≡ false → nat_lt sizes.limit (facts.emitted + FRAME_LENGTH_BYTES + most) ≡ false
         → emits_badly sizes.limit s ≡ false
     emits_well some within =
         let (above, below) = bounded in
         let group = meets.group in
         let positive = eqb-false least 0 some in
-        let room = ltb-false sizes.limit (facts.emitted + 2 + most) within in
-        or_from (register s 2 == 0) (nat_lt sizes.limit (length s.group + 2 + register s 2))
+        let room = ltb-false sizes.limit (facts.emitted + FRAME_LENGTH_BYTES + most) within in
+        or_from (register s 2 == 0) (nat_lt sizes.limit (length s.group + FRAME_LENGTH_BYTES + register s 2))
         (ne_eqb (register s 2) 0 (λ none. positive (omega arith)))
-        (le-ltb sizes.limit (length s.group + 2 + register s 2) (omega arith))
+        (le-ltb sizes.limit (length s.group + FRAME_LENGTH_BYTES + register s 2) (omega arith))
 
     -- what is checked where the instruction is emit
     emits : (emit : Bool)
         → (emit && (least == 0 || is_none (area_of operations block facts 1 (pos 0) most))) ≡ false
-        → (emit && nat_lt sizes.limit (facts.emitted + 2 + most)) ≡ false
+        → (emit && nat_lt sizes.limit (facts.emitted + FRAME_LENGTH_BYTES + most)) ≡ false
         → ((emit && emits_outside s) ≡ false) × ((emit && emits_badly sizes.limit s) ≡ false)
     emits false length limit = (refl, refl)
     emits true length limit =

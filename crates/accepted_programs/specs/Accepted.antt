@@ -8,6 +8,7 @@ use Rattle.instruction_set.specs.declared.instruction.Instruction.{Instruction}
 use Rattle.instruction_set.specs.declared.instruction.Instruction.TheVariants.{Jump, JumpLong, Exit}
 use Rattle.program_meaning.specs.Cause.{calls_unknown, hinders_load, hinders_store, slot_in}
 use Rattle.program_interface.specs.declared.area.Area.{Area}
+use Rattle.program_interface.specs.declared.frame.TheConstants.{FRAME_LENGTH_BYTES}
 use Rattle.program_interface.specs.RunSizes.{Sizes}
 use Rattle.word_domain.specs.Domain.{Operations}
 use Rattle.accepted_programs.specs.Facts.{area_of, facts_at, greatest_length, least_length, slot_behind}
@@ -88,7 +89,7 @@ module _ {D : Type 0} (operations : Operations D) where
     fails slot facts i EmitAddress = is_emit i && is_none (area_of operations sizes.block facts 1 (pos 0) 0)
     fails slot facts i EmitLength =
         is_emit i && (least_length operations facts == 0 || is_none (area_of operations sizes.block facts 1 (pos 0) (greatest_length operations facts)))
-    fails slot facts i EmitLimit = is_emit i && nat_lt sizes.limit (facts.emitted + 2 + greatest_length operations facts)
+    fails slot facts i EmitLimit = is_emit i && nat_lt sizes.limit (facts.emitted + FRAME_LENGTH_BYTES + greatest_length operations facts)
 
     -- the least reason to refuse an instruction at a slot with these facts
     abbrev pub reason_of : ℕ → Facts D → Instruction → Option Reason

@@ -16,6 +16,7 @@ use Rattle.program_meaning.specs.Word.{low_bits}
 use Rattle.program_interface.specs.declared.area.Area.TheVariants.{Context, Block, Stack, Scratch}
 use Rattle.program_meaning.specs.declared.word.Arithmetic.TheVariants as word
 use Rattle.program_interface.specs.declared.area.TheConstants.{STACK_BYTES}
+use Rattle.program_interface.specs.declared.frame.TheConstants.{FRAME_LENGTH_BYTES}
 use Rattle.program_interface.specs.declared.registers.TheConstants.{CLEARED_REGISTERS}
 use Rattle.program_interface.specs.declared.area.Area.{Area}
 use Rattle.word_domain.specs.Domain.{Operations}
@@ -98,7 +99,7 @@ module _ {D : Type 0} (operations : Operations D) where
   abbrev pub after_emit : Facts D → Facts D
   after_emit facts = record facts {
     registers = replicate CLEARED_REGISTERS (operations.constant 0) ++ drop CLEARED_REGISTERS facts.registers;
-    emitted = facts.emitted + 2 + greatest_length facts;
+    emitted = facts.emitted + FRAME_LENGTH_BYTES + greatest_length facts;
   }
 
   -- ---- the stack

@@ -8,6 +8,7 @@ use Rattle.instruction_set.proofs.Proved.{begins_inside}
 use Rattle.instruction_set.specs.declared.instruction.Instruction.{Instruction}
 use Rattle.instruction_set.specs.declared.instruction.Instruction.TheVariants.{Call}
 use Rattle.program_interface.specs.declared.block_size.TheConstants.{LARGEST_BLOCK}
+use Rattle.program_interface.specs.declared.frame.TheConstants.{FRAME_LENGTH_BYTES}
 use Rattle.program_interface.specs.RunSizes.{Sizes}
 use Rattle.word_domain.specs.Domain.{Operations}
 use Rattle.accepted_programs.specs.Accepted.{begins_at, fails, leads_nowhere, reason_of, turns_away}
@@ -62,7 +63,7 @@ module _ {D : Type 0} (operations : Operations D) where
   pub room_left : (program : List (Option Instruction)) (sizes : Sizes) (slot : ℕ) (facts : Facts D) (i : Instruction)
       → reason_of operations program sizes slot facts i ≡ None → sizes.limit ≤ LARGEST_BLOCK → HasRoom operations i facts
   room_left program sizes slot facts (Call helper) none fits =
-      within_limit (is_emit (Call helper)) sizes.limit (facts.emitted + 2 + greatest_length operations facts)
+      within_limit (is_emit (Call helper)) sizes.limit (facts.emitted + FRAME_LENGTH_BYTES + greatest_length operations facts)
       (free program sizes slot facts (Call helper) none UnknownHelper)
       (free program sizes slot facts (Call helper) none EmitLimit) fits
   room_left program sizes slot facts i none fits = tt

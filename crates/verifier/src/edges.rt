@@ -79,7 +79,7 @@ pub fn set_both<D: Domain>(facts: &mut Facts<D>, dst: Register, source: &Source,
 /// Changes the facts to those after emit.
 #[tactic(auto, using(crate::proofs::Fills::filled_more))]
 fn emit<D: Domain>(facts: &mut Facts<D>)
-    requires { facts.old.emitted + 2 + greatest_length D.operations facts.old < 2 ^ 64 }
+    requires { facts.old.emitted + FRAME_LENGTH_BYTES + greatest_length D.operations facts.old < 2 ^ 64 }
     ensures { facts.new ≡ after_emit D.operations facts.old }
 {
     let zero = D::constant(0);

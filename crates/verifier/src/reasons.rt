@@ -159,7 +159,7 @@ fn emits_amiss<D: Domain>(block: BlockSize, facts: &Facts<D>) -> bool
 /// May a frame take the group over its limit?
 #[inline]
 fn passes_limit<D: Domain>(limit: u32, facts: &Facts<D>) -> bool
-    ensures { result ≡ nat_lt limit (facts.now.emitted + 2 + greatest_length D.operations facts.now) }
+    ensures { result ≡ nat_lt limit (facts.now.emitted + FRAME_LENGTH_BYTES + greatest_length D.operations facts.now) }
 {
     let most = u128::from(facts.get(Register::R2).bounds().high);
     facts.emitted as u128 + FRAME_LENGTH_BYTES as u128 + most > u128::from(limit)

@@ -3,6 +3,7 @@ use Rattle.std.specs.Prelude.{ℕ, ◌≡◌, ◌<◌, ◌+◌, ◌^◌, ◌≤�
 use Rattle.instruction_set.specs.Instruction.{distance_of, target}
 use Rattle.instruction_set.specs.declared.instruction.Instruction.{Instruction}
 use Rattle.instruction_set.specs.declared.instruction.Instruction.TheVariants.{Call}
+use Rattle.program_interface.specs.declared.frame.TheConstants.{FRAME_LENGTH_BYTES}
 use Rattle.word_domain.specs.Domain.{Operations}
 use Rattle.accepted_programs.specs.Accepted.{turns_away}
 use Rattle.accepted_programs.specs.Facts.{greatest_length, slot_behind}
@@ -10,7 +11,7 @@ use Rattle.accepted_programs.specs.declared.facts.Facts.{Facts}
 
 -- a call leaves the bound on the emitted bytes a number that can be counted
 abbrev pub HasRoom : {D : Type 0} → Operations D → Instruction → Facts D → Type 0
-HasRoom operations (Call helper) facts = facts.emitted + 2 + greatest_length operations facts < 2 ^ 64
+HasRoom operations (Call helper) facts = facts.emitted + FRAME_LENGTH_BYTES + greatest_length operations facts < 2 ^ 64
 HasRoom operations _ facts = Unit {0}
 
 -- an instruction leads to slots of a program of this many, and to no others
