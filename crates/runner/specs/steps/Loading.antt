@@ -41,4 +41,4 @@ pub record IsLoadable (load : LoadCommand) (input : List ℕ) (s : State) (progr
 
 -- the answer to a program that is refused
 abbrev pub refused_program : ℕ → ℕ → Answer
-refused_program at reason = record { status = PROGRAM_REFUSED; dw0 = at; dw1 = reason; length = 0 }
+refused_program slot reason = record { status = PROGRAM_REFUSED; dw0 = slot; dw1 = reason; length = 0 }
