@@ -13,13 +13,13 @@ use zns_commands::MOST_TRANSFER;
 /// The bytes of a block.
 pub const BLOCK: u32 = 4096;
 
-/// The blocks of a zone.
+/// The blocks of a zone of the large device.
 pub const ZONE_SIZE: u32 = 8192;
 
-/// How many blocks of zone 0 are written.
+/// How many blocks of its zone 0 are written.
 pub const SOURCE: u16 = 4096;
 
-/// So many of them, with all that a run over them takes, stay in a processor's cache.
+/// So many of them, with all that a run over them takes, stay in a processor's cache. Of the small device as many are written.
 pub const CACHED: u16 = 64;
 
 /// How many entries that are refused are submitted in a round.
