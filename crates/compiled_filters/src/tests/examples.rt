@@ -42,7 +42,7 @@ struct Trial {
     alloc: Global,
     blocks: Vec<u8>,
     frames: u32,
-    /// The frames of the last block, each behind its length.
+    /// The frames of the last block.
     group: Vec<u8>,
     /// The groups of the blocks before, none of them in two output blocks.
     output: Vec<u8>,
@@ -75,19 +75,19 @@ impl Trial {
         fill(&mut self.blocks, BLOCK)
     }
 
-    /// The filter has to emit a frame for the last block.
-    fn expect_frame(&mut self, frame: &[u8]) -> Result<(), Fail> {
-        let length = u16::try_from(frame.len())?;
+    /// The filter has to emit a record for the last block.
+    fn expect_record(&mut self, record: &[u8]) -> Result<(), Fail> {
+        let length = u16::try_from(record.len())?;
         self.frames = self.frames.wrapping_add(1);
         self.group.extend_from_slice(&length.to_le_bytes())?;
-        self.group.extend_from_slice(frame)?;
+        self.group.extend_from_slice(record)?;
         Ok(())
     }
 
     /// The filter has to emit a record's first bytes.
     fn expect_start(&mut self, record: &[u8], length: usize) -> Result<(), Fail> {
         let length = length.min(record.len());
-        self.expect_frame(&record[..length])
+        self.expect_record(&record[..length])
     }
 
     /// Scratch has to have these bytes behind those before, and zeros behind them.

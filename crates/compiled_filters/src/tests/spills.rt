@@ -13,7 +13,7 @@ mod offsets;
 mod tables;
 
 use super::{BLOCK, sizes};
-use bytes::{frames_of, put, put_at};
+use bytes::{group_of, put, put_at};
 use ebpf_decode::decode;
 use interp::Machine;
 use interval_domain::Intervals;
@@ -49,8 +49,8 @@ struct Scene {
     block: &'static str,
     /// What is put into scratch, of zeros, before.
     before: &'static str,
-    /// The frames that have to be emitted.
-    frames: &'static str,
+    /// The records that have to be emitted.
+    records: &'static str,
     /// What the filter has to change in scratch.
     after: &'static str,
 }
@@ -120,14 +120,14 @@ fn context_of(scene: &Scene, block: BlockSize) -> [u8; CONTEXT_BYTES] {
 
 /// What a run has to leave, of these bytes of scratch.
 fn expected(alloc: Global, scene: &Scene, before: &[u8; SCRATCH_BYTES]) -> Result<Left, Fail> {
-    let frames = frames_of(alloc, scene.frames)?;
+    let group = group_of(alloc, scene.records)?;
     let mut expected = Left {
         r0: 0,
-        group_length: frames.len(),
+        group_length: group.len(),
         group: [0; BLOCK],
         scratch: *before,
     };
-    put_at(&mut expected.group, 0, frames.as_slice())?;
+    put_at(&mut expected.group, 0, group.as_slice())?;
     put(alloc, &mut expected.scratch, scene.after)?;
     Ok(expected)
 }

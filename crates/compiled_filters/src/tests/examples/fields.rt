@@ -185,7 +185,7 @@ fn blocks_of_a_kind(rt: HostRuntime) -> Result<(), Fail> {
         trial.add(&row.bytes())?;
         trial.fill_block()?;
         if row.kind == 2 {
-            trial.expect_frame(&row.bytes())?;
+            trial.expect_record(&row.bytes())?;
         }
     }
     trial.check(&rt, &FILTER, 2)
@@ -202,7 +202,7 @@ fn keys_beside_prices(rt: HostRuntime) -> Result<(), Fail> {
         trial.fill_block()?;
         pair[0..8].copy_from_slice(&row.key.to_le_bytes());
         pair[8..12].copy_from_slice(&row.price.to_le_bytes());
-        trial.expect_frame(&pair)?;
+        trial.expect_record(&pair)?;
     }
     // the last pair
     trial.expect_scratch(&pair)?;
@@ -281,7 +281,7 @@ fn names_with_a_prefix(rt: HostRuntime) -> Result<(), Fail> {
         let bytes = named(name, numbers.draw());
         trial.add(&bytes)?;
         if name.starts_with(b"disk") {
-            trial.expect_frame(&bytes[4..])?;
+            trial.expect_record(&bytes[4..])?;
         }
     }
     trial.check(&rt, &PREFIX, u32::from_le_bytes(*b"disk"))
@@ -297,7 +297,7 @@ fn bits_of_those_that_match(rt: HostRuntime) -> Result<(), Fail> {
             let mut found = [0; 16];
             found[0] = lba as u8;
             found[8] = byte_of(&bits);
-            trial.expect_frame(&found)?;
+            trial.expect_record(&found)?;
         }
     }
     trial.check(&rt, &MATCHES, 80)

@@ -136,7 +136,7 @@ fn the_least_and_the_greatest(rt: HostRuntime) -> Result<(), Fail> {
         }
     }
     let range = range_of(temperatures.as_slice());
-    trial.expect_frame(&range)?;
+    trial.expect_record(&range)?;
     trial.expect_scratch(&range)?;
     trial.check(&rt, &MINMAX, 0)
 }
@@ -172,9 +172,9 @@ fn the_four_greatest(rt: HostRuntime) -> Result<(), Fail> {
         records.push((measure, key))?;
     }
     records.sort()?;
-    let frame = last_four(rt.alloc(), records.as_slice())?;
-    trial.expect_frame(frame.as_slice())?;
-    trial.expect_scratch(frame.as_slice())?;
+    let kept = last_four(rt.alloc(), records.as_slice())?;
+    trial.expect_record(kept.as_slice())?;
+    trial.expect_scratch(kept.as_slice())?;
     trial.check(&rt, &TOP, 0)
 }
 

@@ -309,7 +309,7 @@ fn add_rows(trial: &mut Trial, numbers: &mut Numbers, keys: &[u16]) -> Result<()
         row[2..4].copy_from_slice(&key.to_le_bytes());
         trial.add(&row)?;
         if keys.contains(&key) {
-            trial.expect_frame(&row)?;
+            trial.expect_record(&row)?;
         }
     }
     Ok(())

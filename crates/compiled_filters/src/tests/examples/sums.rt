@@ -181,7 +181,7 @@ fn a_sum_of_fields(rt: HostRuntime) -> Result<(), Fail> {
         trial.add(&bytes)?;
         sum = sum.wrapping_add(u64::from(field));
     }
-    trial.expect_frame(&sum.to_le_bytes())?;
+    trial.expect_record(&sum.to_le_bytes())?;
     trial.expect_scratch(&sum.to_le_bytes())?;
     trial.check(&rt, &AGGREGATE, 0)
 }
@@ -229,9 +229,9 @@ fn sums_by_kind(rt: HostRuntime) -> Result<(), Fail> {
         trial.add(&bytes)?;
         totals[kind as usize].note(price);
     }
-    let frame = bytes_of(rt.alloc(), &totals)?;
-    trial.expect_frame(frame.as_slice())?;
-    trial.expect_scratch(frame.as_slice())?;
+    let kept = bytes_of(rt.alloc(), &totals)?;
+    trial.expect_record(kept.as_slice())?;
+    trial.expect_scratch(kept.as_slice())?;
     trial.check(&rt, &SUMS, 0)
 }
 

@@ -74,7 +74,7 @@ fn add_records(trial: &mut Trial, numbers: &mut Numbers, count: usize) -> Result
         trial.add(&[length as u8, kind])?;
         trial.add(data)?;
         if kind == 1 && index < 8 {
-            trial.expect_frame(data)?;
+            trial.expect_record(data)?;
         }
     }
     // a length of 0 ends the block
@@ -87,11 +87,11 @@ fn a_length_out_of_range(rt: HostRuntime) -> Result<(), Fail> {
     let mut trial = Trial::new(rt.alloc());
     for length in [60, 61, 255] {
         trial.add(&[1, 7, 0xaa])?;
-        trial.expect_frame(&[0xaa])?;
+        trial.expect_record(&[0xaa])?;
         trial.add(&[length, 7])?;
         trial.add(&[0xbb; 60])?;
         if length == 60 {
-            trial.expect_frame(&[0xbb; 60])?;
+            trial.expect_record(&[0xbb; 60])?;
         }
         trial.fill_block()?;
     }

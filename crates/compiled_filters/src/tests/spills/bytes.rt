@@ -1,5 +1,5 @@
 //! Bytes as tests write them. `0102+20-2f` is 01h, 02h, and all from 20h to 2Fh. `64:0102` puts bytes at offset 64; several
-//! such words, and several frames, are separated by a blank.
+//! such words, and several records, are separated by a blank.
 
 use std::alloc::{AllocError, Global};
 use std::test::Fail;
@@ -36,13 +36,13 @@ fn push_range(bytes: &mut Vec<u8>, first: u8, last: u8) -> Result<(), AllocError
     Ok(())
 }
 
-/// The frames of a group, each behind its length.
-pub(super) fn frames_of(alloc: Global, frames: &str) -> Result<Vec<u8>, Fail> {
+/// The group of these records: each behind its length.
+pub(super) fn group_of(alloc: Global, records: &str) -> Result<Vec<u8>, Fail> {
     let mut group = Vec::new(alloc);
-    for word in frames.split_whitespace() {
-        let frame = bytes_of(alloc, word)?;
-        group.extend_from_slice(&u16::try_from(frame.len())?.to_le_bytes())?;
-        group.extend_from_slice(frame.as_slice())?;
+    for word in records.split_whitespace() {
+        let record = bytes_of(alloc, word)?;
+        group.extend_from_slice(&u16::try_from(record.len())?.to_le_bytes())?;
+        group.extend_from_slice(record.as_slice())?;
     }
     Ok(group)
 }
