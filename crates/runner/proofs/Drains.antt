@@ -5,6 +5,7 @@ use Rattle.std.proofs.lemmas.List.{length-take, take_at, nil_from_length}
 use Rattle.std.proofs.lemmas.List.Quantifiers.{position-Some}
 use Rattle.std.proofs.lemmas.List.Sums.{fold-append, sum_by-cons}
 use Rattle.interval_domain.specs.Intervals.{intervals}
+use Rattle.nvme_entry.specs.declared.command.TheConstants.{MOST_BLOCKS}
 use Rattle.image_store.specs.Namespace.{ZonedNamespace, zone_at}
 use Rattle.zns_commands.specs.Address.{zone_number}
 use Rattle.pushdown.specs.Admission.{task_of}
@@ -28,7 +29,7 @@ turn_less s run reached low = turns_leave_fewer intervals never s run reached ((
 
 -- a run has at most as many turns left as it has source blocks
 few_of : (ns : ZonedNamespace) (slots : List (Option LoadedProgram)) (a : ActiveRun) → Fits ns a
-    → turns_left (seen ns (map loaded_slot slots) (Some (active_of a)) ∷ []) ≤ 65536
+    → turns_left (seen ns (map loaded_slot slots) (Some (active_of a)) ∷ []) ≤ MOST_BLOCKS
 few_of ns slots a fits =
     let b = active_of a in
     let few = rest_is_few (task_of ns (get_or (map loaded_slot slots) a.command.slot None) a.command) b.so_far (to_come ns b) in
@@ -38,7 +39,7 @@ few_of ns slots a fits =
 
 pub few_left : (ns : ZonedNamespace) (slots : List (Option LoadedProgram)) (runs : List (Option ActiveRun))
     → ((k : ℕ) (a : ActiveRun) → get_or runs k None ≡ Some a → Fits ns a)
-    → turns_left (device_state ns slots runs).places ≤ 65536 * length runs
+    → turns_left (device_state ns slots runs).places ≤ MOST_BLOCKS * length runs
 few_left ns slots [] fit = omega arith
 few_left ns slots (None ∷ runs) fit = let rest = few_left ns slots runs (λ k. fit (suc k)) in omega (arith, rest)
 few_left ns slots (Some a ∷ runs) fit =

@@ -3,6 +3,7 @@ use Rattle.std.specs.Prelude.{ℕ, ◌≡◌, ◌≢◌, ◌<◌, ◌≤◌, ◌
 use Rattle.program_interface.specs.declared.block_size.TheConstants.{LARGEST_BLOCK}
 use Rattle.interval_domain.specs.Intervals.{intervals}
 use Rattle.verifier.specs.Verified.{sizes_of}
+use Rattle.nvme_entry.specs.declared.command.TheConstants.{MOST_BLOCKS}
 use Rattle.image_store.specs.Namespace.{ZonedNamespace, zone_at}
 use Rattle.image_store.specs.declared.geometry.ZoneBlock.{ZoneBlock}
 use Rattle.zns_commands.specs.Address.{zone_number, zone_block_in}
@@ -21,7 +22,7 @@ pub record Fits (ns : ZonedNamespace) (a : ActiveRun) : Type 0 where
   pub destination : a.destination ≡ zone_number ns a.command.destination
   pub other : a.source.zone ≢ a.destination
   pub left : a.index < a.command.blocks
-  pub most : a.command.blocks ≤ 65536
+  pub most : a.command.blocks ≤ MOST_BLOCKS
   pub written : AreWritten ns a.source a.command.blocks
   pub small : a.source.offset + a.command.blocks < 2 ^ 32
   pub address : a.command.lba < 2 ^ 36

@@ -2,6 +2,7 @@
 
 ghost use Rattle.std.specs.Prelude.{◌≡◌, ◌≤◌, ◌<◌, ◌+◌, ◌*◌, ◌^◌, length, take, drop, OnOk, IfErr};
 ghost use Rattle.interval_domain.specs.Intervals.{intervals};
+ghost use Rattle.nvme_entry.specs.declared.command.TheConstants.{MOST_BLOCKS};
 ghost use Rattle.program_interface.specs.Bytes.{AreBytes};
 ghost use Rattle.device_events.specs.Replies.{data_length};
 ghost use Rattle.pushdown.specs.Draining.{HasDrained, StopsDraining, lowest_run, turns_left};
@@ -181,7 +182,7 @@ impl Device {
     fn lowest_run(&self) -> Option<u8>
         ensures lowest { result ≡ lowest_run self.now }
         ensures reached { IsReached intervals self.now }
-        ensures few { turns_left self.now.places ≤ 65536 * RUNS }
+        ensures few { turns_left self.now.places ≤ MOST_BLOCKS * RUNS }
     {
         places::lowest_run(&self.runs)
     }

@@ -1,6 +1,7 @@
 -- What the checks of a run have found.
 use Rattle.std.specs.Prelude.{ℕ, ◌≡◌, ◌≢◌, ◌<◌, ◌≤◌, ◌+◌, ◌^◌, List, position, is_none, is_some, get_or, true, Option, Some, None}
 use Rattle.nvme_entry.specs.declared.command.RunCommand.{RunCommand}
+use Rattle.nvme_entry.specs.declared.command.TheConstants.{MOST_BLOCKS}
 use Rattle.image_store.specs.Namespace.{ZonedNamespace}
 use Rattle.image_store.specs.declared.geometry.ZoneBlock.{ZoneBlock}
 use Rattle.zns_commands.specs.Address.{IsZoneBlock}
@@ -21,7 +22,7 @@ pub record IsAdmission (ns : ZonedNamespace) (slots : List (Option LoadedProgram
   pub free : position is_none runs ≡ Some admitted.run
   pub loaded : is_some (get_or slots command.slot None) ≡ true
   pub some : 1 ≤ command.blocks
-  pub most : command.blocks ≤ 65536
+  pub most : command.blocks ≤ MOST_BLOCKS
   pub zones : AreZonesOf ns command admitted.source admitted.destination
   pub written : AreWritten ns admitted.source command.blocks
   pub small : admitted.source.offset + command.blocks < 2 ^ 32

@@ -1,4 +1,5 @@
 use Rattle.std.proofs.Common.{◌*◌, inl, inr, refl, ap, sym, ◌∙◌, arith}
+use Rattle.nvme_entry.specs.declared.command.TheConstants.{MOST_BLOCKS}
 use Rattle.zone_resources.specs.declared.holds.TheConstants.{RUNS}
 use Rattle.pushdown.specs.Draining.{turns_left}
 use Rattle.pushdown.specs.State.{State}
@@ -30,7 +31,7 @@ loop-run-preserved g c =
       draining = drained_more out.took g.met.O.Out.joins c.args.self.now c.loop-run.self c.serve_one.new.self c.args.out.now c.loop-run.out
           c.serve_one.new.out c.loop-run.done c.in-Some.run' one.reply inv.draining c.lowest_run.ensures.reached low one.happened.state
           one.happened.replied one.taken;
-      few = inr (few_at_first c.args.self.now c.loop-run.self (out.took c.args.out.now c.loop-run.out) c.loop-run.done (65536 * RUNS) inv.draining inv.few
+      few = inr (few_at_first c.args.self.now c.loop-run.self (out.took c.args.out.now c.loop-run.out) c.loop-run.done (MOST_BLOCKS * RUNS) inv.draining inv.few
           c.lowest_run.ensures.few);
       refused = c.in-Ok.ensures.refused ∙ inv.refused;
     }

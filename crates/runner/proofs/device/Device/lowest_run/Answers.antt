@@ -1,4 +1,5 @@
 use Rattle.std.proofs.Common.{◌*◌, ◌≤◌, ap, subst, sym, ◌∙◌, arith}
+use Rattle.nvme_entry.specs.declared.command.TheConstants.{MOST_BLOCKS}
 use Rattle.zone_resources.specs.declared.holds.TheConstants.{RUNS}
 use Rattle.pushdown.specs.Draining.{lowest_run, turns_left}
 use Rattle.pushdown.specs.State.{State}
@@ -16,4 +17,4 @@ returns-clause-few c =
     let d = c.self.inside in
     let ready = c.self.invariant.ready in
     let few = few_left d.namespace d.slots d.runs (λ k a at. (ready.running k a at).fits) in
-    subst (λ (s : State). turns_left s.places ≤ 65536 * RUNS) c.self.view_is (omega (arith, few, c.lowest_run.ensures.size))
+    subst (λ (s : State). turns_left s.places ≤ MOST_BLOCKS * RUNS) c.self.view_is (omega (arith, few, c.lowest_run.ensures.size))
