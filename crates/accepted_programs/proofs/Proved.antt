@@ -1,4 +1,4 @@
--- The laws of accepted programs that other crates cite, and what is there in a table without entries, and after one was set.
+-- Laws of this crate, proved, and lemmas: all that other crates cite of it.
 use Rattle.std.specs.Prelude.{ℕ}
 use Rattle.word_domain.specs.Domain.{IsSound, Operations}
 use Rattle.accepted_programs.specs.Laws.{AcceptedNeverTraps, RefusalIsInside}
