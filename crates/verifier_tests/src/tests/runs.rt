@@ -127,7 +127,7 @@ fn with_every_check_and_over_superinstructions(rt: HostRuntime) -> Result<(), Fa
 }
 
 #[test]
-fn a_frame_as_long_as_the_block_says(rt: HostRuntime) -> Result<(), Fail> {
+fn a_record_as_long_as_the_block_says(rt: HostRuntime) -> Result<(), Fail> {
     let verified = verify::<Intervals>(rt.alloc(), program(rt.alloc(), GROWING)?, sizes(10, 512)?)?;
     let prepared = Prepared::new(rt.alloc(), verified)?;
     let mut block = [0; 512];
