@@ -1,4 +1,4 @@
--- What reading a line and a file gives.
+-- What reading the words of an event and a line gives, and why they are refused.
 use Rattle.std.specs.Prelude.{◌≡◌, ℕ, Option, Some, None, option_map, Result, Ok, Err}
 use Rattle.hex.specs.declared.error.FromHexError.{FromHexError}
 use Rattle.hex.specs.declared.error.FromHexError.TheVariants as digits
