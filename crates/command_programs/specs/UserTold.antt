@@ -4,7 +4,7 @@ use Rattle.ebpf_asm.specs.Assembly.{assembled}
 use Rattle.command_failure.specs.declared.failure.Failure.{Failure}
 use Rattle.command_failure.specs.declared.failure.Failure.TheVariants.{NoMemory, CannotRead, CannotWrite, AssemblyRefused}
 
--- why `asm` makes no program: the first fault of the text file's bytes, where this is told, a file that can't be read or
+-- why `asm` makes no program: the first fault of the text file's bytes, where these are told, a file that can't be read or
 -- written, or want of memory, and nothing else
 abbrev pub AsmFails : (List ℕ → Option (List ℕ)) → List ℕ → List ℕ → Failure → Type 0
 AsmFails contents text_file program_file (AssemblyRefused told refusal) = (told.now ≡ text_file) × IfSome (contents text_file) (λ text. assembled text ≡ Err refusal.fault)
