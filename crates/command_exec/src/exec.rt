@@ -41,7 +41,7 @@ of bytes, in hexadecimal. Where a line is not of this form, no event happens.
 
 What is printed, which `explain` says in words:
 
-  cpl QUEUE ENTRY [DATA]      a completion queue entry, and the data that was read
+  cpl QUEUE ENTRY [DATA]      a completion queue entry, and the data that it gives
   pending RUN                 the run was admitted, or has turns left
   idle                        there is no such run
   done                        a fault was taken
