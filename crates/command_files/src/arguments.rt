@@ -25,11 +25,11 @@ pub const ARGUMENT: &str = "argument";
 /// The argument that [`program_argument`] describes.
 pub const PROGRAM: &str = "PROGRAM";
 
-/// The option `--NAME LETTER`.
-pub fn option<'a>(alloc: Global, name: &'a str, letter: &'a str) -> Arg<'a> {
+/// The option `--NAME VALUE`, whose value help shows by this word.
+pub fn option<'a>(alloc: Global, name: &'a str, value: &'a str) -> Arg<'a> {
     Arg::new(alloc, name)
         .long(name)
-        .value_name(letter)
+        .value_name(value)
         .action(ArgAction::Set)
 }
 
