@@ -62,7 +62,7 @@ pub fn subcommand<'a>(alloc: Global) -> Result<Command<'a>, AllocError> {
 /// wanting.
 pub fn entry<'a, F: Files, O: Write>(
     alloc: Global,
-    line: &mut Command<'a>,
+    command_line: &mut Command<'a>,
     matches: &ArgMatches<'a>,
     files: &mut F,
     out: &mut O,
@@ -72,15 +72,15 @@ pub fn entry<'a, F: Files, O: Write>(
     ensures contents { F.contents files.new ≡ F.contents files.old }
 {
     match matches.subcommand() {
-        Some((name, matches)) => submit(alloc, line, name, matches, files, out),
-        None => Err(no_command(line)),
+        Some((name, matches)) => submit(alloc, command_line, name, matches, files, out),
+        None => Err(no_command(command_line)),
     }
 }
 
 /// Prints the line of the kind of entry that has this name.
 fn submit<'a, F: Files, O: Write>(
     alloc: Global,
-    line: &mut Command<'a>,
+    command_line: &mut Command<'a>,
     name: &str,
     matches: &ArgMatches<'a>,
     files: &mut F,
@@ -91,7 +91,7 @@ fn submit<'a, F: Files, O: Write>(
     ensures contents { F.contents files.new ≡ F.contents files.old }
 {
     let identifiers = Identifiers::of_words(matches)?;
-    let asked = words_asked(alloc, line, name, matches, files)?;
+    let asked = words_asked(alloc, command_line, name, matches, files)?;
     print(
         alloc,
         identifiers,
@@ -104,7 +104,7 @@ fn submit<'a, F: Files, O: Write>(
 /// What the words of the kind of entry that has this name ask for.
 fn words_asked<'a, F: Files>(
     alloc: Global,
-    line: &mut Command<'a>,
+    command_line: &mut Command<'a>,
     name: &str,
     matches: &ArgMatches<'a>,
     files: &mut F,
@@ -116,14 +116,14 @@ fn words_asked<'a, F: Files>(
         transfers::APPEND => transfers::append(matches, files),
         transfers::WRITE => transfers::write(matches, files),
         programs::LOAD => programs::load(matches, files),
-        _ => without_files(alloc, line, name, matches),
+        _ => without_files(alloc, command_line, name, matches),
     }
 }
 
 /// What the words of a kind of entry ask for that needs no file.
 fn without_files<'a>(
     alloc: Global,
-    line: &mut Command<'a>,
+    command_line: &mut Command<'a>,
     name: &str,
     matches: &ArgMatches<'a>,
 ) -> Result<Asked, Failure<'a>> {
@@ -134,7 +134,7 @@ fn without_files<'a>(
         programs::RESULT => programs::result_of(alloc, matches),
         _ => match zones::action_of(name) {
             Some(action) => zones::send(alloc, action, matches),
-            None => Err(no_command(line)),
+            None => Err(no_command(command_line)),
         },
     }
 }
