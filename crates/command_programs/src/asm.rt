@@ -91,18 +91,18 @@ fn make<'a, F: Files>(
     alloc: Global,
     text_file: &'a str,
     text: &[u8],
-    path: &'a str,
+    program_file: &'a str,
     files: &mut F,
 ) -> Result<(), Failure<'a>>
-    ensures program { OnOk result (MakesProgram (F.made files.old) (F.made files.new) path.now (assembled text.now)) }
-    ensures failed { IfErr result (MakesNone text_file.entry path.entry text.now) }
-    ensures made { OnOk result (MakesOne path.now (F.made files.old) (F.made files.new)) }
-    ensures others { OnOk result (KeepsOthers path.now (F.contents files.old) (F.contents files.new)) }
+    ensures program { OnOk result (MakesProgram (F.made files.old) (F.made files.new) program_file.now (assembled text.now)) }
+    ensures failed { IfErr result (MakesNone text_file.entry program_file.entry text.now) }
+    ensures made { OnOk result (MakesOne program_file.now (F.made files.old) (F.made files.new)) }
+    ensures others { OnOk result (KeepsOthers program_file.now (F.contents files.old) (F.contents files.new)) }
     ensures kept { OnErr result (F.made files.new ≡ F.made files.old) }
     ensures contents { OnErr result (F.contents files.new ≡ F.contents files.old) }
 {
     match assemble(alloc, text) {
-        Ok(program) => write(path, program.as_slice(), files),
+        Ok(program) => write(program_file, program.as_slice(), files),
         Err(fault) => Err(refused(text_file, text, fault)),
     }
 }
