@@ -17,7 +17,7 @@ use thiserror::Error;
 /// The hexadecimal digits of a completion queue entry.
 const ENTRY_DIGITS: usize = 32;
 
-/// Why a file has no replies.
+/// Why the replies of a file aren't read.
 #[derive(Clone, Copy, Debug, PartialEq, Eq, Error)]
 pub enum RepliesFault {
     /// A line isn't one that a reply is printed as; the first line is 1.
@@ -28,7 +28,7 @@ pub enum RepliesFault {
     Memory,
 }
 
-/// Why a line tells no reply.
+/// Why the reply of a line isn't read.
 #[derive(Clone, Copy, Debug, PartialEq, Eq)]
 enum ReplyFault {
     Malformed,
