@@ -246,8 +246,8 @@ impl Tracer<'_> {
         }
     }
 
-    /// Prints the end of a run by a trap: the slot of the instruction and the cause, and if that is asked for the
-    /// instruction before it.
+    /// Prints the end of a run by a trap: the slot of the instruction and the cause; on a line before that, if it is asked for,
+    /// the instruction and the cause in words.
     fn print_trap<'a, O: Write>(
         &self,
         slot: usize,
