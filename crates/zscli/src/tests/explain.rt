@@ -4,7 +4,8 @@ use super::scenes::{Act, Scene, play};
 use super::stage::Parts;
 use std::test::Fail;
 
-/// What it prints, of one turn and of a last one, with the two blocks read being zeros.
+/// Some of the lines that `exec` prints of `examples/pushdown.cmd`, with one of a turn after which the run goes on. The two blocks
+/// that are read are zeros here.
 const PUSHDOWN_REPLIES: Parts = &[
     (
         b"\
