@@ -73,7 +73,7 @@ pub(super) enum Act {
     Has(&'static str, Parts),
     /// There is no such file.
     HasNo(&'static str),
-    /// A program as text, the most bytes that it may emit, and what `verify` says of it.
+    /// A program as text, the most bytes that it may emit, and what `verify --explain` says of it.
     Verify(&'static str, u32, &'static str),
 }
 

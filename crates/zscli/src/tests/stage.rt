@@ -184,8 +184,7 @@ impl Stage {
         Ok(())
     }
 
-    /// Compares what `verify` says of a program, which is in a file, for blocks of 512 bytes. Where what is said has
-    /// several lines, it is asked to explain.
+    /// Compares what `verify --explain` says of a program, which is in a file, for blocks of 512 bytes.
     pub(super) fn check_program(
         &mut self,
         rt: &impl Abort,
@@ -194,13 +193,8 @@ impl Stage {
         emit: u32,
         said: &str,
     ) -> Result<(), AllocError> {
-        let explain = if said.contains("\n") {
-            " --explain"
-        } else {
-            ""
-        };
         let line = format!(in self.alloc;
-            "zscli verify {file} --block 512 --emit {emit}{explain}"
+            "zscli verify {file} --block 512 --emit {emit} --explain"
         )?;
         self.run(line.as_str(), usize::MAX)?;
         let end = self.out.bytes.pop();
