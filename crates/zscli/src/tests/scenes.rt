@@ -60,7 +60,7 @@ pub(super) enum Act {
     Fails(&'static str, u8, &'static str, &'static str),
     /// A command line refuses its input: it prints nothing, and this to standard error.
     Refuses(&'static str, &'static str),
-    /// A command line whose standard output takes so many writes ends with this status and standard error.
+    /// A command line whose standard output takes so many writes ends with this status and last line on standard error.
     Stops(&'static str, usize, u8, &'static str),
     /// `exec` on this image and `events`, whose standard output takes so many writes, ends with this status, and `zones`
     /// then prints this.
