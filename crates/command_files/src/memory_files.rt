@@ -48,13 +48,13 @@ impl MemoryFiles {
     /// # Errors
     ///
     /// Want of memory, which leaves the files as they were.
-    pub fn put(&mut self, name: &str, bytes: &[u8]) -> Result<(), AllocError>
-        ensures ok { OnOk result (made_of self.new.files.items ≡ made_of self.old.files.items ++ record { path = name.now; bytes = bytes.now } ∷ []) }
-        ensures contents { OnOk result (HasReplaced name.now bytes.now (bytes_named self.old.files.items) (bytes_named self.new.files.items)) }
+    pub fn put(&mut self, path: &str, bytes: &[u8]) -> Result<(), AllocError>
+        ensures ok { OnOk result (made_of self.new.files.items ≡ made_of self.old.files.items ++ record { path = path.now; bytes = bytes.now } ∷ []) }
+        ensures contents { OnOk result (HasReplaced path.now bytes.now (bytes_named self.old.files.items) (bytes_named self.new.files.items)) }
         ensures err { OnErr result (self.new.files.items ≡ self.old.files.items) }
     {
         let file = NamedFile {
-            name: String::from_str(self.alloc, name)?,
+            name: String::from_str(self.alloc, path)?,
             bytes: Vec::from_slice(self.alloc, bytes)?,
         };
         self.files.push(file)?;
@@ -66,36 +66,36 @@ impl MemoryFiles {
     /// # Errors
     ///
     /// Want of memory, which leaves the files as they were.
-    pub fn add(&mut self, name: &str, bytes: &[u8]) -> Result<(), AllocError>
-        ensures ok { OnOk result (made_of self.new.files.items ≡ made_of self.old.files.items ++ record { path = name.now; bytes = unwrap_or (bytes_named self.old.files.items name.now) [] ++ bytes.now } ∷ []) }
+    pub fn add(&mut self, path: &str, bytes: &[u8]) -> Result<(), AllocError>
+        ensures ok { OnOk result (made_of self.new.files.items ≡ made_of self.old.files.items ++ record { path = path.now; bytes = unwrap_or (bytes_named self.old.files.items path.now) [] ++ bytes.now } ∷ []) }
         ensures err { OnErr result (self.new.files.items ≡ self.old.files.items) }
     {
         let mut all = Vec::new(self.alloc);
-        if let Some(before) = self.bytes(name) {
+        if let Some(before) = self.bytes(path) {
             all.extend_from_slice(before)?;
         }
         all.extend_from_slice(bytes)?;
-        self.put(name, all.as_slice())
+        self.put(path, all.as_slice())
     }
 
     /// The bytes of the file with this name.
-    pub fn bytes(&self, name: &str) -> Option<&[u8]>
-        ensures { option_copied result ≡ bytes_named self.now.files.items name.now }
+    pub fn bytes(&self, path: &str) -> Option<&[u8]>
+        ensures { option_copied result ≡ bytes_named self.now.files.items path.now }
     {
-        match self.named(name) {
+        match self.named(path) {
             Some(file) => Some(file.bytes.as_slice()),
             None => None,
         }
     }
 
     /// The last file that was made with this name.
-    fn named(&self, name: &str) -> Option<&NamedFile>
-        ensures { option_copied result ≡ last_named self.now.files.items name.now }
+    fn named(&self, path: &str) -> Option<&NamedFile>
+        ensures { option_copied result ≡ last_named self.now.files.items path.now }
     {
         self.files
             .iter()
             .rev()
-            .find(|file| file.name.as_str() == name)
+            .find(|file| file.name.as_str() == path)
     }
 }
 
