@@ -132,9 +132,9 @@ fn run<'a, F: Files, O: Write>(
     ensures contents { IfErr result (λ failure. failure ≢ Failure.CannotPrint → F.contents files.new ≡ F.contents files.old) }
 {
     let mut lines = Lines::new(alloc, out)?;
-    let mut data = vec![in alloc; 0; MOST_TRANSFER]?;
+    let mut output = vec![in alloc; 0; MOST_TRANSFER]?;
     let mut device = Device::new(alloc, image);
-    let done = serve_and_drain(&mut device, events, data.as_mut_slice(), &mut lines);
+    let done = serve_and_drain(&mut device, events, output.as_mut_slice(), &mut lines);
     let out = lines.into_writer();
     image_file::save(device.image(), path, files)?;
     // No effect at run time. The proof reads what was printed from this use of `out`.
