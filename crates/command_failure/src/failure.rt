@@ -108,8 +108,7 @@ impl<'a> Failure<'a> {
         }
     }
 
-    /// 1 where a file failed or memory was wanting, 2 for a wrong command line, 3 for input that is
-    /// refused.
+    /// The exit status.
     fn status(&self) -> u8
         ensures { result ≡ status_of self.now }
     {
