@@ -1,4 +1,4 @@
--- Lines of printable ASCII without a comment, and the words in them.
+-- Lines of ASCII from the space on without a comment, and the words in them.
 use Rattle.std.proofs.Common.{◌≡◌, ◌≢◌, ℕ, ◌^◌, ◌<◌, ◌==◌, nat_lt, not, Bool, true, false, ◌&&◌, cond, List, [], ◌∷◌, ◌++◌, length, Some, None, ap, ◌∙◌, arith}
 use Rattle.std.specs.Fmt.{decimal}
 use Rattle.std.specs.List.{All, AllPass, list_all}
@@ -18,7 +18,7 @@ use Rattle.event_text.specs.Words.{words_of}
 use Rattle.event_text.proofs.WordLemmas.{word_first, word_last}
 use Rattle.text_lines.proofs.Proved.{digits, uncommented-same}
 
--- a byte of a word: no blank, no control, no `;`
+-- a byte of a word: ASCII behind the space, and no `;`
 abbrev pub InWord : ℕ → Type 0
 InWord byte = (32 < byte) × (byte < 128) × (byte ≢ 59)
 
