@@ -7,7 +7,7 @@ use Rattle.command_failure.specs.declared.file_cause.FileCause.{FileCause}
 use Rattle.command_files.specs.Made.{KeepsOthers}
 use Rattle.command_files.specs.UserTold.{IsUnwritten}
 
--- the failure of a file that can't be written has what that of this file has for any cause, and what want of memory has
+-- what holds where this file can't be written, for whatever cause, and where memory is wanting, holds of each such failure
 pub unwritten_holds : (path : Bor (List ℕ)) (P : Failure → Type 0) → ((told : Bor (List ℕ)) (cause : FileCause) → told ≡ path → P (CannotWrite told cause)) → P NoMemory
     → (failure : Failure) → IsUnwritten path failure → P failure
 unwritten_holds path P refused none (CannotWrite told cause) is = refused told cause is
