@@ -37,7 +37,7 @@ Took a b replies = (b.0 ≡ a.0) × Prints reply_line a.1 b.1 replies
 took_joins : Joins Took
 took_joins a b c first later early late = (late.0 ∙ early.0, prints_in_parts reply_line a.1 b.1 c.1 first later early.1 late.1)
 
--- events, of which one was refused
+-- events, of which the reply to the last was refused
 pub stops_in_events : (events : List Event) (old new : State) (took : List ReplyWithData → Type 0) (done : ℕ)
     → HasStopped intervals events old new took done → HasBegun events old new
 stops_in_events events old new took done stopped = InEvents done (record {
