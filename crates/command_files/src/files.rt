@@ -54,10 +54,10 @@ pub trait Files {
     /// It can't be written. It isn't told as made then; of a file of the system a beginning may
     /// stand there.
     fn write(&mut self, path: &str, bytes: &[u8]) -> Result<(), FileFault>
-        ensures ok { OnOk result (made self.new ≡ then_made (made self.old) path.now bytes.now) }
-        ensures err { OnErr result (made self.new ≡ made self.old) }
+        ensures made { OnOk result (made self.new ≡ then_made (made self.old) path.now bytes.now) }
+        ensures kept { OnErr result (made self.new ≡ made self.old) }
         ensures replaced { OnOk result (HasReplaced path.now bytes.now (contents self.old) (contents self.new)) }
-        ensures kept { OnErr result (contents self.new ≡ contents self.old) };
+        ensures contents { OnErr result (contents self.new ≡ contents self.old) };
 
     /// A file, from its first byte on.
     ///
@@ -89,10 +89,10 @@ pub trait Files {
     /// It can't be finished, and is forgotten then: the file with this name is as it was, unless
     /// the new one has its name and only its folder couldn't be brought to the disk.
     fn finish(&mut self, path: &str, file: Self::Writer) -> Result<(), FileFault>
-        ensures ok { OnOk result (made self.new ≡ then_made (made self.old) path.now (Self.Writer.taken file)) }
-        ensures err { OnErr result (made self.new ≡ made self.old) }
+        ensures made { OnOk result (made self.new ≡ then_made (made self.old) path.now (Self.Writer.taken file)) }
+        ensures kept { OnErr result (made self.new ≡ made self.old) }
         ensures replaced { OnOk result (HasReplaced path.now (Self.Writer.taken file) (contents self.old) (contents self.new)) }
-        ensures kept { OnErr result (contents self.new ≡ contents self.old) };
+        ensures contents { OnErr result (contents self.new ≡ contents self.old) };
 
     /// Forgets a file that was begun.
     fn discard(&mut self, file: Self::Writer)
