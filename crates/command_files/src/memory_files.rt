@@ -49,9 +49,9 @@ impl MemoryFiles {
     ///
     /// Want of memory, which leaves the files as they were.
     pub fn put(&mut self, path: &str, bytes: &[u8]) -> Result<(), AllocError>
-        ensures ok { OnOk result (made_of self.new.files.items ≡ made_of self.old.files.items ++ record { path = path.now; bytes = bytes.now } ∷ []) }
-        ensures contents { OnOk result (HasReplaced path.now bytes.now (bytes_named self.old.files.items) (bytes_named self.new.files.items)) }
-        ensures err { OnErr result (self.new.files.items ≡ self.old.files.items) }
+        ensures made { OnOk result (made_of self.new.files.items ≡ made_of self.old.files.items ++ record { path = path.now; bytes = bytes.now } ∷ []) }
+        ensures replaced { OnOk result (HasReplaced path.now bytes.now (bytes_named self.old.files.items) (bytes_named self.new.files.items)) }
+        ensures kept { OnErr result (self.new.files.items ≡ self.old.files.items) }
     {
         let file = NamedFile {
             name: String::from_str(self.alloc, path)?,
@@ -67,8 +67,8 @@ impl MemoryFiles {
     ///
     /// Want of memory, which leaves the files as they were.
     pub fn add(&mut self, path: &str, bytes: &[u8]) -> Result<(), AllocError>
-        ensures ok { OnOk result (made_of self.new.files.items ≡ made_of self.old.files.items ++ record { path = path.now; bytes = unwrap_or (bytes_named self.old.files.items path.now) [] ++ bytes.now } ∷ []) }
-        ensures err { OnErr result (self.new.files.items ≡ self.old.files.items) }
+        ensures made { OnOk result (made_of self.new.files.items ≡ made_of self.old.files.items ++ record { path = path.now; bytes = unwrap_or (bytes_named self.old.files.items path.now) [] ++ bytes.now } ∷ []) }
+        ensures kept { OnErr result (self.new.files.items ≡ self.old.files.items) }
     {
         let mut all = Vec::new(self.alloc);
         if let Some(before) = self.bytes(path) {
