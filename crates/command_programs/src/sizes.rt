@@ -2,7 +2,7 @@
 
 ghost use Rattle.std.specs.Prelude.{◌≤◌, codes, IfOk, IfErr};
 ghost use Rattle.clap.specs.Matches.{found_of, first_value};
-ghost use Rattle.command_programs.specs.steps.Sizes.{AreAskedFor, IsLimit, IsOverBlock};
+ghost use Rattle.command_programs.specs.steps.Sizes.{AreAskedFor, IsLimit, SpellsNoLimit};
 
 use clap::ArgMatches;
 use command_failure::Failure;
@@ -16,7 +16,7 @@ pub(crate) fn run_sizes<'a>(
     block: BlockSize,
 ) -> Result<RunSizes, Failure<'a>>
     ensures asked { IfOk result (AreAskedFor matches.now block) }
-    ensures told { IfErr result (IsOverBlock matches.now block) }
+    ensures told { IfErr result (SpellsNoLimit matches.now block) }
 {
     let most = block.bytes();
     let limit = limit(matches, most)?;
@@ -30,7 +30,7 @@ pub(crate) fn run_sizes<'a>(
 fn limit<'a>(matches: &ArgMatches<'a>, most: u32) -> Result<u32, Failure<'a>>
     ensures asked { IfOk result (IsLimit matches.now most (first_value (found_of matches.now) (codes "emit"))) }
     ensures within { IfOk result (λ limit. limit ≤ most) }
-    ensures told { IfErr result (IsOverBlock matches.now most) }
+    ensures told { IfErr result (SpellsNoLimit matches.now most) }
 {
     match matches.get_str(EMIT) {
         Some(_) => Ok(number_in_range(matches, EMIT, 0, u64::from(most))? as u32),

@@ -19,7 +19,7 @@ pub record AreAskedFor (matches : ArgMatches) (block : ℕ) (sizes : Sizes) : Ty
   pub limit : IsLimit matches block (first_value (found_of matches) (codes "emit")) sizes.limit
 
 -- the word of `--emit` is no number, or one of more bytes than a block has
-pub record IsOverBlock (matches : ArgMatches) (block : ℕ) (failure : Failure) : Type 0 where
+pub record SpellsNoLimit (matches : ArgMatches) (block : ℕ) (failure : Failure) : Type 0 where
   pub option : Bor (List ℕ)
   pub named : option.now ≡ codes "emit"
   pub spells : SpellsNone matches option 0 block failure
