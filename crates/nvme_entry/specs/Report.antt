@@ -7,7 +7,9 @@ use Rattle.program_interface.specs.Bytes.{padded}
 use Rattle.zone_state.specs.Zone.{CountedZone}
 use Rattle.nvme_entry.specs.Descriptor.{described, descriptor_bytes}
 use Rattle.nvme_entry.specs.Filter.{lists}
+use Rattle.nvme_entry.specs.declared.descriptor.TheConstants.{DESCRIPTOR_BYTES}
 use Rattle.nvme_entry.specs.declared.filter.ZoneFilter.{ZoneFilter}
+use Rattle.nvme_entry.specs.declared.report.TheConstants.{REPORT_HEADER_BYTES}
 
 -- the Zone Descriptor of a zone with this lowest address, of 64 bytes
 unfoldable pub descriptor : CountedZone → ℕ → List ℕ
@@ -31,7 +33,7 @@ matching zones first filter = listed_zones filter (enumerate_from first (drop fi
 
 -- the zones whose descriptors fit whole into so many bytes, in order
 abbrev pub fitting : ℕ → List (ℕ × CountedZone) → List (ℕ × CountedZone)
-fitting bytes zones = take (bytes / 64) zones
+fitting bytes zones = take (bytes / DESCRIPTOR_BYTES) zones
 
 -- so many bytes with the descriptors of these zones, as many as fit whole, and zeros
 abbrev pub listed : ℕ → ℕ → List (ℕ × CountedZone) → List ℕ
@@ -43,5 +45,5 @@ listed size bytes zones = padded bytes (flat_map (descriptor_at size) (fitting b
 unfoldable pub report : ℕ → List CountedZone → ℕ → ℕ → ZoneFilter → Bool → List ℕ
 report bytes zones first size filter partial =
     let found = matching zones first filter in
-    let counted = if partial then fitting (bytes - 64) found else found in
-    take bytes (report_header (length counted)) ++ listed size (bytes - 64) found
+    let counted = if partial then fitting (bytes - REPORT_HEADER_BYTES) found else found in
+    take bytes (report_header (length counted)) ++ listed size (bytes - REPORT_HEADER_BYTES) found

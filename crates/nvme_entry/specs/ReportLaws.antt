@@ -3,7 +3,9 @@ use Rattle.std.specs.Prelude.{ℕ, ◌≡◌, ◌≤◌, ◌<◌, ◌+◌, ◌-�
 use Rattle.byteorder.specs.Endian.{little_number}
 use Rattle.program_interface.specs.Bytes.{pieces}
 use Rattle.zone_state.specs.Zone.{CountedZone}
+use Rattle.nvme_entry.specs.declared.descriptor.TheConstants.{DESCRIPTOR_BYTES}
 use Rattle.nvme_entry.specs.declared.filter.ZoneFilter.{ZoneFilter}
+use Rattle.nvme_entry.specs.declared.report.TheConstants.{REPORT_HEADER_BYTES}
 use Rattle.nvme_entry.specs.Report.{report, matching, descriptor_at}
 
 -- the number of zones that a report tells (ZNS 1.1, 3.4.2)
@@ -12,11 +14,11 @@ number_in bytes = little_number 8 bytes
 
 -- the first descriptors of a report, which stand behind its header
 abbrev pub descriptors_in : ℕ → List ℕ → List (List ℕ)
-descriptors_in count bytes = pieces 64 count (drop 64 bytes)
+descriptors_in count bytes = pieces DESCRIPTOR_BYTES count (drop REPORT_HEADER_BYTES bytes)
 
 -- how many descriptors a report of so many bytes has room for behind its header
 abbrev pub descriptor_room : ℕ → ℕ
-descriptor_room bytes = (bytes - 64) / 64
+descriptor_room bytes = (bytes - REPORT_HEADER_BYTES) / DESCRIPTOR_BYTES
 
 -- what bytes tell of zones that match: so many descriptors are given
 pub record ReportsZones (bytes : List ℕ) (partial : Bool) (size given : ℕ) (found : List (ℕ × CountedZone)) : Type 0 where
@@ -25,7 +27,7 @@ pub record ReportsZones (bytes : List ℕ) (partial : Bool) (size given : ℕ) (
   -- the descriptors of the first of these zones, in order and none left out,
   pub descriptors : descriptors_in given bytes ≡ map (descriptor_at size) (take given found)
   -- and nothing behind them
-  pub rest : drop (64 + 64 * given) bytes ≡ replicate (length bytes - (64 + 64 * given)) 0
+  pub rest : drop (REPORT_HEADER_BYTES + DESCRIPTOR_BYTES * given) bytes ≡ replicate (length bytes - (REPORT_HEADER_BYTES + DESCRIPTOR_BYTES * given)) 0
 
 -- A report has the length of the transfer. Where that has room for the header, it gives the descriptors of the zones that
 -- match, as many as fit whole behind it.
@@ -35,4 +37,4 @@ ReportsGiveWhatMatches =
     → let given = report bytes zones first size filter partial in
     let found = matching zones first filter in
     (length given ≡ bytes)
-    × (64 ≤ bytes → length zones < 2 ^ 64 → ReportsZones given partial size (min (descriptor_room bytes) (length found)) found)
+    × (REPORT_HEADER_BYTES ≤ bytes → length zones < 2 ^ 64 → ReportsZones given partial size (min (descriptor_room bytes) (length found)) found)

@@ -4,6 +4,8 @@ ghost use Rattle.std.specs.Prelude.{◌≡◌, ◌≤◌, ◌<◌, ◌+◌, ◌-
 ghost use Rattle.std.specs.List.{enumerate_from};
 ghost use Rattle.nvme_entry.specs.Report.{report, listed, listed_zones, report_header, descriptor};
 ghost use Rattle.nvme_entry.specs.ReportLaws.{number_in};
+ghost use Rattle.nvme_entry.specs.declared.descriptor.TheConstants.{DESCRIPTOR_BYTES};
+ghost use Rattle.nvme_entry.specs.declared.report.TheConstants.{REPORT_HEADER_BYTES};
 
 use crate::descriptor::{DESCRIPTOR_BYTES, ZoneDescriptor};
 use crate::filter::ZoneFilter;
@@ -98,7 +100,7 @@ fn header(number: u64) -> [u8; REPORT_HEADER_BYTES]
 
 /// Puts the header at the front, or as much of it as there is room for.
 fn write_header(output: &mut [u8], number: u64)
-    ensures { output.new ≡ take (length output.old) (report_header number) ++ drop 64 output.old }
+    ensures { output.new ≡ take (length output.old) (report_header number) ++ drop REPORT_HEADER_BYTES output.old }
 {
     let length = output.len().min(REPORT_HEADER_BYTES);
     put_front(output, &header(number)[..length]);
@@ -141,8 +143,8 @@ fn put_descriptor(output: &mut [u8], at: usize, zone: Zone, lowest: u64) -> usiz
     requires lowest { lowest + 2 ^ 32 ≤ 2 ^ 64 }
     ensures inside { result ≤ length output.new }
     ensures same_length { length output.new ≡ length output.old }
-    ensures fits { at + 64 ≤ length output.old → (result ≡ at + 64) × (take result output.new ≡ take at output.old ++ descriptor zone lowest) }
-    ensures full { length output.old < at + 64 → (result ≡ at) × (output.new ≡ output.old) }
+    ensures fits { at + DESCRIPTOR_BYTES ≤ length output.old → (result ≡ at + DESCRIPTOR_BYTES) × (take result output.new ≡ take at output.old ++ descriptor zone lowest) }
+    ensures full { length output.old < at + DESCRIPTOR_BYTES → (result ≡ at) × (output.new ≡ output.old) }
 {
     if output.len() - at < DESCRIPTOR_BYTES {
         return at;
@@ -153,9 +155,9 @@ fn put_descriptor(output: &mut [u8], at: usize, zone: Zone, lowest: u64) -> usiz
 
 /// Puts the descriptor of a zone at the front.
 fn write_descriptor(output: &mut [u8], zone: Zone, lowest: u64)
-    requires inside { 64 ≤ length output.old }
+    requires inside { DESCRIPTOR_BYTES ≤ length output.old }
     requires lowest { lowest + 2 ^ 32 ≤ 2 ^ 64 }
-    ensures { output.new ≡ descriptor zone lowest ++ drop 64 output.old }
+    ensures { output.new ≡ descriptor zone lowest ++ drop DESCRIPTOR_BYTES output.old }
 {
     put_front(output, &ZoneDescriptor::of(zone, lowest).encode());
 }
