@@ -12,7 +12,9 @@ use Rattle.image_store.specs.declared.fault.HeaderFault.{HeaderFault}
 use Rattle.image_store.specs.declared.fault.HeaderFault.TheVariants as header_faults
 use Rattle.image_store.specs.declared.fault.ZoneRowFault.{ZoneRowFault}
 use Rattle.image_store.specs.declared.fault.ZoneRowFault.TheVariants as row_faults
+use Rattle.image_store.specs.declared.header.TheConstants.{HEADER_BYTES}
 use Rattle.image_store.specs.declared.version.Version.{Version}
+use Rattle.image_store.specs.declared.zone_row.TheConstants.{ZONE_ROW_BYTES}
 use Rattle.image_store.specs.Geometry.{Shape, IsShape, shape_checks}
 use Rattle.image_store.specs.ImageInMemory.{no_counted_zone}
 use Rattle.image_store.specs.Reading.{are_zeros, namespace_in, rows_end, shape_in, total_told}
@@ -21,7 +23,7 @@ use Rattle.image_store.specs.Version.{HasText, has_block, numbers_of_version}
 
 -- a text as long as a header, which begins with the magic of a version
 pub record Begins (version : Version) (bytes : List ℕ) : Type 0 where
-  pub whole : 64 ≤ length bytes
+  pub whole : HEADER_BYTES ≤ length bytes
   pub magic : take 8 bytes ≡ (numbers_of_version version).magic
 
 -- what can be wrong with a header of a version that tells a shape:
@@ -43,11 +45,11 @@ pub record HasHeader (version : Version) (bytes : List ℕ) : Type 0 where
   pub begins : Begins version bytes
   pub shape : IsShape (shape_in bytes)
   pub has : HasText version (shape_in bytes)
-  pub zeros : are_zeros (drop (numbers_of_version version).zeros_from (take 64 bytes)) ≡ true
+  pub zeros : are_zeros (drop (numbers_of_version version).zeros_from (take HEADER_BYTES bytes)) ≡ true
 
 -- the row of the zone with this number
 abbrev pub row_at : List ℕ → ℕ → List ℕ
-row_at bytes zone = take 8 (drop (64 + zone * 8) bytes)
+row_at bytes zone = take ZONE_ROW_BYTES (drop (HEADER_BYTES + zone * ZONE_ROW_BYTES) bytes)
 
 -- a row tells a zone of a capacity
 pub record TellsZone (capacity : ℕ) (row : List ℕ) (z : CountedZone) : Type 0 where
@@ -90,7 +92,7 @@ pub record IsFaultOfRow (version : Version) (bytes : List ℕ) (zone : ℕ) (why
 
 -- the number of written blocks that the header tells, if it tells it, is that of these zones
 abbrev pub TellsTotal : Version → List ℕ → List CountedZone → Type 0
-TellsTotal version bytes zones = IfSome (total_told version (take 64 bytes)) (λ total. total ≡ written_blocks zones)
+TellsTotal version bytes zones = IfSome (total_told version (take HEADER_BYTES bytes)) (λ total. total ≡ written_blocks zones)
 
 -- a text without a fault up to the end of its rows
 pub record HasRows (version : Version) (bytes : List ℕ) (zones : List CountedZone) : Type 0 where
@@ -106,7 +108,7 @@ blocks_end bytes zones = rows_end bytes + written_blocks zones * (shape_in bytes
 -- none is looked at before all are there; or it has no fault up to the end of its rows, and ends within its blocks
 abbrev pub EndsEarly : List ℕ → Type 0
 EndsEarly bytes =
-    (length bytes < 64)
+    (length bytes < HEADER_BYTES)
     ⊎ (((version : Version) × HasHeader version bytes × (length bytes < rows_end bytes))
     ⊎ ((version : Version) × (zones : List CountedZone) × HasRows version bytes zones × (length bytes < blocks_end bytes zones)))
 
@@ -114,15 +116,15 @@ EndsEarly bytes =
 abbrev pub IsFirstFault : List ℕ → LoadFault → Type 0
 IsFirstFault bytes faults.Truncated = EndsEarly bytes
 -- a header is there, but has the magic of no version;
-IsFirstFault bytes faults.Magic = (64 ≤ length bytes) × ((version : Version) → take 8 bytes ≢ (numbers_of_version version).magic)
+IsFirstFault bytes faults.Magic = (HEADER_BYTES ≤ length bytes) × ((version : Version) → take 8 bytes ≢ (numbers_of_version version).magic)
 -- it has that of one, and this is wrong behind it;
-IsFirstFault bytes (faults.Header why) = (version : Version) × Begins version bytes × IsHeaderFault version (take 64 bytes) (shape_in bytes) why
+IsFirstFault bytes (faults.Header why) = (version : Version) × Begins version bytes × IsHeaderFault version (take HEADER_BYTES bytes) (shape_in bytes) why
 -- it has no fault, and this is wrong with the first row that tells no zone;
 IsFirstFault bytes (faults.ZoneRow zone why) = (version : Version) × IsFaultOfRow version bytes zone why
 -- all rows tell zones, but not with as many written blocks as the header tells;
 IsFirstFault bytes (faults.Total told counted) =
     (version : Version) × (zones : List CountedZone) × TellsAllZones version bytes zones
-    × (total_told version (take 64 bytes) ≡ Some told) × (counted ≡ written_blocks zones) × (told ≢ counted)
+    × (total_told version (take HEADER_BYTES bytes) ≡ Some told) × (counted ≡ written_blocks zones) × (told ≢ counted)
 -- with as many, but too many of them are open or active;
 IsFirstFault bytes (faults.Limits opened active limits) =
     (version : Version) × (zones : List CountedZone) × TellsAllZones version bytes zones × TellsTotal version bytes zones

@@ -4,8 +4,10 @@ use Rattle.program_interface.specs.BlockSize.{IsBlockSize}
 use Rattle.image_store.specs.declared.fault.LoadFault.{LoadFault}
 use Rattle.image_store.specs.declared.fault.LoadFault.TheVariants as fault
 use Rattle.image_store.specs.declared.geometry.TheConstants.{MOST_ZONES}
+use Rattle.image_store.specs.declared.header.TheConstants.{HEADER_BYTES}
 use Rattle.image_store.specs.declared.version.Version.{Version}
 use Rattle.image_store.specs.declared.version.Version.TheVariants.{Two}
+use Rattle.image_store.specs.declared.zone_row.TheConstants.{ZONE_ROW_BYTES}
 use Rattle.program_interface.specs.Bytes.{AreBytes}
 use Rattle.image_store.specs.Geometry.{Shape, IsShape, tested}
 use Rattle.image_store.specs.Namespace.{ZonedNamespace, shape, IsNamespace}
@@ -63,8 +65,8 @@ LongerTextsAreTrailing =
 -- up to the one that is told, or else of all rows
 abbrev pub fault_end : List ℕ → LoadFault → ℕ
 fault_end bytes fault.Magic = 8
-fault_end bytes (fault.Header first) = 64
-fault_end bytes (fault.ZoneRow zone first) = 64 + (zone + 1) * 8
+fault_end bytes (fault.Header first) = HEADER_BYTES
+fault_end bytes (fault.ZoneRow zone first) = HEADER_BYTES + (zone + 1) * ZONE_ROW_BYTES
 fault_end bytes _ = rows_end bytes
 
 -- the fault that a text is refused with, other than one of its end, is that of each text that is no shorter and has

@@ -18,8 +18,10 @@ use Rattle.program_interface.specs.Checks.{demand, first_failed, unless_failed}
 use Rattle.image_store.specs.ImageInMemory.{zone_seen}
 use Rattle.image_store.specs.declared.fault.HeaderFault.TheVariants as header_fault
 use Rattle.image_store.specs.declared.header.Header.{Header}
+use Rattle.image_store.specs.declared.header.TheConstants.{HEADER_BYTES}
 use Rattle.image_store.specs.declared.version.Version.{Version}
 use Rattle.image_store.specs.declared.version.Version.TheVariants.{One, Two}
+use Rattle.image_store.specs.declared.zone_row.TheConstants.{ZONE_ROW_BYTES}
 use Rattle.image_store.specs.Geometry.{Shape, shape_of, tested}
 use Rattle.image_store.specs.declared.geometry.GeometryRefusal.{GeometryRefusal}
 use Rattle.image_store.specs.Namespace.{ZoneBlocks, ZonedNamespace, namespace_with}
@@ -42,11 +44,11 @@ shape_told bytes =
 
 -- the shape that the header of a text tells
 abbrev pub shape_in : List ℕ → Shape
-shape_in bytes = shape_told (take 64 bytes)
+shape_in bytes = shape_told (take HEADER_BYTES bytes)
 
 -- the byte behind the rows of a text
 abbrev pub rows_end : List ℕ → ℕ
-rows_end bytes = 64 + (shape_in bytes).zones * 8
+rows_end bytes = HEADER_BYTES + (shape_in bytes).zones * ZONE_ROW_BYTES
 
 -- the fault of a header whose numbers are none of a geometry
 abbrev pub numbers_fault : GeometryRefusal → LoadFault
@@ -101,7 +103,7 @@ header_told bytes = ok_or (version_in bytes) fault.Magic >>= header_of bytes
 
 -- the header in front of a text, and the bytes behind it
 abbrev pub header_in : List ℕ → Result (Header × List ℕ) LoadFault
-header_in bytes = bytes_in 64 bytes >>= λ front. header_told front.0 >>= λ header. Ok (header, front.1)
+header_in bytes = bytes_in HEADER_BYTES bytes >>= λ front. header_told front.0 >>= λ header. Ok (header, front.1)
 
 -- the zone of a number in a state, with so many blocks written
 abbrev pub zone_with : ℕ → ZoneState → ℕ → ℕ → Result CountedZone LoadFault
@@ -126,12 +128,12 @@ zone_in zone capacity bytes =
 abbrev pub zones_in : ℕ → ℕ → ℕ → List ℕ → Result (List CountedZone) LoadFault
 zones_in zone capacity zero bytes = Ok []
 zones_in zone capacity (suc n) bytes =
-    zone_in zone capacity (take 8 bytes) >>= λ z. zones_in (zone + 1) capacity n (drop 8 bytes) >>= λ zs. Ok (z ∷ zs)
+    zone_in zone capacity (take ZONE_ROW_BYTES bytes) >>= λ z. zones_in (zone + 1) capacity n (drop ZONE_ROW_BYTES bytes) >>= λ zs. Ok (z ∷ zs)
 
 -- the zones of the zone rows, all of which are there before any is looked at
 abbrev pub zone_rows_in : Shape → List ℕ → Result (List CountedZone × List ℕ) LoadFault
 zone_rows_in s bytes =
-    bytes_in (s.zones * 8) bytes >>= λ front. zones_in 0 s.capacity s.zones front.0 >>= λ zs. Ok (zs, front.1)
+    bytes_in (s.zones * ZONE_ROW_BYTES) bytes >>= λ front. zones_in 0 s.capacity s.zones front.0 >>= λ zs. Ok (zs, front.1)
 
 -- the rows have as many written blocks as the header tells, if it tells that
 abbrev pub total_kept : Option ℕ → List CountedZone → Result (Unit {0}) LoadFault

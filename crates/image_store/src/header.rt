@@ -4,6 +4,7 @@ ghost use Rattle.std.specs.Prelude.{◌≡◌, ◌+◌, ◌≤◌, length};
 ghost use Rattle.program_interface.specs.Bytes.{field};
 ghost use Rattle.image_store.specs.Reading.{header_of, header_told, numbers_in, shape_told, total_told, version_kept, zeros_kept};
 ghost use Rattle.image_store.specs.Text.{header};
+ghost use Rattle.image_store.specs.declared.header.TheConstants.{HEADER_BYTES};
 
 use crate::bytes::are_zeros;
 use crate::fault::{HeaderFault, LoadFault};
@@ -50,7 +51,7 @@ pub fn encode(geometry: Geometry, total: u64) -> [u8; HEADER_BYTES]
 ///
 /// [`LoadFault::Magic`] for other first bytes, or [`LoadFault::Header`] with the first test that the rest fails.
 pub fn decode(bytes: &[u8]) -> Result<Header, LoadFault>
-    requires { length bytes.now ≡ 64 }
+    requires { length bytes.now ≡ HEADER_BYTES }
     ensures { result ≡ header_told bytes.now }
 {
     match Version::of(bytes) {
@@ -61,7 +62,7 @@ pub fn decode(bytes: &[u8]) -> Result<Header, LoadFault>
 
 /// What a header of this version tells.
 fn decode_as(version: Version, bytes: &[u8]) -> Result<Header, LoadFault>
-    requires { length bytes.now ≡ 64 }
+    requires { length bytes.now ≡ HEADER_BYTES }
     ensures { result ≡ header_of bytes.now version }
 {
     let geometry = geometry_told(bytes)?;
@@ -75,7 +76,7 @@ fn decode_as(version: Version, bytes: &[u8]) -> Result<Header, LoadFault>
 
 /// The geometry of a header's numbers.
 fn geometry_told(bytes: &[u8]) -> Result<Geometry, LoadFault>
-    requires { length bytes.now ≡ 64 }
+    requires { length bytes.now ≡ HEADER_BYTES }
     ensures { result ≡ numbers_in (shape_told bytes.now) }
 {
     let block = number(bytes, 8);
@@ -111,7 +112,7 @@ fn check_version(version: Version, geometry: Geometry) -> Result<(), LoadFault>
 
 /// Refuses bytes other than zeros behind what the version tells.
 fn check_zeros(version: Version, bytes: &[u8]) -> Result<(), LoadFault>
-    requires { length bytes.now ≡ 64 }
+    requires { length bytes.now ≡ HEADER_BYTES }
     ensures { result ≡ zeros_kept version bytes.now }
 {
     if are_zeros(&bytes[version.zeros_from()..]) {
@@ -123,7 +124,7 @@ fn check_zeros(version: Version, bytes: &[u8]) -> Result<(), LoadFault>
 
 /// How many blocks are written, where the version tells it.
 fn total(version: Version, bytes: &[u8]) -> Option<u64>
-    requires { length bytes.now ≡ 64 }
+    requires { length bytes.now ≡ HEADER_BYTES }
     ensures { result ≡ total_told version bytes.now }
 {
     match version {

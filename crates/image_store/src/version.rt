@@ -3,6 +3,7 @@
 ghost use Rattle.std.specs.Prelude.{◌≡◌, ◌≤◌};
 ghost use Rattle.image_store.specs.Reading.{version_in};
 ghost use Rattle.image_store.specs.Version.{numbers_of_version, has_block, version_number};
+ghost use Rattle.image_store.specs.declared.header.TheConstants.{HEADER_BYTES};
 
 use crate::geometry::MOST_ZONES;
 use program_interface::BLOCK_SIZES;
@@ -76,7 +77,7 @@ impl Version {
     /// The first byte of a header from which on all are zero.
     pub fn zeros_from(self) -> usize
         ensures value { result ≡ (numbers_of_version self).zeros_from }
-        ensures inside { result ≤ 64 }
+        ensures inside { result ≤ HEADER_BYTES }
     {
         match self {
             Version::One => 32,

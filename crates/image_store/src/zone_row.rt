@@ -5,6 +5,7 @@ ghost use Rattle.image_store.specs.Loading.{LoadGives};
 ghost use Rattle.image_store.specs.steps.LoadStages.{NoStreamFails};
 ghost use Rattle.image_store.specs.Reading.{zone_in, zone_with, zones_in};
 ghost use Rattle.image_store.specs.Text.{zone_row, written_blocks};
+ghost use Rattle.image_store.specs.declared.zone_row.TheConstants.{ZONE_ROW_BYTES};
 
 use crate::bytes::are_zeros;
 use crate::fault::{LoadFault, ZoneRowFault};
@@ -44,7 +45,7 @@ pub fn decode_all(
     count: u32,
     capacity: u32,
 ) -> Result<Vec<Zone>, LoadFault>
-    requires size { length bytes.now ≡ count * 8 }
+    requires size { length bytes.now ≡ count * ZONE_ROW_BYTES }
     requires some { 1 ≤ capacity }
     ensures zones { LoadGives (Unit {0}) (λ zones. zones.items) result (zones_in 0 capacity count bytes.now) }
     ensures no_stream { NoStreamFails result }
@@ -61,7 +62,7 @@ pub fn decode_all(
 
 /// What the row of the zone with this number tells.
 fn decode(zone: u32, bytes: &[u8], capacity: u32) -> Result<Zone, LoadFault>
-    requires size { length bytes.now ≡ 8 }
+    requires size { length bytes.now ≡ ZONE_ROW_BYTES }
     requires some { 1 ≤ capacity }
     ensures { result ≡ zone_in zone capacity bytes.now }
 {
