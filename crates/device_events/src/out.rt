@@ -12,8 +12,8 @@ pub struct NotTaken;
 
 /// Takes replies with their data, in order, and counts those that it refuses.
 pub trait Out {
-    /// From the first state to the second it took these replies, in order, and no other. What it
-    /// doesn't tell holds of any.
+    /// From the first state to the second it took these replies, in order, and no other. Where it
+    /// doesn't tell which it took, this holds of any.
     ghost took: { Self → Self → List ReplyWithData → Type 0 };
 
     /// How many replies it refused.
