@@ -4,14 +4,14 @@ use Rattle.image_store.specs.declared.fault.LoadFault.{LoadFault}
 use Rattle.image_store.specs.declared.fault.LoadFault.TheVariants.{Stream, Memory}
 
 -- The fault is the one that reading gives. A stream that fails says nothing of the bytes, and memory
--- is wanted only where this holds.
+-- is wanted only where `wanted` holds.
 abbrev pub LoadFails : {Y : Type 0} → Type 0 → LoadFault → Result Y LoadFault → Type 0
 LoadFails wanted Stream reading = Unit {0}
 LoadFails wanted Memory reading = wanted
 LoadFails wanted fault reading = reading ≡ Err fault
 
--- A call whose result is seen by view gives what reading gives, unless the stream failed or memory was
--- wanted, which is only where this holds.
+-- A call whose result is seen by `view` gives what reading gives, unless the stream failed, or memory was
+-- wanted, which it is only where `wanted` holds.
 abbrev pub LoadGives : {X Y : Type 0} → Type 0 → (X → Y) → Result X LoadFault → Result Y LoadFault → Type 0
 LoadGives wanted view (Ok x) reading = reading ≡ Ok (view x)
 LoadGives wanted view (Err fault) reading = LoadFails wanted fault reading
