@@ -1,6 +1,6 @@
 //! The image.
 
-ghost use Rattle.std.specs.Prelude.{◌≡◌, ◌≤◌, ◌<◌, ◌+◌, ◌-◌, ◌*◌, ◌^◌, length, replicate, IfOk, IsOk, take, drop, Ok};
+ghost use Rattle.std.specs.Prelude.{◌≡◌, ◌≤◌, ◌<◌, ◌+◌, ◌-◌, ◌*◌, ◌^◌, length, IfOk, IsOk, take, drop, Ok};
 ghost use Rattle.std.specs.List.{concat};
 ghost use Rattle.zone_resources.specs.Counts.{counts_of};
 ghost use Rattle.zone_state.specs.Zone.{write_check, IsZone, kept};

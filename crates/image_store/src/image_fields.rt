@@ -1,6 +1,6 @@
 //! The work on the fields of an image, over slices: its methods only call these.
 
-ghost use Rattle.std.specs.Prelude.{◌≡◌, ◌≤◌, ◌<◌, ◌+◌, ◌*◌, ◌^◌, length, get_or, set, take, drop, Ok};
+ghost use Rattle.std.specs.Prelude.{◌≡◌, ◌≤◌, ◌<◌, ◌+◌, ◌*◌, length, get_or, set, take, drop, Ok};
 ghost use Rattle.std.specs.List.{concat};
 ghost use Rattle.zone_resources.specs.Counts.{counts_of};
 ghost use Rattle.zone_state.specs.Zone.{write_check, IsZone, kept};

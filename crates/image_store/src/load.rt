@@ -1,6 +1,6 @@
 //! Loading the fields of an image.
 
-ghost use Rattle.std.specs.Prelude.{◌≡◌, ◌≤◌, ◌<◌, ◌-◌, ◌+◌, ◌*◌, ◌^◌, length, IfOk, IsOk, OnOk};
+ghost use Rattle.std.specs.Prelude.{◌≡◌, ◌≤◌, ◌<◌, ◌-◌, ◌+◌, ◌^◌, length, IfOk, IsOk, OnOk};
 ghost use Rattle.zone_resources.specs.Admission.{IsWithin};
 ghost use Rattle.image_store.specs.ImageInMemory.{IsFlat, namespace_of, zones_of};
 ghost use Rattle.image_store.specs.Loading.{LoadGives, CountsLoad};

@@ -1,6 +1,6 @@
 //! Streams over memory. They tell which bytes pass through them.
 
-ghost use Rattle.std.specs.Prelude.{◌≡◌, ◌^◌, ◌<◌, ◌-◌, [], OnOk, length};
+ghost use Rattle.std.specs.Prelude.{◌≡◌, []};
 
 use crate::streams::{Sink, Source, StreamFault};
 use std::alloc::Global;

@@ -1,6 +1,6 @@
 //! Saving the fields of an image.
 
-ghost use Rattle.std.specs.Prelude.{◌≡◌, ◌<◌, ◌-◌, ◌^◌};
+ghost use Rattle.std.specs.Prelude.{◌<◌, ◌-◌, ◌^◌};
 ghost use Rattle.image_store.specs.Streams.{Takes, CountsFailure};
 ghost use Rattle.image_store.specs.ImageInMemory.{IsFlat, namespace_of};
 ghost use Rattle.image_store.specs.Text.{text, zone_rows, blocks_text};

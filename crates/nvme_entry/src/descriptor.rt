@@ -1,6 +1,6 @@
 //! Zone descriptors, as a report has them and a host reads them.
 
-ghost use Rattle.std.specs.Prelude.{◌≡◌, ◌<◌, ◌≤◌, ◌+◌, ◌*◌, ◌/◌, ◌%◌, ◌^◌, IfSome};
+ghost use Rattle.std.specs.Prelude.{◌≡◌, ◌<◌, ◌≤◌, ◌+◌, ◌/◌, ◌%◌, ◌^◌, IfSome};
 ghost use Rattle.nvme_entry.specs.Descriptor.{AreDescriptorFields, type_and_state, pointer_told, descriptor_bytes, described};
 ghost use Rattle.nvme_entry.specs.steps.DescriptorFields.{eight_bytes, descriptor_in};
 

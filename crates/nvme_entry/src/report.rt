@@ -1,6 +1,6 @@
 //! The report of zones that Zone Management Receive gives.
 
-ghost use Rattle.std.specs.Prelude.{◌≡◌, ◌≤◌, ◌<◌, ◌+◌, ◌-◌, ◌*◌, ◌^◌, ◌++◌, length, take, drop, min, if◌then◌else◌};
+ghost use Rattle.std.specs.Prelude.{◌≡◌, ◌≤◌, ◌<◌, ◌+◌, ◌*◌, ◌^◌, ◌++◌, length, take, drop, min, if◌then◌else◌};
 ghost use Rattle.std.specs.List.{enumerate_from};
 ghost use Rattle.nvme_entry.specs.Report.{report, listed, listed_zones, report_header, descriptor};
 ghost use Rattle.nvme_entry.specs.ReportLaws.{number_in};

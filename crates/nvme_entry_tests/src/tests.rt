@@ -1,5 +1,3 @@
-ghost use Rattle.std.specs.Prelude.{◌≡◌, length};
-
 mod encoding;
 mod programs;
 mod reading;
