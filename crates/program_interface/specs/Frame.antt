@@ -2,10 +2,11 @@
 use Rattle.std.specs.Prelude.{ℕ, ◌≡◌, ◌<◌, ◌≤◌, List, ◌++◌, length}
 use Rattle.std.specs.List.{AllByRecursion, flat_map}
 use Rattle.byteorder.specs.Endian.{little_bytes}
+use Rattle.program_interface.specs.declared.frame.TheConstants.{FRAME_LENGTH_BYTES}
 
 -- a record as a frame: its length in two bytes, the lower first, and its bytes
 abbrev pub frame : List ℕ → List ℕ
-frame bytes = little_bytes 2 (length bytes) ++ bytes
+frame bytes = little_bytes FRAME_LENGTH_BYTES (length bytes) ++ bytes
 
 -- records as a group: their frames in order
 abbrev pub frames : List (List ℕ) → List ℕ
