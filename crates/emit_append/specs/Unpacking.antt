@@ -24,7 +24,7 @@ zeros_at at (byte ∷ rest) = if byte == 0 then zeros_at (at + 1) rest else Err 
 abbrev pub frame_length : List ℕ → ℕ
 frame_length rest = if nat_lt (length rest) 2 then 0 else little_number 2 rest
 
--- the record behind the length in front, and the bytes after that frame
+-- the record behind the length in front
 abbrev pub frame_record : List ℕ → List ℕ
 frame_record rest = take (frame_length rest) (drop 2 rest)
 
