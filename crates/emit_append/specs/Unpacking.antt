@@ -4,6 +4,7 @@ use Rattle.std.specs.List.{AllByRecursion, concat, flat_map}
 use Rattle.std.specs.declared.alloc.Global.{Global}
 use Rattle.byteorder.specs.Endian.{little_number}
 use Rattle.program_interface.specs.Frame.{frames}
+use Rattle.program_interface.specs.declared.frame.TheConstants.{FRAME_LENGTH_BYTES}
 use Rattle.program_interface.specs.Readings.{◌>>=◌, with_front}
 use Rattle.emit_append.specs.declared.fault.UnpackFault.{UnpackFault}
 use Rattle.emit_append.specs.declared.fault.UnpackFault.TheVariants.{At, Memory}
@@ -22,23 +23,23 @@ zeros_at at (byte ∷ rest) = if byte == 0 then zeros_at (at + 1) rest else Err 
 
 -- the length that stands in front; 0 where no frame follows
 abbrev pub frame_length : List ℕ → ℕ
-frame_length rest = if nat_lt (length rest) 2 then 0 else little_number 2 rest
+frame_length rest = if nat_lt (length rest) FRAME_LENGTH_BYTES then 0 else little_number FRAME_LENGTH_BYTES rest
 
 -- the record behind the length in front
 abbrev pub frame_record : List ℕ → List ℕ
-frame_record rest = take (frame_length rest) (drop 2 rest)
+frame_record rest = take (frame_length rest) (drop FRAME_LENGTH_BYTES rest)
 
 -- the bytes behind the frame in front
 abbrev pub after_frame : List ℕ → List ℕ
-after_frame rest = drop (2 + frame_length rest) rest
+after_frame rest = drop (FRAME_LENGTH_BYTES + frame_length rest) rest
 
 -- The frames from byte `at` on, where these bytes of a block are left. Each step passes a frame, so as many steps as bytes are enough.
 unfoldable pub frames_at : ℕ → ℕ → List ℕ → Reading
 frames_at zero at rest = Ok []
 frames_at (suc steps) at rest =
     if frame_length rest == 0 then zeros_at at rest else
-    if nat_lt (length rest) (2 + frame_length rest) then Err at else
-    with_front (frame_record rest ∷ []) (frames_at steps (at + (2 + frame_length rest)) (after_frame rest))
+    if nat_lt (length rest) (FRAME_LENGTH_BYTES + frame_length rest) then Err at else
+    with_front (frame_record rest ∷ []) (frames_at steps (at + (FRAME_LENGTH_BYTES + frame_length rest)) (after_frame rest))
 
 -- the records of a block whose first byte is byte `at`
 abbrev pub output_block_at : ℕ → List ℕ → Reading
