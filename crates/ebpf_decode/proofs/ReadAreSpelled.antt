@@ -22,6 +22,7 @@ use Rattle.instruction_set.specs.declared.instruction.Source.TheVariants as sour
 use Rattle.instruction_set.specs.declared.operation.Operation.{Operation}
 use Rattle.instruction_set.specs.declared.operation.Operation.TheVariants.{SignedDivide, SignedModulo, Move}
 use Rattle.instruction_set.specs.declared.operation.SignExtension.TheVariants.{Bits8To32, Bits16To32, Bits8To64, Bits16To64, Bits32To64}
+use Rattle.instruction_set.specs.declared.operation.Size.TheVariants as sizes
 use Rattle.instruction_set.specs.declared.operation.SwapSize.TheVariants as kept
 use Rattle.instruction_set.specs.declared.operation.Width.{Width}
 use Rattle.instruction_set.specs.declared.operation.Width.TheVariants as widths
@@ -40,7 +41,7 @@ operand_bit operands.Register = 1
 
 -- the opcode of what an opcode names
 abbrev pub opcode_of : Opcode → ℕ
-opcode_of LoadImmediate = access_opcode IMM 3 LD
+opcode_of LoadImmediate = access_opcode IMM (size_code sizes.DoubleWord) LD
 opcode_of (Load size) = access_opcode MEM (size_code size) LDX
 opcode_of (LoadSigned size) = access_opcode MEMSX (signed_size_code size) LDX
 opcode_of (StoreImmediate size) = access_opcode MEM (size_code size) ST

@@ -10,7 +10,8 @@ use Rattle.ebpf_decode.specs.declared.opcode.Operand.TheVariants as operands
 use Rattle.ebpf_decode.specs.declared.opcode.Uses.{Uses}
 use Rattle.instruction_set.specs.declared.operation.Width.{Width}
 use Rattle.instruction_set.specs.declared.operation.Width.TheVariants as widths
-use Rattle.instruction_set.specs.Spelling.{LD, LDX, ST, STX, MEM, MEMSX, NEG, JA, CALL, EXIT, operation_opcode, arithmetic_class, jump_class}
+use Rattle.instruction_set.specs.declared.operation.Size.TheVariants as sizes
+use Rattle.instruction_set.specs.Spelling.{LD, LDX, ST, STX, IMM, MEM, MEMSX, NEG, JA, CALL, EXIT, access_opcode, operation_opcode, arithmetic_class, jump_class, size_code}
 use Rattle.instruction_set.specs.Codes.{size_with, signed_size_with, operation_with, swap_with, relation_with, has_variants}
 
 -- where an opcode has its second operand: its source bit (RFC 9669, 4)
@@ -20,7 +21,7 @@ operand_of opcode = if opcode / 8 % 2 == 0 then operands.Immediate else operands
 -- class LD: the wide instruction; packet loads are left out (RFC 9669, 5.4 and 5.5)
 abbrev pub load_immediate_opcode : ℕ → Option Opcode
 load_immediate_opcode opcode =
-    if opcode == 0x18 then Some opcodes.LoadImmediate
+    if opcode == access_opcode IMM (size_code sizes.DoubleWord) LD then Some opcodes.LoadImmediate
     else if list_any (λ left_out. left_out == opcode) (0x20 ∷ 0x28 ∷ 0x30 ∷ 0x40 ∷ 0x48 ∷ 0x50 ∷ []) then Some (opcodes.LeftOut Packet)
     else None
 

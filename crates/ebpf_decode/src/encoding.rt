@@ -7,7 +7,7 @@ ghost use Rattle.ebpf_decode.specs.Reading.{decoded_program};
 ghost use Rattle.instruction_set.specs.Spelling.{access_opcode, first_slot, operation_opcode, program_bytes, second_slot, slot_bytes, source_bit, source_immediate, source_register, spelling};
 
 use crate::fields::to_bytes;
-use instruction_set::{Fields, Instruction, Operation, Program, Source, Width};
+use instruction_set::{Fields, Instruction, Operation, Program, Size, Source, Width};
 use program_interface::MOST_SLOTS;
 use std::alloc::{AllocError, Global};
 
@@ -86,7 +86,7 @@ fn opcode(instruction: &Instruction) -> u8
     ensures { result ≡ (first_slot instruction.now).opcode }
 {
     match *instruction {
-        Instruction::LoadImmediate { .. } => access_opcode(IMM, 3, LD),
+        Instruction::LoadImmediate { .. } => access_opcode(IMM, Size::DoubleWord.code(), LD),
         Instruction::Load { size, .. } => access_opcode(MEM, size.code(), LDX),
         Instruction::LoadSigned { size, .. } => access_opcode(MEMSX, size.code(), LDX),
         Instruction::StoreImmediate { size, .. } => access_opcode(MEM, size.code(), ST),
