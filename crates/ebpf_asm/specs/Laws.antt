@@ -7,6 +7,7 @@ use Rattle.std.specs.Fmt.{signed_decimal}
 use Rattle.instruction_set.specs.declared.instruction.Instruction.{Instruction}
 use Rattle.instruction_set.specs.Program.{IsProgram, instruction_at}
 use Rattle.instruction_set.specs.Spelling.{program_bytes}
+use Rattle.program_interface.specs.declared.registers.TheConstants.{REGISTERS}
 use Rattle.text_lines.specs.Laws.{AreBlanks}
 use Rattle.ebpf_asm.specs.declared.fault.Fault.{Fault}
 use Rattle.ebpf_asm.specs.declared.mnemonic.Mnemonic.{Mnemonic}
@@ -24,7 +25,7 @@ MnemonicsReadBack = (mnemonic : Mnemonic) → mnemonic_named (mnemonic_text mnem
 
 -- each register is read as it is listed
 abbrev pub RegistersReadBack : Type 0
-RegistersReadBack = (number : ℕ) → number < 11 → register_of (register_text number) ≡ Ok number
+RegistersReadBack = (number : ℕ) → number < REGISTERS → register_of (register_text number) ≡ Ok number
 
 -- each immediate is read as it is listed
 abbrev pub ImmediatesReadBack : Type 0
@@ -36,7 +37,7 @@ WideValuesReadBack = (value : ℕ) → value < 2 ^ 64 → wide_of (wide_text val
 
 -- each memory operand is read as it is listed
 abbrev pub MemoryOperandsReadBack : Type 0
-MemoryOperandsReadBack = (base : ℕ) (offset : ℤ) → base < 11 → FitsSigned w16 offset → memory_told (memory_text base offset) ≡ Ok (base, offset)
+MemoryOperandsReadBack = (base : ℕ) (offset : ℤ) → base < REGISTERS → FitsSigned w16 offset → memory_told (memory_text base offset) ≡ Ok (base, offset)
 
 -- each distance of 16 bits is read as it is listed
 abbrev pub ShortDistancesReadBack : Type 0

@@ -76,7 +76,7 @@ fn first_fault(opcode: Opcode, fields: &Fields, next: Option<Fields>) -> Option<
 
 /// The second operand.
 fn source(operand: Operand, fields: &Fields) -> Source
-    requires { fields.now.src < 11 }
+    requires { fields.now.src < REGISTERS }
     ensures { result ≡ source_of operand fields.now }
 {
     match operand {
@@ -92,8 +92,8 @@ fn arithmetic(
     operand: Operand,
     fields: &Fields,
 ) -> Option<Instruction>
-    requires dst { fields.now.dst < 11 }
-    requires src { fields.now.src < 11 }
+    requires dst { fields.now.dst < REGISTERS }
+    requires src { fields.now.src < REGISTERS }
     ensures { result ≡ instruction_with (Opcode.Arithmetic width operation operand) fields.now None }
 {
     match operation.variant(fields.offset) {
@@ -114,8 +114,8 @@ fn signed_move(
     operand: Operand,
     fields: &Fields,
 ) -> Option<Instruction>
-    requires dst { fields.now.dst < 11 }
-    requires src { fields.now.src < 11 }
+    requires dst { fields.now.dst < REGISTERS }
+    requires src { fields.now.src < REGISTERS }
     ensures { result ≡ signed_move width operation operand fields.now }
 {
     if operand == Operand::Immediate {
@@ -142,8 +142,8 @@ fn wide_value(fields: &Fields, next: Option<Fields>) -> u64
 
 /// A load or a store of memory (RFC 9669, 5.1 and 5.2), if the opcode names one.
 fn load_or_store(opcode: Opcode, fields: &Fields) -> Option<Instruction>
-    requires dst { fields.now.dst < 11 }
-    requires src { fields.now.src < 11 }
+    requires dst { fields.now.dst < REGISTERS }
+    requires src { fields.now.src < REGISTERS }
     ensures { result ≡ load_or_store opcode fields.now }
 {
     let dst = Register::from_number(fields.dst);
@@ -182,8 +182,8 @@ fn load_or_store(opcode: Opcode, fields: &Fields) -> Option<Instruction>
 
 /// A jump, a call or the exit (RFC 9669, 4.3), if the opcode names one.
 fn jump(opcode: Opcode, fields: &Fields) -> Option<Instruction>
-    requires dst { fields.now.dst < 11 }
-    requires src { fields.now.src < 11 }
+    requires dst { fields.now.dst < REGISTERS }
+    requires src { fields.now.src < REGISTERS }
     ensures { result ≡ jump opcode fields.now }
 {
     match opcode {
@@ -213,8 +213,8 @@ fn jump(opcode: Opcode, fields: &Fields) -> Option<Instruction>
 /// The instruction of a slot without the faults of [`first_fault`]; none where a field that it uses has a
 /// value that no instruction has.
 fn instruction(opcode: Opcode, fields: &Fields, next: Option<Fields>) -> Option<Instruction>
-    requires dst { fields.now.dst < 11 }
-    requires src { fields.now.src < 11 }
+    requires dst { fields.now.dst < REGISTERS }
+    requires src { fields.now.src < REGISTERS }
     ensures { result ≡ instruction_with opcode fields.now next }
 {
     let dst = Register::from_number(fields.dst);

@@ -8,7 +8,7 @@ ghost use Rattle.instruction_set.specs.Spelling.{access_opcode, first_slot, oper
 
 use crate::fields::to_bytes;
 use instruction_set::{Fields, Instruction, Operation, Program, Size, Source, Width};
-use program_interface::MOST_SLOTS;
+use program_interface::{MOST_SLOTS, REGISTERS};
 use std::alloc::{AllocError, Global};
 
 const IMM: u8 = 0;
@@ -65,7 +65,7 @@ fn source_bit(source: Source) -> u8
 
 fn source_register(source: Source) -> u8
     ensures value { result ≡ source_register source }
-    ensures bound { result < 11 }
+    ensures bound { result < REGISTERS }
 {
     match source {
         Source::Immediate(_) => 0,
@@ -127,7 +127,7 @@ fn opcode(instruction: &Instruction) -> u8
 
 fn destination(instruction: &Instruction) -> u8
     ensures value { result ≡ (first_slot instruction.now).dst }
-    ensures bound { result < 11 }
+    ensures bound { result < REGISTERS }
 {
     match *instruction {
         Instruction::LoadImmediate { dst, .. }
@@ -149,7 +149,7 @@ fn destination(instruction: &Instruction) -> u8
 
 fn source(instruction: &Instruction) -> u8
     ensures value { result ≡ (first_slot instruction.now).src }
-    ensures bound { result < 11 }
+    ensures bound { result < REGISTERS }
 {
     match *instruction {
         Instruction::Load { src, .. }

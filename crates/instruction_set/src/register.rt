@@ -14,12 +14,13 @@ pub struct Register {
 
 impl Model for Register {
     ghost use Rattle.std.specs.Prelude.{◌<◌, ℕ};
+    ghost use Rattle.program_interface.specs.declared.registers.TheConstants.{REGISTERS};
 
     ghost Value = { ℕ };
 
     ghost view = { λ r. r.number };
 
-    ghost invariant = { λ r. r.number < 11 };
+    ghost invariant = { λ r. r.number < REGISTERS };
 
     ghost inverse = { λ n. record { number = n } };
 }
@@ -39,7 +40,7 @@ impl Register {
 
     /// The register with this number, or `None` for a number over 10.
     pub fn new(number: u8) -> Option<Register>
-        ensures found { IsSome result ↔ (number < 11) }
+        ensures found { IsSome result ↔ (number < REGISTERS) }
         ensures value { IfSome result (λ r. r ≡ number) }
     {
         if usize::from(number) < REGISTERS {
@@ -51,7 +52,7 @@ impl Register {
 
     /// The register with this number.
     pub fn from_number(number: u8) -> Register
-        requires { number < 11 }
+        requires { number < REGISTERS }
         ensures { result ≡ number }
     {
         Register { number }
@@ -60,7 +61,7 @@ impl Register {
     /// The register's number.
     pub fn number(self) -> u8
         ensures value { result ≡ self }
-        ensures bound { result < 11 }
+        ensures bound { result < REGISTERS }
     {
         self.number
     }
@@ -68,7 +69,7 @@ impl Register {
     /// The register's number, as an index into the eleven registers.
     pub fn index(self) -> usize
         ensures value { result ≡ self }
-        ensures bound { result < 11 }
+        ensures bound { result < REGISTERS }
     {
         usize::from(self.number)
     }
