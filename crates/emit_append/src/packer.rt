@@ -17,7 +17,7 @@ static ZEROS: [u8; LARGEST_BLOCK] = [0; LARGEST_BLOCK];
 /// bytes that are pending.
 #[derive(Drop)]
 pub struct Packer {
-    /// The bytes of an output block.
+    /// How many bytes an output block has.
     block: usize,
     /// How many bytes at the front of the array are pending.
     pending: usize,
