@@ -91,7 +91,7 @@ listing slots = flat_map line_text (instructions_of slots)
 abbrev pub slot_text : ℕ → List ℕ
 slot_text slot = padded_integral (format_spec 32 0 0 4 (2 ^ 64 - 1)) false [] (decimal slot) ++ codes "  "
 
--- the same behind its slot
+-- the line of an instruction, behind its slot
 abbrev pub line_with_slot : ℕ → Instruction → List ℕ
 line_with_slot slot instruction = slot_text slot ++ line_text instruction
 
