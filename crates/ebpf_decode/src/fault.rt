@@ -33,7 +33,8 @@ pub enum FaultKind {
     /// A wide instruction is the last slot (RFC 9669, 3.2).
     #[error("a wide instruction lacks its second slot")]
     CutWide = 26,
-    /// The offset or the immediate, of which a part of the opcode is made, makes none.
+    /// The offset or the immediate tells which operation of the opcode it is, and has a value that none has (RFC 9669, 4.1
+    /// and 4.2).
     #[error("a field has a value that the instruction cannot have")]
     Value = 27,
     /// RFC 9669 has the opcode, and this profile leaves the instruction out.
