@@ -10,6 +10,7 @@ mod encoding;
 mod entry;
 mod filter;
 pub mod laws;
+mod output;
 mod program_slot;
 mod report;
 
@@ -21,6 +22,7 @@ pub use completion::Completion;
 pub use descriptor::{DESCRIPTOR_BYTES, ZONE_TYPE, ZoneDescriptor};
 pub use entry::Entry;
 pub use filter::ZoneFilter;
+pub use output::put_front;
 pub use program_slot::{PROGRAM_SLOTS, ProgramSlot};
-pub use report::{REPORT_HEADER_BYTES, Report, put_front, zones_told};
+pub use report::{REPORT_HEADER_BYTES, Report, zones_told};
 pub use zone_state::Status;

@@ -9,6 +9,7 @@ ghost use Rattle.nvme_entry.specs.declared.report.TheConstants.{REPORT_HEADER_BY
 
 use crate::descriptor::{DESCRIPTOR_BYTES, ZoneDescriptor};
 use crate::filter::ZoneFilter;
+use crate::output::put_front;
 use byteorder::{ByteOrder, LittleEndian};
 use zone_state::Zone;
 
@@ -79,14 +80,6 @@ fn number_told(partial: bool, room: usize, found: usize) -> u64
     } else {
         found as u64
     }
-}
-
-/// Puts bytes at the front, and leaves those behind them.
-pub fn put_front(output: &mut [u8], bytes: &[u8])
-    requires { length bytes.now ≤ length output.old }
-    ensures { output.new ≡ bytes.now ++ drop (length bytes.now) output.old }
-{
-    output[..bytes.len()].copy_from_slice(bytes);
 }
 
 /// The header's bytes.
