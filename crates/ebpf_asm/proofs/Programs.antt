@@ -32,7 +32,7 @@ room before (line ∷ rest) h e =
 
 -- ---- the instructions
 
--- bytes that instructions spell, which take so many slots
+-- bytes that spell instructions, which take so many slots
 record Spells (bytes : List ℕ) (slots : ℕ) : Type 0 where
   pub instructions : List Instruction
   pub fits : AllByRecursion Fits instructions

@@ -148,7 +148,7 @@ program-read bytes slots fits length_is e =
           ∙ ap program_bytes (sym spelled.layout),
     )
 
--- ---- what a program spells is read again
+-- ---- what spells a program is read as it
 
 read-first : (i : Instruction) (s : ℕ) (fs : List Fields) → Fits i → second_slot i ≡ cond (is_wide i) (slice_get fs 0) None
     → read_slots false s (first_slot i ∷ fs) ≡ with_front (Some i ∷ []) (read_slots (is_wide i) (s + 1) fs)
@@ -172,7 +172,7 @@ fit-slots (LoadImmediate dst value ∷ is) fits = (
 fit-slots (i ∷ is) fits =
     (record { dst = omega (arith, fits.0.dst); offset = fits.0.offset; immediate = fits.0.immediate }, fit-slots is fits.1)
 
--- what a program spells decodes as the program
+-- the bytes that spell a program decode as it
 pub program-again : (slots : List (Option Instruction)) → IsProgram slots → decoded_program (program_bytes slots) ≡ Ok slots
 program-again slots program =
     let is = program.instructions in

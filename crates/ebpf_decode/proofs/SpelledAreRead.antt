@@ -1,4 +1,4 @@
--- What an instruction spells is read as the instruction again.
+-- The slots that spell an instruction are read as it.
 use Rattle.std.proofs.Common.{◌≡◌, ℕ, pos, ◌+◌, ◌*◌, ◌%◌, ◌/◌, ◌^◌, ◌<◌, false, not, ◌&&◌, cond, Option, Some, None, Ok, is_none, refl, sym, ap, ◌∙◌, arith}
 use Rattle.std.specs.Option.{ok_or}
 use Rattle.std.specs.Ordering.{int_eq}
@@ -183,7 +183,7 @@ wide dst value fits =
     let whole : cast_unsigned w32 (cast_signed w32 (value % 2 ^ 32)) + 2 ^ 32 * cast_unsigned w32 (cast_signed w32 (value / 2 ^ 32 % 2 ^ 32)) ≡ value = omega arith in
     answered (first_slot i) (second_slot i) LoadImmediate i refl fits.dst fits.src refl refl refl refl (ap (λ n. Some (instructions.LoadImmediate dst n)) whole)
 
--- what an instruction spells is read as the instruction
+-- the slots that spell an instruction are read as it
 pub read-again : (i : Instruction) (next : Option Fields) → Fits i → second_slot i ≡ cond (is_wide i) next None → read (first_slot i) next ≡ Ok i
 read-again (instructions.LoadImmediate dst value) next fits second =
     ap (read (first_slot (instructions.LoadImmediate dst value))) (sym second) ∙ wide dst value fits

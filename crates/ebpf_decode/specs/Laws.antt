@@ -9,7 +9,7 @@ use Rattle.instruction_set.specs.Spelling.{program_bytes}
 use Rattle.program_interface.specs.Bytes.{AreBytes}
 use Rattle.program_interface.specs.declared.TheConstants.{MOST_SLOTS}
 
--- what a program spells decodes as the program
+-- the bytes that spell a program decode as it
 abbrev pub SpelledIsDecoded : Type 0
 SpelledIsDecoded = (slots : List (Option Instruction)) → IsProgram slots → decoded_program (program_bytes slots) ≡ Ok slots
 

@@ -2,7 +2,7 @@
 
 ghost use Rattle.ebpf_decode.specs.Laws.{BytesHaveOneProgram, DecodedIsSpelled, FaultIsFirst, FaultIsInside, SpelledIsDecoded};
 
-/// What a program spells decodes as the program.
+/// The bytes that spell a program decode as it.
 pub fn spelled_is_decoded()
     ensures { SpelledIsDecoded }
 {}
