@@ -1,18 +1,17 @@
 -- Reading the blocks of one zone after another's, each zone's into its room.
 use Rattle.std.proofs.Common.{◌≡◌, ℕ, ◌+◌, ◌*◌, ◌<◌, ◌≤◌, zero, suc, List, [], ◌∷◌, ◌++◌, length, get_or, take, drop, Result, Ok, Err, refl, ap, sym, subst, ◌∙◌, append_assoc, arith, length-take}
-use Rattle.std.proofs.lemmas.List.{append-nil, take-take, drop-take, drop-drop, take_at, take_all, drop_all, drop_more, get_or-take}
+use Rattle.std.proofs.lemmas.List.{take-take, drop-take, drop-drop, take_at, take_all, drop_more, get_or-take}
 use Rattle.std.proofs.Math.Nat.{suc-mul, mul-le-mul_right}
 use Rattle.zone_state.specs.Zone.{CountedZone}
 use Rattle.image_store.specs.declared.fault.LoadFault.{LoadFault}
 use Rattle.image_store.specs.ImageInMemory.{zones_of, zone_seen, no_counted_zone, IsFlat}
 use Rattle.program_interface.specs.Bytes.{spliced}
 use Rattle.image_store.specs.Geometry.{Shape}
-use Rattle.image_store.specs.Loading.{LoadFails}
 use Rattle.image_store.specs.steps.LoadStages.{spliced_in}
 use Rattle.image_store.specs.Namespace.{ZoneBlocks}
 use Rattle.program_interface.specs.Readings.{◌>>=◌}
 use Rattle.image_store.specs.Reading.{bytes_in, blocks_in}
-use Rattle.image_store.proofs.ReadingCalls.{fails_then, fails_before, bind_ok, ok_is}
+use Rattle.image_store.proofs.ReadingCalls.{bind_ok, ok_is}
 use Rattle.image_store.proofs.FilledBuffers.{Split, bytes_size}
 use Rattle.image_store.proofs.ImageFields.{within, room_end}
 use Rattle.image_store.proofs.BlocksOfBytes.{blocks-same, take-spliced, drop-spliced}
@@ -120,27 +119,6 @@ goes_on s zs xs ys rest after i total flat inside e so_far =
     ap (λ (left : Split). with_zones (zones_of s.block s.capacity (take (i + 1) zs) left.0) (blocks_in s.block (drop (i + 1) zs) left.1)) (sym same)
     ∙ (ap (λ (seen : List ZoneBlocks). with_zones seen (blocks_in s.block (drop (i + 1) zs) got.0.1)) zones
     ∙ (sym step ∙ so_far))
-
--- one zone's blocks were not read
-pub stops : (s : Shape) (zs : List CountedZone) (xs rest : List ℕ) (i : ℕ) (fault : LoadFault) (front : List ZoneBlocks) (total : Result Zones LoadFault) → i < length zs
-    → LoadFails ⊥ fault (spliced_in (i * (s.capacity * s.block)) ((get_or zs i no_counted_zone).written * s.block) xs rest)
-    → with_zones front (blocks_in s.block (drop i zs) rest) ≡ total → LoadFails ⊥ fault total
-stops s zs xs rest i fault front total inside h so_far =
-    let z = get_or zs i no_counted_zone in
-    let at = i * (s.capacity * s.block) in
-    let bytes = fails_before fault (bytes_in (z.written * s.block) rest) (λ (part : Split). let all : Split = (spliced at part.0 xs, part.1) in all) h in
-    let more = fails_then ⊥ ⊥ fault (bytes_in (z.written * s.block) rest) (λ part. blocks_in s.block (drop (i + 1) zs) part.1 >>= λ more. Ok (zone_seen s.block z part.0 ∷ more.0, more.1)) (λ no. no) bytes in
-    let all = fails_then ⊥ ⊥ fault (bytes_in (z.written * s.block) rest >>= λ part. blocks_in s.block (drop (i + 1) zs) part.1 >>= λ more. Ok (zone_seen s.block z part.0 ∷ more.0, more.1)) (λ (x : Zones). let r : Result Zones LoadFault = Ok (front ++ x.0, x.1) in r) (λ no. no) more in
-    subst (λ (r : Result Zones LoadFault). LoadFails ⊥ fault r) (sym (rest_of s zs i rest front inside) ∙ so_far) all
-
--- no zone is left
-pub is_done : (s : Shape) (zs : List CountedZone) (xs rest : List ℕ) (i : ℕ) (total : Result Zones LoadFault) → length zs ≤ i
-    → with_zones (zones_of s.block s.capacity (take i zs) xs) (blocks_in s.block (drop i zs) rest) ≡ total → total ≡ Ok (zones_of s.block s.capacity zs xs, rest)
-is_done s zs xs rest i total le so_far =
-    sym so_far
-    ∙ (ap (λ (left : List CountedZone). with_zones (zones_of s.block s.capacity (take i zs) xs) (blocks_in s.block left rest)) (drop_all i zs le)
-    ∙ (ap (λ (all : List ZoneBlocks). let r : Result Zones LoadFault = Ok (all, rest) in r) (append-nil (zones_of s.block s.capacity (take i zs) xs))
-    ∙ ap (λ (all : List CountedZone). let r : Result Zones LoadFault = Ok (zones_of s.block s.capacity all xs, rest) in r) (take_all i zs le)))
 
 -- other bytes of the same number have room too
 pub flat_same : (s : Shape) (zs : List CountedZone) (xs ys : List ℕ) → IsFlat s zs xs → length ys ≡ length xs → IsFlat s zs ys

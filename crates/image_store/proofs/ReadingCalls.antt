@@ -12,13 +12,6 @@ fails_then wanted may Stream read next up h = tt
 fails_then wanted may Memory read next up h = up h
 fails_then wanted may fault read next up h = ap (λ r. r >>= next) h
 
--- what never fails itself has the fault of what it follows
-pub fails_before : {X Y : Type 0} (fault : LoadFault) (read : Result X LoadFault) (f : X → Y) → LoadFails ⊥ fault (read >>= λ x. Ok (f x)) → LoadFails ⊥ fault read
-fails_before Stream read f h = tt
-fails_before Memory read f h = h
-fails_before fault (Ok x) f h = absurd cc
-fails_before fault (Err first) f h = cc
-
 -- what succeeds has succeeded in each part
 pub bind_ok : {X Y : Type 0} (read : Result X LoadFault) (next : X → Result Y LoadFault) (y : Y) → (read >>= next) ≡ Ok y → (x : X) × (read ≡ Ok x) × (next x ≡ Ok y)
 bind_ok (Ok x) next y e = (x, refl, e)

@@ -1,6 +1,5 @@
 -- Reading rows one after the other, as a loop does.
-use Rattle.std.proofs.Common.{◌≡◌, ℕ, suc, ◌-◌, ◌+◌, ◌≤◌, ◌<◌, List, [], ◌∷◌, ◌++◌, take, drop, Result, Ok, Err, sym, ap, ◌∙◌, arith}
-use Rattle.std.proofs.lemmas.List.{append-nil}
+use Rattle.std.proofs.Common.{◌≡◌, ℕ, suc, ◌-◌, ◌+◌, ◌<◌, List, [], ◌∷◌, ◌++◌, take, drop, Result, Ok, Err, sym, ap, ◌∙◌, arith}
 use Rattle.zone_state.specs.Zone.{CountedZone}
 use Rattle.image_store.specs.declared.fault.LoadFault.{LoadFault}
 use Rattle.image_store.specs.declared.fault.LoadFault.TheVariants.{Stream, Memory}
@@ -23,12 +22,6 @@ stops front capacity count i bytes fault total lt h so_far =
     let k : count - i ≡ suc (count - (i + 1)) = omega arith in
     sym so_far
     ∙ (ap (λ (n : ℕ). with_front front (zones_in i capacity n bytes)) k ∙ ap (λ r. with_front front (r >>= λ first. zones_in (i + 1) capacity (count - (i + 1)) (drop 8 bytes) >>= λ zs. Ok (first ∷ zs))) h)
-
-pub is_done : (front : List CountedZone) (capacity count i : ℕ) (bytes : List ℕ) (total : Result (List CountedZone) LoadFault) → count ≤ i → with_front front (zones_in i capacity (count - i) bytes) ≡ total → total ≡ Ok front
-is_done front capacity count i bytes total le so_far =
-    let k : count - i ≡ 0 = omega arith in
-    sym so_far
-    ∙ (ap (λ (n : ℕ). with_front front (zones_in i capacity n bytes)) k ∙ ap (λ (all : List CountedZone). let r : Result (List CountedZone) LoadFault = Ok all in r) (append-nil front))
 
 -- a fault that reading gives is one of a call that may want memory
 pub fails_free : {Y : Type 0} (fault : LoadFault) (reading : Result Y LoadFault) → reading ≡ Err fault → LoadFails (Unit {0}) fault reading
