@@ -4,6 +4,7 @@ use Rattle.std.specs.Char.{is_ascii}
 use Rattle.std.specs.List.{AllByRecursion, AllPass, flat_map}
 use Rattle.std.specs.Int.{w16, w32}
 use Rattle.std.specs.Fmt.{signed_decimal}
+use Rattle.program_interface.specs.declared.registers.TheConstants.{REGISTERS}
 use Rattle.instruction_set.specs.declared.instruction.Instruction.{Instruction}
 use Rattle.instruction_set.specs.Program.{IsProgram, instruction_at}
 use Rattle.instruction_set.specs.Spelling.{program_bytes}
