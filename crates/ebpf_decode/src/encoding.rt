@@ -1,6 +1,6 @@
 //! The bytes of instructions and programs.
 
-ghost use Rattle.std.specs.Prelude.{◌≡◌, ◌<◌, ◌≤◌, ◌%◌, ◌/◌, ◌^◌, ◌++◌, length, take, IfSome, IfOk, OnErr, OnOk, Ok};
+ghost use Rattle.std.specs.Prelude.{◌≡◌, ◌<◌, ◌≤◌, ◌%◌, ◌/◌, ◌^◌, ◌++◌, ◌⊎◌, length, IfSome, IfOk, OnErr, OnOk, Ok};
 ghost use Rattle.std.specs.Int.{w32, cast_signed};
 ghost use Rattle.std.specs.List.{flat_map};
 ghost use Rattle.ebpf_decode.specs.Reading.{decoded_program};
@@ -242,7 +242,7 @@ fn second_slot(instruction: &Instruction) -> Option<Fields>
 /// Want of memory. What was there stays then, and the first 8 bytes of the wide instruction may stand behind it.
 pub fn push_instruction(bytes: &mut Vec<u8>, instruction: &Instruction) -> Result<(), AllocError>
     ensures added { OnOk result (bytes.new.items ≡ bytes.old.items ++ spelling instruction.now) }
-    ensures kept { OnErr result (take (length bytes.old.items) bytes.new.items ≡ bytes.old.items) }
+    ensures kept { OnErr result ((bytes.new.items ≡ bytes.old.items) ⊎ (bytes.new.items ≡ bytes.old.items ++ slot_bytes (first_slot instruction.now))) }
 {
     let first = to_bytes(first_slot(instruction));
     bytes.extend_from_slice(&first)?;
