@@ -8,7 +8,6 @@ use Rattle.program_interface.specs.declared.registers.TheConstants.{REGISTERS}
 use Rattle.instruction_set.specs.declared.instruction.Instruction.{Instruction}
 use Rattle.instruction_set.specs.Program.{IsProgram, instruction_at}
 use Rattle.instruction_set.specs.Spelling.{program_bytes}
-use Rattle.program_interface.specs.declared.registers.TheConstants.{REGISTERS}
 use Rattle.text_lines.specs.Laws.{AreBlanks}
 use Rattle.ebpf_asm.specs.declared.fault.Fault.{Fault}
 use Rattle.ebpf_asm.specs.declared.mnemonic.Mnemonic.{Mnemonic}
