@@ -18,8 +18,8 @@ mod ends;
 mod jumps;
 mod kept;
 mod programs;
-mod rows;
 mod runs;
+mod verdicts;
 mod ways;
 
 fn program(alloc: Global, text: &str) -> Result<Program, Fail> {

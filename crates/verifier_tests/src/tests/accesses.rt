@@ -1,12 +1,12 @@
 //! Programs that load and store.
 
-use super::rows::Row::{self, Text};
-use super::rows::Verdict::{Accepted, Refused};
-use super::rows::check_both;
+use super::verdicts::Case::{self, Text};
+use super::verdicts::Verdict::{Accepted, Refused};
+use super::verdicts::check_both;
 use std::test::Fail;
 
 /// Loads.
-const LOADS: &[Row] = &[
+const LOADS: &[Case] = &[
     // The last byte of the block.
     Text("ldxb r0, [r2+511]\nexit", 0, Accepted(2)),
     // The byte behind it.
@@ -88,7 +88,7 @@ const LOADS: &[Row] = &[
 ];
 
 /// Stores.
-const STORES: &[Row] = &[
+const STORES: &[Case] = &[
     // The stack's last 8 bytes.
     Text("stxdw [r10-8], r0\nexit", 0, Accepted(2)),
     // The byte behind the stack.

@@ -1,11 +1,11 @@
 //! Programs that compute the index of a byte.
 
-use super::rows::Row::{self, Text};
-use super::rows::Verdict::{Accepted, Refused};
-use super::rows::check;
+use super::verdicts::Case::{self, Text};
+use super::verdicts::Verdict::{Accepted, Refused};
+use super::verdicts::check;
 use std::test::Fail;
 
-const INDICES: &[Row] = &[
+const INDICES: &[Case] = &[
     // Two bytes give up to 65535.
     Text(
         "ldxh r6, [r2+0]\nadd r2, r6\nldxb r0, [r2+0]\nexit",

@@ -1,8 +1,8 @@
 //! Programs that are accepted over intervals, for which constants aren't enough, and like ones that both refuse.
 
 use super::programs::{BOUNDED, INDEXED, INDEXED_TWO};
-use super::rows::Verdict::{self, Accepted, Refused};
-use super::rows::verdict_of;
+use super::verdicts::Verdict::{self, Accepted, Refused};
+use super::verdicts::verdict_of;
 use interval_domain::{Constants, Intervals};
 use std::test::Fail;
 use test_inputs::programs::GROWING;

@@ -1,13 +1,13 @@
 //! Programs that emit.
 
 use super::programs::TWO_FRAMES;
-use super::rows::Row::{self, Text};
-use super::rows::Verdict::{Accepted, Refused};
-use super::rows::check_both;
+use super::verdicts::Case::{self, Text};
+use super::verdicts::Verdict::{Accepted, Refused};
+use super::verdicts::check_both;
 use std::test::Fail;
 use test_inputs::programs::MATCHING;
 
-const EMITS: &[Row] = &[
+const EMITS: &[Case] = &[
     // There is one helper, number 1.
     Text("call 2\nexit", 0, Refused(0, 7)),
     // A negative number is none.

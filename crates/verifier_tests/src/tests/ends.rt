@@ -1,12 +1,12 @@
 //! Programs at the ends of what a field, an area and a word can hold.
 
-use super::rows::Row::{self, Far, Text};
-use super::rows::Verdict::{Accepted, Refused};
-use super::rows::{check, check_both};
+use super::verdicts::Case::{self, Far, Text};
+use super::verdicts::Verdict::{Accepted, Refused};
+use super::verdicts::{check, check_both};
 use std::test::Fail;
 
 /// The farthest jumps.
-const JUMPS: &[Row] = &[
+const JUMPS: &[Case] = &[
     // The farthest jumps of 16 bits.
     Text("ja -32768\nexit", 0, Refused(0, 1)),
     Text("ja +32767\nexit", 0, Refused(0, 2)),
@@ -23,7 +23,7 @@ const JUMPS: &[Row] = &[
 ];
 
 /// Loads at the ends of areas.
-const LOADS: &[Row] = &[
+const LOADS: &[Case] = &[
     // The context has 32 bytes.
     Text("ldxb r0, [r1-1]\nexit", 0, Refused(0, 5)),
     Text("ldxb r0, [r1+31]\nexit", 0, Accepted(2)),
@@ -48,7 +48,7 @@ const LOADS: &[Row] = &[
 ];
 
 /// Stores at the ends of areas.
-const STORES: &[Row] = &[
+const STORES: &[Case] = &[
     Text("stxb [r3-1], r0\nexit", 0, Refused(0, 6)),
     Text("stxb [r3+0], r0\nexit", 0, Accepted(2)),
     Text("stxb [r3+1023], r0\nexit", 0, Accepted(2)),
@@ -62,7 +62,7 @@ const STORES: &[Row] = &[
 ];
 
 /// Emits at the ends of areas.
-const EMITS: &[Row] = &[
+const EMITS: &[Case] = &[
     // The last byte of scratch.
     Text(
         "mov r1, r3\nadd r1, 1023\nmov r2, 1\ncall 1\nexit",
@@ -86,7 +86,7 @@ const EMITS: &[Row] = &[
 ];
 
 /// Sums that wrap.
-const SUMS: &[Row] = &[
+const SUMS: &[Case] = &[
     // 2^20 bytes back, and forth again.
     Text(
         "lddw r6, 0xfffffffffff00000\nadd r2, r6\nadd r2, 1048576\nldxb r0, [r2+0]\nexit",

@@ -1,12 +1,12 @@
 //! Programs that jump, end and write registers.
 
-use super::rows::Row::{self, Text};
-use super::rows::Verdict::{Accepted, Refused};
-use super::rows::check_both;
+use super::verdicts::Case::{self, Text};
+use super::verdicts::Verdict::{Accepted, Refused};
+use super::verdicts::check_both;
 use std::test::Fail;
 
 /// Jumps.
-const JUMPS: &[Row] = &[
+const JUMPS: &[Case] = &[
     // EXIT alone ends the run.
     Text("exit", 0, Accepted(1)),
     // One word into R0.
@@ -66,7 +66,7 @@ const JUMPS: &[Row] = &[
 ];
 
 /// Writes to the frame pointer.
-const WRITES: &[Row] = &[
+const WRITES: &[Case] = &[
     // R10 can't be written.
     Text("mov r10, 0\nexit", 0, Refused(0, 4)),
     // Falling off comes before R10.

@@ -1,12 +1,12 @@
 //! Programs that keep addresses and numbers on the stack.
 
-use super::rows::Row::{self, Text};
-use super::rows::Verdict::{Accepted, Refused};
-use super::rows::{check, check_both};
+use super::verdicts::Case::{self, Text};
+use super::verdicts::Verdict::{Accepted, Refused};
+use super::verdicts::{check, check_both};
 use std::test::Fail;
 
 /// Kept over emit.
-const OVER_EMIT: &[Row] = &[
+const OVER_EMIT: &[Case] = &[
     // The block's address is kept over a call, which leaves R2 0.
     Text(
         "stxdw [r10-8], r2\nmov r1, r2\nmov r2, 8\ncall 1\nldxdw r2, [r10-8]\nldxb r0, [r2+511]\nmov r0, 0\nexit",
@@ -37,7 +37,7 @@ mov r0, 0\nexit",
 ];
 
 /// Stored on the stack.
-const STORES: &[Row] = &[
+const STORES: &[Case] = &[
     // A number keeps its bounds.
     Text(
         "ldxb r6, [r2+0]\nstxdw [r10-512], r6\nldxdw r7, [r10-512]\nadd r2, r7\nldxb r0, [r2+256]\nexit",
@@ -114,7 +114,7 @@ ldxb r0, [r1+0]\nexit",
 ];
 
 /// Loaded from the stack.
-const LOADS: &[Row] = &[
+const LOADS: &[Case] = &[
     // Another word.
     Text(
         "stxdw [r10-8], r2\nldxdw r1, [r10-16]\nldxb r0, [r1+0]\nexit",
@@ -136,7 +136,7 @@ const LOADS: &[Row] = &[
 ];
 
 /// Kept on both ways.
-const WAYS: &[Row] = &[
+const WAYS: &[Case] = &[
     // Each of two ways keeps an address in the word: the block's first byte or its ninth.
     Text(
         "ldxb r6, [r2+0]\njeq r6, 7, other\nstxdw [r10-8], r2\nja both\nother: mov r7, r2\nadd r7, 8\n\

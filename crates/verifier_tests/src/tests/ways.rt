@@ -1,11 +1,11 @@
 //! Programs whose ways part and meet.
 
-use super::rows::Row::{self, Text};
-use super::rows::Verdict::{Accepted, Refused};
-use super::rows::check;
+use super::verdicts::Case::{self, Text};
+use super::verdicts::Verdict::{Accepted, Refused};
+use super::verdicts::check;
 use std::test::Fail;
 
-const WAYS: &[Row] = &[
+const WAYS: &[Case] = &[
     // Where the jump leads R6 is below 100.
     Text(
         "ldxb r6, [r2+0]\njlt r6, 100, +1\nexit\nadd r2, r6\nldxb r0, [r2+412]\nexit",

@@ -11,7 +11,7 @@ use word_domain::Domain;
 
 /// A program, the most bytes that it may emit for a block, and what is said of it.
 #[derive(Clone, Copy)]
-pub(super) enum Row {
+pub(super) enum Case {
     /// A program as text.
     Text(&'static str, u32, Verdict),
     /// A jump in front of so many moves and an exit, which emits nothing.
@@ -31,24 +31,24 @@ pub(super) enum Verdict {
 const BLOCK: u32 = 512;
 
 /// Compares what is said of each program over intervals.
-pub(super) fn check(rt: &impl Abort, alloc: Global, rows: &[Row]) -> Result<(), Fail> {
-    check_over::<Intervals>(rt, alloc, rows)
+pub(super) fn check(rt: &impl Abort, alloc: Global, cases: &[Case]) -> Result<(), Fail> {
+    check_over::<Intervals>(rt, alloc, cases)
 }
 
 /// Compares what is said of each program over intervals and over constants, which both say the same.
-pub(super) fn check_both(rt: &impl Abort, alloc: Global, rows: &[Row]) -> Result<(), Fail> {
-    check_over::<Intervals>(rt, alloc, rows)?;
-    check_over::<Constants>(rt, alloc, rows)
+pub(super) fn check_both(rt: &impl Abort, alloc: Global, cases: &[Case]) -> Result<(), Fail> {
+    check_over::<Intervals>(rt, alloc, cases)?;
+    check_over::<Constants>(rt, alloc, cases)
 }
 
-fn check_over<D: Domain>(rt: &impl Abort, alloc: Global, rows: &[Row]) -> Result<(), Fail> {
-    for row in rows {
-        match *row {
-            Row::Text(text, emit, verdict) => {
+fn check_over<D: Domain>(rt: &impl Abort, alloc: Global, cases: &[Case]) -> Result<(), Fail> {
+    for case in cases {
+        match *case {
+            Case::Text(text, emit, verdict) => {
                 let said = verdict_of::<D>(alloc, text, emit, BLOCK)?;
                 assert_eq!(rt; said, verdict, "{text}");
             }
-            Row::Far(jump, moves, verdict) => {
+            Case::Far(jump, moves, verdict) => {
                 let text = far(alloc, jump, moves)?;
                 let said = verdict_of::<D>(alloc, text.as_str(), 0, BLOCK)?;
                 assert_eq!(rt; said, verdict, "{jump}");
