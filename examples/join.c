@@ -11,16 +11,16 @@ long join(const struct context *context, const u8 *block)
 {
 #pragma unroll
     for (int i = 0; i < 8; i++) {
-        const u8 *row = block + 32 * i;
+        const u8 *record = block + 32 * i;
         const u16 *at = (const u16 *)(block + 480);
-        u64 key = *(const u16 *)(row + 2);
+        u64 key = *(const u16 *)(record + 2);
 
         at += (at[8] - key - 1) >> 16 & 8;
         at += (at[4] - key - 1) >> 16 & 4;
         at += (at[2] - key - 1) >> 16 & 2;
         at += (at[1] - key - 1) >> 16 & 1;
         if (*at == key)
-            emit(row, 32);
+            emit(record, 32);
     }
     return 0;
 }

@@ -13,9 +13,9 @@ long sums(const struct context *context, const u8 *block, u8 *scratch)
 {
 #pragma unroll
     for (int i = 0; i < 16; i++) {
-        const u8 *row = block + 32 * i;
-        struct total *total = (struct total *)(scratch + 16 * (row[12] & 15));
-        u32 price = *(const u32 *)(row + 8);
+        const u8 *record = block + 32 * i;
+        struct total *total = (struct total *)(scratch + 16 * (record[12] & 15));
+        u32 price = *(const u32 *)(record + 8);
 
         total->sum += price;
         total->count += 1;

@@ -10,15 +10,15 @@
 #include "pifnjarl.h"
 
 #define STEP(i) \
-    sum += le64(row, 8 * (i) + 8); \
+    sum += le64(record, 8 * (i) + 8); \
     if (context->argument & 1 << (i)) { \
-        emit(row + 8 * (i) + 8, 8); \
+        emit(record + 8 * (i) + 8, 8); \
         fields++; \
     }
 
 long fields(const struct context *context, const u8 *block, u8 *scratch)
 {
-    const u8 *row = block + 64 * masked(block[0], 7);
+    const u8 *record = block + 64 * masked(block[0], 7);
     u64 *left = (u64 *)scratch;
     u64 fields = 0, sum = 0;
 

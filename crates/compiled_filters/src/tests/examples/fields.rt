@@ -150,17 +150,17 @@ bf610000000000000701000080000000b70200001000000085000000010000006171140000000000
 b7020000100000008500000001000000b7000000000000009500000000000000",
 };
 
-/// A block's first 64 bytes, as `filter.c` and `projection.c` take them.
+/// The record of a block, as `filter.c` and `projection.c` take it.
 #[derive(Clone, Copy)]
-struct Row {
+struct Record {
     key: u64,
     kind: u32,
     price: u32,
 }
 
-impl Row {
-    fn drawn(numbers: &mut Numbers) -> Row {
-        Row {
+impl Record {
+    fn drawn(numbers: &mut Numbers) -> Record {
+        Record {
             key: numbers.draw(),
             kind: (numbers.draw() % 3) as u32,
             price: (numbers.draw() % 10_000) as u32,
@@ -181,11 +181,11 @@ fn blocks_of_a_kind(rt: HostRuntime) -> Result<(), Fail> {
     let mut trial = Trial::new(rt.alloc());
     let mut numbers = Numbers::behind(1);
     for _ in 0..BLOCKS {
-        let row = Row::drawn(&mut numbers);
-        trial.add(&row.bytes())?;
+        let record = Record::drawn(&mut numbers);
+        trial.add(&record.bytes())?;
         trial.fill_block()?;
-        if row.kind == 2 {
-            trial.expect_record(&row.bytes())?;
+        if record.kind == 2 {
+            trial.expect_record(&record.bytes())?;
         }
     }
     trial.check(&rt, &FILTER, 2)
@@ -197,11 +197,11 @@ fn keys_beside_prices(rt: HostRuntime) -> Result<(), Fail> {
     let mut numbers = Numbers::behind(2);
     let mut pair = [0; 16];
     for _ in 0..BLOCKS {
-        let row = Row::drawn(&mut numbers);
-        trial.add(&row.bytes())?;
+        let record = Record::drawn(&mut numbers);
+        trial.add(&record.bytes())?;
         trial.fill_block()?;
-        pair[0..8].copy_from_slice(&row.key.to_le_bytes());
-        pair[8..12].copy_from_slice(&row.price.to_le_bytes());
+        pair[0..8].copy_from_slice(&record.key.to_le_bytes());
+        pair[8..12].copy_from_slice(&record.price.to_le_bytes());
         trial.expect_record(&pair)?;
     }
     // the last pair

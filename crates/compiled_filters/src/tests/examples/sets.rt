@@ -279,12 +279,12 @@ fn places(key: u64) -> (usize, usize)
 }
 
 #[test]
-fn rows_with_a_known_key(rt: HostRuntime) -> Result<(), Fail> {
+fn records_with_a_known_key(rt: HostRuntime) -> Result<(), Fail> {
     let mut trial = Trial::new(rt.alloc());
     let mut numbers = Numbers::behind(14);
     for _ in 0..BLOCKS {
         let keys = drawn_keys(rt.alloc(), &mut numbers)?;
-        add_rows(&mut trial, &mut numbers, keys.as_slice())?;
+        add_records(&mut trial, &mut numbers, keys.as_slice())?;
         trial.add(&[0; 224])?;
         add_keys(&mut trial, keys.as_slice())?;
     }
@@ -301,15 +301,15 @@ fn drawn_keys(alloc: Global, numbers: &mut Numbers) -> Result<Vec<u16>, Fail> {
     Ok(keys)
 }
 
-/// Adds 8 rows, of which the filter has to emit those with one of these keys.
-fn add_rows(trial: &mut Trial, numbers: &mut Numbers, keys: &[u16]) -> Result<(), Fail> {
+/// Adds 8 records, of which the filter has to emit those with one of these keys.
+fn add_records(trial: &mut Trial, numbers: &mut Numbers, keys: &[u16]) -> Result<(), Fail> {
     for _ in 0..8 {
         let key = (numbers.draw() % 50) as u16;
-        let mut row = [0x44; 32];
-        row[2..4].copy_from_slice(&key.to_le_bytes());
-        trial.add(&row)?;
+        let mut bytes = [0x44; 32];
+        bytes[2..4].copy_from_slice(&key.to_le_bytes());
+        trial.add(&bytes)?;
         if keys.contains(&key) {
-            trial.expect_record(&row)?;
+            trial.expect_record(&bytes)?;
         }
     }
     Ok(())

@@ -19,7 +19,7 @@ b7020000080000008500000001000000070800000100000079a1f8ff000000006111140000000000
 79a1e8ff000000000f1600000000000079a2f0ff0000000079210000000000000f810000000000007b1200000000000079a1e0ff00000000\
 0f160000000000000f9600000000000079210800000000000f160000000000007b62080000000000b7000000000000009500000000000000",
     scenes: &[
-        // The third row begins at byte 128, and has 5, 7, 11 and 13, 36 in all. The argument is 8 + 4 + 1.
+        // The third record begins at byte 128, and has 5, 7, 11 and 13, 36 in all. The argument is 8 + 4 + 1.
         Scene {
             argument: 13,
             index: 0,
@@ -32,7 +32,7 @@ b7020000080000008500000001000000070800000100000079a1f8ff000000006111140000000000
 };
 
 #[test]
-fn fields_of_a_row(rt: HostRuntime) -> Result<(), Fail> {
+fn fields_of_a_record(rt: HostRuntime) -> Result<(), Fail> {
     check(&rt, rt.alloc(), &FIELDS)
 }
 
