@@ -1,4 +1,4 @@
-//! Worked examples, and what gcc makes of the same accesses.
+//! Worked examples, and what gcc makes of loads and stores.
 
 ghost use Rattle.std.specs.Prelude.{◌≡◌, ◌≤◌, length};
 
