@@ -132,7 +132,8 @@ fn a_record_as_long_as_the_block_says(rt: HostRuntime) -> Result<(), Fail> {
     let prepared = Prepared::new(rt.alloc(), verified)?;
     let mut block = [0; 512];
     block[0] = 3;
-    let (context, mut scratch, mut group) = ([0; 32], [0; 1024], [9; 10]);
+    let (context, mut scratch) = ([0; CONTEXT_BYTES], [0; SCRATCH_BYTES]);
+    let mut group = [9; 10];
     let exit = prepared.run(
         &mut Machine::new(&block, &context, &mut scratch),
         &mut group,
