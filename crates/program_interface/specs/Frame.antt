@@ -12,7 +12,7 @@ frame bytes = little_bytes FRAME_LENGTH_BYTES (length bytes) ++ bytes
 abbrev pub frames : List (List ℕ) → List ℕ
 frames records = flat_map frame records
 
--- bytes that are a group of so many whole frames, none without bytes, and have at most a limit in all
+-- bytes that are a group of so many whole frames, none of a record without bytes, and have at most a limit in all
 pub record IsGroup (limit count : ℕ) (group : List ℕ) : Type 0 where
   pub records : List (List ℕ)
   pub whole : group ≡ frames records
