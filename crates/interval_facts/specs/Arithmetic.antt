@@ -91,7 +91,7 @@ unsigned_below Bits32To64 = 2 ^ 31
 abbrev pub extended_of : SignExtension → Bounds → Bounds
 extended_of extension s = if nat_lt s.high (unsigned_below extension) then s else top (extension_width extension)
 
--- the operand of a byte swap is not cut, in either class
+-- what a byte swap gives, in either class: any number of the bits that it keeps
 abbrev pub swapped_of : SwapSize → Bounds
 swapped_of kept.Bits16 = range 0 (2 ^ 16 - 1)
 swapped_of kept.Bits32 = range 0 (2 ^ 32 - 1)
