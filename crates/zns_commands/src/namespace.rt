@@ -72,8 +72,8 @@ impl Namespace {
     }
 
     /// Writes whole blocks, one or more, at the write pointer of an open zone that has room for them. Where
-    /// they are no more than a transfer may be, that is what an Append of them to the zone leaves that no run
-    /// holds.
+    /// they are no more than a transfer may be, it leaves what an Append of them to that zone leaves that meets
+    /// no hold.
     pub fn append_blocks(&mut self, zone: u32, bytes: &[u8])
         requires { TakesBlocks self.old zone bytes.now }
         ensures blocks { self.new ≡ appended self.old zone bytes.now }
