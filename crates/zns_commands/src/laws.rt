@@ -104,8 +104,8 @@ pub fn select_all_is_each_alone()
     ensures alone { SelectAllIsEachAlone }
 {}
 
-/// A zone that it takes and that is held against the action refuses Select All that comes without data, and so does
-/// the limit of open zones where it would open more than fit below it; nothing else does.
+/// Select All that comes without data is refused where a zone that it takes is held against the action, or where more zones
+/// would be open after it than may be, and for no other reason.
 pub fn select_all_is_refused_by_holds_and_limits()
     ensures { SelectAllIsRefusedByHoldsAndLimits }
 {}
