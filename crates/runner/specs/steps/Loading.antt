@@ -15,7 +15,7 @@ use Rattle.pushdown.specs.State.{State}
 use Rattle.runner.specs.steps.Answered.{answered}
 use Rattle.runner.specs.declared.active_run.ActiveRun.{ActiveRun}
 
--- does an active run use the program of a slot?
+-- does the run at a place, if there is one, use the program of this slot?
 abbrev pub uses_slot : ℕ → Option ActiveRun → Bool
 uses_slot slot None = false
 uses_slot slot (Some a) = a.command.slot == slot
