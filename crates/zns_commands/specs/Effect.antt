@@ -35,7 +35,7 @@ refused_effect ns status = effect_with (refused_answer status) ns []
 abbrev pub success_effect : ZonedNamespace → ℕ → List ℕ → Effect
 success_effect ns number output = effect_with (success_answer number (length output)) ns output
 
--- the effect of a command where no check fails
+-- what a command comes to: its effect, or its refusal where a check fails
 abbrev pub concluded : Option Status → ZonedNamespace → Effect → Effect
 concluded None before effect = effect
 concluded (Some status) before effect = refused_effect before status
