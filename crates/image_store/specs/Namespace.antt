@@ -16,7 +16,7 @@ pub record ZoneBlocks : Type 0 where
   pub blocks : List (List ℕ)
 
 -- bytes of a block, blocks of a zone, how many of them can be written, how many zones may be open
--- and active, and the zones (ZNS 1.1, 2.1)
+-- and active, and the zones (ZNS 1.1, 2.1.1)
 pub record ZonedNamespace : Type 0 where
   pub block : ℕ
   pub size : ℕ
