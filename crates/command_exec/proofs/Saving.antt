@@ -28,7 +28,7 @@ on_err (Err error) holds = holds
 
 -- the name of the writer of `Lines`, and what was printed to it
 abbrev pub printed_by : {W : Type 0} → (W → Option (List ℕ)) → Lines W → ℕ × Printed
-printed_by contents lines = (lines.out.ghost_name, record { refused = lines.refusals; bytes = contents lines.out.now })
+printed_by contents lines = (lines.out.ghost_name, record { refusals = lines.refusals; bytes = contents lines.out.now })
 
 -- what `Lines` took: its writer stays the same
 abbrev pub Took : ℕ × Printed → ℕ × Printed → List ReplyWithData → Type 0
@@ -51,7 +51,7 @@ stops_in_events events old new took done stopped = InEvents done (record {
 
 module _ (events : List Event) (old between new : State) (before then after : ℕ × Printed) (served : HasServed intervals events old between (Took before then)) where
   -- a drain, behind events that were all done
-  pub serves_and_drains : (result : Result (Unit {0}) Stopped) → then.1.refused ≡ before.1.refused → CountsRefusals then.1.refused after.1.refused result
+  pub serves_and_drains : (result : Result (Unit {0}) Stopped) → then.1.refusals ≡ before.1.refusals → CountsRefusals then.1.refusals after.1.refusals result
       → OnOk result (HasDrained between new (Took then after)) → OnOk result (HasServedAndDrained intervals events old new (HasPrinted before.1.bytes after.1.bytes))
   serves_and_drains (Err error) none count drained = tt
   serves_and_drains (Ok done) none count drained =

@@ -17,8 +17,8 @@ module _ (text : ReplyWithData → List ℕ) where
   prints_in_parts a b c first later early late = record {
     no_fewer = omega (arith, early.no_fewer, late.no_fewer);
     texts = λ same.
-        let none : b.refused ≡ a.refused = omega (arith, same, early.no_fewer, late.no_fewer) in
-        let fewer : c.refused ≡ b.refused = omega (arith, same, none) in
+        let none : b.refusals ≡ a.refusals = omega (arith, same, early.no_fewer, late.no_fewer) in
+        let fewer : c.refusals ≡ b.refusals = omega (arith, same, none) in
         subst (Appends a.bytes c.bytes) (sym (flat_map-append text first later))
         (Appends-trans a.bytes b.bytes c.bytes (flat_map text first) (flat_map text later) (early.texts none) (late.texts fewer));
   }

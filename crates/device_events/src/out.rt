@@ -17,7 +17,7 @@ pub trait Out {
     ghost took: { Self → Self → List ReplyWithData → Type 0 };
 
     /// How many replies it refused.
-    ghost refused: { Self → ℕ };
+    ghost refusals: { Self → ℕ };
 
     /// Takes a reply with the bytes of its data.
     ///
@@ -25,14 +25,14 @@ pub trait Out {
     ///
     /// The reply is refused.
     fn take(&mut self, reply: Reply, bytes: &[u8]) -> Result<(), NotTaken>
-        requires { refused self.old + 1 < 2 ^ 64 }
+        requires { refusals self.old + 1 < 2 ^ 64 }
         ensures ok { OnOk result (took self.old self.new (record { reply = reply; bytes = bytes.now } ∷ [])) }
         ensures err { OnErr result (took self.old self.new []) }
-        ensures count { CountsRefusals (refused self.old) (refused self.new) result };
+        ensures count { CountsRefusals (refusals self.old) (refusals self.new) result };
 
     /// How many replies it refused.
     fn refusals(&self) -> u64
-        ensures { result ≡ refused self.now };
+        ensures { result ≡ refusals self.now };
 
     /// As long as nothing happens to it, it takes none.
     ghost takes_none: { (out : Self) → took out out [] };

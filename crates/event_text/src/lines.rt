@@ -37,7 +37,7 @@ impl<'a, W: Write> Lines<'a, W> {
     /// No memory for that line.
     pub fn new(alloc: Global, out: &'a mut W) -> Result<Lines<'a, W>, AllocError>
         ensures same_writer { IfOk result (λ lines. (lines.out.ghost_name ≡ out.entry.ghost_name) × (lines.out.now ≡ out.old)) }
-        ensures none_refused { IfOk result (λ lines. ⟦<Lines<'a, W> as Out>⟧.refused lines ≡ 0) }
+        ensures none_refused { IfOk result (λ lines. ⟦<Lines<'a, W> as Out>⟧.refusals lines ≡ 0) }
     {
         let line = Vec::with_capacity(alloc, LINE_BYTES)?;
         Ok(Lines {
@@ -59,9 +59,9 @@ impl<'a, W: Write> Lines<'a, W> {
 
 impl<W: Write> Out for Lines<'_, W> {
     ghost took = { λ old new replies. (new.out.ghost_name ≡ old.out.ghost_name)
-        × Prints reply_line (record { refused = old.refusals; bytes = W.contents old.out.now }) (record { refused = new.refusals; bytes = W.contents new.out.now }) replies };
+        × Prints reply_line (record { refusals = old.refusals; bytes = W.contents old.out.now }) (record { refusals = new.refusals; bytes = W.contents new.out.now }) replies };
 
-    ghost refused = { λ lines. lines.refusals };
+    ghost refusals = { λ lines. lines.refusals };
 
     ghost takes_none = { λ lines. (refl, prints_none reply_line _) };
 

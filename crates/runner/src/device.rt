@@ -144,9 +144,9 @@ impl Device {
         out: &mut O,
     ) -> Result<(), NotTaken>
         requires room { MOST_TRANSFER ≤ length output.old }
-        requires counts { O.refused out.old + 1 < 2 ^ 64 }
+        requires counts { O.refusals out.old + 1 < 2 ^ 64 }
         ensures served { HasServedOne event.now self.old self.new (O.took out.old out.new) result }
-        ensures refused { CountsRefusals (O.refused out.old) (O.refused out.new) result }
+        ensures refused { CountsRefusals (O.refusals out.old) (O.refusals out.new) result }
     {
         let reply = self.apply(event, output);
         out.take(reply, &output[..reply.data_length()])
@@ -164,10 +164,10 @@ impl Device {
         out: &mut O,
     ) -> Result<(), Stopped>
         requires room { MOST_TRANSFER ≤ length output.old }
-        requires counts { O.refused out.old + 1 < 2 ^ 64 }
+        requires counts { O.refusals out.old + 1 < 2 ^ 64 }
         ensures served { OnOk result (HasServed intervals events.now self.old self.new (O.took out.old out.new)) }
         ensures stopped { IfErr result (λ stopped. HasStopped intervals events.now self.old self.new (O.took out.old out.new) stopped.done) }
-        ensures refused { CountsRefusals (O.refused out.old) (O.refused out.new) result }
+        ensures refused { CountsRefusals (O.refusals out.old) (O.refusals out.new) result }
     {
         for (index, event) in events.iter().enumerate() {
             match self.serve_one(event, output, out) {
@@ -195,10 +195,10 @@ impl Device {
     /// Stops at the first reply that `out` refuses.
     pub fn drain<O: Out>(&mut self, output: &mut [u8], out: &mut O) -> Result<(), Stopped>
         requires room { MOST_TRANSFER ≤ length output.old }
-        requires counts { O.refused out.old + 1 < 2 ^ 64 }
+        requires counts { O.refusals out.old + 1 < 2 ^ 64 }
         ensures drained { OnOk result (HasDrained self.old self.new (O.took out.old out.new)) }
         ensures stopped { IfErr result (λ stopped. StopsDraining self.old self.new (O.took out.old out.new) stopped.done) }
-        ensures refused { CountsRefusals (O.refused out.old) (O.refused out.new) result }
+        ensures refused { CountsRefusals (O.refusals out.old) (O.refusals out.new) result }
     {
         let mut done = 0;
         while let Some(run) = self.lowest_run() {

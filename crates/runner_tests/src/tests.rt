@@ -101,7 +101,7 @@ impl Out for Kept {
     ghost took = { λ old new replies. map (λ kept. record { reply = kept.0; bytes = kept.1.items }) new.replies.items
         ≡ map (λ kept. record { reply = kept.0; bytes = kept.1.items }) old.replies.items ++ replies };
 
-    ghost refused = { λ kept. kept.refusals };
+    ghost refusals = { λ kept. kept.refusals };
 
     ghost takes_none = { Prim.search rules };
 

@@ -55,7 +55,7 @@ fn serve_and_drain<O: Out>(
     out: &mut O,
 ) -> Result<(), usize>
     requires room { MOST_TRANSFER ≤ length output.old }
-    requires counts { O.refused out.old + 1 < 2 ^ 64 }
+    requires counts { O.refusals out.old + 1 < 2 ^ 64 }
 {
     if let Err(stopped) = device.serve(events, output, out) {
         return Err(stopped.done);

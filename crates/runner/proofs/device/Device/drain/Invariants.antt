@@ -9,7 +9,7 @@ abbrev pub invariant-loop-run : goal.invariant-loop-run
 invariant-loop-run g l = record {
   draining : IsDraining l.fn.self l.self (g.O.Out.took l.fn.out l.out) l.done;
   few : (l.done ≡ 0) ⊎ (turns_left l.fn.self.places ≤ MOST_BLOCKS * RUNS);
-  refused : g.O.Out.refused l.out ≡ g.O.Out.refused l.fn.out;
+  refused : g.O.Out.refusals l.out ≡ g.O.Out.refusals l.fn.out;
 }
 
 abbrev pub decreases-loop-run : goal.decreases-loop-run

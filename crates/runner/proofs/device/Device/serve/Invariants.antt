@@ -6,5 +6,5 @@ use Rattle.runner.proofs.device.Device.serve.Given as goal
 abbrev pub invariant-loop-index : goal.invariant-loop-index
 invariant-loop-index g l = record {
   served : HasServed intervals (take l.index l.events) l.fn.self l.self (g.O.Out.took l.fn.out l.out);
-  refused : g.O.Out.refused l.out ≡ g.O.Out.refused l.fn.out;
+  refused : g.O.Out.refusals l.out ≡ g.O.Out.refusals l.fn.out;
 }
