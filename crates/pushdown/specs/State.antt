@@ -8,8 +8,8 @@ use Rattle.image_store.specs.Namespace.{ZonedNamespace}
 use Rattle.pushdown.specs.Admission.{Loaded}
 use Rattle.pushdown.specs.Outcome.{Turn}
 
--- an active run: the queue and the command identifier that its completion goes to, the slot of its
--- program, the zones that it reads from and appends to, and the turns that are left of it
+-- an active run: the queue that its completion goes to and the command identifier that this repeats, the slot of
+-- its program, the zones that it reads from and appends to, and the turns that are left of it
 pub record Place : Type 0 where
   pub queue : ℕ
   pub cid : ℕ
