@@ -26,7 +26,7 @@ pub record ReportsZones (bytes : List ℕ) (partial : Bool) (size given : ℕ) (
   pub number : number_in bytes ≡ (if partial then given else length found)
   -- the descriptors of the first of these zones, in order and none left out,
   pub descriptors : descriptors_in given bytes ≡ map (descriptor_at size) (take given found)
-  -- and nothing behind them
+  -- and zeros behind them
   pub rest : drop (REPORT_HEADER_BYTES + DESCRIPTOR_BYTES * given) bytes ≡ replicate (length bytes - (REPORT_HEADER_BYTES + DESCRIPTOR_BYTES * given)) 0
 
 -- A report has the length of the transfer. Where that has room for the header, it gives the descriptors of the zones that
