@@ -20,7 +20,7 @@ pub struct Zone {
     capacity: u32,
 }
 
-/// A fault that a zone cannot have: one to Read Only where the zone is Offline (profile).
+/// A fault is refused. By itself a zone refuses one alone: to Read Only where it is Offline (profile).
 #[derive(Clone, Copy, Debug, PartialEq, Eq)]
 pub struct FaultRefused;
 
