@@ -1,5 +1,5 @@
--- The numbers that words of a command line spell (profile): spelled as a number without a sign in a program's text, of which
--- `ebpf_asm` tells what is wrong with it, too. Those of a command file are decimal alone, and below 2 ^ 32 (`text_lines`).
+-- The numbers that words of a command line spell (profile). Those without a sign in a program's text are spelled so too, where
+-- `ebpf_asm` also tells what is wrong with one. Those of a command file are decimal alone, and below 2 ^ 32 (`text_lines`).
 use Rattle.std.specs.Prelude.{ℕ, ◌^◌, nat_lt, ◌&&◌, ◌==◌, if◌then◌else◌, List, length, drop, codes, Option, Some, None}
 use Rattle.std.specs.List.{list_all, starts_with}
 use Rattle.std.specs.Char.{is_digit}
