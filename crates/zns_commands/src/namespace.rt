@@ -72,8 +72,8 @@ impl Namespace {
     }
 
     /// Writes whole blocks, one or more, at the write pointer of an open zone that has room for them. Where
-    /// they are no more than a transfer may be, it leaves what an Append of them to that zone leaves that meets
-    /// no hold.
+    /// they are no more than a transfer may be, an Append of them to that zone that meets no hold leaves the
+    /// same.
     pub fn append_blocks(&mut self, zone: u32, bytes: &[u8])
         requires { TakesBlocks self.old zone bytes.now }
         ensures blocks { self.new ≡ appended self.old zone bytes.now }
