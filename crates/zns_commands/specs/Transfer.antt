@@ -5,7 +5,7 @@ use Rattle.zone_state.specs.declared.status.TheConstants.Status.{INVALID_FIELD_I
 use Rattle.nvme_entry.specs.declared.command.TheConstants.{MOST_TRANSFER}
 use Rattle.program_interface.specs.Checks.{demand}
 
--- a transfer of so many bytes: as many as the second number are to stand beside the entry, and these do
+-- of a transfer of so many bytes, where so many are to stand beside the entry, and these do
 abbrev pub transfer_checks : ℕ → ℕ → List ℕ → List (Option Status)
 transfer_checks bytes beside input =
     demand (nat_le bytes MOST_TRANSFER) INVALID_FIELD_IN_COMMAND
