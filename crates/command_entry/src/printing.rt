@@ -1,6 +1,6 @@
 //! The line of an entry.
 
-ghost use Rattle.std.specs.Prelude.{◌≡◌, ◌≤◌, OnOk};
+ghost use Rattle.std.specs.Prelude.{◌≤◌, OnOk};
 ghost use Rattle.std.specs.Io.KnownBytes.{Appends};
 ghost use Rattle.nvme_entry.specs.Encoding.{program_length};
 ghost use Rattle.command_entry.specs.Printed.{PrintsCommand};

@@ -1,6 +1,6 @@
 //! What a failure is printed as.
 
-ghost use Rattle.std.specs.Prelude.{◌++◌, ◌∷◌, [], codes, decimal, IfSome, OnOk};
+ghost use Rattle.std.specs.Prelude.{◌++◌, ◌∷◌, [], IfSome, OnOk};
 ghost use Rattle.std.specs.Io.KnownBytes.{Appends};
 ghost use Rattle.command_failure.specs.Lines.{IsPrinted, assembly_text, at_line, data_failure_text, frame_text, geometry_text, image_text, line, line_front, line_failure_text, program_text, range_text, reply_failure_text, sentence, failure_text, unread_text, unwritten_text};
 

@@ -1,6 +1,6 @@
 //! Where names lead to bytes.
 
-ghost use Rattle.std.specs.Prelude.{◌≡◌, ℕ, List, [], ◌∷◌, IfOk, IfSome, OnOk, OnErr, Option, None};
+ghost use Rattle.std.specs.Prelude.{◌≡◌, ℕ, List, [], IfOk, IfSome, OnOk, OnErr, Option, None};
 ghost use Rattle.std.specs.IoError.{error_kind};
 ghost use Rattle.command_files.specs.Made.{Made, then_made, HasReplaced};
 ghost use Rattle.command_files.specs.UserTold.{told_of_file};

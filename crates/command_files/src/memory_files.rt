@@ -1,7 +1,7 @@
 //! Files in memory. They tell which files were made, and the bytes of each.
 
-ghost use Rattle.std.specs.Prelude.{◌≡◌, List, [], ◌∷◌, ◌++◌, drop, false, Some, OnOk, OnErr, option_copied, unwrap_or};
-ghost use Rattle.command_files.specs.Made.{Made, HasReplaced};
+ghost use Rattle.std.specs.Prelude.{◌≡◌, [], ◌∷◌, ◌++◌, drop, false, Some, OnOk, OnErr, option_copied, unwrap_or};
+ghost use Rattle.command_files.specs.Made.{HasReplaced};
 ghost use Rattle.command_files.specs.MemoryFiles.{bytes_named, last_named, made_of};
 
 use crate::files::{FileFault, Files};

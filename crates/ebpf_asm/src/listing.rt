@@ -1,8 +1,7 @@
 //! Listings: a program as text.
 
-ghost use Rattle.std.specs.Prelude.{◌≡◌, ◌++◌, ◌∷◌, [], IfOk, OnOk, OnErr, take, drop, slice_get, option_map, option_to_list, codes};
+ghost use Rattle.std.specs.Prelude.{◌≡◌, ◌++◌, IfOk, OnOk, OnErr, drop, slice_get, option_map, option_to_list};
 ghost use Rattle.std.specs.String.{string_bytes};
-ghost use Rattle.std.specs.Fmt.{signed_decimal};
 ghost use Rattle.ebpf_asm.specs.Listing.{register_text, signed_text, memory_text, wide_text, source_text, mnemonic_of, operand_texts, operands_text, text_of_instruction, line_text, slot_text, listing, listing_with_slots};
 ghost use Rattle.ebpf_asm.specs.steps.ListedOperands.{operand_text, text_behind};
 ghost use Rattle.ebpf_asm.specs.steps.Listed.{listed, listed_line};

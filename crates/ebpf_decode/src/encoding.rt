@@ -2,7 +2,6 @@
 
 ghost use Rattle.std.specs.Prelude.{◌≡◌, ◌<◌, ◌≤◌, ◌%◌, ◌/◌, ◌^◌, ◌++◌, ◌⊎◌, length, IfSome, IfOk, OnErr, OnOk, Ok};
 ghost use Rattle.std.specs.Int.{w32, cast_signed};
-ghost use Rattle.std.specs.List.{flat_map};
 ghost use Rattle.ebpf_decode.specs.Reading.{decoded_program};
 ghost use Rattle.instruction_set.specs.Spelling.{access_opcode, first_slot, operation_opcode, program_bytes, second_slot, slot_bytes, source_bit, source_immediate, source_register, spelling};
 

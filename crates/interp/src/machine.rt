@@ -31,7 +31,7 @@ pub struct Machine<'a> {
 }
 
 impl<'a> Machine<'a> {
-    ghost use Rattle.std.specs.Prelude.{◌≡◌, ◌<◌, ◌^◌, ℕ, List, length, slice_index};
+    ghost use Rattle.std.specs.Prelude.{◌≡◌, ◌<◌, ◌^◌, ℕ, List, length};
     ghost use Rattle.interp.specs.Machine.{IsNew, block_length, frames_of, group_length, memory_of, scratch_name, machine_slot, state_at, machine_state, steps_of};
     ghost use Rattle.program_meaning.specs.State.{at_start};
 

@@ -1,7 +1,5 @@
 //! Worked examples, and what gcc makes of loads and stores.
 
-ghost use Rattle.std.specs.Prelude.{◌≡◌, ◌≤◌, length};
-
 mod vectors;
 
 use ebpf_decode::decode;

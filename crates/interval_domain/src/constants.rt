@@ -1,7 +1,5 @@
 //! The domain of constants.
 
-ghost use Rattle.std.specs.Prelude.{◌≡◌};
-
 use instruction_set::{Relation, SignedSize, Size, Width};
 use interval_facts::{
     Fact, access, arithmetic_on, join, load, offsets, pointer_between, refine, single, widen,

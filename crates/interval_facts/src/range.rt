@@ -1,9 +1,9 @@
 //! Arithmetic on words between bounds.
 
-ghost use Rattle.std.specs.Prelude.{◌≡◌, ◌≤◌, ◌<◌, ◌^◌, ◌-◌, ◌+◌, nat_lt};
-ghost use Rattle.program_meaning.specs.Word.{bits, count};
+ghost use Rattle.std.specs.Prelude.{◌≡◌, ◌<◌, ◌-◌, ◌+◌, nat_lt};
+ghost use Rattle.program_meaning.specs.Word.{count};
 ghost use Rattle.interval_facts.specs.Fact.{range};
-ghost use Rattle.interval_facts.specs.Range.{number_count, top as top_of_width, half, sum, difference, product, quotient, remainder, if_unsigned, conjunction, shifted_left, shifted_left_by, shifted_right, shifted_right_by, combined};
+ghost use Rattle.interval_facts.specs.Range.{number_count, top as top_of_width, half, sum, difference, product, quotient, remainder, shifted_left, shifted_right, combined};
 ghost use Rattle.interval_facts.specs.steps.Bounds.{IsRange};
 
 use crate::fact::{is_single, single};

@@ -3,7 +3,6 @@
 ghost use Rattle.std.specs.Prelude.{◌≡◌, ◌≤◌, ◌<◌, ◌+◌, ◌*◌, ◌^◌, length, take, drop, OnOk, IfErr};
 ghost use Rattle.interval_domain.specs.Intervals.{intervals};
 ghost use Rattle.nvme_entry.specs.declared.command.TheConstants.{MOST_BLOCKS};
-ghost use Rattle.program_interface.specs.Bytes.{AreBytes};
 ghost use Rattle.device_events.specs.Replies.{data_length};
 ghost use Rattle.pushdown.specs.Draining.{HasDrained, StopsDraining, lowest_run, turns_left};
 ghost use Rattle.pushdown.specs.Events.{CarriesBytes, HasHappened, HasServed, HasStopped};

@@ -1,6 +1,6 @@
 //! The command Result, which gives the scratch bytes that a run left.
 
-ghost use Rattle.std.specs.Prelude.{◌≡◌, ◌≤◌, ◌++◌, drop, length, List, Option};
+ghost use Rattle.std.specs.Prelude.{◌≡◌, ◌≤◌, drop, length, List, Option};
 ghost use Rattle.image_store.specs.Namespace.{ZonedNamespace};
 ghost use Rattle.runner.specs.steps.Answered.{GivesResult};
 ghost use Rattle.runner.specs.DeviceState.{device_state};

@@ -1,6 +1,6 @@
 //! What a verifier says of a program, and what it knows of it.
 
-ghost use Rattle.std.specs.Prelude.{◌≡◌, ◌<◌, ◌≤◌, ◌==◌, if◌then◌else◌, ℕ, length, get_or, None, Some, Option, IfOk};
+ghost use Rattle.std.specs.Prelude.{◌≡◌, ◌<◌, ◌≤◌, ◌==◌, if◌then◌else◌, ℕ, length, get_or, None, Some, IfOk};
 ghost use Rattle.accepted_programs.specs.Facts.{facts_at_start, given_below};
 ghost use Rattle.verifier.specs.steps.Rows.{held, held_at};
 ghost use Rattle.accepted_programs.specs.Emitted.{group_in};

@@ -1,9 +1,9 @@
 //! The reasons to refuse an instruction, in the order of their numbers.
 
-ghost use Rattle.std.specs.Prelude.{◌≡◌, ◌<◌, ◌≤◌, ◌^◌, ◌+◌, nat_lt, ◌&&◌, ◌||◌, ◌==◌, is_none, pos, not, false, if◌then◌else◌, Option, Some, None};
+ghost use Rattle.std.specs.Prelude.{◌≡◌, ◌<◌, ◌+◌, nat_lt, ◌&&◌, ◌||◌, ◌==◌, is_none, pos, not, false, if◌then◌else◌, Option, Some, None};
 ghost use Rattle.instruction_set.specs.Instruction.{access_of};
 ghost use Rattle.program_meaning.specs.Cause.{calls_unknown as instruction_calls_unknown, is_unwritable as area_is_unwritable};
-ghost use Rattle.accepted_programs.specs.Accepted.{area_accessed as area_of_access, begins_at, fails, goes_back as distance_goes_back, leads_nowhere as distance_leads_nowhere, loads_outside as access_loads_outside, reason_of, stores_outside as access_stores_outside, turns_away as instruction_turns_away};
+ghost use Rattle.accepted_programs.specs.Accepted.{area_accessed as area_of_access, begins_at, goes_back as distance_goes_back, leads_nowhere as distance_leads_nowhere, loads_outside as access_loads_outside, reason_of, stores_outside as access_stores_outside, turns_away as instruction_turns_away};
 ghost use Rattle.accepted_programs.specs.Facts.{area_of, greatest_length, least_length, slot_behind as instruction_slot_behind};
 ghost use Rattle.accepted_programs.specs.declared.reason.Reason.TheVariants.{EmitAddress, EmitLimit, EmitLength, FallsOff};
 

@@ -1,6 +1,6 @@
 //! A program that was accepted.
 
-ghost use Rattle.std.specs.Prelude.{◌≡◌, is_some, true, None, Option};
+ghost use Rattle.std.specs.Prelude.{◌≡◌, is_some, true, None};
 ghost use Rattle.instruction_set.specs.Program.{instruction_at};
 ghost use Rattle.program_interface.specs.RunSizes.{AreSizes};
 ghost use Rattle.accepted_programs.specs.Accepted.{refusal};

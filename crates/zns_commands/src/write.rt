@@ -1,6 +1,6 @@
 //! Writing to a zone, and Write.
 
-ghost use Rattle.std.specs.Prelude.{◌≡◌, ◌≤◌, ◌<◌, ◌*◌, ◌^◌, length, List, ℕ, IfOk, OnOk, OnErr};
+ghost use Rattle.std.specs.Prelude.{◌≡◌, ◌<◌, ◌*◌, length, List, ℕ, IfOk, OnOk, OnErr};
 ghost use Rattle.nvme_entry.specs.declared.command.StandardCommand.TheVariants.{Write};
 ghost use Rattle.image_store.specs.Namespace.{zone_at};
 ghost use Rattle.program_interface.specs.Checks.{first_failed, unless_failed};

@@ -16,9 +16,9 @@ fn clear_registers(registers: &mut [u64; REGISTERS])
 }
 
 impl Machine<'_> {
-    ghost use Rattle.std.specs.Prelude.{◌≡◌, ◌+◌, ◌<◌, ◌≤◌, ◌^◌, ℕ, Option, Some, Ok, length, take, drop, ◌++◌, is_ok, if◌then◌else◌, slice_index};
+    ghost use Rattle.std.specs.Prelude.{◌≡◌, ◌+◌, ◌<◌, ◌≤◌, ◌^◌, ℕ, Some, Ok, length, take, drop, ◌++◌, is_ok, if◌then◌else◌};
     ghost use Rattle.program_meaning.specs.Effect.{with_frame, emitted};
-    ghost use Rattle.program_meaning.specs.Memory.{area_bytes, bytes_from, area_offset_of};
+    ghost use Rattle.program_meaning.specs.Memory.{bytes_from};
     ghost use Rattle.program_interface.specs.Area.{length_of};
     ghost use Rattle.interp.specs.Machine.{state_at, memory_of, group_length, Extends};
     ghost use Rattle.interp.specs.StepEnds.{emit_hindrance};

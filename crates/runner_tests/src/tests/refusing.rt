@@ -1,6 +1,6 @@
 //! Replies that are refused: a device stops there, and what is left to do goes on from there.
 
-ghost use Rattle.std.specs.Prelude.{◌≡◌, ◌+◌, ◌<◌, ◌≤◌, ◌^◌, length};
+ghost use Rattle.std.specs.Prelude.{◌+◌, ◌<◌, ◌≤◌, ◌^◌, length};
 
 use super::scenes::{EIGHT_ZONES, Zones, device_of, saved};
 use super::steps::Step;

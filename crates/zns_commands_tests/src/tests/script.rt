@@ -1,6 +1,6 @@
 //! Scripts: what happens to a small namespace, step by step, and what is seen of it.
 
-ghost use Rattle.std.specs.Prelude.{◌≡◌, ◌≤◌, length};
+ghost use Rattle.std.specs.Prelude.{length};
 
 use std::alloc::Global;
 use std::process::Abort;
