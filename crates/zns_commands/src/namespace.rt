@@ -1,9 +1,6 @@
 //! A namespace that takes commands.
 
 ghost use Rattle.std.specs.Prelude.{◌≡◌, ◌≤◌, ◌<◌, ◌*◌, length, drop};
-ghost use Rattle.zone_resources.specs.Holds.{no_holds};
-ghost use Rattle.nvme_entry.specs.declared.command.StandardCommand.TheVariants.{Append};
-ghost use Rattle.image_store.specs.Blocks.{block_count};
 ghost use Rattle.image_store.specs.Geometry.{IsShape};
 ghost use Rattle.image_store.specs.Namespace.{appended, shape, IsNamespace};
 ghost use Rattle.zns_commands.specs.Address.{counted_zone_at};
@@ -73,11 +70,10 @@ impl Namespace {
 
     /// Writes whole blocks, one or more, at the write pointer of an open zone that has room for them. Where
     /// they are no more than a transfer may be, an Append of them to that zone that meets no hold leaves the
-    /// same.
+    /// same: the law [`added_blocks_are_appended`](crate::laws::added_blocks_are_appended).
     pub fn append_blocks(&mut self, zone: u32, bytes: &[u8])
         requires { TakesBlocks self.old zone bytes.now }
-        ensures blocks { self.new ≡ appended self.old zone bytes.now }
-        ensures append { length bytes.now ≤ MOST_TRANSFER → self.new ≡ (meaning self.old no_holds (Append (zone * self.old.size) (block_count self.old.block bytes.now)) bytes.now).namespace }
+        ensures { self.new ≡ appended self.old zone bytes.now }
     {
         // Brings in what holds of each namespace.
         let _ = self.geometry();

@@ -7,6 +7,6 @@ pub returns-clause-namespace : goal.returns-clause-namespace
 returns-clause-namespace c =
     let ns = c.args.namespace.now in
     let z = c.args.active.now.destination in
-    c.append_blocks.ensures.blocks
+    c.append_blocks.ensures
     ∙ one_appended ns z c.padded.result.now c.requires.room.some (c.padded.ensures.whole ∙ c.requires.block)
     ∙ ap (λ (bytes : List ℕ). added ns z (bytes ∷ [])) c.padded.ensures.value
