@@ -1,10 +1,10 @@
 -- A context's bytes tell its fields.
 use Rattle.std.proofs.Common.{drop, refl, arith}
 use Rattle.byteorder.specs.Numbers.{little_number-reads_back}
-use Rattle.program_interface.specs.Context.{ContextTells, context_bytes}
+use Rattle.program_interface.specs.Context.{ContextsTell, context_bytes}
 
-pub context_tells : ContextTells
-context_tells c fields =
+pub contexts_tell : ContextsTell
+contexts_tell c fields =
     let bytes = context_bytes c in
     record {
       size = refl;

@@ -35,5 +35,5 @@ pub record TellContext (bytes : List ℕ) (c : Context) : Type 0 where
   pub zeros : drop 24 bytes ≡ replicate 8 0
 
 -- a program reads in its context what the device put into it
-abbrev pub ContextTells : Type 0
-ContextTells = (c : Context) → AreFields c → TellContext (context_bytes c) c
+abbrev pub ContextsTell : Type 0
+ContextsTell = (c : Context) → AreFields c → TellContext (context_bytes c) c

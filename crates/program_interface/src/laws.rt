@@ -1,13 +1,13 @@
 //! Laws of the definitions that the contracts of this crate cite. Each function does nothing: what
 //! it ensures is the law.
 
-ghost use Rattle.program_interface.specs.Context.{ContextTells};
+ghost use Rattle.program_interface.specs.Context.{ContextsTell};
 ghost use Rattle.program_interface.specs.FirstCheck.{FirstFailedIsFirst, NoFaultWhereNoneFails};
 
 /// A program reads in the bytes of its context the block's logical address, its index, the run's number of
 /// blocks, a block's size and the run's argument, each at its place.
 pub fn contexts_tell()
-    ensures { ContextTells }
+    ensures { ContextsTell }
 {}
 
 /// Of an ordered list of checks the first that fails decides: the fault that is told is its own.
