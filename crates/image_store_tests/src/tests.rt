@@ -112,7 +112,7 @@ fn a_saved_image_loads_again(rt: HostRuntime) -> Result<(), Fail> {
 }
 
 #[test]
-fn an_image_of_another_length_has_its_fault(rt: HostRuntime) -> Result<(), Fail> {
+fn an_empty_image_has_one_length(rt: HostRuntime) -> Result<(), Fail> {
     check_one_length(&rt, rt.alloc(), EMPTY.to_vec(rt.alloc())?)
 }
 
@@ -263,6 +263,6 @@ fn check_one_length(rt: &impl Abort, alloc: Global, mut text: Vec<u8>) -> Result
 }
 
 #[test]
-fn an_image_has_one_length(rt: HostRuntime) -> Result<(), Fail> {
+fn a_written_image_has_one_length(rt: HostRuntime) -> Result<(), Fail> {
     check_one_length(&rt, rt.alloc(), written(rt.alloc())?)
 }
