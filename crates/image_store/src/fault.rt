@@ -38,7 +38,7 @@ pub enum ZoneRowFault {
     /// The code that stands for no state.
     #[error("no state has code {0:x}h")]
     State(u8),
-    /// So many blocks that the state doesn't allow them.
+    /// A number of written blocks that the state doesn't allow.
     #[error("{state}, with {written} of {capacity} blocks written")]
     Blocks {
         state: ZoneState,
