@@ -61,5 +61,9 @@ fn starts_with_the_areas_at_hand(rt: HostRuntime) {
     let registers = start_registers();
     assert_eq!(rt; registers[2], Area::Block.address());
     assert_eq!(rt; registers[10], Area::Stack.address() + 512);
+}
+
+#[test]
+fn a_program_has_at_most_so_many_slots(rt: HostRuntime) {
     assert_eq!(rt; MOST_SLOTS, 4096);
 }
