@@ -1,4 +1,4 @@
-//! Programs, each with what the verifier says of it, as the rules for facts give it.
+//! The form of a program with what the verifier has to say of it, and the comparison with what it says.
 
 use super::program;
 use interval_domain::{Constants, Intervals};
