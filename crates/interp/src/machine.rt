@@ -71,7 +71,7 @@ impl<'a> Machine<'a> {
         self.block
     }
 
-    /// Says where the machine stands, after how many steps.
+    /// Has the machine stand at this slot, after so many steps.
     #[inline(always)]
     pub fn stand_at(&mut self, slot: usize, steps: u64)
         ensures state { (group : List ℕ) → machine_state self.new group ≡ state_at self.old slot group }
