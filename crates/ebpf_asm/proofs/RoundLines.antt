@@ -10,8 +10,7 @@ use Rattle.std.proofs.lemmas.Bool.Decides.{nat_tests}
 use Rattle.std.proofs.lemmas.List.{take_at, drop_at, append-nil, length-append}
 use Rattle.std.proofs.lemmas.List.Folds.{list_all-append}
 use Rattle.std.proofs.lemmas.Fmt.{decimal_is_IsNumeral, digits_is_IsNumeral}
-use Rattle.text_lines.specs.Cut.{cut_at, is_blank_byte, without_first_blanks, without_end_blanks, trimmed}
-use Rattle.text_lines.specs.Laws.{parts_at}
+use Rattle.text_lines.specs.Cut.{cut_at, is_blank_byte, parts_at, trimmed, without_end_blanks, without_first_blanks}
 use Rattle.ebpf_asm.specs.Statement.{operands_of}
 use Rattle.ebpf_asm.specs.Listing.{further_texts, operands_text, register_text, signed_text, memory_text, wide_text}
 use Rattle.text_lines.proofs.Proved.{cut_is_after_first_part, first_is_kept, kept_first, uncut_is_one_part}

@@ -11,8 +11,7 @@ use Rattle.program_interface.specs.Readings.{◌>>=◌}
 use Rattle.ebpf_asm.specs.Fault.{read_both}
 use Rattle.ebpf_asm.specs.Mnemonic.{mnemonic_named}
 use Rattle.ebpf_asm.specs.Operand.{register_of, source_told, immediate_told, wide_of, memory_told, distance_told, label_of, short_of, long_of}
-use Rattle.text_lines.specs.Cut.{is_blank_byte, trimmed}
-use Rattle.text_lines.specs.Laws.{parts_at}
+use Rattle.text_lines.specs.Cut.{is_blank_byte, parts_at, trimmed}
 use Rattle.text_lines.specs.Texts as lists
 
 -- the operands: what stands between commas, without the blanks around

@@ -1,12 +1,16 @@
 -- Where a line is cut (profile).
 use Rattle.std.specs.Prelude.{ℕ, ◌==◌, Bool, ◌&&◌, ◌||◌, nat_lt, if◌then◌else◌, List, [], ◌∷◌, length, Option, Some, None}
-use Rattle.std.specs.List.{before_first, after_first, position_or_len}
+use Rattle.std.specs.List.{before_first, after_first, position_or_len, slice_split}
 
 -- the text before the first such byte and the text behind it
 abbrev pub cut_at : ℕ → List ℕ → Option (List ℕ × List ℕ)
 cut_at byte text =
     if nat_lt (position_or_len (λ b. b == byte) text) (length text)
     then Some (before_first (λ b. b == byte) text, after_first (λ b. b == byte) text) else None
+
+-- the parts of a text, cut at each such byte
+abbrev pub parts_at : ℕ → List ℕ → List (List ℕ)
+parts_at byte text = slice_split (λ b. b == byte) text
 
 -- a space or a tab
 abbrev pub is_blank_byte : ℕ → Bool

@@ -1,12 +1,8 @@
 -- How a text is cut into parts and into lines, and what of it stands between blanks.
-use Rattle.std.specs.Prelude.{ℕ, ◌==◌, ◌≡◌, ◌<◌, ◌↔◌, true, false, List, [], ◌∷◌, ◌++◌, length, Some, None}
-use Rattle.std.specs.List.{AllByRecursion, slice_split}
+use Rattle.std.specs.Prelude.{ℕ, ◌≡◌, ◌<◌, ◌↔◌, true, false, List, [], ◌∷◌, ◌++◌, length, Some, None}
+use Rattle.std.specs.List.{AllByRecursion}
 use Rattle.std.specs.Str.Lines.{lines, strip_carriage_return}
-use Rattle.text_lines.specs.Cut.{cut_at, is_blank_byte, trimmed}
-
--- the parts of a text, cut at each such byte
-abbrev pub parts_at : ℕ → List ℕ → List (List ℕ)
-parts_at byte text = slice_split (λ b. b == byte) text
+use Rattle.text_lines.specs.Cut.{cut_at, is_blank_byte, parts_at, trimmed}
 
 -- a text without such a byte is one part
 abbrev pub UncutIsOnePart : Type 0
