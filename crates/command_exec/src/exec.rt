@@ -28,7 +28,7 @@ Runs the events of a command file on an image, one after another. Then it gives 
 are left, always to the one of the lowest number, until each has ended. It prints a line for each event \
 and for each of these turns, and writes the image back, as they left it.
 
-A command file is ASCII text with an event on each line, which `entry` makes of words. Words are separated by \
+A command file is ASCII text with an event on each line; `entry` makes those of `submit`. Words are separated by \
 spaces or tabs, and `;` begins a comment.
 
   submit QUEUE ENTRY [DATA]   a submission queue entry, and the data that stands beside it
