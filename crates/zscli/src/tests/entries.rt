@@ -7,7 +7,7 @@ use std::test::Fail;
 /// Emits nothing: `mov r0, 0` and `exit`.
 const RETURNING: &[u8] = b"\xb7\0\0\0\0\0\0\0\x95\0\0\0\0\0\0\0";
 
-/// Each kind that moves no block.
+/// Each kind but `append` and `write`, which have blocks beside them.
 const LINES: &[Act] = &[
     Act::Put("exit", &[(RETURNING, 1)]),
     Act::Submits(
@@ -254,7 +254,7 @@ const WORDS: &[Act] = &[
 
 const SCENES: &[Scene] = &[
     Scene {
-        name: "a line of each kind",
+        name: "a line of each kind without blocks beside it",
         acts: LINES,
     },
     Scene {
