@@ -35,12 +35,12 @@ told_of (event.Fault zone state) = Faulted zone state
 abbrev pub below : ℕ → ℕ → Option ℕ
 below bound number = if nat_lt number bound then Some number else None
 
--- a queue, an entry of 64 bytes and the data beside it, which may be left out
+-- a submission, where its queue, its entry and the data beside it are each read
 abbrev pub submission : Option ℕ → Option (List ℕ) → Option (List ℕ) → Option ToldEvent
 submission (Some queue) (Some entry) (Some input) = Some (Submitted queue entry input)
 submission _ _ _ = None
 
--- the submission that the words behind `submit` tell
+-- the submission that the words behind `submit` tell: a queue, an entry of 64 bytes and the data beside it, which may be left out
 abbrev pub submission_of : List (List ℕ) → Option ToldEvent
 submission_of words = option_and_then
     (λ w. submission (option_and_then (below (2 ^ 16)) (decimal_of w.0)) (result_ok (decode_sized w.1 64)) (result_ok (decode_of w.2)))
