@@ -1,6 +1,4 @@
 -- Laws of this crate, proved, and lemmas: all that the proofs of other crates cite of it.
-use Rattle.std.specs.Prelude.{◌≡◌, ℕ, List, [], ◌∷◌}
-use Rattle.emit_append.specs.Packing.{released}
 use Rattle.emit_append.specs.Unpacking.{PackedFramesReadBack}
 use Rattle.emit_append.specs.GoingOn.{PackingGoesOn}
 use Rattle.emit_append.specs.Need.{NeedGrows, NeedIsEnough}
@@ -10,6 +8,7 @@ pub use Rattle.emit_append.proofs.ByteLists.{AllBytes, FitsByte, by_place, by_re
 use Rattle.emit_append.proofs.Continuing as continuing
 use Rattle.emit_append.proofs.Needs as needs
 use Rattle.emit_append.proofs.Puts as puts
+pub use Rattle.emit_append.proofs.Puts.{one_group_releases_none}
 use Rattle.emit_append.proofs.ReadBack as read_back
 use Rattle.emit_append.proofs.Wholes as wholes
 
@@ -18,10 +17,6 @@ output_blocks_are_whole = wholes.output_blocks_are_whole
 
 pub output_blocks_are_bytes : OutputBlocksAreBytes
 output_blocks_are_bytes = wholes.output_blocks_are_bytes
-
--- one group alone releases no block
-pub one_group_releases_none : (block : ℕ) (group : List ℕ) → released block (group ∷ []) ≡ []
-one_group_releases_none = puts.released-one
 
 pub packing_goes_on : PackingGoesOn
 packing_goes_on = continuing.packing_goes_on

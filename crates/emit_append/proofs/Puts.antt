@@ -11,16 +11,17 @@ use Rattle.emit_append.proofs.Layouts.{filled-empty, filled-first, laid-beginnin
 filled-one : (block x : ℕ) (xs : List ℕ) → block_fillings block ((x ∷ xs) ∷ []) ≡ (x ∷ xs) ∷ []
 filled-one block x xs = filled-first block (x ∷ xs) [] (omega arith) ∙ simp append-nil
 
-pub released-one : (block : ℕ) (group : List ℕ) → released block (group ∷ []) ≡ []
-released-one block [] = refl
-released-one block (x ∷ xs) = ap (λ bs. all_but_last (map (padded block) bs)) (filled-one block x xs)
+-- one group alone releases no block
+pub one_group_releases_none : (block : ℕ) (group : List ℕ) → released block (group ∷ []) ≡ []
+one_group_releases_none block [] = refl
+one_group_releases_none block (x ∷ xs) = ap (λ bs. all_but_last (map (padded block) bs)) (filled-one block x xs)
 
 pending-one : (block : ℕ) (group : List ℕ) → pending_of block (group ∷ []) ≡ group
 pending-one block [] = refl
 pending-one block (x ∷ xs) = ap last_or_empty (filled-one block x xs)
 
 puts-released : (block : ℕ) (pending : List ℕ) (groups : List (List ℕ)) → given_by_puts (record { block = block; pending = pending }) groups ≡ released block (pending ∷ groups)
-puts-released block pending [] = sym (released-one block pending)
+puts-released block pending [] = sym (one_group_releases_none block pending)
 puts-released block pending (g ∷ gs) =
     ap (λ bs. released block (pending ∷ g ∷ []) ++ bs) (puts-released block (pending_of block (pending ∷ g ∷ [])) gs)
     ∙ sym (packing_goes_on block (pending ∷ g ∷ []) gs).released_blocks
@@ -62,7 +63,7 @@ put-first : (block : ℕ) (group : List ℕ) → after_put (new_packer block) gr
 put-first block group = ap (λ bs. record { block = block; pending = last_or_empty bs }) (filled-empty block (group ∷ [])) ∙ ap (λ bytes. record { block = block; pending = bytes }) (pending-one block group)
 
 put-none : (block : ℕ) (pending group : List ℕ) → length pending + length group ≤ block → released block (pending ∷ group ∷ []) ≡ []
-put-none block [] group room = ap (λ bs. all_but_last (map (padded block) bs)) (filled-empty block (group ∷ [])) ∙ released-one block group
+put-none block [] group room = ap (λ bs. all_but_last (map (padded block) bs)) (filled-empty block (group ∷ [])) ∙ one_group_releases_none block group
 put-none block (x ∷ xs) group room = ap (λ bs. all_but_last (map (padded block) bs)) (filled-room block x xs group room)
 
 put-behind : (block : ℕ) (pending group : List ℕ) → length pending + length group ≤ block → pending_of block (pending ∷ group ∷ []) ≡ pending ++ group
