@@ -5,6 +5,7 @@ use ebpf_decode::decode;
 use std::alloc::Global;
 use std::process::Abort;
 use std::test::*;
+use test_inputs::{programs, slots};
 
 /// Lines of arithmetic and byte swaps, with the bytes of each in its comment (RFC 9669, 4.1 and 4.2). This table and the
 /// next two have each mnemonic once.
@@ -105,19 +106,19 @@ stxdw [r10+0], r9 ; 7b9a000000000000\n\
 lddw r1, 0x0123456789abcdef ; 18010000efcdab890000000067452301\n\
 ";
 
-/// Programs, with their bytes and their listing.
-const LISTED: [(&str, &str, &str); 3] = [
+/// Programs as slots, with their listing but for the last line's end.
+const LISTED: [(&str, &[u64], &str); 3] = [
     (
         "emits the first 8 bytes of a block whose first byte is 7",
-        "71260000000000005506030007000000bf21000000000000b7020000080000008500000001000000b7000000000000009500000000000000",
-        "ldxb r6, [r2+0]\njne r6, 7, +3\nmov r1, r2\nmov r2, 8\ncall 1\nmov r0, 0\nexit\n",
+        &slots::MATCHING,
+        programs::MATCHING,
     ),
     (
         "a wide value",
-        "18010000ffffffff00000000ffffffff",
-        "lddw r1, 0xffffffffffffffff\n",
+        &[0x1801_0000_ffff_ffff, 0x0000_0000_ffff_ffff],
+        "lddw r1, 0xffffffffffffffff",
     ),
-    ("an immediate", "07010000ffffffff", "add r1, -1\n"),
+    ("an immediate", &[0x0701_0000_ffff_ffff], "add r1, -1"),
 ];
 
 /// Texts that are refused, with the line and the kind of the fault.
@@ -251,11 +252,10 @@ fn a_label_too_far_away_has_a_sentence(rt: HostRuntime) -> Result<(), Fail> {
 fn check_listing(
     rt: &(impl Abort + AllocGlobal),
     name: &str,
-    digits: &str,
+    bytes: &[u8],
     listing: &str,
 ) -> Result<(), Fail> {
-    let bytes = hex::decode(rt.alloc(), digits)?;
-    let program = decode(rt.alloc(), &bytes)?;
+    let program = decode(rt.alloc(), bytes)?;
     let mut text = String::from_str(rt.alloc(), "; a program\n")?;
     disassemble(&program, &mut text)?;
     assert_eq!(rt;
@@ -264,14 +264,16 @@ fn check_listing(
         "{name}"
     );
     let again = assemble(rt.alloc(), text.as_bytes())?;
-    assert_eq!(rt; again.as_slice(), bytes.as_slice(), "{name}");
+    assert_eq!(rt; again.as_slice(), bytes, "{name}");
     Ok(())
 }
 
 #[test]
 fn programs_are_listed_and_assembled_again(rt: HostRuntime) -> Result<(), Fail> {
-    for (name, digits, listing) in LISTED {
-        check_listing(&rt, name, digits, listing)?;
+    for (name, slots, listing) in LISTED {
+        let bytes = slots::bytes_of(rt.alloc(), slots)?;
+        let listing = format!(in rt.alloc(); "{listing}\n")?;
+        check_listing(&rt, name, bytes.as_slice(), listing.as_str())?;
     }
     Ok(())
 }

@@ -348,7 +348,8 @@ fn columns(alloc: Global, lines: &str) -> Result<(String, String), Fail> {
 fn programs_from_outside_are_listed_and_assembled_again(rt: HostRuntime) -> Result<(), Fail> {
     for (name, lines) in PROGRAMS {
         let (digits, listing) = columns(rt.alloc(), lines)?;
-        check_listing(&rt, name, digits.as_str(), listing.as_str())?;
+        let bytes = hex::decode(rt.alloc(), digits.as_str())?;
+        check_listing(&rt, name, bytes.as_slice(), listing.as_str())?;
     }
     Ok(())
 }
