@@ -2,7 +2,8 @@
    and adds the body's length to a sum in scratch.
 
    Record:   one in a block: the offset of its body, its body's length and its note's offset (u16 each), a header of 8
-             bytes at byte 8, a body of 1 to 64 bytes, a note of 32
+             bytes at byte 8, a body of 1 to 64 bytes, at byte 384 at the latest, a note of 32, at byte 448 at the latest; of
+             another block nothing is emitted
    Block:    512 bytes
    Emit:     110, records of 8, of at most 64 and of 32 bytes
    Argument: 0 for no note

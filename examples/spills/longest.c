@@ -1,8 +1,8 @@
 /* The longest of four: emits the four entries that a directory names, and then the longest of them again, of equally long
    ones the first. The sum of their lengths is added to one in scratch.
 
-   Record:   4 times an entry's offset and length (u16 each) at the block's start; an entry has 1 to 32 bytes, and one that
-             hasn't ends the block
+   Record:   4 times an entry's offset and length (u16 each) at the block's start; an entry has 1 to 32 bytes and begins at
+             byte 448 at the latest, and one that doesn't ends the block
    Block:    512 bytes
    Emit:     170, five records of at most 32 bytes
    Argument: none
