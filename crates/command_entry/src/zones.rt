@@ -60,7 +60,7 @@ pub(crate) fn and_actions<'a>(
     and_last_actions(alloc, command)
 }
 
-/// A command that has the actions below it too that end a zone's writing.
+/// A command that has the last of the actions below it too: Finish, Reset and Offline.
 fn and_last_actions<'a>(
     alloc: Global,
     command: Result<Command<'a>, AllocError>,
