@@ -36,7 +36,8 @@ impl<'a> Machine<'a> {
     ghost use Rattle.program_meaning.specs.State.{at_start};
 
     /// A machine at the start of a block run, at slot 0: R1, R2 and R3 are the addresses of
-    /// context, block and scratch, R10 is the end of the stack, all else is 0 (profile).
+    /// context, block and scratch, R10 is the end of the stack, all other registers and the stack's
+    /// bytes are 0; what it borrows is as it is handed (profile).
     #[inline(always)]
     pub fn new(
         block: &'a [u8],
