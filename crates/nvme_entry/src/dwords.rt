@@ -6,7 +6,7 @@ ghost use Rattle.nvme_entry.specs.Dwords.{dword};
 
 use byteorder::{ByteOrder, LittleEndian};
 
-/// The dword with this number (NVMe Base 2.0, 3.3.3.1).
+/// The dword with this number (NVMe Base 2.0, 3.3.3.1 and 3.3.3.2).
 pub(crate) fn dword(entry: &[u8], number: usize) -> u32
     requires { 4 * number + 4 ≤ length entry.now }
     ensures { result ≡ dword entry.now number }
