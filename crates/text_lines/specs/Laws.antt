@@ -17,7 +17,7 @@ CutIsAfterFirstPart =
 abbrev pub HasFirst : List (List ℕ) → Type 0
 HasFirst parts = (first : List ℕ) × (rest : List (List ℕ)) × (parts ≡ first ∷ rest)
 
--- there is a part always
+-- so there is a part always
 abbrev pub SomePartIsThere : Type 0
 SomePartIsThere = (byte : ℕ) (text : List ℕ) → HasFirst (parts_at byte text)
 

@@ -3,7 +3,7 @@
 
 ghost use Rattle.text_lines.specs.Laws.{CutIsAfterFirstPart, LastLineIsWhole, LinesAreCut, NothingHasNoLine, SomePartIsThere, TrimmedTextsAreBetweenBlanks, UncutIsOnePart};
 
-/// A text is cut into parts one cut at a time, and there is a part always.
+/// A text is cut into parts one cut at a time, so that there is a part always.
 pub fn parts_are_cut()
     ensures uncut { UncutIsOnePart }
     ensures cut { CutIsAfterFirstPart }
