@@ -13,7 +13,7 @@ use zns_commands::{Image, MOST_TRANSFER};
 use zone_state::ZoneState;
 
 /// The bytes of a block.
-const BLOCK: u32 = 512;
+const BLOCK: usize = 512;
 
 /// The numbers of a namespace.
 #[derive(Clone, Copy)]
@@ -224,7 +224,7 @@ fn write_image(to: &mut Vec<u8>, shape: &Shape, zones: &str) -> Result<(), Fail>
 fn write_header(to: &mut Vec<u8>, shape: &Shape, zones: &str) -> Result<(), Fail> {
     to.extend_from_slice(&Version::Two.magic())?;
     for number in [
-        BLOCK,
+        BLOCK as u32,
         shape.zones,
         shape.size,
         shape.capacity,
@@ -266,7 +266,7 @@ fn write_blocks(to: &mut Vec<u8>, zones: &str) -> Result<(), Fail> {
 fn write_blocks_of(to: &mut Vec<u8>, zone: &str) -> Result<(), Fail> {
     for first in firsts_of(*to.allocator(), zone)?.iter() {
         to.push(*first)?;
-        to.extend_from_slice(&[0; 511])?;
+        to.extend_from_slice(&[0; BLOCK - 1])?;
     }
     Ok(())
 }

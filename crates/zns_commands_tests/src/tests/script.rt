@@ -129,13 +129,13 @@ pub fn zone(state: ZoneState, lowest: u64, pointer: u64) -> Descriptor {
     [(u64::from(state.code()) << 12) | 0x02, 6, lowest, pointer]
 }
 
-/// Four zones of 8 blocks of 512 bytes, 6 of them writable; 2 zones may be open and 3 active.
+/// Four zones of 8 blocks, 6 of them writable; 2 zones may be open and 3 active.
 pub fn namespace(alloc: Global) -> Result<Namespace, Fail> {
     let limits = Limits {
         open_limit: 2,
         active_limit: 3,
     };
-    let geometry = Geometry::new(512, 4, 8, 6, limits)?;
+    let geometry = Geometry::new(BLOCK as u32, 4, 8, 6, limits)?;
     Ok(Namespace::new(Image::empty(alloc, geometry)?))
 }
 

@@ -73,7 +73,7 @@ fn transfers_are_checked_before_addresses(rt: HostRuntime) -> Result<(), Fail> {
                 lba: 0,
                 blocks: one,
             },
-            511,
+            BLOCK - 1,
             Status::INVALID_FIELD_IN_COMMAND,
         ),
         // Reads past the last address, and of the largest transfer.
