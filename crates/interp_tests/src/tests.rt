@@ -5,7 +5,7 @@ mod vectors;
 use ebpf_decode::decode;
 use instruction_set::Program;
 use interp::{Machine, Step};
-use program_interface::LARGEST_BLOCK;
+use program_interface::{CONTEXT_BYTES, LARGEST_BLOCK, SCRATCH_BYTES};
 use program_meaning::{Cause, End};
 use std::alloc::Global;
 use std::process::Abort;
@@ -23,8 +23,8 @@ fn program(alloc: Global, slots: &[u64]) -> Result<Program, Fail> {
 
 /// A block run, and the number of steps.
 fn run(rt: &impl Abort, program: &Program, block: &[u8; 512]) -> (End, u64) {
-    let mut scratch = [0; 1024];
-    let context = [0; 32];
+    let mut scratch = [0; SCRATCH_BYTES];
+    let context = [0; CONTEXT_BYTES];
     let mut machine = Machine::new(block, &context, &mut scratch);
     assert!(rt; program.at(machine.slot()).is_some());
     let end = machine.run_checked(program, 0, 100, &mut []);
@@ -94,8 +94,8 @@ fn check_filter(rt: &impl Abort, filter: &Program, run: Run) {
     let (limit, fuel, end, steps, group_length, frames) = run;
     let mut block = [0; 512];
     block[0] = 7;
-    let context = [0; 32];
-    let mut scratch = [0; 1024];
+    let context = [0; CONTEXT_BYTES];
+    let mut scratch = [0; SCRATCH_BYTES];
     let mut group = [9; 12];
     let mut machine = Machine::new(&block, &context, &mut scratch);
     assert!(rt; filter.at(machine.slot()).is_some());
@@ -140,8 +140,8 @@ fn a_frame_that_fills_the_largest_block(rt: HostRuntime) -> Result<(), Fail> {
     let program = program(rt.alloc(), &slots)?;
     let mut block = [3; LARGEST_BLOCK];
     block[LARGEST_BLOCK - 1] = 0;
-    let context = [0; 32];
-    let mut scratch = [0; 1024];
+    let context = [0; CONTEXT_BYTES];
+    let mut scratch = [0; SCRATCH_BYTES];
     let mut group = [0; LARGEST_BLOCK];
     let mut machine = Machine::new(&block, &context, &mut scratch);
     assert!(rt; program.at(machine.slot()).is_some());
@@ -165,8 +165,8 @@ fn the_slots_of_a_run(rt: HostRuntime) -> Result<(), Fail> {
     let filter = program(rt.alloc(), &MATCHING)?;
     let mut block = [0; 512];
     block[0] = 7;
-    let context = [0; 32];
-    let mut scratch = [0; 1024];
+    let context = [0; CONTEXT_BYTES];
+    let mut scratch = [0; SCRATCH_BYTES];
     let mut group = [0; 10];
     let mut machine = Machine::new(&block, &context, &mut scratch);
     for slot in 0..6usize {

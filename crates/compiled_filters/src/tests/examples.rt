@@ -223,7 +223,7 @@ fn device(alloc: Global) -> Result<Device, Fail> {
         open_limit: 2,
         active_limit: 2,
     };
-    let geometry = Geometry::new(512, 2, 64, 64, limits)?;
+    let geometry = Geometry::new(BLOCK as u32, 2, 64, 64, limits)?;
     Ok(Device::new(alloc, Image::empty(alloc, geometry)?))
 }
 

@@ -1,6 +1,6 @@
 //! Filters that add up or count.
 
-use super::{BLOCKS, Filter, Trial};
+use super::{BLOCK, BLOCKS, Filter, Trial};
 use std::alloc::Global;
 use std::test::Fail;
 use test_inputs::numbers::Numbers;
@@ -176,7 +176,7 @@ fn a_sum_of_fields(rt: HostRuntime) -> Result<(), Fail> {
     let mut sum = 0u64;
     for _ in 0..BLOCKS {
         let field = (numbers.draw() % 0x1_0000_0000) as u32;
-        let mut bytes = [0xab; 512];
+        let mut bytes = [0xab; BLOCK];
         bytes[16..20].copy_from_slice(&field.to_le_bytes());
         trial.add(&bytes)?;
         sum = sum.wrapping_add(u64::from(field));

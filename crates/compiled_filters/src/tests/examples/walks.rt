@@ -1,6 +1,6 @@
 //! Filters over records of different lengths, and over packets.
 
-use super::{Filter, Trial};
+use super::{BLOCK, Filter, Trial};
 use std::test::Fail;
 use test_inputs::numbers::Numbers;
 
@@ -118,8 +118,8 @@ const TAKEN: Packet = Packet {
 };
 
 impl Packet {
-    fn bytes(&self) -> [u8; 512] {
-        let mut bytes = [0x5a; 512];
+    fn bytes(&self) -> [u8; BLOCK] {
+        let mut bytes = [0x5a; BLOCK];
         bytes[12..14].copy_from_slice(&self.kind.to_be_bytes());
         bytes[14] = 0x40 | self.header_words;
         bytes[23] = self.protocol;
