@@ -272,7 +272,7 @@ fn encode_slots(alloc: Global, slots: &[Option<Instruction>]) -> Result<Vec<u8>,
 /// Want of memory.
 pub fn encode(alloc: Global, program: &Program) -> Result<Vec<u8>, AllocError>
     ensures spelled { IfOk result (λ bytes. bytes.items ≡ program_bytes program.now) }
-    // Decoding gives the program again.
+    // So decoding gives the program again, by the law `spelled_is_decoded`: a round trip, for callers.
     ensures again { IfOk result (λ bytes. decoded_program bytes.items ≡ Ok program.now) }
 {
     encode_slots(alloc, program.as_slice())
