@@ -1,5 +1,4 @@
-//! Laws of the definitions that the contracts of this crate cite. Each function does nothing: what
-//! it ensures is the law.
+//! Laws of the definitions. Each function does nothing: what it ensures is the law.
 
 ghost use Rattle.program_interface.specs.Context.{ContextsTell};
 ghost use Rattle.program_interface.specs.FirstCheck.{FirstFailedIsFirst, NoFaultWhereNoneFails};
