@@ -1,5 +1,5 @@
 # Sourced with `here` set to this folder and `program` to a C program in it: builds that with DPDK as `$work/dpdk`, in a
-# folder that is removed at the end.
+# folder that is removed at the end, and brings in `least`.
 . "$here/least.sh"
 work=$(mktemp -d)
 trap 'rm -rf "$work"' EXIT

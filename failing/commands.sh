@@ -100,7 +100,7 @@ ending() {
     echo "status $status$made$wants, told: $(tail -n 1 "$work/err")"
 }
 
-# What is the last file: the first one, which has this name, the third, or another?
+# What is the last file: the first one, which has this name, the third, another, or none?
 compare() {
     if [ ! -e "$4" ]; then
         echo none

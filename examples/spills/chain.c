@@ -1,5 +1,6 @@
-/* A chain of entries, each of which names the next: emits four of them as it comes by, up to one that has the argument, and
-   then the last of the four and the first again, and adds to scratch how far the one is behind the other.
+/* A chain of entries, each of which names the next: emits four of them as it comes by, then the last of the four and the
+   first again, and adds to scratch how far the one is behind the other. An entry that has the argument ends the block: from
+   it on nothing is emitted or added.
 
    Record:   16 bytes, 16 at the block's start: the number of the next entry (its low 4 bits) at byte 0, what is compared
              with the argument at byte 1; the first entry's number (its low 4 bits) is the block's byte 256
