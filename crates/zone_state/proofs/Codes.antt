@@ -1,8 +1,8 @@
 -- Codes and states tell each other.
-use Rattle.std.proofs.Common.{◌≡◌, ℕ, Bool, true, false, cond, List, [], ◌∷◌, Some, refl}
+use Rattle.std.proofs.Common.{◌≡◌, ℕ, Option, Some, None, refl}
 use Rattle.std.proofs.lemmas.Bool.{eqb-true}
-use Rattle.std.specs.List.{find}
 use Rattle.std.specs.Prelude.{◌==◌, IfSome}
+use Rattle.program_interface.proofs.Proved.{found_passes}
 use Rattle.zone_state.specs.State.{CodesAreDistinct, code_of, state_of}
 use Rattle.zone_state.specs.declared.state.TheConstants.ZoneState.{ALL}
 use Rattle.zone_state.specs.declared.state.ZoneState.{ZoneState}
@@ -17,12 +17,10 @@ there ReadOnly = refl
 there Full = refl
 there Offline = refl
 
--- a state that is found among some has the code
-found : (states : List ZoneState) (code : ℕ) → IfSome (find (λ s. code_of s == code) states) (λ s. code_of s ≡ code)
-found [] code = tt
-found (state ∷ states) code =
-    let P : Bool → Type 0 = λ test. (code_of state == code) ≡ test → IfSome (cond test (Some state) (find (λ s. code_of s == code) states)) (λ s. code_of s ≡ code) in
-    elim (code_of state == code) as P [ true ↦ λ here. eqb-true (code_of state) code here | false ↦ λ here. found states code ] refl
+-- the state that is found for a code has it
+has_code : (code : ℕ) (found : Option ZoneState) → state_of code ≡ found → IfSome found (λ s. code_of s ≡ code)
+has_code code None is = tt
+has_code code (Some s) is = eqb-true (code_of s) code (found_passes (λ x. code_of x == code) ALL s is)
 
 pub codes_are_distinct : CodesAreDistinct
-codes_are_distinct = record { there = there; back = found ALL }
+codes_are_distinct = record { there = there; back = λ code. has_code code (state_of code) refl }

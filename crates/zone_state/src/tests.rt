@@ -1,3 +1,5 @@
+//! Statuses and states by their numbers and names, and a zone that is managed, filled and broken.
+
 use super::*;
 use std::test::Fail;
 
