@@ -13,7 +13,7 @@ use Rattle.nvme_entry.specs.declared.command.LoadCommand.{LoadCommand}
 use Rattle.word_domain.specs.Domain.{Operations}
 use Rattle.image_store.specs.Namespace.{zone_at}
 use Rattle.zns_commands.proofs.Proved.{grows_by_none, held_sources_keep_blocks, shapes_are_kept}
-use Rattle.zone_resources.proofs.Proved.{there, users_name_zones}
+use Rattle.zone_resources.proofs.Proved.{runs_name_zones, there}
 use Rattle.pushdown.specs.Admission.{Loaded, SameProgram}
 use Rattle.pushdown.specs.Laws.{EventsKeepForRuns, KeepsFor}
 use Rattle.pushdown.specs.Happenings.{happens, just_loaded, keeping, load_checks, slots_left}
@@ -53,7 +53,7 @@ left_program s p (Some ending) slot =
 
 source_at : (places : List (Option Place)) (run : ℕ) (place : Place) → get_or places run None ≡ Some place
     → list_any (names place.source) (map source_of places) ≡ true
-source_at places run place at = users_name_zones source_of place.source places run place at refl
+source_at places run place at = runs_name_zones source_of place.source places run place at refl
 
 used_at : (places : List (Option Place)) (run : ℕ) (place : Place) → get_or places run None ≡ Some place
     → list_any (uses place.slot) places ≡ true

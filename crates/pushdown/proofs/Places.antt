@@ -11,7 +11,7 @@ use Rattle.nvme_entry.specs.declared.command.RunCommand.{RunCommand}
 use Rattle.word_domain.specs.Domain.{Operations}
 use Rattle.accepted_programs.proofs.Proved.{none_known, set_known}
 use Rattle.image_store.specs.Namespace.{ZonedNamespace}
-use Rattle.zone_resources.proofs.Proved.{users_name_zones}
+use Rattle.zone_resources.proofs.Proved.{runs_name_zones}
 use Rattle.pushdown.specs.Admission.{admission_checks, destination_zone}
 use Rattle.pushdown.specs.EventReplies.{Submission}
 use Rattle.pushdown.specs.Happenings.{admitted_place, happens, place_left, turned, why_not_run}
@@ -31,7 +31,7 @@ new_apart ns = record { apart = λ j k p q at_j at_k same. absurd (none_known RU
 
 pub held_at : (places : List (Option Place)) (run : ℕ) (place : Place) → get_or places run None ≡ Some place
     → list_any (names place.destination) (map destination_of places) ≡ true
-held_at places run place at = users_name_zones destination_of place.destination places run place at refl
+held_at places run place at = runs_name_zones destination_of place.destination places run place at refl
 
 -- ---- places of which each is empty, or has the slot and the destination that it had
 

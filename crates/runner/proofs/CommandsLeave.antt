@@ -17,7 +17,7 @@ use Rattle.zns_commands.proofs.Proved.{held_sources_keep_blocks, shapes_are_kept
 use Rattle.pushdown.specs.EventReplies.{Submission}
 use Rattle.pushdown.specs.Happenings.{commanded, faulting}
 use Rattle.pushdown.specs.State.{Place, holds_at, with_namespace}
-use Rattle.zone_resources.proofs.Proved.{users_name_zones}
+use Rattle.zone_resources.proofs.Proved.{runs_name_zones}
 use Rattle.runner.specs.steps.Answered.{answered}
 use Rattle.runner.specs.DeviceState.{loaded_slot, device_state}
 use Rattle.runner.specs.steps.ActiveRuns.{held_by, source_held}
@@ -63,7 +63,7 @@ is_left ns later slots runs ready same grow =
 -- the zone that an active run reads from is held
 source_there : (runs : List (Option ActiveRun)) (k : ℕ) (a : ActiveRun) → get_or runs k None ≡ Some a
     → list_any (names a.source.zone) (map source_held runs) ≡ true
-source_there runs k a at = users_name_zones source_held a.source.zone runs k a at refl
+source_there runs k a at = runs_name_zones source_held a.source.zone runs k a at refl
 
 -- where an event heeds what the active runs hold
 event_leaves : (ns : ZonedNamespace) (slots : List (Option LoadedProgram)) (runs : List (Option ActiveRun)) (event : NamespaceEvent) → IsReady ns slots runs

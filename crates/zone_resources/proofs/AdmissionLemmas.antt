@@ -58,8 +58,9 @@ closable-passes : (holds : Holds) (zones : List CountedZone) (number : ℕ) (h :
 closable-passes holds zones number h =
     closable-at holds zones number h.zone h.there ∙ passes h.zone.state (is_destination holds number) h.implicitly_opened h.free
 
-abbrev pub no_zone : CountedZone
-no_zone = record { state = Empty; written = 0; capacity = 0 }
+-- what is read behind the last zone
+abbrev default_zone : CountedZone
+default_zone = record { state = Empty; written = 0; capacity = 0 }
 
 pub closes_at : (zones : List CountedZone) (holds : Holds) (found : Option ℕ) → zone_to_close holds zones ≡ found
     → MatchOption found
@@ -72,10 +73,10 @@ closes_at zones holds None e = λ number h.
     let passes_there = closable-passes holds zones number h in
     cc
 closes_at zones holds (Some lowest) e =
-    let at = position-Some (closable holds) (enumerate_from 0 zones) lowest (0, no_zone) e in
+    let at = position-Some (closable holds) (enumerate_from 0 zones) lowest (0, default_zone) e in
     let within : lowest < length zones = rw length-enumerate_from at at.0 in
-    let zone : CountedZone = get_or zones lowest no_zone in
-    let there : slice_get zones lowest ≡ Some zone = slice_get-get_or zones lowest no_zone within in
+    let zone : CountedZone = get_or zones lowest default_zone in
+    let there : slice_get zones lowest ≡ Some zone = slice_get-get_or zones lowest default_zone within in
     let first = position-Some (closable holds) (enumerate_from 0 zones) lowest (0, zone) e in
     let is = passed zone.state (is_destination holds lowest) (sym (closable-at holds zones lowest zone there) ∙ first.1) in (
       record { zone = zone; there = there; implicitly_opened = is.0; free = is.1 },

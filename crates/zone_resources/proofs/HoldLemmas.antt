@@ -6,7 +6,7 @@ use Rattle.std.proofs.lemmas.Bool.{and_left, and_right, or_from, or_left, or_rig
 use Rattle.std.proofs.lemmas.Bool.Decides.{eqb_tells}
 use Rattle.zone_resources.specs.Holds.{HoldsRefuse, IsAppendedTo, IsReadFrom, forgets, is_destination, is_source, names, no_holds}
 use Rattle.zone_resources.specs.declared.holds.Holds.{Holds}
-use Rattle.zone_resources.proofs.Users.{named}
+use Rattle.zone_resources.proofs.NamedZones.{named}
 
 not_this : (zone : ℕ) (user : Option ℕ) → (user ≡ Some zone → ⊥) → names zone user ≡ false
 not_this zone None other = refl

@@ -2,5 +2,5 @@ mod AdmissionLemmas
 mod CountLemmas
 mod HoldLemmas
 mod LimitLemmas
+mod NamedZones
 pub mod Proved
-mod Users

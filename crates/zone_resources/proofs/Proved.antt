@@ -3,7 +3,7 @@ use Rattle.zone_resources.specs.Admission.{AdmissionKeepsLimits, IdleHoldsNoMore
 pub use Rattle.zone_resources.proofs.CountLemmas.{counts_follow_one, one_if-le-count_in}
 use Rattle.zone_resources.proofs.LimitLemmas as limited
 pub use Rattle.zone_resources.proofs.LimitLemmas.{admitted_closable, one_if-le-one, wants}
-pub use Rattle.zone_resources.proofs.Users.{there, users_name_zones}
+pub use Rattle.zone_resources.proofs.NamedZones.{runs_name_zones, there}
 
 pub admission_keeps_limits : AdmissionKeepsLimits
 admission_keeps_limits = limited.admission_keeps_limits

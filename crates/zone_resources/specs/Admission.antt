@@ -78,7 +78,7 @@ abbrev pub after_closing : Option ℕ → List CountedZone → List CountedZone
 after_closing None zones = zones
 after_closing (Some number) zones = closed_in zones number (slice_get zones number)
 
--- the zones pass neither limit
+-- no more zones are open or active than the limits allow
 pub record IsWithin (zones : List CountedZone) (limits : Limits) : Type 0 where
   pub opened : open_count zones ≤ limits.open_limit
   pub active : active_count zones ≤ limits.active_limit

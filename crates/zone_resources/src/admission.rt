@@ -1,8 +1,7 @@
 //! Whether a zone may take resources.
 
-ghost use Rattle.std.specs.Prelude.{◌≡◌, ◌<◌, ◌≤◌, ◌^◌, IfSome, IfOk, length};
-ghost use Rattle.std.specs.Option.{ForSome};
-ghost use Rattle.zone_resources.specs.Admission.{IsClosable, admission, zone_to_close, may_close, wanted_of};
+ghost use Rattle.std.specs.Prelude.{◌≡◌, ◌<◌, ◌≤◌, ◌^◌, IfSome, length};
+ghost use Rattle.zone_resources.specs.Admission.{admission, zone_to_close, may_close, wanted_of};
 ghost use Rattle.zone_resources.specs.Counts.{counts_of};
 
 use crate::counts::Counts;
@@ -61,8 +60,7 @@ pub fn admit(
 
     // A zone's number is a u32.
     requires numbered { length zones.now ≤ 2 ^ 32 }
-    ensures answer { result ≡ admission zones.now limits.now holds.now wanted }
-    ensures closable { IfOk result (λ closing. ForSome closing (IsClosable holds.now zones.now)) }
+    ensures { result ≡ admission zones.now limits.now holds.now wanted }
 {
     if wanted == Wanted::OpenAndActive && counts.active >= limits.active_limit as usize {
         return Err(Status::TOO_MANY_ACTIVE_ZONES);
@@ -81,7 +79,6 @@ fn zone_to_close(zones: &[Zone], holds: &Holds) -> Option<usize>
     requires { length zones.now ≤ 2 ^ 32 }
     ensures lowest { result ≡ zone_to_close holds.now zones.now }
     ensures within { IfSome result (λ number. number < length zones.now) }
-    ensures closable { ForSome result (IsClosable holds.now zones.now) }
 {
     zones
         .iter()

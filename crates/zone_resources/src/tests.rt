@@ -1,3 +1,5 @@
+//! Counts of zones that hold resources, zones that give way, and zones that runs hold.
+
 ghost use Rattle.std.specs.Prelude.{◌≡◌, ◌≤◌, ◌^◌, IfOk, length};
 
 use super::*;
