@@ -4,7 +4,7 @@ use mir.Val.{bool_byte}
 use Rattle.zone_state.specs.declared.action.Action.{Action}
 use Rattle.nvme_entry.specs.steps.EntryFields.{HasFields}
 use Rattle.zone_state.specs.Transition.{action_of}
-use Rattle.nvme_entry.specs.Entry.{asked_blocks, decoded, dwords_of}
+use Rattle.nvme_entry.specs.Entry.{asked_blocks, decoded, dwords_of, opcode_code}
 use Rattle.nvme_entry.specs.EntryLaws.{Spells}
 use Rattle.nvme_entry.specs.Dwords.{dword}
 use Rattle.nvme_entry.specs.Filter.{filter_of}
@@ -18,7 +18,7 @@ use Rattle.nvme_entry.specs.declared.command.StandardCommand.TheVariants.{Send, 
 use Rattle.nvme_entry.specs.declared.command.TheConstants.{MOST_TRANSFER}
 use Rattle.nvme_entry.specs.declared.encoding.CommandDwords.{CommandDwords}
 use Rattle.nvme_entry.specs.declared.filter.ZoneFilter.{ZoneFilter}
-use Rattle.nvme_entry.proofs.Spelled.{code, code_told, count_told, spelled_entries_are_decoded}
+use Rattle.nvme_entry.proofs.Spelled.{code_told, count_told, spelled_entries_are_decoded}
 
 flag_back : (flag : Bool) (n : ℕ) → n ≡ bool_byte flag → flag ≡ (n % 2 == 1)
 flag_back true n is = ap (λ (k : ℕ). k % 2 == 1) (sym is)
@@ -29,7 +29,7 @@ bit_small true = omega arith
 bit_small false = omega arith
 
 -- an entry is decoded to the command that it spells behind its opcode's code
-told : (entry : List ℕ) (o : Opcode) (cid : ℕ) (d : CommandDwords) (c : Command) → HasFields entry o cid d → (slice_index entry 0 ≡ code o → Spells entry c)
+told : (entry : List ℕ) (o : Opcode) (cid : ℕ) (d : CommandDwords) (c : Command) → HasFields entry o cid d → (slice_index entry 0 ≡ opcode_code o → Spells entry c)
     → decoded entry ≡ Ok c
 told entry o cid d c has spells = spelled_entries_are_decoded entry c (has.fuse, has.namespace, spells (code_told (slice_index entry 0) o has.code))
 

@@ -9,9 +9,9 @@ use Rattle.zone_state.specs.declared.status.Status.{Status}
 use Rattle.zone_state.specs.declared.status.TheConstants.Status.{INVALID_FIELD_IN_COMMAND, INVALID_NAMESPACE_OR_FORMAT}
 use Rattle.zone_state.specs.Transition.{action_of}
 use Rattle.program_interface.specs.Readings.{unless_fault}
-use Rattle.program_interface.proofs.Proved.{found_where_ok}
+use Rattle.program_interface.proofs.Proved.{found_passes, found_where_ok}
 use Rattle.program_interface.specs.Checks.{demand, first_failed}
-use Rattle.nvme_entry.specs.Entry.{asked, asked_blocks, command_of, decoded_by, dwords_of, fuse_of, namespace_identifier, opcode_of, starting_lba}
+use Rattle.nvme_entry.specs.Entry.{asked, asked_blocks, command_of, decoded_by, dwords_of, fuse_of, namespace_identifier, opcode_code, opcode_of, opcodes, starting_lba}
 use Rattle.nvme_entry.specs.EntryLaws.{AsksFor, FieldsAreSpelled, SpelledEntriesAreDecoded, Spells}
 use Rattle.program_interface.specs.Bytes.{field}
 use Rattle.nvme_entry.specs.Dwords.{dword}
@@ -26,39 +26,9 @@ use Rattle.nvme_entry.specs.declared.command.TheConstants.{MOST_TRANSFER}
 use Rattle.nvme_entry.specs.declared.filter.ZoneFilter.{ZoneFilter}
 use Rattle.nvme_entry.proofs.Encodings.{decoded_is}
 
-abbrev pub code : Opcode → ℕ
-code opcode.Write = 0x01
-code opcode.Read = 0x02
-code opcode.ZoneManagementSend = 0x79
-code opcode.ZoneManagementReceive = 0x7A
-code opcode.ZoneAppend = 0x7D
-code opcode.Run = 0xC0
-code opcode.Load = 0xC1
-code opcode.Result = 0xC2
-
-either : (n k : ℕ) (x o : Opcode) (rest : Option Opcode) (test : Bool) → (n == k) ≡ test → k ≡ code x → (rest ≡ Some o → n ≡ code o) → cond test (Some x) rest ≡ Some o → n ≡ code o
-either n k x o rest true is known behind e =
-    let same : x ≡ o = cc in
-    eqb-true n k is ∙ known ∙ ap code same
-either n k x o rest false is known behind e = behind e
-
-row : (n k : ℕ) (x o : Opcode) (rest : Option Opcode) → k ≡ code x → (rest ≡ Some o → n ≡ code o) → cond (n == k) (Some x) rest ≡ Some o → n ≡ code o
-row n k x o rest known behind e = either n k x o rest (n == k) refl known behind e
-
-none : (n : ℕ) (o : Opcode) → None ≡ Some o → n ≡ code o
-none n o e = absurd cc
-
 -- an opcode has one code
-pub code_told : (n : ℕ) (o : Opcode) → opcode_of n ≡ Some o → n ≡ code o
-code_told n o =
-    row n 0x01 opcode.Write o _ refl
-    (row n 0x02 opcode.Read o _ refl
-    (row n 0x79 opcode.ZoneManagementSend o _ refl
-    (row n 0x7A opcode.ZoneManagementReceive o _ refl
-    (row n 0x7D opcode.ZoneAppend o _ refl
-    (row n 0xC0 opcode.Run o _ refl
-    (row n 0xC1 opcode.Load o _ refl
-    (row n 0xC2 opcode.Result o _ refl (none n o))))))))
+pub code_told : (n : ℕ) (o : Opcode) → opcode_of n ≡ Some o → n ≡ opcode_code o
+code_told n o is = sym (eqb-true (opcode_code o) n (found_passes (λ x. opcode_code x == n) opcodes o is))
 
 one : (P : Command → Type 0) (x c : Command) → P x → Some x ≡ Some c → P c
 one P x c has e =
@@ -85,7 +55,7 @@ count_told count dwords e =
     let told = cond_some (nat_le (4 * (count + 1)) MOST_TRANSFER) (count + 1) dwords e in
     let few = leb-true (4 * (count + 1)) MOST_TRANSFER told.0 in (sym told.1, omega (arith, told.1, few))
 
-pub spelled_by : (o : Opcode) (entry : List ℕ) (c : Command) → slice_index entry 0 ≡ code o → command_of o entry ≡ Some c → Spells entry c
+pub spelled_by : (o : Opcode) (entry : List ℕ) (c : Command) → slice_index entry 0 ≡ opcode_code o → command_of o entry ≡ Some c → Spells entry c
 spelled_by opcode.Write entry c is e = one (Spells entry) (command.Standard (Write (starting_lba entry) (asked_blocks entry))) c (is, refl, refl) e
 spelled_by opcode.Read entry c is e = one (Spells entry) (command.Standard (Read (starting_lba entry) (asked_blocks entry))) c (is, refl, refl) e
 spelled_by opcode.ZoneAppend entry c is e = one (Spells entry) (command.Standard (Append (starting_lba entry) (asked_blocks entry))) c (is, refl, refl) e

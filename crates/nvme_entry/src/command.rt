@@ -1,6 +1,7 @@
 //! Commands and their opcodes.
 
 ghost use Rattle.std.specs.Prelude.{◌≡◌, ◌+◌, ◌*◌, ◌≤◌, ◌↔◌, IsSome, IfSome};
+ghost use Rattle.std.specs.Int.{IsInRange};
 ghost use Rattle.nvme_entry.specs.Entry.{opcode_of, dwords_of};
 
 use crate::filter::ZoneFilter;
@@ -13,17 +14,17 @@ use zone_state::Action;
 pub const MOST_TRANSFER: usize = 131_072;
 
 /// The bytes of a dword.
-const DWORD: usize = 4;
+const DWORD_BYTES: usize = 4;
 
 /// The most blocks of a command: their number stands in 16 bits as one less.
 pub const MOST_BLOCKS: u32 = 65_536;
 
 /// The most dwords of a command.
-pub const MOST_DWORDS: u32 = (MOST_TRANSFER / DWORD) as u32;
+pub const MOST_DWORDS: u32 = (MOST_TRANSFER / DWORD_BYTES) as u32;
 
 /// The opcode of a command (NVM Command Set 1.0, 3.2; ZNS 1.1, 3.4; Run, Load and Result are profile).
 #[derive(Clone, Copy, Debug, PartialEq, Eq)]
-pub enum Opcode {
+pub(crate) enum Opcode {
     /// 01h: writes blocks at a zone's write pointer.
     Write,
     /// 02h: reads blocks.
@@ -32,7 +33,7 @@ pub enum Opcode {
     ZoneManagementSend,
     /// 7Ah: a report of zones.
     ZoneManagementReceive,
-    /// 7Dh: writes blocks to a zone, and answers where they went.
+    /// 7Dh: writes blocks to a zone, and tells where they went.
     ZoneAppend,
     /// C0h: starts a run of a slot's program.
     Run,
@@ -44,7 +45,7 @@ pub enum Opcode {
 
 impl Opcode {
     /// The opcode with this code; `None` for one that isn't supported.
-    pub fn from_code(code: u8) -> Option<Opcode>
+    pub(crate) fn from_code(code: u8) -> Option<Opcode>
         ensures { result ≡ opcode_of code }
     {
         match code {
@@ -61,7 +62,7 @@ impl Opcode {
     }
 
     /// The opcode's code.
-    pub fn code(self) -> u8
+    pub(crate) fn code(self) -> u8
         ensures { opcode_of result ≡ Some self }
     {
         match self {
@@ -84,14 +85,15 @@ pub struct BlockCount {
 }
 
 impl Model for BlockCount {
-    ghost use Rattle.std.specs.Prelude.{◌≤◌, ℕ};
+    ghost use Rattle.std.specs.Prelude.{ℕ};
+    ghost use Rattle.std.specs.Int.{IsInRange};
     ghost use Rattle.nvme_entry.specs.declared.command.TheConstants.{MOST_BLOCKS};
 
     ghost Value = { ℕ };
 
     ghost view = { λ n. n.blocks };
 
-    ghost invariant = { λ n. (1 ≤ n.blocks) × (n.blocks ≤ MOST_BLOCKS) };
+    ghost invariant = { λ n. IsInRange 1 MOST_BLOCKS n.blocks };
 
     ghost inverse = { λ n. record { blocks = n } };
 }
@@ -99,7 +101,7 @@ impl Model for BlockCount {
 impl BlockCount {
     /// So many blocks. `None` where no command has as many.
     pub fn new(blocks: u32) -> Option<BlockCount>
-        ensures found { IsSome result ↔ (1 ≤ blocks) × (blocks ≤ MOST_BLOCKS) }
+        ensures found { IsSome result ↔ IsInRange 1 MOST_BLOCKS blocks }
         ensures value { IfSome result (λ n. n ≡ blocks) }
     {
         if blocks >= 1 && blocks <= MOST_BLOCKS {
@@ -142,14 +144,15 @@ pub struct DwordCount {
 }
 
 impl Model for DwordCount {
-    ghost use Rattle.std.specs.Prelude.{◌≤◌, ℕ};
+    ghost use Rattle.std.specs.Prelude.{ℕ};
+    ghost use Rattle.std.specs.Int.{IsInRange};
     ghost use Rattle.nvme_entry.specs.declared.command.TheConstants.{MOST_DWORDS};
 
     ghost Value = { ℕ };
 
     ghost view = { λ n. n.dwords };
 
-    ghost invariant = { λ n. (1 ≤ n.dwords) × (n.dwords ≤ MOST_DWORDS) };
+    ghost invariant = { λ n. IsInRange 1 MOST_DWORDS n.dwords };
 
     ghost inverse = { λ n. record { dwords = n } };
 }
@@ -157,7 +160,7 @@ impl Model for DwordCount {
 impl DwordCount {
     /// So many dwords. `None` where no command has as many.
     pub fn new(dwords: u32) -> Option<DwordCount>
-        ensures found { IsSome result ↔ (1 ≤ dwords) × (dwords ≤ MOST_DWORDS) }
+        ensures found { IsSome result ↔ IsInRange 1 MOST_DWORDS dwords }
         ensures value { IfSome result (λ n. n ≡ dwords) }
     {
         if dwords >= 1 && dwords <= MOST_DWORDS {
@@ -191,7 +194,7 @@ impl DwordCount {
         ensures some { 4 ≤ result }
         ensures most { result ≤ MOST_TRANSFER }
     {
-        self.dwords as usize * DWORD
+        self.dwords as usize * DWORD_BYTES
     }
 }
 

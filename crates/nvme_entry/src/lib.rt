@@ -1,5 +1,6 @@
-//! NVM Express entries: the 64 bytes of a submission, read into a command, the 16 bytes of a
-//! completion, and the report of zones that a command may ask for.
+//! NVM Express entries: the 64 bytes of a submission, read into a command or made of one, the 16 bytes
+//! of a completion, made and read back, and the report of zones that a command may ask for, of which
+//! descriptors are read back too.
 #![tactic(auto)]
 
 mod command;
@@ -15,7 +16,7 @@ mod program_slot;
 mod report;
 
 pub use command::{
-    BlockCount, Command, DwordCount, LoadCommand, MOST_BLOCKS, MOST_DWORDS, MOST_TRANSFER, Opcode,
+    BlockCount, Command, DwordCount, LoadCommand, MOST_BLOCKS, MOST_DWORDS, MOST_TRANSFER,
     RunCommand, StandardCommand,
 };
 pub use completion::Completion;
