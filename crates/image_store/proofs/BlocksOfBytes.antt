@@ -6,6 +6,10 @@ use Rattle.std.proofs.Math.Seq.{take-add}
 use Rattle.std.proofs.Math.Nat.{suc-mul}
 use Rattle.program_interface.specs.Bytes.{pieces, spliced}
 
+-- a place behind the first piece is one in all
+pub drop-next : (n k : ℕ) (xs : List ℕ) → drop (k * n) (drop n xs) ≡ drop (suc k * n) xs
+drop-next n k xs = drop-drop (k * n) n xs ∙ ap (λ (m : ℕ). drop m xs) (omega (arith, suc-mul k n))
+
 -- bytes are cut into as many blocks as are asked for
 pub blocks_are_counted : (b n : ℕ) (xs : List ℕ) → length (pieces b n xs) ≡ n
 blocks_are_counted b zero xs = refl
@@ -35,10 +39,9 @@ blocks-add b zero m xs =
     rw (start, count) refl
 blocks-add b (suc n) m xs =
     let count : suc n + m ≡ suc (n + m) = omega arith in
-    let place : b + n * b ≡ suc n * b = omega (arith, suc-mul n b) in
     ap (λ (k : ℕ). pieces b k xs) count
     ∙ (ap (λ (yss : List (List ℕ)). take b xs ∷ yss) (blocks-add b n m (drop b xs))
-    ∙ ap (λ (ys : List ℕ). take b xs ∷ (pieces b n (drop b xs) ++ pieces b m ys)) (drop-drop (n * b) b xs ∙ ap (λ (k : ℕ). drop k xs) place))
+    ∙ ap (λ (ys : List ℕ). take b xs ∷ (pieces b n (drop b xs) ++ pieces b m ys)) (drop-next b n xs))
 
 -- the bytes of blocks are those that they were cut from
 pub blocks_keep_bytes : (b n : ℕ) (xs : List ℕ) → concat (pieces b n xs) ≡ take (n * b) xs

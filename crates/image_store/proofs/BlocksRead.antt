@@ -1,7 +1,8 @@
 -- Reading the blocks of one zone after another's, each zone's into its room.
 use Rattle.std.proofs.Common.{◌≡◌, ℕ, ◌+◌, ◌*◌, ◌<◌, ◌≤◌, zero, suc, List, [], ◌∷◌, ◌++◌, length, get_or, take, drop, Result, Ok, Err, refl, ap, sym, subst, ◌∙◌, append_assoc, arith, length-take}
-use Rattle.std.proofs.lemmas.List.{take-take, drop-take, drop-drop, take_at, take_all, drop_more, get_or-take}
+use Rattle.std.proofs.lemmas.List.{take_at, take_all, drop_more, get_or-take}
 use Rattle.std.proofs.Math.Nat.{suc-mul, mul-le-mul_right}
+use Rattle.program_interface.proofs.Proved.{agree_before, agree_behind}
 use Rattle.zone_state.specs.Zone.{CountedZone}
 use Rattle.image_store.specs.declared.fault.LoadFault.{LoadFault}
 use Rattle.image_store.specs.ImageInMemory.{zones_of, zone_seen, no_counted_zone, IsFlat}
@@ -14,7 +15,7 @@ use Rattle.image_store.specs.Reading.{bytes_in, blocks_in}
 use Rattle.image_store.proofs.ReadingCalls.{bind_ok, ok_is}
 use Rattle.image_store.proofs.FilledBuffers.{Split, bytes_size}
 use Rattle.image_store.proofs.ImageFields.{within, room_end}
-use Rattle.image_store.proofs.BlocksOfBytes.{blocks-same, take-spliced, drop-spliced}
+use Rattle.image_store.proofs.BlocksOfBytes.{blocks-same, drop-next, take-spliced, drop-spliced}
 
 abbrev pub Zones : Type 0
 Zones = List ZoneBlocks × List ℕ
@@ -29,11 +30,8 @@ zones-same : (b c : ℕ) (zs : List CountedZone) (xs ys : List ℕ) → ((z : �
 zones-same b c [] xs ys within e = refl
 zones-same b c (z ∷ zs) xs ys within e =
     let more : c * b + length zs * (c * b) ≡ suc (length zs) * (c * b) = omega (arith, suc-mul (length zs) (c * b)) in
-    let all : take (c * b + length zs * (c * b)) xs ≡ take (c * b + length zs * (c * b)) ys = subst (λ (n : ℕ). take n xs ≡ take n ys) (sym more) e in
-    let first : take (c * b) xs ≡ take (c * b) ys =
-    sym (take-take (c * b) (c * b + length zs * (c * b)) xs (omega arith)) ∙ (ap (take (c * b)) all ∙ take-take (c * b) (c * b + length zs * (c * b)) ys (omega arith)) in
-    let later : take (length zs * (c * b)) (drop (c * b) xs) ≡ take (length zs * (c * b)) (drop (c * b) ys) =
-    sym (drop-take (c * b) (length zs * (c * b)) xs) ∙ (ap (drop (c * b)) all ∙ drop-take (c * b) (length zs * (c * b)) ys) in
+    let first = agree_before (c * b) (suc (length zs) * (c * b)) xs ys (omega (arith, more)) e in
+    let later = agree_behind (c * b) (length zs * (c * b)) (suc (length zs) * (c * b)) xs ys more e in
     let low : z.written * b ≤ c * b = mul-le-mul_right b (within 0 (omega arith)) in
     ap (λ (bs : List (List ℕ)). let seen : ZoneBlocks = record { state = z.state; blocks = bs } in seen ∷ zones_of b c zs (drop (c * b) xs)) (blocks-same b z.written (c * b) xs ys low first)
     ∙ ap (λ (rest : List ZoneBlocks). zone_seen b z ys ∷ rest) (zones-same b c zs (drop (c * b) xs) (drop (c * b) ys) (λ k h. within (suc k) (omega arith)) later)
@@ -46,11 +44,9 @@ zones-more b c (z ∷ zs) xs zero h =
     let start : 0 ≡ zero * (c * b) = omega arith in
     ap (λ (m : ℕ). zone_seen b z (drop m xs) ∷ []) start
 zones-more b c (z ∷ zs) xs (suc i) h =
-    let place : i * (c * b) + c * b ≡ suc i * (c * b) = omega (arith, suc-mul i (c * b)) in
-    let next : c * b + i * (c * b) ≡ suc i * (c * b) = omega (arith, suc-mul i (c * b)) in
     ap (λ (rest : List ZoneBlocks). zone_seen b z xs ∷ rest) (zones-more b c zs (drop (c * b) xs) i (omega arith))
     ∙ ap (λ (ys : List ℕ). zone_seen b z xs ∷ (zones_of b c (take i zs) (drop (c * b) xs) ++ zone_seen b (get_or zs i no_counted_zone) ys ∷ []))
-    (drop-drop (i * (c * b)) (c * b) xs ∙ ap (λ (m : ℕ). drop m xs) next)
+    (drop-next (c * b) i xs)
 
 -- bytes read into a room are that zone's blocks, and leave the zones before it
 filled : (s : Shape) (zs : List CountedZone) (xs : List ℕ) (i : ℕ) (new : List ℕ) → IsFlat s zs xs → i < length zs → length new ≡ (get_or zs i no_counted_zone).written * s.block

@@ -12,6 +12,7 @@ use Rattle.image_store.specs.ImageInMemory.{zone_seen}
 use Rattle.image_store.specs.declared.header.Header.{Header}
 use Rattle.image_store.specs.declared.version.Version.{Version}
 use Rattle.image_store.specs.Geometry.{Shape}
+use Rattle.image_store.specs.Laws.{CutTextsAreTruncated, LongerTextsAreTrailing}
 use Rattle.image_store.specs.Namespace.{ZoneBlocks, ZonedNamespace, no_zone, counted, counted_zones, shape, IsNamespace, namespace_with}
 use Rattle.program_interface.specs.Readings.{◌>>=◌}
 use Rattle.image_store.specs.Reading.{bytes_in, header_told, zones_in, blocks_in, end_in, namespace_in}
@@ -33,9 +34,8 @@ past_trailing : (s : Shape) (zones : List ZoneBlocks) (more : List ℕ) → more
 past_trailing s zones more some =
     ap (λ (r : Result Unit LoadFault). r >>= λ end. let all : Result ZonedNamespace LoadFault = Ok (namespace_with s zones) in all) (end_trailing more some)
 
-pub longer_is_trailing : (version : Version) (ns : ZonedNamespace) → IsNamespace ns → HasText version (shape ns) → (more : List ℕ) → more ≢ []
-    → namespace_in (text_of version ns ++ more) ≡ Err fault.Trailing
-longer_is_trailing version ns sound has more some =
+pub longer_texts_are_trailing : LongerTextsAreTrailing
+longer_texts_are_trailing version ns sound has more some =
     let s = shape ns in
     let zs = counted_zones ns in
     let front = header version s (written_blocks zs) in
@@ -105,10 +105,9 @@ past_cut_rows version ns sound has n h =
           (ap zones (cut_within (s.zones * 8) front last n size (omega (arith, short.1, size))))
     ]
 
-pub cut_is_truncated : (version : Version) (ns : ZonedNamespace) → IsNamespace ns → HasText version (shape ns) → (n : ℕ) → n < length (text_of version ns)
-    → namespace_in (take n (text_of version ns)) ≡ Err fault.Truncated
+pub cut_texts_are_truncated : CutTextsAreTruncated
 unfolding namespace_in
-cut_is_truncated version ns sound has n h =
+cut_texts_are_truncated version ns sound has n h =
     let s = shape ns in
     let total = written_blocks (counted_zones ns) in
     let front = header version s total in

@@ -1,4 +1,4 @@
-mod ByteParts
+mod BlocksAreBytes
 mod BlocksOfBytes
 mod ZonesInMemory
 mod ImageFields

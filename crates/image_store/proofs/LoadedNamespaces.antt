@@ -17,7 +17,7 @@ use Rattle.program_interface.specs.Readings.{◌>>=◌}
 use Rattle.image_store.specs.Reading.{bytes_in, limits_kept, blocks_in}
 use Rattle.image_store.proofs.ReadingCalls.{bind_ok, ok_is, chosen}
 use Rattle.program_interface.proofs.Proved.{front_fit, rest_fit}
-use Rattle.image_store.proofs.ByteParts.{blocks_are_bytes}
+use Rattle.image_store.proofs.BlocksAreBytes.{blocks_are_bytes}
 use Rattle.image_store.proofs.FilledBuffers.{bytes_parts, bytes_size}
 use Rattle.image_store.proofs.LoadStages.{HaveFit}
 use Rattle.image_store.proofs.OnlyTextsLoad.{size_read, text_parts}

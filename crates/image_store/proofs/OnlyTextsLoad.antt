@@ -17,6 +17,7 @@ use Rattle.image_store.specs.declared.header.Header.{Header}
 use Rattle.image_store.specs.declared.version.Version.{Version}
 use Rattle.image_store.specs.declared.version.Version.TheVariants.{One, Two}
 use Rattle.image_store.specs.Geometry.{Shape, IsShape}
+use Rattle.image_store.specs.Laws.{OnlyTextsLoad}
 use Rattle.image_store.specs.Namespace.{ZoneBlocks, ZonedNamespace, counted, shape, namespace_with}
 use Rattle.program_interface.specs.Readings.{◌>>=◌}
 use Rattle.image_store.specs.Reading.{total_told, header_told, header_in, total_kept, zone_in, zones_in, zone_rows_in, limits_kept, blocks_in, end_in, namespace_in, bytes_in}
@@ -222,9 +223,8 @@ text_parts bytes ns fit e =
       is = ok_is (namespace_with s d.0.0) ns f.2;
     }
 
-pub text_only : (bytes : List ℕ) (ns : ZonedNamespace) → AreBytes bytes → namespace_in bytes ≡ Ok ns
-    → (version : Version) × HasText version (shape ns) × (bytes ≡ text_of version ns)
-text_only bytes ns fit e =
+pub only_texts_load : OnlyTextsLoad
+only_texts_load bytes ns fit e =
     let p = text_parts bytes ns fit e in
     let s = p.told.geometry in
     let version = p.headed.version in

@@ -1,7 +1,7 @@
 -- What holds of the namespace that an image stands for, and its blocks by address.
 use Rattle.std.proofs.Common.{◌≡◌, ℕ, ◌*◌, ◌<◌, ◌≤◌, zero, suc, List, [], length, get_or, take, drop, refl, ap, sym, subst, ◌∙◌, arith, length-take, length-drop, ⊎_elim}
 use Rattle.std.proofs.lemmas.Bool.{cases_lt}
-use Rattle.std.proofs.lemmas.List.{drop-drop, get_or_past}
+use Rattle.std.proofs.lemmas.List.{get_or_past}
 use Rattle.std.proofs.Math.Nat.{suc-mul, mul-le-mul_right}
 use Rattle.zone_state.specs.Zone.{CountedZone, IsZone}
 use Rattle.zone_resources.specs.declared.counts.Counts.{Counts}
@@ -9,9 +9,9 @@ use Rattle.program_interface.specs.Bytes.{pieces}
 use Rattle.image_store.specs.ImageInMemory.{no_counted_zone, namespace_of, IsFlat, IsImage}
 use Rattle.image_store.specs.Geometry.{Shape, IsShape}
 use Rattle.image_store.specs.Namespace.{ZoneBlocks, ZonedNamespace, no_zone, zone_at, IsNamespace}
-use Rattle.image_store.proofs.ByteParts.{zones_are_bytes}
+use Rattle.image_store.proofs.BlocksAreBytes.{zones_are_bytes}
 use Rattle.image_store.proofs.KeptLimits.{within_seen}
-use Rattle.image_store.proofs.BlocksOfBytes.{blocks_are_counted}
+use Rattle.image_store.proofs.BlocksOfBytes.{blocks_are_counted, drop-next}
 use Rattle.image_store.proofs.ZonesInMemory.{length-zones, zone-at}
 use Rattle.image_store.proofs.ImageFields.{room_end, within, shape_seen}
 
@@ -21,7 +21,7 @@ blocks_are_parts b zero i xs h = absurd (omega arith)
 blocks_are_parts b (suc n) zero xs h = let start : zero * b ≡ 0 = omega arith in ap (λ (m : ℕ). take b (drop m xs)) (sym start)
 blocks_are_parts b (suc n) (suc i) xs h =
     blocks_are_parts b n i (drop b xs) (omega arith)
-    ∙ ap (take b) (drop-drop (i * b) b xs ∙ ap (λ (m : ℕ). drop m xs) (omega (arith, suc-mul i b)))
+    ∙ ap (take b) (drop-next b i xs)
 
 -- and is whole, where there are bytes for all of them
 pub blocks_are_whole : (b n i : ℕ) (xs : List ℕ) → i < n → n * b ≤ length xs → length (get_or (pieces b n xs) i []) ≡ b

@@ -24,11 +24,12 @@ use Rattle.image_store.specs.declared.geometry.TheConstants.{MOST_ZONES, MOST_ZO
 use Rattle.image_store.specs.declared.header.Header.{Header}
 use Rattle.image_store.specs.declared.version.Version.{Version}
 use Rattle.image_store.specs.declared.version.Version.TheVariants.{One, Two}
-use Rattle.image_store.specs.Geometry.{Shape, IsShape}
+use Rattle.image_store.specs.Geometry.{Shape}
+use Rattle.image_store.specs.Laws.{EachVersionLoads, LastVersionHasAll, SavedTextsLoad}
 use Rattle.image_store.specs.Namespace.{ZoneBlocks, ZonedNamespace, no_zone, counted, counted_zones, shape, IsNamespace}
 use Rattle.program_interface.specs.Readings.{◌>>=◌}
 use Rattle.image_store.specs.Reading.{zone_told, zone_in, zones_in, zone_rows_in, total_kept, limits_kept, blocks_in, namespace_in}
-use Rattle.image_store.specs.Text.{header, written_blocks, zone_row, zone_rows, blocks_text, text, text_of}
+use Rattle.image_store.specs.Text.{header, written_blocks, zone_row, zone_rows, blocks_text}
 use Rattle.image_store.specs.Version.{HasText}
 use Rattle.image_store.proofs.FilledBuffers.{Split, bytes_whole}
 use Rattle.image_store.proofs.Headers.{header_read, header_seen, total_in}
@@ -136,8 +137,8 @@ front_read version ns rest sound has =
     ∙ (past_total h zs rest (total_read version zs)
     ∙ past_limits s zs rest (limits_read ns.limits zs sound.within)))
 
-pub text_again : (version : Version) (ns : ZonedNamespace) → IsNamespace ns → HasText version (shape ns) → namespace_in (text_of version ns) ≡ Ok ns
-text_again version ns sound has =
+pub each_version_loads : EachVersionLoads
+each_version_loads version ns sound has =
     let s = shape ns in
     let zs = counted_zones ns in
     let last = blocks_text ns.zones in
@@ -145,9 +146,9 @@ text_again version ns sound has =
     front_read version ns last sound has ∙ (past_blocks s zs last [] ns.zones blocks ∙ past_end s ns.zones [] refl)
 
 -- the last version has the shape of each namespace
-pub last_has : (s : Shape) → IsShape s → HasText Two s
-last_has s known = record { block = known.block_size; zones = known.zones_most }
+pub last_version_has_all : LastVersionHasAll
+last_version_has_all s known = record { block = known.block_size; zones = known.zones_most }
 
 -- what is saved is read as what it was saved of
-pub saved_again : (ns : ZonedNamespace) → IsNamespace ns → namespace_in (text ns) ≡ Ok ns
-saved_again ns sound = text_again Two ns sound (last_has (shape ns) sound.shape)
+pub saved_texts_load : SavedTextsLoad
+saved_texts_load ns sound = each_version_loads Two ns sound (last_version_has_all (shape ns) sound.shape)

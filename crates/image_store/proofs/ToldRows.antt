@@ -1,6 +1,5 @@
 -- What rows tell: zones, or what is wrong with one.
-use Rattle.std.proofs.Common.{◌≡◌, ℕ, ◌+◌, ◌*◌, ◌<◌, zero, suc, Bool, true, false, cond, List, [], ◌∷◌, length, take, drop, get_or, Option, Some, None, Ok, Err, refl, ap, sym, subst, ◌∙◌, arith}
-use Rattle.std.proofs.lemmas.List.{drop-drop}
+use Rattle.std.proofs.Common.{◌≡◌, ℕ, ◌+◌, ◌*◌, ◌<◌, zero, suc, Bool, true, false, cond, List, [], ◌∷◌, length, take, drop, get_or, Option, Some, None, Ok, Err, refl, ap, sym, subst, arith}
 use Rattle.zone_state.specs.declared.state.ZoneState.{ZoneState}
 use Rattle.zone_state.specs.State.{state_of}
 use Rattle.zone_state.specs.Zone.{CountedZone, fits_state}
@@ -13,6 +12,7 @@ use Rattle.program_interface.specs.Readings.{◌>>=◌}
 use Rattle.image_store.specs.FirstFault.{IsRowFault, TellsZone}
 use Rattle.image_store.specs.ImageInMemory.{no_counted_zone}
 use Rattle.image_store.specs.Reading.{are_zeros, zone_told, zone_in, zones_in}
+use Rattle.image_store.proofs.BlocksOfBytes.{drop-next}
 use Rattle.image_store.proofs.ReadingCalls.{bind_ok, chosen, is_this, ok_is, wrong}
 
 -- ---- a row
@@ -65,7 +65,7 @@ abbrev pub part : List ℕ → ℕ → List ℕ
 part rows k = take 8 (drop (k * 8) rows)
 
 pub next_part : (rows : List ℕ) (k : ℕ) → part (drop 8 rows) k ≡ part rows (suc k)
-next_part rows k = ap (take 8) (drop-drop (k * 8) 8 rows ∙ ap (λ (n : ℕ). drop n rows) (let e : 8 + k * 8 ≡ suc k * 8 = omega arith in e))
+next_part rows k = ap (take 8) (drop-next 8 k rows)
 
 -- each of the first rows tells its zone
 abbrev pub Tell : ℕ → List ℕ → List CountedZone → Type 0

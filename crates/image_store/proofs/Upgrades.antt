@@ -6,12 +6,12 @@ use Rattle.image_store.specs.Namespace.{ZonedNamespace}
 use Rattle.program_interface.specs.Readings.{◌>>=◌}
 use Rattle.image_store.specs.Reading.{namespace_in}
 use Rattle.image_store.specs.Text.{text}
-use Rattle.image_store.proofs.TextsReadBack.{saved_again}
+use Rattle.image_store.proofs.TextsReadBack.{saved_texts_load}
 use Rattle.image_store.proofs.ReadingCalls.{bind_ok, ok_is}
 use Rattle.image_store.proofs.LoadedNamespaces.{loaded_texts_are_namespaces}
 
 pub upgraded_is_same : UpgradedStandsForTheSame
-upgraded_is_same bytes ns fit e = saved_again ns (loaded_texts_are_namespaces bytes ns fit e)
+upgraded_is_same bytes ns fit e = saved_texts_load ns (loaded_texts_are_namespaces bytes ns fit e)
 
 pub twice_is_once : UpgradingTwiceIsOnce
 twice_is_once bytes new fit e =

@@ -1,19 +1,16 @@
 -- Zones that lie in one list of bytes, each in a room of the same size.
 use Rattle.std.proofs.Common.{◌≡◌, ℕ, ◌+◌, ◌*◌, ◌<◌, ◌≤◌, zero, suc, List, [], ◌∷◌, ◌++◌, length, get_or, set, take, drop, refl, ap, sym, ◌∙◌, arith, length-drop}
-use Rattle.std.proofs.lemmas.List.{drop-drop, take_at, take_all}
+use Rattle.std.proofs.lemmas.List.{take_at, take_all}
 use Rattle.std.proofs.Math.Nat.{suc-mul, mul-le-mul_right, add-mul}
 use Rattle.zone_state.specs.Zone.{CountedZone}
 use Rattle.image_store.specs.ImageInMemory.{zones_of, zone_seen, no_counted_zone}
 use Rattle.program_interface.specs.Bytes.{pieces, spliced}
 use Rattle.image_store.specs.Namespace.{ZoneBlocks, no_zone}
-use Rattle.image_store.proofs.BlocksOfBytes.{blocks-same, blocks-add, take-spliced, drop-spliced, drop-spliced-past, drop-spliced-later}
+use Rattle.image_store.proofs.BlocksOfBytes.{blocks-same, blocks-add, drop-next, take-spliced, drop-spliced, drop-spliced-past, drop-spliced-later}
 
 pub length-zones : (b c : ℕ) (zs : List CountedZone) (xs : List ℕ) → length (zones_of b c zs xs) ≡ length zs
 length-zones b c [] xs = refl
 length-zones b c (z ∷ zs) xs = ap suc (length-zones b c zs (drop (c * b) xs))
-
-room_next : (z s : ℕ) → s + z * s ≡ suc z * s
-room_next z s = omega (arith, suc-mul z s)
 
 -- a zone is what lies at the start of its room
 pub zone-at : (b c : ℕ) (zs : List CountedZone) (xs : List ℕ) (z : ℕ) → z < length zs → get_or (zones_of b c zs xs) z no_zone ≡ zone_seen b (get_or zs z no_counted_zone) (drop (z * (c * b)) xs)
@@ -23,7 +20,7 @@ zone-at b c (r ∷ zs) xs zero h =
     ap (λ (m : ℕ). zone_seen b r (drop m xs)) (sym start)
 zone-at b c (r ∷ zs) xs (suc z) h =
     zone-at b c zs (drop (c * b) xs) z (omega arith)
-    ∙ ap (zone_seen b (get_or zs z no_counted_zone)) (drop-drop (z * (c * b)) (c * b) xs ∙ ap (λ (m : ℕ). drop m xs) (room_next z (c * b)))
+    ∙ ap (zone_seen b (get_or zs z no_counted_zone)) (drop-next (c * b) z xs)
 
 -- another counted zone in one place changes that zone alone
 pub zones-set : (b c : ℕ) (zs : List CountedZone) (xs : List ℕ) (z : ℕ) (r : CountedZone) → zones_of b c (set zs z r) xs ≡ set (zones_of b c zs xs) z (zone_seen b r (drop (z * (c * b)) xs))
@@ -33,7 +30,7 @@ zones-set b c (y ∷ zs) xs zero r =
     ap (λ (m : ℕ). zone_seen b r (drop m xs) ∷ zones_of b c zs (drop (c * b) xs)) start
 zones-set b c (y ∷ zs) xs (suc z) r =
     ap (λ (rest : List ZoneBlocks). zone_seen b y xs ∷ rest) (zones-set b c zs (drop (c * b) xs) z r)
-    ∙ ap (λ (ys : List ℕ). zone_seen b y xs ∷ set (zones_of b c zs (drop (c * b) xs)) z (zone_seen b r ys)) (drop-drop (z * (c * b)) (c * b) xs ∙ ap (λ (m : ℕ). drop m xs) (room_next z (c * b)))
+    ∙ ap (λ (ys : List ℕ). zone_seen b y xs ∷ set (zones_of b c zs (drop (c * b) xs)) z (zone_seen b r ys)) (drop-next (c * b) z xs)
 
 -- blocks put behind those that a room has
 blocks-grown : (b w n : ℕ) (new xs : List ℕ) → length new ≡ n * b → w * b ≤ length xs → pieces b (w + n) (spliced (w * b) new xs) ≡ pieces b w xs ++ pieces b n new
@@ -85,7 +82,7 @@ zones-append b c (y ∷ zs) xs (suc z) n r new h long within room grown =
     let later = drop-spliced-later (c * b) at new xs end in
     let fewer : length zs * (c * b) ≤ length (drop (c * b) xs) = omega (arith, suc-mul (length zs) (c * b), length-drop (c * b) xs) in
     let next = zones-append b c zs (drop (c * b) xs) z n r new inside fewer (λ k in_list. within (suc k) (omega arith)) room grown in
-    let base = drop-drop (z * (c * b)) (c * b) xs ∙ ap (λ (m : ℕ). drop m xs) (room_next z (c * b)) in
+    let base = drop-next (c * b) z xs in
     ap (λ (m : ℕ). zones_of b c (y ∷ set zs z r) (spliced m new xs)) place
     ∙ (ap (λ (bs : List (List ℕ)). let seen : ZoneBlocks = record { state = y.state; blocks = bs } in seen ∷ zones_of b c (set zs z r) (drop (c * b) (spliced (c * b + at) new xs))) first
     ∙ (ap (λ (ys : List ℕ). zone_seen b y xs ∷ zones_of b c (set zs z r) ys) later

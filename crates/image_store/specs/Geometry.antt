@@ -18,13 +18,9 @@ pub record Shape : Type 0 where
   pub capacity : ℕ
   pub limits : Limits
 
--- a number from 1 to a most
-abbrev pub is_counted : ℕ → ℕ → Bool
-is_counted n most = is_in_range 1 most n
-
 -- some zone may be open, an open zone is active, and there are no more active zones than zones
 abbrev pub are_limits : Limits → ℕ → Bool
-are_limits limits zones = is_counted limits.open_limit limits.active_limit && nat_le limits.active_limit zones
+are_limits limits zones = is_in_range 1 limits.active_limit limits.open_limit && nat_le limits.active_limit zones
 
 -- the number by which a user is told of a fault (profile)
 abbrev pub geometry_refusal_number : GeometryRefusal → ℕ
@@ -39,9 +35,9 @@ geometry_refusal_number (TooLarge zones capacity block) = 6
 abbrev pub shape_checks : Shape → List (Option GeometryRefusal)
 shape_checks s =
     demand (is_block_size s.block) (BlockSize s.block)
-    ∷ demand (is_counted s.zones MOST_ZONES) (ZoneCount s.zones)
-    ∷ demand (is_counted s.size MOST_ZONE_BLOCKS) (ZoneSize s.size)
-    ∷ demand (is_counted s.capacity s.size) (ZoneCapacity s.capacity s.size)
+    ∷ demand (is_in_range 1 MOST_ZONES s.zones) (ZoneCount s.zones)
+    ∷ demand (is_in_range 1 MOST_ZONE_BLOCKS s.size) (ZoneSize s.size)
+    ∷ demand (is_in_range 1 s.size s.capacity) (ZoneCapacity s.capacity s.size)
     ∷ demand (are_limits s.limits s.zones) (ResourceLimits s.limits.open_limit s.limits.active_limit s.zones)
     ∷ demand (nat_le (s.zones * s.capacity * s.block) MOST_BYTES) (TooLarge s.zones s.capacity s.block)
     ∷ []

@@ -1,7 +1,8 @@
 //! The shape of a namespace.
 
 ghost use Rattle.std.specs.Prelude.{◌≡◌, ◌≤◌, ◌<◌, ◌*◌, ◌^◌, ◌+◌, IfSome, OnSome};
-ghost use Rattle.image_store.specs.Geometry.{shape_of, zone_block_of, geometry_refusal_number, is_counted, are_limits, tested, IsShape};
+ghost use Rattle.std.specs.Int.{is_in_range};
+ghost use Rattle.image_store.specs.Geometry.{shape_of, zone_block_of, geometry_refusal_number, are_limits, tested, IsShape};
 
 use program_interface::{BlockSize, LARGEST_BLOCK};
 use std::marker::Model;
@@ -118,13 +119,13 @@ impl Geometry {
         let Some(block) = BlockSize::new(block) else {
             return Err(GeometryRefusal::BlockSize(block as usize));
         };
-        if !is_counted(zones, MOST_ZONES) {
+        if !is_from_one_to(MOST_ZONES, zones) {
             return Err(GeometryRefusal::ZoneCount(zones));
         }
-        if !is_counted(size, MOST_ZONE_BLOCKS) {
+        if !is_from_one_to(MOST_ZONE_BLOCKS, size) {
             return Err(GeometryRefusal::ZoneSize(size));
         }
-        if !is_counted(capacity, size) {
+        if !is_from_one_to(size, capacity) {
             return Err(GeometryRefusal::ZoneCapacity { capacity, size });
         }
         if !are_limits(limits, zones) {
@@ -228,8 +229,8 @@ impl Geometry {
 }
 
 /// Is the number from 1 to `most`?
-fn is_counted(n: u32, most: u32) -> bool
-    ensures { result ≡ is_counted n most }
+fn is_from_one_to(most: u32, n: u32) -> bool
+    ensures { result ≡ is_in_range 1 most n }
 {
     1 <= n && n <= most
 }
@@ -238,5 +239,5 @@ fn is_counted(n: u32, most: u32) -> bool
 fn are_limits(limits: Limits, zones: u32) -> bool
     ensures { result ≡ are_limits limits zones }
 {
-    is_counted(limits.open_limit, limits.active_limit) && limits.active_limit <= zones
+    is_from_one_to(limits.active_limit, limits.open_limit) && limits.active_limit <= zones
 }

@@ -1,5 +1,5 @@
-use Rattle.image_store.proofs.OnlyTextsLoad.{text_only}
+use Rattle.image_store.proofs.OnlyTextsLoad.{only_texts_load}
 use Rattle.image_store.proofs.laws.only_texts_load.Goals as goal
 
 pub returns : goal.returns
-returns c = text_only
+returns c = only_texts_load

@@ -1,4 +1,4 @@
-use Rattle.image_store.proofs.TextsReadBack.{last_has}
+use Rattle.image_store.proofs.TextsReadBack.{last_version_has_all}
 use Rattle.image_store.proofs.Shapes.{version_known}
 use Rattle.image_store.proofs.laws.versions_are_known.Goals as goal
 
@@ -6,4 +6,4 @@ pub returns-clause-known : goal.returns-clause-known
 returns-clause-known c = version_known
 
 pub returns-clause-all : goal.returns-clause-all
-returns-clause-all c = last_has
+returns-clause-all c = last_version_has_all
