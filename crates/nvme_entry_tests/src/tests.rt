@@ -1,3 +1,5 @@
+//! Entries read into commands or refused, and the bytes of completions and of reports.
+
 mod encoding;
 mod programs;
 mod reading;
@@ -197,8 +199,8 @@ fn zeros_but<const N: usize>(set: &[(usize, u8)]) -> [u8; N] {
     bytes
 }
 
-#[test]
-fn reports_have_their_bytes(rt: HostRuntime) -> Result<(), Fail> {
+/// What a report of four empty zones, partial or not, writes into so many bytes.
+fn reported<const N: usize>(partial: bool) -> Result<[u8; N], Fail> {
     let empty = Zone::new(ZoneState::Empty, 0, 6).ok_or("an empty zone")?;
     let zones = [empty, empty, empty, empty];
     let report = Report {
@@ -206,21 +208,21 @@ fn reports_have_their_bytes(rt: HostRuntime) -> Result<(), Fail> {
         first: 0,
         size: 8,
         filter: ZoneFilter::All,
-        partial: true,
+        partial,
     };
-    let mut output = [0xFF; 160];
+    let mut output = [0xFF; N];
     report.write(&mut output);
+    Ok(output)
+}
+
+#[test]
+fn reports_have_their_bytes(rt: HostRuntime) -> Result<(), Fail> {
     assert_eq!(rt;
-        output,
+        reported::<160>(true)?,
         zeros_but(&[(0, 1), (64, 0x02), (65, 0x10), (72, 6)])
     );
-    let all = Report {
-        partial: false,
-        ..report
-    };
-    all.write(&mut output);
     assert_eq!(rt;
-        output,
+        reported::<160>(false)?,
         zeros_but(&[(0, 4), (64, 0x02), (65, 0x10), (72, 6)])
     );
     Ok(())
@@ -228,24 +230,8 @@ fn reports_have_their_bytes(rt: HostRuntime) -> Result<(), Fail> {
 
 #[test]
 fn short_reports_begin_the_header(rt: HostRuntime) -> Result<(), Fail> {
-    let empty = Zone::new(ZoneState::Empty, 0, 6).ok_or("an empty zone")?;
-    let zones = [empty, empty, empty, empty];
-    let report = Report {
-        zones: &zones,
-        first: 0,
-        size: 8,
-        filter: ZoneFilter::All,
-        partial: true,
-    };
-    let mut output = [0xFF; 4];
-    report.write(&mut output);
-    assert_eq!(rt; output, [0, 0, 0, 0]);
-    let all = Report {
-        partial: false,
-        ..report
-    };
-    all.write(&mut output);
-    assert_eq!(rt; output, [4, 0, 0, 0]);
+    assert_eq!(rt; reported::<4>(true)?, [0, 0, 0, 0]);
+    assert_eq!(rt; reported::<4>(false)?, [4, 0, 0, 0]);
     Ok(())
 }
 
