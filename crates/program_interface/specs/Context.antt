@@ -15,7 +15,7 @@ context_bytes c =
     ++ replicate 8 0
 
 -- the fields have the numbers of their types
-pub record AreFields (c : Context) : Type 0 where
+pub record AreContextFields (c : Context) : Type 0 where
   pub lba : c.lba < 2 ^ 64
   pub index : c.index < 2 ^ 32
   pub count : c.count < 2 ^ 32
@@ -36,4 +36,4 @@ pub record TellContext (bytes : List ℕ) (c : Context) : Type 0 where
 
 -- a program reads in its context what the device put into it
 abbrev pub ContextsTell : Type 0
-ContextsTell = (c : Context) → AreFields c → TellContext (context_bytes c) c
+ContextsTell = (c : Context) → AreContextFields c → TellContext (context_bytes c) c
