@@ -39,7 +39,7 @@ fn main(rt: HostRuntime) -> io::Result<()> {
         return Err(io::Error::other("a limit of 0 bytes was refused"));
     };
     let verified = load(rt.alloc(), &asked.program, sizes)?;
-    println!(rt; "accepted {}", verified.program().len())?;
+    println!(rt; "accepted {}", verified.program().instruction_count())?;
     let mut best = u128::MAX;
     for _ in 0..asked.rounds {
         best = best.min(round(&rt, rt.alloc(), &asked.program, asked.size, asked.repeats)?);

@@ -93,7 +93,7 @@ pub fn verify<'a, F: Files, O: Write>(
     let program = program_in_file(alloc, required(matches, PROGRAM), files)?;
     let sizes = run_sizes(matches, block_size(block)?)?;
     let judgement = judge::<Intervals>(alloc, &program, sizes)?;
-    let instructions = program.len();
+    let instructions = program.instruction_count();
     match judgement {
         Judgement::Accepted { most_emitted } => {
             let explained = matches.get_flag(EXPLAIN).then_some(most_emitted);

@@ -102,7 +102,10 @@ fn again(alloc: Global, slots: &[u64]) -> Result<(usize, bool), Fail> {
     let bytes = bytes_of(alloc, slots)?;
     let program = decode(alloc, bytes.as_slice())?;
     let encoded = encode(alloc, &program)?;
-    Ok((program.len(), encoded.as_slice() == bytes.as_slice()))
+    Ok((
+        program.instruction_count(),
+        encoded.as_slice() == bytes.as_slice(),
+    ))
 }
 
 /// Reads a byte at an offset that it masks first.

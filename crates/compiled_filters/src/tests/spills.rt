@@ -167,7 +167,12 @@ fn with_every_check(
     let mut group = [0; BLOCK];
     let mut machine = Machine::new(block, context, scratch);
     assert!(rt; program.at(machine.slot()).is_some());
-    let end = machine.run_checked(program, limit, program.len() as u64, &mut group);
+    let end = machine.run_checked(
+        program,
+        limit,
+        program.instruction_count() as u64,
+        &mut group,
+    );
     let group_length = machine.group_length();
     let End::Exit { r0 } = end else {
         return Err(Fail::from("no EXIT"));

@@ -76,7 +76,12 @@ fn compare_on(
     let (mut group, mut other_group) = ([9; ROOM], [9; ROOM]);
     let mut machine = Machine::new(block, context, scratch);
     assert!(rt; program.at(machine.slot()).is_some());
-    let end = machine.run_checked(program, limit, program.len() as u64, &mut group);
+    let end = machine.run_checked(
+        program,
+        limit,
+        program.instruction_count() as u64,
+        &mut group,
+    );
     let exit = prepared.run(
         &mut Machine::new(block, context, other_scratch),
         &mut other_group,

@@ -77,7 +77,7 @@ pub(super) fn verdict_of<D: Domain>(
     block: u32,
 ) -> Result<Verdict, Fail> {
     let program = program(alloc, text)?;
-    let instructions = program.len();
+    let instructions = program.instruction_count();
     match verify::<D>(alloc, program, sizes(emit, block)?) {
         Ok(_) => Ok(Verdict::Accepted(instructions)),
         Err(VerifyFault::Refused(refusal)) => {
