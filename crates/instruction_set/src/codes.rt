@@ -109,7 +109,7 @@ impl Operation {
         }
     }
 
-    /// The operation of offset 0 with this code.
+    /// The operation of offset 0 with this code, or `None` if there is none (RFC 9669, 4.1).
     pub fn with_code(code: u8) -> Option<Operation>
         ensures { result ≡ operation_with code }
     {
@@ -130,7 +130,7 @@ impl Operation {
         }
     }
 
-    /// The operation with the same code and this offset.
+    /// The operation with the same code and this offset, or `None` if there is none (RFC 9669, 4.1).
     pub fn variant(self, offset: i16) -> Option<Operation>
         ensures { result ≡ variant_with self offset }
     {
@@ -182,7 +182,8 @@ impl SignExtension {
         }
     }
 
-    /// The sign-extending move to this width that is a variant of an operation, by its offset.
+    /// The sign-extending move to this width that is a variant of an operation, by its offset, or `None` if there is none
+    /// (RFC 9669, 4.1).
     pub fn variant(width: Width, operation: Operation, offset: i16) -> Option<SignExtension>
         ensures { result ≡ extension_with width operation offset }
     {
