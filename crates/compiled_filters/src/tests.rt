@@ -16,5 +16,5 @@ const BLOCK: usize = 512;
 fn sizes(limit: u32) -> Result<RunSizes, Fail>
     ensures { IfOk result (λ sizes. (sizes.limit ≡ limit) × (sizes.block ≡ BLOCK)) }
 {
-    test_inputs::sizes::sizes(limit, BLOCK as u32)
+    test_inputs::sizes::sizes(BLOCK as u32, limit)
 }

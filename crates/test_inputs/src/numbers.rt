@@ -1,6 +1,6 @@
 //! Numbers that look random.
 
-/// Numbers of a linear congruence, with the factor and the addend of Knuth's MMIX.
+/// Numbers of a linear congruence modulo 2^64.
 #[derive(Drop)]
 pub struct Numbers(u64);
 

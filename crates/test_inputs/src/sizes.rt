@@ -7,8 +7,10 @@ use std::test::Fail;
 
 /// The sizes of runs over blocks of so many bytes, with groups of at most `limit`.
 ///
-/// An `Err` where no block has so many bytes, or such a group fits no block.
-pub fn sizes(limit: u32, block: u32) -> Result<RunSizes, Fail>
+/// # Errors
+///
+/// No block has so many bytes, or such a group fits no block.
+pub fn sizes(block: u32, limit: u32) -> Result<RunSizes, Fail>
     ensures { IfOk result (λ sizes. (sizes.limit ≡ limit) × (sizes.block ≡ block)) }
 {
     let Some(block) = BlockSize::new(block) else {

@@ -17,6 +17,10 @@ pub const MATCHING: [u64; 7] = [
 ];
 
 /// The bytes of slots.
+///
+/// # Errors
+///
+/// Want of memory.
 pub fn bytes_of(alloc: Global, slots: &[u64]) -> Result<Vec<u8>, AllocError> {
     let mut bytes = Vec::new(alloc);
     for slot in slots {

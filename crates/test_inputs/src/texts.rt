@@ -5,7 +5,9 @@ use std::test::Fail;
 
 /// The parts of a text without what stands between them, each as often as it says: `0*128` is `0` 128 times.
 ///
-/// An `Err` where there is no memory, or where no number stands behind a `*`.
+/// # Errors
+///
+/// Want of memory, or a `*` behind which no number stands.
 pub fn repeated(alloc: Global, parts: &str, between: char) -> Result<String, Fail> {
     let mut text = String::new(alloc);
     for part in parts.split(between) {

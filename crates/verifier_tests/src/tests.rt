@@ -30,7 +30,7 @@ fn program(alloc: Global, text: &str) -> Result<Program, Fail> {
 #[test]
 fn what_was_accepted(rt: HostRuntime) -> Result<(), Fail> {
     let program = program(rt.alloc(), RETURNING)?;
-    let verified = verify::<Constants>(rt.alloc(), program, sizes(16, 512)?)?;
+    let verified = verify::<Constants>(rt.alloc(), program, sizes(512, 16)?)?;
     assert_eq!(rt; verified.program().slots(), 2);
     assert_eq!(rt; verified.sizes().limit(), 16);
     assert_eq!(rt; verified.sizes().block().bytes(), 512);

@@ -126,14 +126,14 @@ fn compare(
 #[test]
 fn with_every_check_and_over_superinstructions(rt: HostRuntime) -> Result<(), Fail> {
     for (program, limit, block, firsts) in SCENES {
-        compare(&rt, rt.alloc(), program, sizes(*limit, *block)?, firsts)?;
+        compare(&rt, rt.alloc(), program, sizes(*block, *limit)?, firsts)?;
     }
     Ok(())
 }
 
 #[test]
 fn a_record_as_long_as_the_block_says(rt: HostRuntime) -> Result<(), Fail> {
-    let verified = verify::<Intervals>(rt.alloc(), program(rt.alloc(), GROWING)?, sizes(10, 512)?)?;
+    let verified = verify::<Intervals>(rt.alloc(), program(rt.alloc(), GROWING)?, sizes(512, 10)?)?;
     let prepared = Prepared::new(rt.alloc(), verified)?;
     let mut block = [0; 512];
     block[0] = 3;

@@ -78,7 +78,7 @@ pub(super) fn verdict_of<D: Domain>(
 ) -> Result<Verdict, Fail> {
     let program = program(alloc, text)?;
     let instructions = program.instruction_count();
-    match verify::<D>(alloc, program, sizes(emit, block)?) {
+    match verify::<D>(alloc, program, sizes(block, emit)?) {
         Ok(_) => Ok(Verdict::Accepted(instructions)),
         Err(VerifyFault::Refused(refusal)) => {
             Ok(Verdict::Refused(refusal.slot, refusal.reason.number()))
