@@ -1,8 +1,8 @@
 -- The first element of a list that passes a test.
-use Rattle.std.proofs.Common.{◌≡◌, ◌∙◌, ℕ, suc, ◌-◌, ◌<◌, ◌≤◌, Bool, true, false, find, List, length, Option, Some, None, sym, subst, arith, inl, inr}
+use Rattle.std.proofs.Common.{◌≡◌, ◌∙◌, ℕ, suc, ◌-◌, ◌<◌, ◌≤◌, Bool, true, false, find, List, get_or, length, Option, Some, None, ap, sym, subst, arith, inl, inr}
 use Rattle.std.proofs.lemmas.Bool.{cases_lt}
 use Rattle.std.proofs.lemmas.List.Folds.{find_at}
-use Rattle.std.proofs.lemmas.List.Sums.{fails_before_first, passes_at_first}
+use Rattle.std.proofs.lemmas.List.Sums.{fails_before_first, passes_at_first, position_or_len_is}
 use Rattle.std.proofs.lemmas.Option.{get_or_from_slice_get, none-some, slice_get-get_or, slice_get_within}
 use Rattle.std.specs.List.{position_or_len, slice_get}
 
@@ -38,6 +38,21 @@ module _ {X : Type 0} {number : X → ℕ} {xs : List X} (are : AreNumbered numb
   less_fails x other e less =
       let place = are.numbered (first test xs) x (at_first test xs (Some x) e) in
       fails_before other (omega (arith, less, place))
+
+  -- before its place there are those that have a smaller number
+  fails_earlier : (x : X) → ((other : X) → number other < number x → test other ≡ false) → (k : ℕ) → k < number x - 1 → test (get_or xs k x) ≡ false
+  fails_earlier x less k earlier =
+      let within = slice_get_within xs (number x - 1) x (are.listed x) in
+      let place = are.numbered k (get_or xs k x) (slice_get-get_or xs k x (omega (arith, earlier, within))) in
+      less (get_or xs k x) (omega (arith, earlier, place))
+
+  -- what passes is found where all that have a smaller number fail
+  pub least_found : (x : X) → test x ≡ true → ((other : X) → number other < number x → test other ≡ false) → find test xs ≡ Some x
+  least_found x passes less =
+      let within = slice_get_within xs (number x - 1) x (are.listed x) in
+      let own : get_or xs (number x - 1) x ≡ x = get_or_from_slice_get xs (number x - 1) x x (are.listed x) in
+      let first_is = position_or_len_is test xs (number x - 1) x (omega (arith, within)) (fails_earlier x less) (λ _. ap test own ∙ passes) in
+      find_at test xs ∙ ap (slice_get xs) first_is ∙ are.listed x
 
   -- where none is found, all fail
   pub all_fail : (x : X) → find test xs ≡ None → test x ≡ false

@@ -1,9 +1,8 @@
 -- The least cause that holds.
-use Rattle.std.proofs.Common.{ℕ, suc, zero, ◌-◌, ◌<◌, ◌≡◌, Bool, true, false, List, Option, Some, None, slice_get, refl, ap, lit<}
-use Rattle.std.specs.List.{find}
+use Rattle.std.proofs.Common.{ℕ, suc, zero, ◌-◌, ◌≡◌, Bool, true, false, List, Option, Some, None, slice_get, refl, ap}
 use Rattle.std.specs.Prelude.{if◌then◌else◌}
 use Rattle.instruction_set.specs.declared.instruction.Instruction.{Instruction}
-use Rattle.program_interface.proofs.Proved.{AreNumbered, all_fail, found_passes, less_fails}
+use Rattle.program_interface.proofs.Proved.{AreNumbered, all_fail, found_passes, least_found, less_fails}
 use Rattle.program_meaning.specs.Cause.{causes, hinders, is_exit, least_cause, cause_number}
 use Rattle.program_meaning.specs.Effect.{register}
 use Rattle.program_meaning.specs.Laws.{StuckByLeast}
@@ -37,22 +36,6 @@ listed EmitLength = refl
 are_numbered : AreNumbered cause_number causes
 are_numbered = record { listed = listed; numbered = numbered }
 
-pub least_is : (test : Cause → Bool) (cause : Cause) → test cause ≡ true
-    → ((other : Cause) → cause_number other < cause_number cause → test other ≡ false) → find test causes ≡ Some cause
-least_is test NextOutside is less = rw is refl
-least_is test NextInsideWide is less = rw (less NextOutside (lit< tt), is) refl
-least_is test WriteToFramePointer is less = rw (less NextOutside (lit< tt), less NextInsideWide (lit< tt), is) refl
-least_is test LoadOutside is less =
-    rw (less NextOutside (lit< tt), less NextInsideWide (lit< tt), less WriteToFramePointer (lit< tt), is) refl
-least_is test StoreOutside is less =
-    rw (less NextOutside (lit< tt), less NextInsideWide (lit< tt), less WriteToFramePointer (lit< tt), less LoadOutside (lit< tt), is) refl
-least_is test UnknownHelper is less =
-    rw (less NextOutside (lit< tt), less NextInsideWide (lit< tt), less WriteToFramePointer (lit< tt), less LoadOutside (lit< tt), less StoreOutside (lit< tt), is) refl
-least_is test EmitOutside is less =
-    rw (less NextOutside (lit< tt), less NextInsideWide (lit< tt), less WriteToFramePointer (lit< tt), less LoadOutside (lit< tt), less StoreOutside (lit< tt), less UnknownHelper (lit< tt), is) refl
-least_is test EmitLength is less =
-    rw (less NextOutside (lit< tt), less NextInsideWide (lit< tt), less WriteToFramePointer (lit< tt), less LoadOutside (lit< tt), less StoreOutside (lit< tt), less UnknownHelper (lit< tt), less EmitOutside (lit< tt), is) refl
-
 -- what is decided tells the cause
 not_stuck : (b : Bool) (r0 slot : ℕ) (s s' t : State) (cause : Cause) → (if b then Ends r0 s else Goes s') ≡ Stuck slot cause t → ⊥
 not_stuck true r0 slot s s' t cause e = cc
@@ -68,7 +51,7 @@ stuck_by_least program limit s i cause =
     let test = hinders program limit s i in (
       (λ e. let found = cause_of_stuck s i (least_cause program limit s i) cause e in
           (found_passes test causes cause found, λ other less. less_fails are_numbered test cause other found less)),
-      (λ (is, less). ap (decided s i) (least_is test cause is less)),
+      (λ (is, less). ap (decided s i) (least_found are_numbered test cause is less)),
     )
 
 -- a step that goes on: no cause holds, and the state is the one after the instruction
