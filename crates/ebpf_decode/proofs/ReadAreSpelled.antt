@@ -31,7 +31,8 @@ use Rattle.ebpf_decode.specs.FirstFault.{Begins}
 use Rattle.ebpf_decode.specs.Opcodes.{opcode_named, uses}
 use Rattle.instruction_set.specs.Program.{is_wide}
 use Rattle.ebpf_decode.specs.Reading.{checks, first_fault, has_more, has_no_register, has_unused, instruction_with, is_load_immediate, read, read_named, signed_move, source_of}
-use Rattle.instruction_set.specs.Spelling.{CALL, EXIT, HasValue, IMM, JA, LD, LDX, MEM, MEMSX, NEG, ST, STX, access_opcode, arithmetic_class, extension_offset, extension_width, first_slot, jump_class, kept_bits, operation_code, operation_offset, operation_opcode, relation_code, second_slot, signed_size_code, size_code, slot, swap_opcode}
+use Rattle.instruction_set.specs.declared.codes.TheConstants.{CALL, EXIT, IMM, JA, LD, LDX, MEM, MEMSX, NEG, ST, STX}
+use Rattle.instruction_set.specs.Spelling.{HasValue, access_opcode, arithmetic_class, extension_offset, extension_width, first_slot, jump_class, kept_bits, operation_code, operation_offset, operation_opcode, relation_code, second_slot, signed_size_code, size_code, slot, swap_opcode}
 
 -- ---- opcodes
 

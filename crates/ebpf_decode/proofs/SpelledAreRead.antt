@@ -37,7 +37,8 @@ use Rattle.ebpf_decode.specs.declared.fault.FaultKind.TheVariants as kinds
 use Rattle.program_interface.specs.Readings.{unless_fault}
 use Rattle.program_interface.specs.declared.registers.TheConstants.{REGISTERS}
 use Rattle.ebpf_decode.specs.Reading.{first_fault, has_more, has_no_register, has_unused, instruction_with, is_left_out, is_load_immediate, read, read_named}
-use Rattle.instruction_set.specs.Spelling.{Fits, LDX, MEM, MEMSX, NEG, ST, STX, access_opcode, arithmetic_class, extension_offset, extension_width, first_slot, jump_class, kept_bits, operation_code, operation_offset, operation_opcode, relation_code, second_slot, signed_size_code, size_code, swap_opcode}
+use Rattle.instruction_set.specs.declared.codes.TheConstants.{LDX, MEM, MEMSX, NEG, ST, STX}
+use Rattle.instruction_set.specs.Spelling.{Fits, access_opcode, arithmetic_class, extension_offset, extension_width, first_slot, jump_class, kept_bits, operation_code, operation_offset, operation_opcode, relation_code, second_slot, signed_size_code, size_code, swap_opcode}
 
 -- ---- what the opcodes of instructions name
 

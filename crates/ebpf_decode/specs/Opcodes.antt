@@ -11,7 +11,8 @@ use Rattle.ebpf_decode.specs.declared.opcode.Uses.{Uses}
 use Rattle.instruction_set.specs.declared.operation.Width.{Width}
 use Rattle.instruction_set.specs.declared.operation.Width.TheVariants as widths
 use Rattle.instruction_set.specs.declared.operation.Size.TheVariants as sizes
-use Rattle.instruction_set.specs.Spelling.{LD, LDX, ST, STX, IMM, MEM, MEMSX, NEG, JA, CALL, EXIT, access_opcode, operation_opcode, arithmetic_class, jump_class, size_code}
+use Rattle.instruction_set.specs.declared.codes.TheConstants.{LD, LDX, ST, STX, IMM, MEM, MEMSX, NEG, JA, CALL, EXIT}
+use Rattle.instruction_set.specs.Spelling.{access_opcode, operation_opcode, arithmetic_class, jump_class, size_code}
 use Rattle.instruction_set.specs.Codes.{size_with, signed_size_with, operation_with, swap_with, relation_with, has_variants}
 
 -- where an opcode has its second operand: its source bit (RFC 9669, 4)

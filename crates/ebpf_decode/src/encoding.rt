@@ -5,32 +5,11 @@ ghost use Rattle.std.specs.Int.{w32, cast_signed};
 ghost use Rattle.ebpf_decode.specs.Reading.{decoded_program};
 ghost use Rattle.instruction_set.specs.Spelling.{access_opcode, first_slot, operation_opcode, program_bytes, second_slot, slot_bytes, source_bit, source_immediate, source_register, spelling};
 
+use instruction_set::codes::{CALL, EXIT, IMM, JA, LD, LDX, MEM, MEMSX, NEG, ST, STX};
 use crate::fields::to_bytes;
 use instruction_set::{Fields, Instruction, Operation, Program, Size, Source, Width};
 use program_interface::{MOST_SLOTS, REGISTERS};
 use std::alloc::{AllocError, Global};
-
-const IMM: u8 = 0;
-
-const MEM: u8 = 3;
-
-const MEMSX: u8 = 4;
-
-const LD: u8 = 0;
-
-const LDX: u8 = 1;
-
-const ST: u8 = 2;
-
-const STX: u8 = 3;
-
-const JA: u8 = 0x0;
-
-const NEG: u8 = 0x8;
-
-const CALL: u8 = 0x8;
-
-const EXIT: u8 = 0x9;
 
 /// An opcode of the load and store classes (RFC 9669, 5).
 fn access_opcode(mode: u8, size: u8, class: u8) -> u8

@@ -3,7 +3,25 @@
 ghost use Rattle.std.specs.Prelude.{◌≡◌};
 ghost use Rattle.ebpf_decode.specs.Opcodes.{arithmetic_opcode, branch_opcode, jump_long_opcode, jump_opcode, load_immediate_opcode, load_opcode, opcode_named, operand_of, store_immediate_opcode, store_register_opcode, uses};
 
+use instruction_set::codes::{
+    ALU, CALL, EXIT, IMM, JA, JMP, JMP32, LD, LDX, MEM, MEMSX, NEG, ST, STX,
+};
 use instruction_set::{Operation, Relation, SignedSize, Size, Swap, Width};
+
+/// The opcode of the wide instruction, whose size has the code 3 (RFC 9669, 5.4).
+const LOAD_IMMEDIATE_OPCODE: u8 = 32 * IMM + 8 * 3 + LD;
+
+/// The opcode of a jump by a 16-bit distance that is always taken (RFC 9669, 4.3).
+const JUMP_OPCODE: u8 = 16 * JA + JMP;
+
+/// The opcode of a jump by a 32-bit distance (RFC 9669, 4.3).
+const JUMP_LONG_OPCODE: u8 = 16 * JA + JMP32;
+
+/// The opcode of a call (RFC 9669, 4.3.1).
+const CALL_OPCODE: u8 = 16 * CALL + JMP;
+
+/// The opcode of the end (RFC 9669, 4.3).
+const EXIT_OPCODE: u8 = 16 * EXIT + JMP;
 
 /// Where the second operand is: the source bit of an opcode (RFC 9669, 4).
 #[derive(Clone, Copy, Debug, PartialEq, Eq)]
@@ -63,13 +81,13 @@ impl Opcode {
         ensures { result ≡ opcode_named opcode }
     {
         match opcode % 8 {
-            0 => load_immediate(opcode),
-            1 => load(opcode),
-            2 => store_immediate(opcode),
-            3 => store_register(opcode),
-            4 => arithmetic(Width::Bits32, opcode),
-            5 => jump(opcode),
-            6 => jump_long(opcode),
+            LD => load_immediate(opcode),
+            LDX => load(opcode),
+            ST => store_immediate(opcode),
+            STX => store_register(opcode),
+            ALU => arithmetic(Width::Bits32, opcode),
+            JMP => jump(opcode),
+            JMP32 => jump_long(opcode),
             _ => arithmetic(Width::Bits64, opcode),
         }
     }
@@ -120,7 +138,7 @@ fn load_immediate(opcode: u8) -> Option<Opcode>
     ensures { result ≡ load_immediate_opcode opcode }
 {
     match opcode {
-        0x18 => Some(Opcode::LoadImmediate),
+        LOAD_IMMEDIATE_OPCODE => Some(Opcode::LoadImmediate),
         0x20 | 0x28 | 0x30 | 0x40 | 0x48 | 0x50 => Some(Opcode::LeftOut(LeftOut::Packet)),
         _ => None,
     }
@@ -130,8 +148,8 @@ fn load(opcode: u8) -> Option<Opcode>
     ensures { result ≡ load_opcode opcode }
 {
     match opcode / 32 {
-        3 => Some(Opcode::Load(Size::with_code(opcode / 8 % 4)?)),
-        4 => Some(Opcode::LoadSigned(SignedSize::with_code(opcode / 8 % 4)?)),
+        MEM => Some(Opcode::Load(Size::with_code(opcode / 8 % 4)?)),
+        MEMSX => Some(Opcode::LoadSigned(SignedSize::with_code(opcode / 8 % 4)?)),
         _ => None,
     }
 }
@@ -140,7 +158,7 @@ fn store_immediate(opcode: u8) -> Option<Opcode>
     ensures { result ≡ store_immediate_opcode opcode }
 {
     match opcode / 32 {
-        3 => Some(Opcode::StoreImmediate(Size::with_code(opcode / 8 % 4)?)),
+        MEM => Some(Opcode::StoreImmediate(Size::with_code(opcode / 8 % 4)?)),
         _ => None,
     }
 }
@@ -148,9 +166,11 @@ fn store_immediate(opcode: u8) -> Option<Opcode>
 fn store_register(opcode: u8) -> Option<Opcode>
     ensures { result ≡ store_register_opcode opcode }
 {
+    if opcode / 32 == MEM {
+        return Some(Opcode::StoreRegister(Size::with_code(opcode / 8 % 4)?));
+    }
     match opcode {
         0xc3 | 0xdb => Some(Opcode::LeftOut(LeftOut::Atomic)),
-        0x60..0x80 => Some(Opcode::StoreRegister(Size::with_code(opcode / 8 % 4)?)),
         _ => None,
     }
 }
@@ -158,7 +178,7 @@ fn store_register(opcode: u8) -> Option<Opcode>
 fn arithmetic(width: Width, opcode: u8) -> Option<Opcode>
     ensures { result ≡ arithmetic_opcode width opcode }
 {
-    if opcode == 0x80 + width.arithmetic_class() {
+    if opcode == 16 * NEG + width.arithmetic_class() {
         return Some(Opcode::Negate(width));
     }
     if let Some(swap) = Swap::with_opcode(opcode) {
@@ -175,9 +195,9 @@ fn jump(opcode: u8) -> Option<Opcode>
     ensures { result ≡ jump_opcode opcode }
 {
     match opcode {
-        0x05 => Some(Opcode::Jump),
-        0x85 => Some(Opcode::Call),
-        0x95 => Some(Opcode::Exit),
+        JUMP_OPCODE => Some(Opcode::Jump),
+        CALL_OPCODE => Some(Opcode::Call),
+        EXIT_OPCODE => Some(Opcode::Exit),
         _ => branch(Width::Bits64, opcode),
     }
 }
@@ -186,7 +206,7 @@ fn jump_long(opcode: u8) -> Option<Opcode>
     ensures { result ≡ jump_long_opcode opcode }
 {
     match opcode {
-        0x06 => Some(Opcode::JumpLong),
+        JUMP_LONG_OPCODE => Some(Opcode::JumpLong),
         _ => branch(Width::Bits32, opcode),
     }
 }

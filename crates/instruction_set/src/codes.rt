@@ -1,4 +1,4 @@
-//! The codes that stand for operations, relations and sizes in an opcode.
+//! The numbers that an opcode is made of: classes, modes, and the codes of operations, relations and sizes.
 
 ghost use Rattle.std.specs.Prelude.{◌≡◌, ◌<◌};
 ghost use Rattle.instruction_set.specs.Spelling.{arithmetic_class, extension_offset, extension_width, jump_class, kept_bits, operation_code, operation_offset, relation_code, signed_size_code, size_code, swap_opcode};
@@ -9,6 +9,51 @@ use crate::operation::{
     Operation, Relation, SignExtension, SignedSize, Size, Swap, SwapSize, Width,
 };
 
+/// The class of the loads of the wide instruction: the low three bits of an opcode (RFC 9669, 3.3).
+pub const LD: u8 = 0;
+
+/// The class of loads into a register (RFC 9669, 3.3).
+pub const LDX: u8 = 1;
+
+/// The class of stores of an immediate (RFC 9669, 3.3).
+pub const ST: u8 = 2;
+
+/// The class of stores of a register (RFC 9669, 3.3).
+pub const STX: u8 = 3;
+
+/// The class of 32-bit arithmetic (RFC 9669, 3.3).
+pub const ALU: u8 = 4;
+
+/// The class of 64-bit jumps, with calls and the end (RFC 9669, 3.3).
+pub const JMP: u8 = 5;
+
+/// The class of 32-bit jumps (RFC 9669, 3.3).
+pub const JMP32: u8 = 6;
+
+/// The class of 64-bit arithmetic (RFC 9669, 3.3).
+pub const ALU64: u8 = 7;
+
+/// The mode of the wide instruction: the high three bits of an opcode (RFC 9669, 5).
+pub const IMM: u8 = 0;
+
+/// The mode of a regular load or store (RFC 9669, 5.1).
+pub const MEM: u8 = 3;
+
+/// The mode of a sign-extending load (RFC 9669, 5.2).
+pub const MEMSX: u8 = 4;
+
+/// The code of a negation: the high four bits of an opcode (RFC 9669, 4.1).
+pub const NEG: u8 = 0x8;
+
+/// The code of a jump that is always taken: the high four bits of an opcode (RFC 9669, 4.3).
+pub const JA: u8 = 0x0;
+
+/// The code of a call (RFC 9669, 4.3.1).
+pub const CALL: u8 = 0x8;
+
+/// The code of the end (RFC 9669, 4.3).
+pub const EXIT: u8 = 0x9;
+
 impl Width {
     /// The class of arithmetic, ALU or ALU64: the low three bits of an opcode (RFC 9669, 3.3).
     pub fn arithmetic_class(self) -> u8
@@ -16,8 +61,8 @@ impl Width {
         ensures bound { result < 8 }
     {
         match self {
-            Width::Bits32 => 4,
-            Width::Bits64 => 7,
+            Width::Bits32 => ALU,
+            Width::Bits64 => ALU64,
         }
     }
 
@@ -27,8 +72,8 @@ impl Width {
         ensures bound { result < 8 }
     {
         match self {
-            Width::Bits32 => 6,
-            Width::Bits64 => 5,
+            Width::Bits32 => JMP32,
+            Width::Bits64 => JMP,
         }
     }
 }

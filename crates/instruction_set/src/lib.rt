@@ -3,7 +3,7 @@
 #![tactic(auto)]
 
 mod access;
-mod codes;
+pub mod codes;
 mod fields;
 mod instruction;
 pub mod laws;
