@@ -1,12 +1,11 @@
 //! The bytes of instructions and programs.
 
-ghost use Rattle.std.specs.Prelude.{◌≡◌, ◌<◌, ◌≤◌, ◌%◌, ◌/◌, ◌^◌, ◌++◌, ◌⊎◌, length, IfSome, IfOk, OnErr, OnOk, Ok};
+ghost use Rattle.std.specs.Prelude.{◌≡◌, ◌<◌, ◌≤◌, ◌%◌, ◌/◌, ◌^◌, ◌++◌, ◌⊎◌, length, IfSome, IfOk, OnErr, OnOk};
 ghost use Rattle.std.specs.Int.{w32, cast_signed};
-ghost use Rattle.ebpf_decode.specs.Reading.{decoded_program};
 ghost use Rattle.instruction_set.specs.Spelling.{access_opcode, first_slot, operation_opcode, program_bytes, second_slot, slot_bytes, source_bit, source_immediate, source_register, spelling};
 
-use instruction_set::codes::{CALL, EXIT, IMM, JA, LD, LDX, MEM, MEMSX, NEG, ST, STX};
 use crate::fields::to_bytes;
+use instruction_set::codes::{CALL, EXIT, IMM, JA, LD, LDX, MEM, MEMSX, NEG, ST, STX};
 use instruction_set::{Fields, Instruction, Operation, Program, Size, Source, Width};
 use program_interface::{MOST_SLOTS, REGISTERS};
 use std::alloc::{AllocError, Global};
@@ -250,9 +249,7 @@ fn encode_slots(alloc: Global, slots: &[Option<Instruction>]) -> Result<Vec<u8>,
 ///
 /// Want of memory.
 pub fn encode(alloc: Global, program: &Program) -> Result<Vec<u8>, AllocError>
-    ensures spelled { IfOk result (λ bytes. bytes.items ≡ program_bytes program.now) }
-    // So decoding gives the program again, by the law `spelled_is_decoded`: a round trip, for callers.
-    ensures again { IfOk result (λ bytes. decoded_program bytes.items ≡ Ok program.now) }
+    ensures { IfOk result (λ bytes. bytes.items ≡ program_bytes program.now) }
 {
     encode_slots(alloc, program.as_slice())
 }
