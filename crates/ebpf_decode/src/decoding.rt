@@ -260,7 +260,6 @@ fn read(fields: &Fields, next: Option<Fields>) -> Result<Instruction, FaultKind>
 
 /// The fields of a slot, where the bytes have it.
 pub(crate) fn slot_at(bytes: &[u8], slot: usize) -> Option<Fields>
-    requires { slot ≤ MOST_SLOTS }
     ensures { result ≡ slice_get (slots_at (length bytes.now / 8) bytes.now) slot }
 {
     if slot < bytes.len() / 8 {
@@ -272,8 +271,7 @@ pub(crate) fn slot_at(bytes: &[u8], slot: usize) -> Option<Fields>
 
 /// What begins at a slot: nothing at a wide instruction's second.
 fn begun_at(bytes: &[u8], slot: usize, second: bool) -> Result<Option<Instruction>, FaultKind>
-    requires inside { slot < length bytes.now / 8 }
-    requires most { length bytes.now / 8 ≤ MOST_SLOTS }
+    requires { slot < length bytes.now / 8 }
     ensures { result ≡ begun second (fields_at (drop (8 * slot) bytes.now)) (slice_get (slots_at (length bytes.now / 8) bytes.now) (slot + 1)) }
 {
     if second {

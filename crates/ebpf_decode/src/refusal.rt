@@ -7,7 +7,6 @@ use crate::decoding::slot_at;
 use crate::fault::{Fault, FaultKind};
 use crate::opcode::{LeftOut, Opcode};
 use instruction_set::Fields;
-use program_interface::MOST_SLOTS;
 use std::fmt;
 
 /// The opcode of a call of the function whose address a register has. RFC 9669 has none.
@@ -29,15 +28,10 @@ impl ProgramRefusal {
     pub fn of(fault: Fault, bytes: &[u8]) -> ProgramRefusal
         ensures { result ≡ program_refusal_of fault bytes.now }
     {
-        let fields = if fault.slot < MOST_SLOTS {
-            slot_at(bytes, fault.slot)
-        } else {
-            None
-        };
         ProgramRefusal {
             fault,
             bytes: bytes.len(),
-            fields,
+            fields: slot_at(bytes, fault.slot),
         }
     }
 }
