@@ -301,6 +301,7 @@ fn decode_slots(alloc: Global, bytes: &[u8]) -> Result<Vec<Option<Instruction>>,
         match begun_at(bytes, slot, second) {
             Ok(begun) => {
                 second = begins_wide(&begun);
+                // As a slice: `push` of an enum within an enum isn't covered by the borrow checker's proof.
                 slots.extend_from_slice(&[begun])?;
             }
             Err(kind) => return Err(DecodeFault::Fault(Fault { slot, kind })),

@@ -5,7 +5,7 @@ ghost use Rattle.ebpf_decode.specs.Faults.{fault_number};
 ghost use Rattle.ebpf_decode.specs.declared.fault.DecodeFault.TheVariants.{Memory};
 
 use program_interface::{MOST_SLOTS, REGISTERS};
-use std::alloc::{AllocError, AllocFailed};
+use std::alloc::AllocError;
 use thiserror::Error;
 
 /// What is wrong with the bytes of a program, with the number by which users see it.
@@ -95,14 +95,6 @@ impl From<AllocError> for DecodeFault {
     ghost from_gives = { λ _ e. e ≡ Memory };
 
     fn from(_error: AllocError) -> DecodeFault {
-        DecodeFault::Memory
-    }
-}
-
-impl<T: Drop> From<AllocFailed<T>> for DecodeFault {
-    ghost from_gives = { λ _ e. e ≡ Memory };
-
-    fn from(_error: AllocFailed<T>) -> DecodeFault {
         DecodeFault::Memory
     }
 }
