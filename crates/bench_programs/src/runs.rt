@@ -4,11 +4,11 @@ ghost use Rattle.std.specs.Prelude.{◌≡◌, ◌≤◌, length};
 ghost use Rattle.interp.specs.Machine.{group_length, machine_slot, steps_of};
 ghost use Rattle.verifier.specs.Verified.{sizes_of};
 
-use interp::{Exit, Machine};
+use interp::Machine;
 use interval_domain::Intervals;
 use program_interface::{CONTEXT_BYTES, LARGEST_BLOCK, SCRATCH_BYTES};
 use program_meaning::End;
-use verified_run::Prepared;
+use verified_run::{Exit, Prepared};
 use verifier::Verified;
 
 /// How an accepted program is run.

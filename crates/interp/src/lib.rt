@@ -4,4 +4,4 @@
 mod accesses;
 mod machine;
 
-pub use machine::{Exit, Flow, Machine, Step};
+pub use machine::{Flow, Machine, Step};

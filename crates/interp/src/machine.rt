@@ -2,14 +2,12 @@
 
 mod effect;
 mod emit;
-mod exit;
 mod guessed;
 mod run;
 mod step;
 
 ghost use Rattle.std.specs.Prelude.{◌<◌, ◌≤◌, ◌^◌, length};
 
-pub use exit::Exit;
 use program_interface::{CONTEXT_BYTES, REGISTERS, SCRATCH_BYTES, STACK_BYTES, start_registers};
 pub use step::{Flow, Step};
 

@@ -4,10 +4,10 @@ ghost use Rattle.std.specs.Prelude.{◌≡◌, ◌<◌, ◌≤◌, ◌^◌, leng
 ghost use Rattle.pushdown.specs.BlockRuns.{run_over};
 ghost use Rattle.runner.specs.steps.Ran.{HasRun};
 
-use interp::{Exit, Machine};
+use interp::Machine;
 use program_interface::{CONTEXT_BYTES, SCRATCH_BYTES};
 use program_meaning::TrapFree;
-use verified_run::Prepared;
+use verified_run::{Exit, Prepared};
 
 /// Runs a program that never traps over a block. Its group is at the front of `group`.
 pub fn run_block<V: TrapFree + Drop>(

@@ -19,11 +19,10 @@ use crate::block_run::run_block;
 use crate::completion::complete;
 use crate::loaded_program::LoadedProgram;
 use device_events::Reply;
-use interp::Exit;
 use nvme_entry::{PROGRAM_SLOTS, Status};
 use program_interface::{Context, LARGEST_BLOCK};
 use program_meaning::TrapFree;
-use verified_run::Prepared;
+use verified_run::{Exit, Prepared};
 use zns_commands::{Answer, Namespace};
 use zone_resources::RUNS;
 
