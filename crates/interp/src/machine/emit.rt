@@ -24,7 +24,8 @@ impl Machine<'_> {
     ghost use Rattle.interp.specs.StepEnds.{emit_hindrance};
     ghost use Rattle.program_interface.specs.Readings.{unless_fault};
 
-    /// Adds the frame that R1 and R2 tell to the group, unless a cause hinders it.
+    /// Adds the frame that R1 and R2 tell to the group and clears R0 to R5, unless a cause hinders it; then nothing changes.
+    /// `limit` and `group` are as for `step`.
     ///
     /// # Errors
     ///
