@@ -35,6 +35,9 @@ impl Register {
     /// R2, a helper's second argument (BPF ABI 1.0, Registers and calling convention): of emit a record's number of bytes.
     pub const R2: Register = Register { number: 2 };
 
+    /// R3, which has the address of scratch at the start of a block run (profile).
+    pub const R3: Register = Register { number: 3 };
+
     /// R10, the frame pointer, which programs only read (BPF ABI 1.0, Registers and calling convention).
     pub const FRAME_POINTER: Register = Register { number: 10 };
 
