@@ -2,6 +2,7 @@
 
 mod vectors;
 
+use ebpf_asm::assemble;
 use ebpf_decode::decode;
 use instruction_set::Program;
 use interp::{Machine, Step};
@@ -10,13 +11,18 @@ use program_meaning::{Cause, End};
 use std::alloc::Global;
 use std::process::Abort;
 use std::test::Fail;
-use test_inputs::slots::{EXIT, MATCHING, bytes_of};
+use test_inputs::programs::MATCHING;
+use test_inputs::slots::bytes_of;
 use vectors::{IMMEDIATE_STORES, LOADS, STORES};
 
-const MOVE_TO_R10: u64 = 0xb70a_0000_0100_0000;
+/// The program that a text spells.
+fn program(alloc: Global, text: &str) -> Result<Program, Fail> {
+    let bytes = assemble(alloc, text.as_bytes())?;
+    Ok(decode(alloc, &bytes)?)
+}
 
 /// The program of these slots.
-fn program(alloc: Global, slots: &[u64]) -> Result<Program, Fail> {
+fn program_of_slots(alloc: Global, slots: &[u64]) -> Result<Program, Fail> {
     let bytes = bytes_of(alloc, slots)?;
     Ok(decode(alloc, &bytes)?)
 }
@@ -37,7 +43,7 @@ fn check_run(
     block: &[u8; 512],
     r0: u64,
 ) -> Result<(), Fail> {
-    let (end, _) = run(rt, &program(rt.alloc(), slots)?, block);
+    let (end, _) = run(rt, &program_of_slots(rt.alloc(), slots)?, block);
     assert_eq!(rt; end, End::Exit { r0 }, "of {slots:?}");
     Ok(())
 }
@@ -113,7 +119,7 @@ fn check_filter(rt: &impl Abort, filter: &Program, run: Run) {
 
 #[test]
 fn a_frame_of_a_block_that_matches(rt: HostRuntime) -> Result<(), Fail> {
-    let filter = program(rt.alloc(), &MATCHING)?;
+    let filter = program(rt.alloc(), MATCHING)?;
     for run in RUNS {
         check_filter(&rt, &filter, *run);
     }
@@ -122,22 +128,18 @@ fn a_frame_of_a_block_that_matches(rt: HostRuntime) -> Result<(), Fail> {
 
 #[test]
 fn no_frame_of_another_block(rt: HostRuntime) -> Result<(), Fail> {
-    let filter = program(rt.alloc(), &MATCHING)?;
+    let filter = program(rt.alloc(), MATCHING)?;
     assert_eq!(rt; run(&rt, &filter, &[0; 512]), (End::Exit { r0: 0 }, 4));
     Ok(())
 }
 
+/// Emits all bytes of the largest block but its last two, and leaves in R0 what its last eight were.
+const LARGEST_FRAME: &str =
+    "ldxdw r6, [r2+16376]\nmov r1, r2\nmov r2, 16382\ncall 1\nmov r0, r6\nexit";
+
 #[test]
 fn a_frame_that_fills_the_largest_block(rt: HostRuntime) -> Result<(), Fail> {
-    let slots = [
-        0x7926_f83f_0000_0000, // ldxdw r6, [r2+16376]
-        0xbf21_0000_0000_0000, // mov r1, r2
-        0xb702_0000_fe3f_0000, // mov r2, 16382
-        0x8500_0000_0100_0000, // call 1
-        0xbf60_0000_0000_0000, // mov r0, r6
-        EXIT,
-    ];
-    let program = program(rt.alloc(), &slots)?;
+    let program = program(rt.alloc(), LARGEST_FRAME)?;
     let mut block = [3; LARGEST_BLOCK];
     block[LARGEST_BLOCK - 1] = 0;
     let context = [0; CONTEXT_BYTES];
@@ -162,7 +164,7 @@ fn a_frame_that_fills_the_largest_block(rt: HostRuntime) -> Result<(), Fail> {
 
 #[test]
 fn the_slots_of_a_run(rt: HostRuntime) -> Result<(), Fail> {
-    let filter = program(rt.alloc(), &MATCHING)?;
+    let filter = program(rt.alloc(), MATCHING)?;
     let mut block = [0; 512];
     block[0] = 7;
     let context = [0; CONTEXT_BYTES];
@@ -186,47 +188,34 @@ fn the_slots_of_a_run(rt: HostRuntime) -> Result<(), Fail> {
     Ok(())
 }
 
+/// Programs, each with the slot that traps in it, and for which cause.
+const TRAPS: &[(&str, usize, Cause)] = &[
+    ("mov r10, 1", 0, Cause::NextOutside),
+    ("mov r10, 1\nexit", 0, Cause::WriteToFramePointer),
+    ("ja +1\nlddw r1, 0\nexit", 0, Cause::NextInsideWide),
+    ("stxdw [r1+0], r0\nexit", 0, Cause::StoreOutside),
+    ("ldxb r0, [r10+0]\nexit", 0, Cause::LoadOutside),
+    ("call 2\nexit", 0, Cause::UnknownHelper),
+    ("mov r2, -1\ncall 1\nexit", 1, Cause::EmitOutside),
+    ("mov r2, 0\ncall 1\nexit", 1, Cause::EmitLength),
+];
+
 fn check_trap(
     rt: &(impl Abort + AllocGlobal),
-    slots: &[u64],
+    text: &str,
     slot: usize,
     cause: Cause,
 ) -> Result<(), Fail> {
-    let (end, steps) = run(rt, &program(rt.alloc(), slots)?, &[0; 512]);
-    assert_eq!(rt; end, End::Trap { slot, cause }, "of {slots:?}");
-    assert_eq!(rt; steps, slot as u64, "of {slots:?}");
+    let (end, steps) = run(rt, &program(rt.alloc(), text)?, &[0; 512]);
+    assert_eq!(rt; end, End::Trap { slot, cause }, "of {text:?}");
+    assert_eq!(rt; steps, slot as u64, "of {text:?}");
     Ok(())
 }
 
 #[test]
 fn the_least_cause_of_a_trap(rt: HostRuntime) -> Result<(), Fail> {
-    // mov r10, 1, with and without an end
-    check_trap(&rt, &[MOVE_TO_R10], 0, Cause::NextOutside)?;
-    check_trap(&rt, &[MOVE_TO_R10, EXIT], 0, Cause::WriteToFramePointer)?;
-    // ja into the second slot of lddw
-    check_trap(
-        &rt,
-        &[0x0500_0100_0000_0000, 0x1801_0000_0000_0000, 0, EXIT],
-        0,
-        Cause::NextInsideWide,
-    )?;
-    // stxdw [r1+0], r0
-    check_trap(&rt, &[0x7b01_0000_0000_0000, EXIT], 0, Cause::StoreOutside)?;
-    // ldxb r0, [r10+0]
-    check_trap(&rt, &[0x71a0_0000_0000_0000, EXIT], 0, Cause::LoadOutside)?;
-    // call 2
-    check_trap(&rt, &[0x8500_0000_0200_0000, EXIT], 0, Cause::UnknownHelper)?;
-    // mov r2, -1 and mov r2, 0 before call 1
-    check_trap(
-        &rt,
-        &[0xb702_0000_ffff_ffff, 0x8500_0000_0100_0000, EXIT],
-        1,
-        Cause::EmitOutside,
-    )?;
-    check_trap(
-        &rt,
-        &[0xb702_0000_0000_0000, 0x8500_0000_0100_0000, EXIT],
-        1,
-        Cause::EmitLength,
-    )
+    for (text, slot, cause) in TRAPS {
+        check_trap(&rt, text, *slot, *cause)?;
+    }
+    Ok(())
 }
