@@ -19,24 +19,25 @@ fn at_first(kind: FaultKind) -> Option<Fault> {
     Some(Fault { slot: 0, kind })
 }
 
-const FAULTS: [([u8; 8], FaultKind); 11] = [
-    ([0x07, 0x0b, 0, 0, 0, 0, 0, 0], FaultKind::Register), // add r11, 0
-    ([0x0f, 0x21, 1, 0, 0, 0, 0, 0], FaultKind::UnusedField), // add r1, r2, with an offset
-    ([0x3f, 0x21, 2, 0, 0, 0, 0, 0], FaultKind::Value), // div r1, r2, with an offset of 2
-    ([0xdc, 0x01, 0, 0, 8, 0, 0, 0], FaultKind::Value), // be8 r1
-    ([0xbc, 0x21, 0x20, 0, 0, 0, 0, 0], FaultKind::Value), // movw r1, r2, with an offset of 32
-    ([0x99, 0, 0, 0, 0, 0, 0, 0], FaultKind::Opcode), // ldxsdw r0, [r0+0]
-    ([0x8c, 0, 0, 0, 0, 0, 0, 0], FaultKind::Opcode), // negw r0, with a register
-    ([0xdf, 0, 0, 0, 0, 0, 0, 0], FaultKind::Opcode), // a swap of no bits, with a register
-    ([0xc3, 0, 0, 0, 0, 0, 0, 0], FaultKind::NotInProfile), // an atomic operation on 4 bytes
-    ([0x18, 0x11, 0, 0, 0, 0, 0, 0], FaultKind::NotInProfile), // lddw r1, of a map
-    ([0x18, 0x01, 0, 0, 0, 0, 0, 0], FaultKind::CutWide), // lddw r1, 0, without its second slot
+/// Slots, each with the kind of fault of a program that has it alone.
+const FAULTS: &[(u64, FaultKind)] = &[
+    (0x070b_0000_0000_0000, FaultKind::Register), // add r11, 0
+    (0x0f21_0100_0000_0000, FaultKind::UnusedField), // add r1, r2, with an offset
+    (0x3f21_0200_0000_0000, FaultKind::Value), // div r1, r2, with an offset of 2
+    (0xdc01_0000_0800_0000, FaultKind::Value), // be8 r1
+    (0xbc21_2000_0000_0000, FaultKind::Value), // movw r1, r2, with an offset of 32
+    (0x9900_0000_0000_0000, FaultKind::Opcode), // ldxsdw r0, [r0+0]
+    (0x8c00_0000_0000_0000, FaultKind::Opcode), // negw r0, with a register
+    (0xdf00_0000_0000_0000, FaultKind::Opcode), // a swap of no bits, with a register
+    (0xc300_0000_0000_0000, FaultKind::NotInProfile), // an atomic operation on 4 bytes
+    (0x1811_0000_0000_0000, FaultKind::NotInProfile), // lddw r1, of a map
+    (0x1801_0000_0000_0000, FaultKind::CutWide), // lddw r1, 0, without its second slot
 ];
 
 #[test]
 fn a_lone_slot_with_a_fault(rt: HostRuntime) -> Result<(), Fail> {
-    for (bytes, kind) in &FAULTS {
-        assert_eq!(rt; fault_of(rt.alloc(), bytes)?, at_first(*kind));
+    for (slot, kind) in FAULTS {
+        assert_eq!(rt; fault_of(rt.alloc(), &slot.to_be_bytes())?, at_first(*kind));
     }
     Ok(())
 }
