@@ -5,7 +5,7 @@ use Rattle.std.proofs.lemmas.List.{append-nil}
 use Rattle.std.proofs.lemmas.Bool.{cases_lt}
 use Rattle.program_interface.specs.Bytes.{padded}
 use Rattle.emit_append.specs.Packing.{Layout, behind, beginning, block_fillings, laid_out, packed}
-use Rattle.emit_append.specs.PackedLaw.{ArePacked, EachNextIsLonger, FitBlock, NextIsLonger, PackedAsDescribed, with_bytes}
+use Rattle.emit_append.specs.PackedLaw.{ArePacked, EachNextIsLonger, FitBlock, NextIsLonger, PackedAsDescribed, without_empty}
 use Rattle.emit_append.proofs.Layouts.{laid-behind, laid-beginning, laid-empty}
 
 -- groups in front that fit the room go into it
@@ -88,36 +88,36 @@ divided block room (g ∷ gs) fit =
     (cases_lt room (length g))
 
 -- groups of no bytes change nothing
-laid-with_bytes : (block room : ℕ) (groups : List (List ℕ)) → laid_out block room (with_bytes groups) ≡ laid_out block room groups
-laid-with_bytes block room [] = refl
-laid-with_bytes block room ([] ∷ gs) = laid-with_bytes block room gs ∙ sym (laid-empty block room gs)
-laid-with_bytes block room ((x ∷ xs) ∷ gs) =
-    let behind_it = laid-with_bytes block (room - length (x ∷ xs)) gs in
-    let after_it = laid-with_bytes block (block - length (x ∷ xs)) gs in
+laid-without_empty : (block room : ℕ) (groups : List (List ℕ)) → laid_out block room (without_empty groups) ≡ laid_out block room groups
+laid-without_empty block room [] = refl
+laid-without_empty block room ([] ∷ gs) = laid-without_empty block room gs ∙ sym (laid-empty block room gs)
+laid-without_empty block room ((x ∷ xs) ∷ gs) =
+    let behind_it = laid-without_empty block (room - length (x ∷ xs)) gs in
+    let after_it = laid-without_empty block (block - length (x ∷ xs)) gs in
     cc
 
-with_bytes-fit : (block : ℕ) (groups : List (List ℕ)) → FitBlock block groups → FitBlock block (with_bytes groups)
-with_bytes-fit block [] fit = tt
-with_bytes-fit block ([] ∷ gs) fit = with_bytes-fit block gs fit.1
-with_bytes-fit block ((x ∷ xs) ∷ gs) fit = (fit.0, with_bytes-fit block gs fit.1)
+without_empty-fit : (block : ℕ) (groups : List (List ℕ)) → FitBlock block groups → FitBlock block (without_empty groups)
+without_empty-fit block [] fit = tt
+without_empty-fit block ([] ∷ gs) fit = without_empty-fit block gs fit.1
+without_empty-fit block ((x ∷ xs) ∷ gs) fit = (fit.0, without_empty-fit block gs fit.1)
 
 -- the first group with bytes has one
-with_bytes-first : (groups : List (List ℕ)) (group : List ℕ) (rest : List (List ℕ)) → group ∷ rest ≡ with_bytes groups → 0 < length group
-with_bytes-first [] group rest is = cc
-with_bytes-first ([] ∷ gs) group rest is = with_bytes-first gs group rest is
-with_bytes-first ((x ∷ xs) ∷ gs) group rest is = let first : group ≡ x ∷ xs = cc in rw first (omega arith)
+without_empty-first : (groups : List (List ℕ)) (group : List ℕ) (rest : List (List ℕ)) → group ∷ rest ≡ without_empty groups → 0 < length group
+without_empty-first [] group rest is = cc
+without_empty-first ([] ∷ gs) group rest is = without_empty-first gs group rest is
+without_empty-first ((x ∷ xs) ∷ gs) group rest is = let first : group ≡ x ∷ xs = cc in rw first (omega arith)
 
-first_is_longer : (parts : List (List (List ℕ))) (groups : List (List ℕ)) → flat_map (λ part. part) parts ≡ with_bytes groups → NextIsLonger 0 parts
+first_is_longer : (parts : List (List (List ℕ))) (groups : List (List ℕ)) → flat_map (λ part. part) parts ≡ without_empty groups → NextIsLonger 0 parts
 first_is_longer [] groups is = tt
 first_is_longer ([] ∷ parts) groups is = tt
-first_is_longer ((g ∷ gs) ∷ parts) groups is = with_bytes-first groups g (gs ++ flat_map (λ part. part) parts) is
+first_is_longer ((g ∷ gs) ∷ parts) groups is = without_empty-first groups g (gs ++ flat_map (λ part. part) parts) is
 
 -- where there is no room, no group with bytes stands in it
-none_in_front : (front rest groups : List (List ℕ)) → front ++ rest ≡ with_bytes groups → length (concat front) ≤ 0 → front ≡ []
+none_in_front : (front rest groups : List (List ℕ)) → front ++ rest ≡ without_empty groups → length (concat front) ≤ 0 → front ≡ []
 none_in_front [] rest groups is none = refl
-none_in_front (g ∷ gs) rest groups is none = absurd (omega (arith, with_bytes-first groups g (gs ++ rest) is, length-append g (concat gs)))
+none_in_front (g ∷ gs) rest groups is none = absurd (omega (arith, without_empty-first groups g (gs ++ rest) is, length-append g (concat gs)))
 
-are_packed : (block : ℕ) (groups : List (List ℕ)) → Divided block 0 (with_bytes groups) (laid_out block 0 (with_bytes groups)) → ArePacked block groups (packed block groups)
+are_packed : (block : ℕ) (groups : List (List ℕ)) → Divided block 0 (without_empty groups) (laid_out block 0 (without_empty groups)) → ArePacked block groups (packed block groups)
 are_packed block groups d =
     let none = none_in_front d.front (flat_map (λ part. part) d.parts) groups d.in_order d.in_room in
     record {
@@ -126,7 +126,7 @@ are_packed block groups d =
       at_least_one = d.some;
       fits = d.fits;
       next_is_longer = d.each;
-      rest_is_zeros = ap (λ l. map (padded block) l.later) (sym (laid-with_bytes block 0 groups) ∙ d.is);
+      rest_is_zeros = ap (λ l. map (padded block) l.later) (sym (laid-without_empty block 0 groups) ∙ d.is);
     }
 
 -- parts of the groups with bytes, as said of packed blocks, are their blocks
@@ -134,20 +134,20 @@ packed_is : (block : ℕ) (groups blocks : List (List ℕ)) → ArePacked block 
 packed_is block groups blocks are =
     let longer = first_is_longer are.parts groups are.whole_in_order in
     let laid = laid-parts block 0 are.parts longer are.at_least_one are.fits are.next_is_longer in
-    let same = ap (λ gs. laid_out block 0 gs) are.whole_in_order ∙ laid-with_bytes block 0 groups in
+    let same = ap (λ gs. laid_out block 0 gs) are.whole_in_order ∙ laid-without_empty block 0 groups in
     are.rest_is_zeros ∙ ap (λ l. map (padded block) l.later) (sym laid ∙ same)
 
 pub packed_as_described : PackedAsDescribed
 packed_as_described block groups blocks fit =
-    (packed_is block groups blocks, λ is. rw is (are_packed block groups (divided block 0 (with_bytes groups) (with_bytes-fit block groups fit))))
+    (packed_is block groups blocks, λ is. rw is (are_packed block groups (divided block 0 (without_empty groups) (without_empty-fit block groups fit))))
 
--- what parts come to fits into blocks where each of it does
-pub parts_fit : {X : Type 0} (block : ℕ) (f : X → List ℕ) (parts : List X) → AllByRecursion (λ part. length (f part) ≤ block) parts → FitBlock block (map f parts)
-parts_fit block f [] fits = tt
-parts_fit block f (part ∷ parts) fits = (fits.0, parts_fit block f parts fits.1)
+-- what each part comes to fits into a block
+parts_fit : (block : ℕ) (parts : List (List (List ℕ))) → AllByRecursion (λ part. length (concat part) ≤ block) parts → FitBlock block (map concat parts)
+parts_fit block [] fits = tt
+parts_fit block (part ∷ parts) fits = (fits.0, parts_fit block parts fits.1)
 
 -- what groups fill of each block fits into it
 pub filled_fits : (block : ℕ) (groups : List (List ℕ)) → FitBlock block groups → FitBlock block (block_fillings block groups)
 filled_fits block groups fit =
     let d = divided block 0 groups fit in
-    subst (λ (l : Layout). FitBlock block l.later) (sym d.is) (parts_fit block concat d.parts d.fits)
+    subst (λ (l : Layout). FitBlock block l.later) (sym d.is) (parts_fit block d.parts d.fits)

@@ -1,7 +1,7 @@
 -- The byte that a reading refuses is the lowest one.
 use Rattle.std.proofs.Common.{◌≡◌, ℕ, zero, suc, ◌+◌, ◌-◌, ◌*◌, ◌/◌, ◌^◌, ◌≤◌, ◌<◌, List, [], ◌∷◌, ◌++◌, length, take, drop, Ok, Err, refl, ap, sym, ◌∙◌, arith, length-append, length-drop, append_assoc, inl, inr, subst, ⊎_elim}
 use Rattle.std.specs.Prelude.{◌⊎◌}
-use Rattle.std.proofs.Math.Nat.{div-add-mod', mul-div_cancel, suc-mul}
+use Rattle.std.proofs.Math.Nat.{div-add-mod', suc-mul}
 use Rattle.std.proofs.Math.Seq.{take-add}
 use Rattle.std.proofs.lemmas.Bool.{cases_lt}
 use Rattle.std.proofs.lemmas.List.{append-nil, drop-take, length-take, length-take-le, take-append-le, take-take, take_all, take_at}
@@ -9,8 +9,8 @@ use Rattle.program_interface.proofs.Proved.{agree_before, agree_behind, all_drop
 use Rattle.emit_append.proofs.ByteLists.{AllBytes, FitsByte, by_recursion}
 use Rattle.program_interface.specs.Readings.{◌>>=◌, with_front}
 use Rattle.emit_append.specs.Unpacking.{AreFrames, CanBegin, Reading, RefusedIsLowest, frames_at, output_block_at, output_blocks_at}
-use Rattle.emit_append.proofs.UnpackedFrames.{block_before, frames-read, no_blocks, only-frames}
-use Rattle.emit_append.proofs.ReadBack.{length-blocks}
+use Rattle.emit_append.proofs.UnpackedFrames.{block_before, no_blocks, only-frames}
+use Rattle.emit_append.proofs.ReadBack.{blocks-counted, frames-read, length-blocks}
 use Rattle.emit_append.proofs.RefusedBlocks.{IsRefused, cut_off, cut_twice, is_refused, length_cut_off, zeros_of}
 
 -- ---- blocks
@@ -165,7 +165,7 @@ module _ (block : ℕ) (bytes : List ℕ) (positive : 0 < block) (small : block 
       let whole = length bytes / block * block in
       let other = take (at + 2) bytes ++ d.behind in
       let blocks : length other ≡ length d.are.parts * block = ap length d.are.rest_is_zeros ∙ length-blocks block d.are.parts d.are.fits in
-      let count : length other / block ≡ length d.are.parts = ap (λ n. n / block) blocks ∙ mul-div_cancel (length d.are.parts) positive in
+      let count : length other / block ≡ length d.are.parts = ap (λ bs. length bs / block) d.are.rest_is_zeros ∙ blocks-counted block d.are.parts positive d.are.fits in
       let read : output_blocks_at (length d.are.parts) block 0 other ≡ Ok d.records =
       ap (λ n. output_blocks_at n block 0 other) (sym count) ∙ frames-read block other d.records positive small d.are in
       let long : offset < length other = omega (arith, is, inside, length-append (take (at + 2) bytes) d.behind, length-take (at + 2) bytes) in

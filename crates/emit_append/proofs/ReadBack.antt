@@ -1,4 +1,4 @@
--- Packed frames read back.
+-- Blocks of frames and zeros are read as the records, and so packed frames read back.
 use Rattle.std.proofs.Common.{◌≡◌, ℕ, zero, suc, ◌+◌, ◌-◌, ◌*◌, ◌/◌, ◌^◌, ◌≤◌, ◌<◌, List, [], ◌∷◌, ◌++◌, length, map, take, drop, replicate, Ok, refl, ap, sym, ◌∙◌, arith, rules, length-append, append_assoc, ⊎_elim}
 use Rattle.std.specs.List.{AllByRecursion, concat, flat_map}
 use Rattle.std.proofs.lemmas.Bool.{cases_lt}
@@ -14,15 +14,18 @@ use Rattle.emit_append.specs.PackedLaw.{FitBlock}
 use Rattle.program_interface.specs.Bytes.{padded}
 use Rattle.program_interface.proofs.Proved.{all_append, length-padded}
 use Rattle.emit_append.specs.Packing.{Layout, behind, beginning, laid_out, packed}
-use Rattle.emit_append.specs.Unpacking.{PackedFramesReadBack, output_block_at, output_blocks_at, frame_length, unpacked, zeros_at}
+use Rattle.emit_append.specs.Unpacking.{AreFrames, PackedFramesReadBack, output_block_at, output_blocks_at, frame_length, unpacked, zeros_at}
 use Rattle.emit_append.proofs.Layouts.{laid-behind, laid-beginning}
 use Rattle.emit_append.proofs.FramesRead.{block-frame, block-zeros}
 
+abbrev HasBytes : List ℕ → Type 0
+HasBytes bytes = 0 < length bytes
+
 -- a record that a frame can hold
 abbrev IsRecord : List ℕ → Type 0
-IsRecord bytes = (0 < length bytes) × (length bytes < 2 ^ 16)
+IsRecord bytes = HasBytes bytes × (length bytes < 2 ^ 16)
 
-abbrev pub AreRecords : List (List ℕ) → Type 0
+abbrev AreRecords : List (List ℕ) → Type 0
 AreRecords records = AllByRecursion IsRecord records
 
 pub front_two : (low high : ℕ) (rest : List ℕ) → frame_length (low ∷ high ∷ rest) ≡ little_number 2 (low ∷ high ∷ rest)
@@ -68,12 +71,12 @@ record Grouped (block room : ℕ) (groups : List (List (List ℕ))) (layout : La
   is : layout ≡ record { begun = frames front; later = map frames parts }
   in_room : length (frames front) ≤ room
   fits : AllByRecursion (λ part. length (frames part) ≤ block) parts
-  front_records : AreRecords front
-  records : AllByRecursion AreRecords parts
+  front_some : AllByRecursion HasBytes front
+  some : AllByRecursion (AllByRecursion HasBytes) parts
 
-grouped-behind : (block room : ℕ) (group : List (List ℕ)) (groups : List (List (List ℕ))) (rest : Layout) → AreRecords group → length (frames group) ≤ room →
+grouped-behind : (block room : ℕ) (group : List (List ℕ)) (groups : List (List (List ℕ))) (rest : Layout) → AllByRecursion HasBytes group → length (frames group) ≤ room →
     Grouped block (room - length (frames group)) groups rest → Grouped block room (group ∷ groups) (behind (frames group) rest)
-grouped-behind block room group groups rest are fits d =
+grouped-behind block room group groups rest some fits d =
     let joined : frames (group ++ d.front) ≡ frames group ++ frames d.front = flat_map-append frame group d.front in
     record {
       front = group ++ d.front;
@@ -82,13 +85,13 @@ grouped-behind block room group groups rest are fits d =
       is = ap (behind (frames group)) d.is ∙ ap (λ bytes. record { begun = bytes; later = map frames d.parts }) (sym joined);
       in_room = omega (arith, ap length joined, length-append (frames group) (frames d.front), d.in_room);
       fits = d.fits;
-      front_records = all_append IsRecord group d.front are d.front_records;
-      records = d.records;
+      front_some = all_append HasBytes group d.front some d.front_some;
+      some = d.some;
     }
 
-grouped-beginning : (block room : ℕ) (group : List (List ℕ)) (groups : List (List (List ℕ))) (rest : Layout) → AreRecords group → length (frames group) ≤ block →
+grouped-beginning : (block room : ℕ) (group : List (List ℕ)) (groups : List (List (List ℕ))) (rest : Layout) → AllByRecursion HasBytes group → length (frames group) ≤ block →
     Grouped block (block - length (frames group)) groups rest → Grouped block room (group ∷ groups) (beginning (frames group) rest)
-grouped-beginning block room group groups rest are fits d =
+grouped-beginning block room group groups rest some fits d =
     let joined : frames (group ++ d.front) ≡ frames group ++ frames d.front = flat_map-append frame group d.front in
     record {
       front = [];
@@ -97,17 +100,17 @@ grouped-beginning block room group groups rest are fits d =
       is = ap (beginning (frames group)) d.is ∙ ap (λ bytes. record { begun = []; later = bytes ∷ map frames d.parts }) (sym joined);
       in_room = omega arith;
       fits = (omega (arith, ap length joined, length-append (frames group) (frames d.front), d.in_room), d.fits);
-      front_records = tt;
-      records = (all_append IsRecord group d.front are d.front_records, d.records);
+      front_some = tt;
+      some = (all_append HasBytes group d.front some d.front_some, d.some);
     }
 
-grouped : (block room : ℕ) (groups : List (List (List ℕ))) → AllByRecursion AreRecords groups → FitBlock block (map frames groups) →
+grouped : (block room : ℕ) (groups : List (List (List ℕ))) → AllByRecursion (AllByRecursion HasBytes) groups → FitBlock block (map frames groups) →
     Grouped block room groups (laid_out block room (map frames groups))
-grouped block room [] are fit = record { front = []; parts = []; in_order = refl; is = refl; in_room = omega arith; fits = tt; front_records = tt; records = tt }
-grouped block room (g ∷ gs) are fit =
+grouped block room [] some fit = record { front = []; parts = []; in_order = refl; is = refl; in_room = omega arith; fits = tt; front_some = tt; some = tt }
+grouped block room (g ∷ gs) some fit =
     ⊎_elim
-    (λ large. rw (laid-beginning block room (frames g) (map frames gs) large) (grouped-beginning block room g gs _ are.0 fit.0 (grouped block (block - length (frames g)) gs are.1 fit.1)))
-    (λ small. rw (laid-behind block room (frames g) (map frames gs) small) (grouped-behind block room g gs _ are.0 small (grouped block (room - length (frames g)) gs are.1 fit.1)))
+    (λ large. rw (laid-beginning block room (frames g) (map frames gs) large) (grouped-beginning block room g gs _ some.0 fit.0 (grouped block (block - length (frames g)) gs some.1 fit.1)))
+    (λ small. rw (laid-behind block room (frames g) (map frames gs) small) (grouped-behind block room g gs _ some.0 small (grouped block (room - length (frames g)) gs some.1 fit.1)))
     (cases_lt room (length (frames g)))
 
 -- where there is no room, no frame stands in it
@@ -116,7 +119,7 @@ none_in_front [] none = refl
 none_in_front (bytes ∷ records) none = absurd (omega arith)
 
 -- blocks of frames, one after another
-pub blocks-read : (block at : ℕ) (parts : List (List (List ℕ))) → AllByRecursion AreRecords parts → AllByRecursion (λ part. length (frames part) ≤ block) parts →
+blocks-read : (block at : ℕ) (parts : List (List (List ℕ))) → AllByRecursion AreRecords parts → AllByRecursion (λ part. length (frames part) ≤ block) parts →
     output_blocks_at (length parts) block at (concat (map (padded block) (map frames parts))) ≡ Ok (flat_map (λ part. part) parts)
 unfolding output_blocks_at
 blocks-read block at [] are fits = refl
@@ -135,27 +138,37 @@ length-blocks block [] fits = omega arith
 length-blocks block (part ∷ parts) fits =
     omega (arith, length-append (padded block (frames part)) (concat (map (padded block) (map frames parts))), length-padded block (frames part) fits.0, length-blocks block parts fits.1, suc-mul (length parts) block)
 
--- a record is shorter than its group
-bounded : (records : List (List ℕ)) → AllByRecursion (λ bytes. 0 < length bytes) records → length (frames records) < 2 ^ 16 → AreRecords records
+-- as many blocks as parts
+pub blocks-counted : (block : ℕ) (parts : List (List (List ℕ))) → 0 < block → AllByRecursion (λ part. length (frames part) ≤ block) parts →
+    length (concat (map (padded block) (map frames parts))) / block ≡ length parts
+blocks-counted block parts positive fits = ap (λ n. n / block) (length-blocks block parts fits) ∙ mul-div_cancel (length parts) positive
+
+-- a record is shorter than its part
+bounded : (records : List (List ℕ)) → AllByRecursion HasBytes records → length (frames records) < 2 ^ 16 → AreRecords records
 bounded [] some small = tt
 bounded (bytes ∷ records) some small =
     let whole = length-append bytes (frames records) in
     ((some.0, omega (arith, whole)), bounded records some.1 (omega (arith, whole)))
 
-pub all_bounded : (block : ℕ) (groups : List (List (List ℕ))) → block < 2 ^ 16 → AllByRecursion (λ records. AllByRecursion (λ bytes. 0 < length bytes) records) groups → FitBlock block (map frames groups) →
-    AllByRecursion AreRecords groups
-all_bounded block [] small some fit = tt
-all_bounded block (g ∷ gs) small some fit = (bounded g some.0 (omega (arith, fit.0)), all_bounded block gs small some.1 fit.1)
+all_bounded : (block : ℕ) (parts : List (List (List ℕ))) → block < 2 ^ 16 → AllByRecursion (AllByRecursion HasBytes) parts → AllByRecursion (λ part. length (frames part) ≤ block) parts →
+    AllByRecursion AreRecords parts
+all_bounded block [] small some fits = tt
+all_bounded block (part ∷ parts) small some fits = (bounded part some.0 (omega (arith, fits.0)), all_bounded block parts small some.1 fits.1)
 
-reads_back : (block : ℕ) (groups : List (List (List ℕ))) → 0 < block → Grouped block 0 groups (laid_out block 0 (map frames groups)) →
-    unpacked block (concat (packed block (map frames groups))) ≡ Ok (flat_map (λ records. records) groups)
-reads_back block groups positive d =
+-- blocks of frames and zeros read as the records
+pub frames-read : (block : ℕ) (bytes : List ℕ) (records : List (List ℕ)) → 0 < block → block < 2 ^ 16 → AreFrames block records bytes → unpacked block bytes ≡ Ok records
+frames-read block bytes records positive small d =
     let blocks = concat (map (padded block) (map frames d.parts)) in
-    let same : concat (packed block (map frames groups)) ≡ blocks = ap (λ l. concat (map (padded block) l.later)) d.is in
-    let count : length blocks / block ≡ length d.parts = ap (λ n. n / block) (length-blocks block d.parts d.fits) ∙ mul-div_cancel (length d.parts) positive in
-    let whole : flat_map (λ part. part) d.parts ≡ flat_map (λ group. group) groups = rw (none_in_front d.front d.in_room) at d.in_order in
-    ap (unpacked block) same ∙ ap (λ n. output_blocks_at n block 0 blocks) count ∙ blocks-read block 0 d.parts d.records d.fits ∙ ap Ok whole
+    let are = all_bounded block d.parts small d.some d.fits in
+    ap (unpacked block) d.rest_is_zeros ∙ ap (λ n. output_blocks_at n block 0 blocks) (blocks-counted block d.parts positive d.fits) ∙ blocks-read block 0 d.parts are d.fits ∙ ap Ok d.in_order
 
 pub packed_frames_read_back : PackedFramesReadBack
 packed_frames_read_back block groups positive small some fit =
-    reads_back block groups positive (grouped block 0 groups (all_bounded block groups small some fit) fit)
+    let d = grouped block 0 groups some fit in
+    frames-read block (concat (packed block (map frames groups))) (flat_map (λ records. records) groups) positive small (record {
+      parts = d.parts;
+      in_order = rw (none_in_front d.front d.in_room) at d.in_order;
+      some = d.some;
+      fits = d.fits;
+      rest_is_zeros = ap (λ l. concat (map (padded block) l.later)) d.is;
+    })

@@ -1,7 +1,7 @@
--- What reads as records is blocks of their frames and zeros, and such blocks read so.
-use Rattle.std.proofs.Common.{◌≡◌, ℕ, zero, suc, ◌+◌, ◌-◌, ◌*◌, ◌/◌, ◌^◌, ◌≤◌, ◌<◌, List, [], ◌∷◌, ◌++◌, length, map, take, drop, replicate, Ok, Err, refl, ap, sym, subst, ◌∙◌, arith, length-append, length-drop, append_assoc, take-append-drop, inl, inr, ⊎_elim}
+-- What reads as records is blocks of their frames and zeros.
+use Rattle.std.proofs.Common.{◌≡◌, ℕ, zero, suc, ◌+◌, ◌-◌, ◌*◌, ◌/◌, ◌≤◌, ◌<◌, List, [], ◌∷◌, ◌++◌, length, map, take, drop, replicate, Ok, Err, refl, ap, sym, subst, ◌∙◌, arith, length-append, length-drop, append_assoc, take-append-drop, inl, inr, ⊎_elim}
 use Rattle.std.specs.List.{AllByRecursion, concat}
-use Rattle.std.proofs.Math.Nat.{div-add-mod', mul-div_cancel, suc-mul}
+use Rattle.std.proofs.Math.Nat.{div-add-mod', suc-mul}
 use Rattle.std.proofs.lemmas.Bool.{cases_lt}
 use Rattle.std.proofs.lemmas.Bool.Decides.{eqb_tells}
 use Rattle.std.proofs.lemmas.List.{drop-drop, length-replicate, length-take-le}
@@ -11,10 +11,9 @@ use Rattle.program_interface.specs.Readings.{◌>>=◌, with_front}
 use Rattle.program_interface.specs.Bytes.{padded}
 use Rattle.program_interface.proofs.Proved.{all_drop, all_take, front_spelled}
 use Rattle.emit_append.proofs.ByteLists.{AllBytes, FitsByte, by_place, by_recursion}
-use Rattle.emit_append.specs.Unpacking.{AreFrames, Reading, UnpackedIsFrames, after_frame, frame_length, frame_record, frames_at, output_blocks_at, unpacked, zeros_at}
+use Rattle.emit_append.specs.Unpacking.{AreFrames, Reading, UnpackedIsFrames, after_frame, frame_length, frame_record, frames_at, output_blocks_at, zeros_at}
 use Rattle.emit_append.proofs.FramesRead.{step-frame, step-short, step-zeros}
-use Rattle.emit_append.proofs.GroupsOfBlocks.{parts_fit}
-use Rattle.emit_append.proofs.ReadBack.{all_bounded, blocks-read, front_two, length-blocks}
+use Rattle.emit_append.proofs.ReadBack.{frames-read, front_two}
 
 -- records that none is without bytes, whose frames stand in front of zeros
 pub record IsFrames (rest : List ℕ) (records : List (List ℕ)) : Type 0 where
@@ -137,14 +136,6 @@ only-blocks (suc count) block at bytes records long are is =
     after-block block bytes records _ _ (omega (arith, long, blocks)) is
     (λ front. only-frames (length (take block bytes)) at (take block bytes) front (omega arith) (all_take FitsByte block bytes are))
     (λ more. only-blocks count block (at + block) (drop block bytes) more (omega (arith, long, blocks, length-drop block bytes)) (all_drop FitsByte block bytes are))
-
--- blocks of frames and zeros read as the records
-pub frames-read : (block : ℕ) (bytes : List ℕ) (records : List (List ℕ)) → 0 < block → block < 2 ^ 16 → AreFrames block records bytes → unpacked block bytes ≡ Ok records
-frames-read block bytes records positive small d =
-    let blocks = concat (map (padded block) (map frames d.parts)) in
-    let count : length blocks / block ≡ length d.parts = ap (λ n. n / block) (length-blocks block d.parts d.fits) ∙ mul-div_cancel (length d.parts) positive in
-    let are = all_bounded block d.parts small d.some (parts_fit block frames d.parts d.fits) in
-    ap (unpacked block) d.rest_is_zeros ∙ ap (λ n. output_blocks_at n block 0 blocks) count ∙ blocks-read block 0 d.parts are d.fits ∙ ap Ok d.in_order
 
 pub unpacked_is_frames : UnpackedIsFrames
 unpacked_is_frames block bytes records positive small are = (

@@ -9,9 +9,9 @@ abbrev pub has_bytes : List ℕ → Bool
 has_bytes [] = false
 has_bytes (x ∷ xs) = true
 
--- the groups that are not empty, in order
-abbrev pub with_bytes : List (List ℕ) → List (List ℕ)
-with_bytes groups = filter has_bytes groups
+-- groups without the empty ones, in order
+abbrev pub without_empty : List (List ℕ) → List (List ℕ)
+without_empty groups = filter has_bytes groups
 
 -- the first group of the blocks that follow, if there is one, is longer than so much room
 abbrev pub NextIsLonger : ℕ → List (List (List ℕ)) → Type 0
@@ -26,7 +26,7 @@ EachNextIsLonger block (part ∷ parts) = NextIsLonger (block - length (concat p
 -- parts: the groups of each block
 pub record ArePacked (block : ℕ) (groups blocks : List (List ℕ)) : Type 0 where
   pub parts : List (List (List ℕ))
-  pub whole_in_order : flat_map (λ part. part) parts ≡ with_bytes groups
+  pub whole_in_order : flat_map (λ part. part) parts ≡ without_empty groups
   pub at_least_one : AllByRecursion (λ part. 0 < length part) parts
   pub fits : AllByRecursion (λ part. length (concat part) ≤ block) parts
   pub next_is_longer : EachNextIsLonger block parts
