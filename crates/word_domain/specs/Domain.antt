@@ -36,7 +36,7 @@ pub record Operations (D : Type 0) : Type 0 where
   -- are one register. None: there is no such edge
   pub refine : Width → Relation → Bool → D → D → Bool → Option (D × D)
   -- the area that holds this many bytes from each address on that is a word and an offset, beside a
-  -- block of this length
+  -- block of this length. None: no area is known to
   pub access : ℕ → D → ℤ → ℕ → Option Area
   -- the lowest and the greatest word, or wider
   pub bounds : D → Bounds

@@ -72,7 +72,7 @@ pub trait Domain: Copy {
         ensures { result ≡ operations.refine width relation taken dst source same };
 
     /// The area, beside a block of this size, that holds all `size` bytes from each address
-    /// on that is a word of the fact and the offset.
+    /// on that is a word of the fact and the offset. None where no area is known to.
     fn access(self, block: BlockSize, offset: i16, size: u64) -> Option<Area>
         ensures { result ≡ operations.access block self offset size };
 
