@@ -98,7 +98,7 @@ extended_is Bits8To64 y h = rw (to_z_pos w8 (y % 2 ^ 8) (omega arith)) (omega ar
 extended_is Bits16To64 y h = rw (to_z_pos w16 (y % 2 ^ 16) (omega arith)) (omega arith)
 extended_is Bits32To64 y h = rw (to_z_pos w32 (y % 2 ^ 32) (omega arith)) (omega arith)
 
--- an extension to 32 bits fits them
+-- an extension fits its width
 extended_below : (extension : SignExtension) (y : ℕ) → y < 2 ^ 64 → extended extension y < number_count (extension_width extension)
 extended_below Bits8To32 y h = grind arith
 extended_below Bits16To32 y h = grind arith

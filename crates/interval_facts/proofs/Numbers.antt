@@ -1,4 +1,4 @@
--- Arithmetic facts on plain numbers that the rules rest on.
+-- What holds of plain numbers, which the rules rest on.
 use Rattle.std.proofs.Common.{ℕ, ◌≡◌, ◌+◌, ◌-◌, ◌*◌, ◌/◌, ◌%◌, ◌<◌, ◌≤◌, ◌∙◌, arith}
 use Rattle.std.proofs.Math.Nat.{div-mul-le_self, mod-eq-sub-mod, mod-eq_of_lt, mul-le-mul_left}
 use Rattle.std.proofs.lemmas.Nat.{le-div}
