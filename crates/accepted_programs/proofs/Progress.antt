@@ -1,8 +1,7 @@
 -- A step forward leaves fewer instructions.
-use Rattle.std.specs.Prelude.{ℕ, zero, suc, ◌≡◌, ◌+◌, ◌<◌, ◌≤◌, List, [], ◌∷◌, drop, count_by, is_some, Option, Some, None, if◌then◌else◌}
+use Rattle.std.specs.Prelude.{ℕ, zero, suc, ◌≡◌, ◌+◌, ◌<◌, ◌≤◌, List, [], ◌∷◌, take, drop, count_by, is_some, Option, Some, None, if◌then◌else◌}
 use Rattle.std.proofs.Common.{arith}
-use Rattle.std.proofs.Math.Nat.{le_of_lt}
-use Rattle.std.proofs.lemmas.List.Sums.{sum_by-cons}
+use Rattle.std.proofs.lemmas.List.Sums.{sum_by-cons, sum_by-take-drop}
 use Rattle.instruction_set.specs.declared.instruction.Instruction.{Instruction}
 use Rattle.program_meaning.specs.Step.{IsAt}
 
@@ -15,10 +14,10 @@ one_more n i slots h =
     omega (arith, count, h)
 
 fewer_behind : (m : ℕ) (slots : List (Option Instruction)) → count_by is_some (drop m slots) ≤ count_by is_some slots
-fewer_behind zero slots = omega arith
-fewer_behind (suc m) [] = omega arith
-fewer_behind (suc m) (Some i ∷ slots) = le_of_lt (one_more _ i slots (fewer_behind m slots))
-fewer_behind (suc m) (None ∷ slots) = fewer_behind m slots
+fewer_behind m slots =
+    let parts : count_by is_some (take m slots) + count_by is_some (drop m slots) ≡ count_by is_some slots =
+    sum_by-take-drop (λ (slot : Option Instruction). if is_some slot then 1 else 0) slots m in
+    omega (arith, parts)
 
 pub fewer : (slots : List (Option Instruction)) (k m : ℕ) → IsAt slots k → k < m
     → count_by is_some (drop m slots) < count_by is_some (drop k slots)

@@ -45,8 +45,8 @@ AcceptedFailsNowhere operations = (program : List (Option Instruction)) (sizes :
     → refusal operations program sizes ≡ None → (slot : ℕ) → IsPassed operations program sizes slot
 
 -- the state that so many steps of a block run lead to from another, or its last where it has fewer
-abbrev pub led_to : List (Option Instruction) → ℕ → ℕ → State → State
-led_to program limit steps start = (block_run_of program limit steps 0 start).state
+abbrev pub state_after_steps : List (Option Instruction) → ℕ → ℕ → State → State
+state_after_steps program limit steps start = (block_run_of program limit steps 0 start).state
 
 -- over every block of the length, every context and every scratch, each state of a block run meets what is known at its slot,
 -- where each slot that the run was at before is passed; whether its own is passed doesn't matter
@@ -54,7 +54,7 @@ abbrev pub FactsAreMet : {D : Type 0} → (D → ℕ → Type 0) → Operations 
 FactsAreMet contains operations = (program : List (Option Instruction)) → IsProgram program → (sizes : Sizes) → AreSizes sizes
     → (bytes context scratch : List ℕ) → length bytes ≡ sizes.block → IsState (at_start bytes context scratch) → (steps : ℕ)
     → ((fewer : ℕ) → fewer < steps
-    → IsPassed operations program sizes (led_to program sizes.limit fewer (at_start bytes context scratch)).slot)
+    → IsPassed operations program sizes (state_after_steps program sizes.limit fewer (at_start bytes context scratch)).slot)
     → MeetsSome contains
-    (facts_at operations sizes.block program (led_to program sizes.limit steps (at_start bytes context scratch)).slot)
-    (led_to program sizes.limit steps (at_start bytes context scratch))
+    (facts_at operations sizes.block program (state_after_steps program sizes.limit steps (at_start bytes context scratch)).slot)
+    (state_after_steps program sizes.limit steps (at_start bytes context scratch))
