@@ -12,7 +12,7 @@ use Rattle.program_interface.specs.declared.frame.TheConstants.{FRAME_LENGTH_BYT
 use Rattle.program_interface.specs.RunSizes.{Sizes}
 use Rattle.word_domain.specs.Domain.{Operations}
 use Rattle.accepted_programs.specs.Accepted.{begins_at, fails, leads_nowhere, reason_of, turns_away}
-use Rattle.verifier.specs.steps.Instructions.{HasRoom, StaysInside}
+use Rattle.verifier.specs.steps.Instructions.{CanBeCounted, StaysInside}
 use Rattle.accepted_programs.specs.Facts.{greatest_length, slot_behind}
 use Rattle.accepted_programs.proofs.Proved.{no_reason_holds}
 use Rattle.accepted_programs.specs.declared.facts.Facts.{Facts}
@@ -60,10 +60,10 @@ module _ {D : Type 0} (operations : Operations D) where
       last = goes_last program slot (distance_of i) (free JumpOutside);
     }
 
-  pub room_left : (program : List (Option Instruction)) (sizes : Sizes) (slot : ℕ) (facts : Facts D) (i : Instruction)
-      → reason_of operations program sizes slot facts i ≡ None → sizes.limit ≤ LARGEST_BLOCK → HasRoom operations i facts
-  room_left program sizes slot facts (Call helper) none fits =
+  pub can_be_counted : (program : List (Option Instruction)) (sizes : Sizes) (slot : ℕ) (facts : Facts D) (i : Instruction)
+      → reason_of operations program sizes slot facts i ≡ None → sizes.limit ≤ LARGEST_BLOCK → CanBeCounted operations i facts
+  can_be_counted program sizes slot facts (Call helper) none fits =
       within_limit (is_emit (Call helper)) sizes.limit (facts.emitted + FRAME_LENGTH_BYTES + greatest_length operations facts)
       (free program sizes slot facts (Call helper) none UnknownHelper)
       (free program sizes slot facts (Call helper) none EmitLimit) fits
-  room_left program sizes slot facts i none fits = tt
+  can_be_counted program sizes slot facts i none fits = tt

@@ -1,15 +1,15 @@
 //! What an instruction leaves known along its edges.
 
-ghost use Rattle.std.specs.Prelude.{◌≡◌, ◌+◌, ◌<◌, ◌^◌, None};
+ghost use Rattle.std.specs.Prelude.{◌≡◌, ◌+◌, ◌<◌, ◌^◌, ◌++◌, replicate, drop, None};
 ghost use Rattle.std.specs.Bool.{then_some};
 ghost use Rattle.instruction_set.specs.Instruction.{distance_of};
 ghost use Rattle.accepted_programs.specs.Facts.{source_fact, compared_fact, after_emit, after_store, computed_word, enters_stack as area_is_stack, fact, facts_behind, greatest_length, is_register as source_is, kept_fact, loaded_fact, loaded_word, with_fact, with_source};
-ghost use Rattle.verifier.specs.steps.Instructions.{HasRoom};
+ghost use Rattle.verifier.specs.steps.Instructions.{CanBeCounted};
 
 use crate::cells::{cell_of, is_stack, known, store_into};
 use accepted_programs::Facts;
 use instruction_set::{Instruction, Register, Relation, Size, Source, Width};
-use program_interface::{Area, BlockSize, CLEARED_REGISTERS, FRAME_LENGTH_BYTES};
+use program_interface::{Area, BlockSize, CLEARED_REGISTERS, FRAME_LENGTH_BYTES, REGISTERS};
 use program_meaning::Arithmetic;
 use word_domain::Domain;
 
@@ -50,7 +50,7 @@ fn is_register(register: Register, source: &Source) -> bool
 }
 
 /// What a compare tells along the edge that is taken, or along the other.
-pub fn refined<D: Domain>(
+pub(crate) fn refined<D: Domain>(
     taken: bool,
     width: Width,
     relation: Relation,
@@ -67,7 +67,12 @@ pub fn refined<D: Domain>(
 
 /// Replaces the facts about the destination and the source, unless that is an immediate.
 #[inline]
-pub fn set_both<D: Domain>(facts: &mut Facts<D>, dst: Register, source: &Source, both: (D, D))
+pub(crate) fn set_both<D: Domain>(
+    facts: &mut Facts<D>,
+    dst: Register,
+    source: &Source,
+    both: (D, D),
+)
     ensures { facts.new ≡ with_source D.operations (with_fact D.operations facts.old dst both.0) source.now both.1 }
 {
     facts.set(dst, both.0);
@@ -76,17 +81,24 @@ pub fn set_both<D: Domain>(facts: &mut Facts<D>, dst: Register, source: &Source,
     }
 }
 
-/// Changes the facts to those after emit.
+/// Replaces the facts about the registers that a call clears.
 #[tactic(auto, using(crate::proofs::Fills::filled_more))]
+fn clear<D: Domain>(registers: &mut [D; REGISTERS])
+    ensures { registers.new ≡ replicate CLEARED_REGISTERS (D.operations.constant 0) ++ drop CLEARED_REGISTERS registers.old }
+{
+    let zero = D::constant(0);
+    for i in 0..CLEARED_REGISTERS {
+        registers[i] = zero;
+    }
+}
+
+/// Changes the facts to those after emit.
 fn emit<D: Domain>(facts: &mut Facts<D>)
     requires { facts.old.emitted + FRAME_LENGTH_BYTES + greatest_length D.operations facts.old < 2 ^ 64 }
     ensures { facts.new ≡ after_emit D.operations facts.old }
 {
-    let zero = D::constant(0);
-    let most = facts.registers[Register::R2.index()].bounds().high;
-    for i in 0..CLEARED_REGISTERS {
-        facts.registers[i] = zero;
-    }
+    let most = facts.get(Register::R2).bounds().high;
+    clear(&mut facts.registers);
     facts.emitted = facts.emitted + FRAME_LENGTH_BYTES + most as usize;
 }
 
@@ -195,9 +207,13 @@ fn computed<D: Domain>(instruction: &Instruction, facts: &Facts<D>) -> Option<(R
 }
 
 /// Changes the facts to those at the slot behind an instruction that doesn't jump; false where the program ends.
-pub fn step<D: Domain>(instruction: &Instruction, block: BlockSize, facts: &mut Facts<D>) -> bool
+pub(crate) fn step<D: Domain>(
+    instruction: &Instruction,
+    block: BlockSize,
+    facts: &mut Facts<D>,
+) -> bool
     requires straight { distance_of instruction.now ≡ None }
-    requires room { HasRoom D.operations instruction.now facts.old }
+    requires counted { CanBeCounted D.operations instruction.now facts.old }
     ensures { then_some result facts.new ≡ facts_behind D.operations block instruction.now facts.old }
 {
     match *instruction {

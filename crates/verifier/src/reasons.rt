@@ -14,7 +14,7 @@ use word_domain::Domain;
 
 /// The slot behind an instruction.
 #[inline]
-pub fn slot_behind(slot: usize, instruction: &Instruction) -> usize
+pub(crate) fn slot_behind(slot: usize, instruction: &Instruction) -> usize
     requires { slot < MOST_SLOTS }
     ensures { result ≡ instruction_slot_behind slot instruction.now }
 {
@@ -166,7 +166,7 @@ fn passes_limit<D: Domain>(limit: u32, facts: &Facts<D>) -> bool
 }
 
 /// The least reason to refuse an instruction at a slot with these facts.
-pub fn find_reason<D: Domain>(
+pub(crate) fn find_reason<D: Domain>(
     program: &Program,
     sizes: RunSizes,
     slot: usize,

@@ -5,7 +5,7 @@ ghost use Rattle.instruction_set.specs.Instruction.{distance_of};
 ghost use Rattle.instruction_set.specs.Program.{instruction_at};
 ghost use Rattle.accepted_programs.specs.Accepted.{refusal_at, turns_away};
 ghost use Rattle.accepted_programs.specs.Facts.{facts_at_target, facts_behind, gives, merge, with_both};
-ghost use Rattle.verifier.specs.steps.Instructions.{HasRoom, StaysInside};
+ghost use Rattle.verifier.specs.steps.Instructions.{CanBeCounted, StaysInside};
 ghost use Rattle.verifier.specs.steps.Rows.{held, held_at, refusal_in};
 
 use crate::edges::{refined, set_both, step};
@@ -202,7 +202,7 @@ fn push<D: Domain>(
 ) -> Result<(), AllocError>
     requires slot { slot < MOST_SLOTS }
     requires inside { StaysInside (length rows.old) slot instruction.now }
-    requires room { HasRoom D.operations instruction.now facts.value }
+    requires counted { CanBeCounted D.operations instruction.now facts.value }
     ensures len { length rows.new ≡ length rows.old }
     ensures given { OnOk result ((s : ℕ) → s < length rows.old → held_at rows.new s ≡ gives D.operations block (Some instruction.now) slot (Some facts.value) s (held_at rows.old s)) }
 {
@@ -222,7 +222,7 @@ fn push<D: Domain>(
 
 /// Looks at one slot, and gives what its instruction leaves known to the slots that it leads to. The slot's own facts
 /// are moved along, or handed out with the refusal.
-#[tactic(auto, using(crate::proofs::Sizes::facts_fit, crate::proofs::Checks::stays_inside, crate::proofs::Checks::room_left))]
+#[tactic(auto, using(crate::proofs::Sizes::facts_fit, crate::proofs::Checks::stays_inside, crate::proofs::Checks::can_be_counted))]
 pub(crate) fn visit<D: Domain>(
     alloc: Global,
     rows: &mut [Row<D>],

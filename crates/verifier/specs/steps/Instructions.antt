@@ -10,9 +10,9 @@ use Rattle.accepted_programs.specs.Facts.{greatest_length, slot_behind}
 use Rattle.accepted_programs.specs.declared.facts.Facts.{Facts}
 
 -- a call leaves the bound on the emitted bytes a number that can be counted
-abbrev pub HasRoom : {D : Type 0} → Operations D → Instruction → Facts D → Type 0
-HasRoom operations (Call helper) facts = facts.emitted + FRAME_LENGTH_BYTES + greatest_length operations facts < 2 ^ 64
-HasRoom operations _ facts = Unit {0}
+abbrev pub CanBeCounted : {D : Type 0} → Operations D → Instruction → Facts D → Type 0
+CanBeCounted operations (Call helper) facts = facts.emitted + FRAME_LENGTH_BYTES + greatest_length operations facts < 2 ^ 64
+CanBeCounted operations _ facts = Unit {0}
 
 -- an instruction leads to slots of a program of this many, and to no others
 pub record StaysInside (slots slot : ℕ) (i : Instruction) : Type 0 where

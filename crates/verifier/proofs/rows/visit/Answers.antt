@@ -3,7 +3,7 @@ use Rattle.std.proofs.lemmas.List.{get_or_default, get_or-set_other, length-set}
 use Rattle.instruction_set.specs.Program.{instruction_at}
 use Rattle.verifier.specs.steps.Rows.{held, held_at}
 use Rattle.accepted_programs.specs.Accepted.{reason_of}
-use Rattle.verifier.proofs.Checks.{room_left, stays_inside}
+use Rattle.verifier.proofs.Checks.{can_be_counted, stays_inside}
 use Rattle.verifier.proofs.Sizes.{facts_fit}
 use Rattle.verifier.proofs.rows.visit.Goals as goal
 
@@ -17,7 +17,7 @@ push-requires g c =
         search rules,
         (
           simp (length-set, c.requires.long) (stays_inside ops c.args.program.now c.args.sizes c.args.slot c.in-Some-take.facts.value c.in-Some.instruction.now none),
-          room_left ops c.args.program.now c.args.sizes c.args.slot c.in-Some-take.facts.value c.in-Some.instruction.now none
+          can_be_counted ops c.args.program.now c.args.sizes c.args.slot c.in-Some-take.facts.value c.in-Some.instruction.now none
               (rw c.limit-limit.ensures.value at c.limit-limit.ensures.most),
         ),
       ),
