@@ -7,34 +7,6 @@ use std::test::Fail;
 
 /// Loads.
 const LOADS: &[Case] = &[
-    // The last byte of the block.
-    Text("ldxb r0, [r2+511]\nexit", 0, Accepted(2)),
-    // The byte behind it.
-    Text("ldxb r0, [r2+512]\nexit", 0, Refused(0, 5)),
-    // The last 8 bytes of the block.
-    Text("ldxdw r0, [r2+504]\nexit", 0, Accepted(2)),
-    // An access is tested at its end too.
-    Text("ldxdw r0, [r2+505]\nexit", 0, Refused(0, 5)),
-    // The byte before the block.
-    Text("ldxb r0, [r2-1]\nexit", 0, Refused(0, 5)),
-    // The context has 32 bytes.
-    Text("ldxdw r0, [r1+24]\nexit", 0, Accepted(2)),
-    // One byte further.
-    Text("ldxdw r0, [r1+25]\nexit", 0, Refused(0, 5)),
-    // Scratch has 1024 bytes.
-    Text("ldxdw r0, [r3+1016]\nexit", 0, Accepted(2)),
-    // One byte further.
-    Text("ldxdw r0, [r3+1017]\nexit", 0, Refused(0, 5)),
-    // R10 is the end of the stack.
-    Text("ldxdw r0, [r10-8]\nexit", 0, Accepted(2)),
-    // The stack's first 8 bytes.
-    Text("ldxdw r0, [r10-512]\nexit", 0, Accepted(2)),
-    // One byte past the stack's end.
-    Text("ldxdw r0, [r10-7]\nexit", 0, Refused(0, 5)),
-    // One byte before the stack.
-    Text("ldxdw r0, [r10-513]\nexit", 0, Refused(0, 5)),
-    // The least offset.
-    Text("ldxdw r0, [r10-32768]\nexit", 0, Refused(0, 5)),
     // R0 is 0, and no address.
     Text("ldxdw r0, [r0+0]\nexit", 0, Refused(0, 5)),
     // A copy of an address is the address.
@@ -89,14 +61,6 @@ const LOADS: &[Case] = &[
 
 /// Stores.
 const STORES: &[Case] = &[
-    // The stack's last 8 bytes.
-    Text("stxdw [r10-8], r0\nexit", 0, Accepted(2)),
-    // The byte behind the stack.
-    Text("stxb [r10+0], r0\nexit", 0, Refused(0, 6)),
-    // Scratch's last 4 bytes.
-    Text("stw [r3+1020], 1\nexit", 0, Accepted(2)),
-    // One byte further.
-    Text("stw [r3+1021], 1\nexit", 0, Refused(0, 6)),
     // The context is read alone.
     Text("stxdw [r1+0], r0\nexit", 0, Refused(0, 6)),
     // So is the block.

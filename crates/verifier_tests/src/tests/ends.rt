@@ -20,6 +20,9 @@ const JUMPS: &[Case] = &[
     // The same by a distance of 32 bits.
     Far("jaw +4094", 4094, Accepted(4096)),
     Far("jaw +4095", 4094, Refused(0, 2)),
+    // The farthest jumps of 32 bits.
+    Text("jaw -2147483648\nexit", 0, Refused(0, 1)),
+    Text("jaw +2147483647\nexit", 0, Refused(0, 2)),
 ];
 
 /// Loads at the ends of areas.
@@ -28,22 +31,36 @@ const LOADS: &[Case] = &[
     Text("ldxb r0, [r1-1]\nexit", 0, Refused(0, 5)),
     Text("ldxb r0, [r1+31]\nexit", 0, Accepted(2)),
     Text("ldxb r0, [r1+32]\nexit", 0, Refused(0, 5)),
+    Text("ldxdw r0, [r1+24]\nexit", 0, Accepted(2)),
+    Text("ldxdw r0, [r1+25]\nexit", 0, Refused(0, 5)),
     // The block has 512.
+    Text("ldxb r0, [r2-1]\nexit", 0, Refused(0, 5)),
+    Text("ldxb r0, [r2+511]\nexit", 0, Accepted(2)),
+    Text("ldxb r0, [r2+512]\nexit", 0, Refused(0, 5)),
     Text("ldxh r0, [r2+510]\nexit", 0, Accepted(2)),
     Text("ldxh r0, [r2+511]\nexit", 0, Refused(0, 5)),
     Text("ldxw r0, [r2+508]\nexit", 0, Accepted(2)),
     Text("ldxw r0, [r2+509]\nexit", 0, Refused(0, 5)),
+    Text("ldxdw r0, [r2+504]\nexit", 0, Accepted(2)),
+    Text("ldxdw r0, [r2+505]\nexit", 0, Refused(0, 5)),
     Text("ldxb r0, [r2-32768]\nexit", 0, Refused(0, 5)),
     Text("ldxb r0, [r2+32767]\nexit", 0, Refused(0, 5)),
     // Scratch has 1024.
     Text("ldxb r0, [r3-1]\nexit", 0, Refused(0, 5)),
     Text("ldxb r0, [r3+1023]\nexit", 0, Accepted(2)),
     Text("ldxb r0, [r3+1024]\nexit", 0, Refused(0, 5)),
+    Text("ldxdw r0, [r3+1016]\nexit", 0, Accepted(2)),
+    Text("ldxdw r0, [r3+1017]\nexit", 0, Refused(0, 5)),
     // The stack has 512, and R10 is its end.
     Text("ldxb r0, [r10-513]\nexit", 0, Refused(0, 5)),
     Text("ldxb r0, [r10-512]\nexit", 0, Accepted(2)),
     Text("ldxb r0, [r10-1]\nexit", 0, Accepted(2)),
     Text("ldxb r0, [r10+0]\nexit", 0, Refused(0, 5)),
+    Text("ldxdw r0, [r10-513]\nexit", 0, Refused(0, 5)),
+    Text("ldxdw r0, [r10-512]\nexit", 0, Accepted(2)),
+    Text("ldxdw r0, [r10-8]\nexit", 0, Accepted(2)),
+    Text("ldxdw r0, [r10-7]\nexit", 0, Refused(0, 5)),
+    Text("ldxdw r0, [r10-32768]\nexit", 0, Refused(0, 5)),
     Text("ldxb r0, [r10+32767]\nexit", 0, Refused(0, 5)),
 ];
 
@@ -53,11 +70,15 @@ const STORES: &[Case] = &[
     Text("stxb [r3+0], r0\nexit", 0, Accepted(2)),
     Text("stxb [r3+1023], r0\nexit", 0, Accepted(2)),
     Text("stxb [r3+1024], r0\nexit", 0, Refused(0, 6)),
+    Text("stw [r3+1020], 1\nexit", 0, Accepted(2)),
+    Text("stw [r3+1021], 1\nexit", 0, Refused(0, 6)),
     Text("stxdw [r3+1016], r0\nexit", 0, Accepted(2)),
     Text("stxdw [r3+1017], r0\nexit", 0, Refused(0, 6)),
     Text("stxdw [r10-513], r0\nexit", 0, Refused(0, 6)),
     Text("stxdw [r10-512], r0\nexit", 0, Accepted(2)),
+    Text("stxdw [r10-8], r0\nexit", 0, Accepted(2)),
     Text("stxdw [r10-7], r0\nexit", 0, Refused(0, 6)),
+    Text("stxb [r10+0], r0\nexit", 0, Refused(0, 6)),
     Text("stb [r10-32768], 1\nexit", 0, Refused(0, 6)),
 ];
 

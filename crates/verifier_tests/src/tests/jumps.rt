@@ -1,16 +1,18 @@
 //! Programs that jump, end and write registers.
 
+use super::programs::{DECIDED, SKIPPING};
 use super::verdicts::Case::{self, Text};
 use super::verdicts::Verdict::{Accepted, Refused};
 use super::verdicts::check_both;
 use std::test::Fail;
+use test_inputs::programs::RETURNING;
 
 /// Jumps.
 const JUMPS: &[Case] = &[
     // EXIT alone ends the run.
     Text("exit", 0, Accepted(1)),
     // One word into R0.
-    Text("mov r0, 0\nexit", 0, Accepted(2)),
+    Text(RETURNING, 0, Accepted(2)),
     // A jump to the next slot.
     Text("ja +0\nexit", 0, Accepted(2)),
     // A jump to itself is no jump forward.
@@ -21,10 +23,6 @@ const JUMPS: &[Case] = &[
     Text("ja -5\nexit", 0, Refused(0, 1)),
     // A compare that jumps backward.
     Text("jeq r0, 0, -1\nexit", 0, Refused(0, 1)),
-    // The farthest jump backward.
-    Text("jaw -2147483648\nexit", 0, Refused(0, 1)),
-    // The farthest jump forward.
-    Text("jaw +2147483647\nexit", 0, Refused(0, 2)),
     // The slot behind the last is outside.
     Text("ja +1\nexit", 0, Refused(0, 2)),
     // Both edges of a compare are checked, also one that R0 = 0 rules out.
@@ -40,9 +38,9 @@ const JUMPS: &[Case] = &[
     // A wide instruction at the end.
     Text("lddw r0, 1", 0, Refused(0, 3)),
     // No edge leads to the load.
-    Text("ja +1\nldxdw r0, [r0+0]\nexit", 0, Accepted(3)),
+    Text(SKIPPING, 0, Accepted(3)),
     // R0 is 0, so the jump is always taken.
-    Text("jeq r0, 0, +1\nldxdw r0, [r0+0]\nexit", 0, Accepted(3)),
+    Text(DECIDED, 0, Accepted(3)),
     // R0 is 0, so the jump is never taken.
     Text(
         "jne r0, 0, +1\nexit\nldxdw r0, [r0+0]\nexit",

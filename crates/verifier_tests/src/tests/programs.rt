@@ -17,3 +17,9 @@ pub(super) const INDEXED_TWO: Text =
 /// Loads one of the block's last 100 bytes, where its first is below 100.
 pub(super) const BOUNDED: Text =
     "ldxb r6, [r2+0]\njgt r6, 99, +3\nadd r2, r6\nldxb r0, [r2+412]\nmov r0, 0\nexit";
+
+/// Jumps over a load from no address, to which no edge leads.
+pub(super) const SKIPPING: Text = "ja +1\nldxdw r0, [r0+0]\nexit";
+
+/// Jumps over such a load where R0 is 0, which it is.
+pub(super) const DECIDED: Text = "jeq r0, 0, +1\nldxdw r0, [r0+0]\nexit";

@@ -1,7 +1,7 @@
 //! Accepted programs end the same with every check and over their superinstructions.
 
 use super::program;
-use super::programs::{BOUNDED, INDEXED, INDEXED_TWO, TWO_FRAMES};
+use super::programs::{BOUNDED, DECIDED, INDEXED, INDEXED_TWO, SKIPPING, TWO_FRAMES};
 use interp::Machine;
 use interval_domain::Intervals;
 use program_interface::{BlockSize, CONTEXT_BYTES, Context, RunSizes, SCRATCH_BYTES};
@@ -24,8 +24,8 @@ const FIRSTS: &[u8] = &[7, 8, 7, 0, 3, 99, 100, 255];
 /// Programs, each with the limit of its groups, the bytes of a block, and the first of each of the blocks that it is run on.
 const SCENES: &[(Text, u32, u32, &[u8])] = &[
     (RETURNING, 0, 512, FIRSTS),
-    ("ja +1\nldxdw r0, [r0+0]\nexit", 0, 512, FIRSTS),
-    ("jeq r0, 0, +1\nldxdw r0, [r0+0]\nexit", 0, 512, FIRSTS),
+    (SKIPPING, 0, 512, FIRSTS),
+    (DECIDED, 0, 512, FIRSTS),
     (MATCHING, 10, 512, &[7; 52]),
     (MATCHING, 10, 512, FIRSTS),
     (GROWING, 10, 512, FIRSTS),
