@@ -10,7 +10,7 @@ use bench_common::{load, read_words};
 use loads::repeat;
 use program_interface::{BlockSize, RunSizes};
 use std::alloc::Global;
-use std::rt::{Clock, Env, Files};
+use std::rt::Clock;
 use std::time::Instant;
 use std::{env, io};
 

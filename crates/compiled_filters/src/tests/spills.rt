@@ -25,9 +25,10 @@ use std::test::Fail;
 use verified_run::Prepared;
 use verifier::{Verified, verify};
 
-/// The address of each block, and how many blocks its run has.
+/// The address of each block.
 const LBA: u64 = 0x2a;
 
+/// How many blocks its run has.
 const COUNT: u32 = 16;
 
 /// A filter in hexadecimal.
