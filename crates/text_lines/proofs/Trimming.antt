@@ -3,7 +3,7 @@ use Rattle.std.proofs.Common.{◌≡◌, ℕ, Bool, true, false, ◌&&◌, eqb, 
 use Rattle.std.proofs.lemmas.List.{append-nil, nil_from_length}
 use Rattle.std.proofs.lemmas.Bool.{and_parts, eqb-true}
 use Rattle.text_lines.specs.Cut.{is_blank_byte, trimmed, without_end_blanks, without_first_blanks}
-use Rattle.text_lines.specs.Laws.{AreBlanks, IsBetweenBlanks, TrimmedTextsAreBetweenBlanks}
+use Rattle.text_lines.specs.Laws.{AreBlanks, IsBetweenBlanks, NoBlankFirst, NoBlankLast, TrimmedTextsAreBetweenBlanks}
 use Rattle.text_lines.proofs.Blanks.{end_stays}
 
 -- ---- the blanks in front
@@ -25,9 +25,6 @@ one_more_in_front byte text false is more = record { front = []; is = refl; blan
 blanks_in_front : (text : List ℕ) → BlanksInFront text (without_first_blanks text)
 blanks_in_front [] = record { front = []; is = refl; blanks = tt }
 blanks_in_front (byte ∷ text) = one_more_in_front byte text (is_blank_byte byte) refl (blanks_in_front text)
-
-abbrev NoBlankFirst : List ℕ → Type 0
-NoBlankFirst bytes = (byte : ℕ) (rest : List ℕ) → bytes ≡ byte ∷ rest → is_blank_byte byte ≡ false
 
 no_blank_by : (byte : ℕ) (text : List ℕ) (blank : Bool) → is_blank_byte byte ≡ blank → NoBlankFirst (without_first_blanks text)
     → NoBlankFirst (cond blank (without_first_blanks text) (byte ∷ text))
@@ -64,9 +61,6 @@ blanks_behind : (text : List ℕ) → BlanksBehind text (without_end_blanks text
 blanks_behind [] = record { back = []; is = refl; blanks = tt }
 blanks_behind (byte ∷ text) =
     one_more_behind byte text (is_blank_byte byte && eqb (length (without_end_blanks text)) 0) refl (blanks_behind text)
-
-abbrev NoBlankLast : List ℕ → Type 0
-NoBlankLast bytes = (rest : List ℕ) (byte : ℕ) → bytes ≡ rest ++ byte ∷ [] → is_blank_byte byte ≡ false
 
 some_stands : (rest : List ℕ) (byte : ℕ) → [] ≡ rest ++ byte ∷ [] → ⊥
 some_stands [] byte e = cc

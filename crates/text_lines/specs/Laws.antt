@@ -38,6 +38,14 @@ NothingHasNoLine = lines [] ≡ []
 abbrev pub AreBlanks : List ℕ → Type 0
 AreBlanks text = AllByRecursion (λ byte. is_blank_byte byte ≡ true) text
 
+-- no blank is first
+abbrev pub NoBlankFirst : List ℕ → Type 0
+NoBlankFirst bytes = (byte : ℕ) (rest : List ℕ) → bytes ≡ byte ∷ rest → is_blank_byte byte ≡ false
+
+-- no blank is last
+abbrev pub NoBlankLast : List ℕ → Type 0
+NoBlankLast bytes = (rest : List ℕ) (byte : ℕ) → bytes ≡ rest ++ byte ∷ [] → is_blank_byte byte ≡ false
+
 -- a text is blanks, these bytes, which neither begin nor end with a blank, and blanks
 pub record IsBetweenBlanks (text bytes : List ℕ) : Type 0 where
   pub front : List ℕ
@@ -45,8 +53,8 @@ pub record IsBetweenBlanks (text bytes : List ℕ) : Type 0 where
   pub parts : text ≡ front ++ (bytes ++ back)
   pub front_blanks : AreBlanks front
   pub back_blanks : AreBlanks back
-  pub first : (byte : ℕ) (rest : List ℕ) → bytes ≡ byte ∷ rest → is_blank_byte byte ≡ false
-  pub last : (rest : List ℕ) (byte : ℕ) → bytes ≡ rest ++ byte ∷ [] → is_blank_byte byte ≡ false
+  pub first : NoBlankFirst bytes
+  pub last : NoBlankLast bytes
 
 -- the trimmed text stands so in it, and nothing else does
 abbrev pub TrimmedTextsAreBetweenBlanks : Type 0
