@@ -13,7 +13,7 @@ use Rattle.std.proofs.lemmas.Fmt.{decimal_is_IsNumeral, digits_is_IsNumeral}
 use Rattle.text_lines.specs.Cut.{cut_at, is_blank_byte, parts_at, trimmed, without_end_blanks, without_first_blanks}
 use Rattle.ebpf_asm.specs.Statement.{operands_of}
 use Rattle.ebpf_asm.specs.Listing.{further_texts, operands_text, register_text, signed_text, memory_text, wide_text}
-use Rattle.text_lines.proofs.Proved.{cut_is_after_first_part, first_is_kept, kept_first, uncut_is_one_part}
+use Rattle.text_lines.proofs.Proved.{cut_is_after_first_part, without_first_blanks-cons, without_end_blanks-cons, uncut_is_one_part}
 use Rattle.ebpf_asm.proofs.RoundOperands.{place_behind, signed_text-parts}
 
 -- bytes of mnemonics and operands
@@ -133,13 +133,13 @@ no_blank b h = not-true (is_blank_byte b) (plain_no_blank b h)
 
 pub first_text : (text rest : List ℕ) → IsText text → without_first_blanks (text ++ rest) ≡ text ++ rest
 first_text [] rest h = absurd (omega (arith, h.some))
-first_text (b ∷ text) rest h = first_is_kept b (text ++ rest) (no_blank b (and_parts (is_plain b) (list_all is_plain text) h.bytes).0)
+first_text (b ∷ text) rest h = without_first_blanks-cons b (text ++ rest) (no_blank b (and_parts (is_plain b) (list_all is_plain text) h.bytes).0)
 
 pub end_plain : (text : List ℕ) → IsPlain text → without_end_blanks text ≡ text
 end_plain [] h = refl
 end_plain (b ∷ text) h =
     let parts = and_parts (is_plain b) (list_all is_plain text) h in
-    kept_first b text (no_blank b parts.0) ∙ ap (λ t. b ∷ t) (end_plain text parts.1)
+    without_end_blanks-cons b text (no_blank b parts.0) ∙ ap (λ t. b ∷ t) (end_plain text parts.1)
 
 trimmed_behind_blank : (text : List ℕ) → IsText text → trimmed (32 ∷ text) ≡ text
 trimmed_behind_blank text h =

@@ -86,14 +86,14 @@ no_blank_last (byte ∷ text) =
     no_blank_last_by byte (without_end_blanks text) (is_blank_byte byte && eqb (length (without_end_blanks text)) 0) refl (no_blank_last text)
 
 -- the first byte stays, where it is no blank
-pub kept_first : (byte : ℕ) (bytes : List ℕ) → is_blank_byte byte ≡ false → without_end_blanks (byte ∷ bytes) ≡ byte ∷ without_end_blanks bytes
-kept_first byte bytes is = rw is refl
+pub without_end_blanks-cons : (byte : ℕ) (bytes : List ℕ) → is_blank_byte byte ≡ false → without_end_blanks (byte ∷ bytes) ≡ byte ∷ without_end_blanks bytes
+without_end_blanks-cons byte bytes is = rw is refl
 
 first_stays : (bytes : List ℕ) → NoBlankFirst bytes → NoBlankFirst (without_end_blanks bytes)
 first_stays [] none = none
 first_stays (byte ∷ bytes) none =
     let no_blank : is_blank_byte byte ≡ false = none byte bytes refl in
-    subst NoBlankFirst (sym (kept_first byte bytes no_blank)) (λ other rest e.
+    subst NoBlankFirst (sym (without_end_blanks-cons byte bytes no_blank)) (λ other rest e.
     let same : byte ≡ other = cc in
     subst (λ (b : ℕ). is_blank_byte b ≡ false) same no_blank)
 
@@ -124,12 +124,12 @@ back_goes [] (byte ∷ back) blanks = rw (blanks.0, back_goes [] back blanks.1) 
 back_goes (byte ∷ bytes) back blanks = rw (back_goes bytes back blanks) refl
 
 -- in front nothing goes where no blank is first
-pub first_is_kept : (byte : ℕ) (bytes : List ℕ) → is_blank_byte byte ≡ false → without_first_blanks (byte ∷ bytes) ≡ byte ∷ bytes
-first_is_kept byte bytes is = rw is refl
+pub without_first_blanks-cons : (byte : ℕ) (bytes : List ℕ) → is_blank_byte byte ≡ false → without_first_blanks (byte ∷ bytes) ≡ byte ∷ bytes
+without_first_blanks-cons byte bytes is = rw is refl
 
 stays_whole : (bytes : List ℕ) → NoBlankLast bytes → without_end_blanks bytes ≡ bytes
 stays_whole [] none = refl
-stays_whole (byte ∷ []) none = kept_first byte [] (none [] byte refl)
+stays_whole (byte ∷ []) none = without_end_blanks-cons byte [] (none [] byte refl)
 stays_whole (byte ∷ x ∷ xs) none =
     end_stays (byte ∷ []) (x ∷ xs) (omega arith)
     (stays_whole (x ∷ xs) (λ rest other e. none (byte ∷ rest) other (ap (λ (bytes : List ℕ). byte ∷ bytes) e)))
@@ -138,7 +138,7 @@ trimmed_by : (bytes back : List ℕ) → NoBlankFirst bytes → NoBlankLast byte
 trimmed_by [] back first last blanks =
     ap (λ (all : List ℕ). without_end_blanks (without_first_blanks all)) (sym (append-nil back)) ∙ ap without_end_blanks (front_goes back [] blanks)
 trimmed_by (byte ∷ bytes) back first last blanks =
-    ap without_end_blanks (first_is_kept byte (bytes ++ back) (first byte bytes refl))
+    ap without_end_blanks (without_first_blanks-cons byte (bytes ++ back) (first byte bytes refl))
     ∙ (back_goes (byte ∷ bytes) back blanks ∙ stays_whole (byte ∷ bytes) last)
 
 pub trimmed_texts_are_between_blanks : TrimmedTextsAreBetweenBlanks
