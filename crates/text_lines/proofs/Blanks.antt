@@ -1,9 +1,12 @@
 -- Blanks as bytes, and at the end of a text; ASCII behind a text.
 use Rattle.std.proofs.Common.{◌≡◌, ℕ, zero, suc, ◌-◌, ◌+◌, ◌<◌, ◌≤◌, Bool, true, false, ◌&&◌, ◌==◌, eqb, cond, List, [], ◌∷◌, ◌++◌, length, take, get_or, refl, sym, ap, ◌∙◌, arith}
+use Rattle.std.specs.Bool.{MatchBool}
 use Rattle.std.specs.Char.{is_ascii}
-use Rattle.std.specs.List.{list_all}
-use Rattle.std.proofs.Math.Bool.{and-true}
+use Rattle.std.specs.List.{list_all, slice_index}
+use Rattle.std.specs.Str.{IsAscii, IsNotAscii}
+use Rattle.std.proofs.Math.Bool.{and-false, and-true}
 use Rattle.std.proofs.Math.Dec.{eqb-suc-zero}
+use Rattle.std.proofs.lemmas.Bool.{le-ltb, lt-ltb}
 use Rattle.std.proofs.lemmas.Bool.Decides.{nat_tests}
 use Rattle.std.proofs.lemmas.List.{length-append, take_more, take_all}
 use Rattle.std.proofs.lemmas.List.Folds.{list_all-append}
@@ -19,6 +22,20 @@ pub blank_is_code : (byte : ℕ) → is_blank_byte byte ≡ true → (byte == 59
 blank_is_code byte e = grind (arith, nat_tests)
 
 -- ---- ASCII
+
+ascii_each : (text : List ℕ) → IsAscii text → list_all is_ascii text ≡ true
+ascii_each [] each = refl
+ascii_each (byte ∷ text) each = rw (lt-ltb byte 128 (each 0), ascii_each text (λ i. each (suc i))) refl
+
+other_byte : (text : List ℕ) (at : ℕ) → 128 ≤ slice_index text at → list_all is_ascii text ≡ false
+other_byte [] at other = absurd (omega (arith, other))
+other_byte (byte ∷ text) zero other = rw (le-ltb byte 128 other) refl
+other_byte (byte ∷ text) (suc at) other = rw (other_byte text at other) (and-false (is_ascii byte))
+
+-- what the library's test tells is whether each byte passes
+pub ascii_tested : (text : List ℕ) (test : Bool) → MatchBool test (IsAscii text) (IsNotAscii text) → test ≡ list_all is_ascii text
+ascii_tested text true each = sym (ascii_each text each)
+ascii_tested text false other = sym (other_byte text other.0 other.1)
 
 -- a text is ASCII, where ASCII stands behind it, if it was without that
 pub ascii_behind : (text rest : List ℕ) → list_all is_ascii rest ≡ true → list_all is_ascii (text ++ rest) ≡ list_all is_ascii text

@@ -51,7 +51,7 @@ fn without_return(line: &[u8]) -> &[u8]
 pub fn is_all_ascii(line: &[u8]) -> bool
     ensures { result ≡ list_all is_ascii line.now }
 {
-    line.iter().all(|byte| byte.is_ascii())
+    line.is_ascii()
 }
 
 /// What stands before the first `;` of a line, or the line where it has none.
