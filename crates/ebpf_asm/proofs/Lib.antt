@@ -16,3 +16,4 @@ mod LowestFaults
 mod Jumps
 mod InOrder
 mod Blanks
+mod Refusals

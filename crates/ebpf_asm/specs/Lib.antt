@@ -7,5 +7,6 @@ pub mod Line
 pub mod Assembly
 pub mod LowestFault
 pub mod Assembled
+pub mod Refusal
 pub mod Laws
 pub mod steps

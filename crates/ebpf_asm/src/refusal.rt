@@ -1,6 +1,6 @@
 //! What a user is told of text that can't be assembled.
 
-ghost use Rattle.std.specs.Prelude.{◌≡◌};
+ghost use Rattle.ebpf_asm.specs.Refusal.{IsRefusalOf};
 
 use crate::fault::Fault;
 use text_lines::{Excerpt, line_behind, trim};
@@ -19,7 +19,7 @@ pub struct AssemblyRefusal {
 impl AssemblyRefusal {
     /// The refusal that tells this fault of a text.
     pub fn of(fault: Fault, text: &[u8]) -> AssemblyRefusal
-        ensures { result.fault ≡ fault }
+        ensures { IsRefusalOf fault text.now result }
     {
         let line = line_behind(text, fault.line.saturating_sub(1)).unwrap_or(&[]);
         AssemblyRefusal {

@@ -1,6 +1,6 @@
 //! The beginning of a text, kept to be shown.
 
-ghost use Rattle.std.specs.Prelude.{◌≡◌, ◌<◌, ◌↔◌, length, take, IsTrue};
+ghost use Rattle.text_lines.specs.Excerpt.{IsExcerptOf};
 
 use std::fmt;
 
@@ -21,8 +21,7 @@ pub struct Excerpt {
 impl Excerpt {
     /// The excerpt of a text.
     pub fn of(text: &[u8]) -> Excerpt
-        ensures first { take result.kept result.bytes ≡ take 40 text.now }
-        ensures rest { IsTrue result.goes_on ↔ (40 < length text.now) }
+        ensures { IsExcerptOf text.now result }
     {
         let kept = MOST.min(text.len());
         let mut bytes = [0; MOST];
