@@ -4,7 +4,7 @@ ghost use Rattle.std.specs.Prelude.{◌≡◌};
 ghost use Rattle.ebpf_asm.specs.declared.fault.AssembleFault.TheVariants.{Memory};
 
 use program_interface::MOST_SLOTS;
-use std::alloc::{AllocError, AllocFailed};
+use std::alloc::AllocError;
 use thiserror::Error;
 
 /// Why a line can't be assembled.
@@ -73,14 +73,6 @@ impl From<AllocError> for AssembleFault {
     ghost from_gives = { λ _ e. e ≡ Memory };
 
     fn from(_e: AllocError) -> AssembleFault {
-        AssembleFault::Memory
-    }
-}
-
-impl<T: Drop> From<AllocFailed<T>> for AssembleFault {
-    ghost from_gives = { λ _ e. e ≡ Memory };
-
-    fn from(_e: AllocFailed<T>) -> AssembleFault {
         AssembleFault::Memory
     }
 }
