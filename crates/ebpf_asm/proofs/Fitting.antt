@@ -1,6 +1,7 @@
 -- What a line is read as fits the fields of an instruction.
-use Rattle.std.proofs.Common.{◌≡◌, ℕ, ℤ, pos, negsuc, ◌-ℤ◌, ◌+◌, ◌-◌, ◌%◌, ◌<◌, ◌≤◌, ◌^◌, Bool, true, false, ◌&&◌, cond, eqb, leb, List, length, get_or, drop, map, Option, Some, None, Result, Ok, Err, refl, arith}
-use Rattle.std.specs.Prelude.{FitsSigned, IfOk, ok_or, codes}
+use Rattle.std.proofs.Common.{◌≡◌, ℕ, ℤ, pos, negsuc, ◌-ℤ◌, ◌+◌, ◌-◌, ◌%◌, ◌<◌, ◌≤◌, ◌^◌, Bool, true, false, ◌&&◌, cond, eqb, leb, List, length, get_or, drop, map, Option, Some, None, Result, Ok, Err, refl, sym, ap, ◌∙◌, arith}
+use Rattle.std.specs.Prelude.{FitsSigned, IfOk, int_le, ok_or, codes}
+use Rattle.std.specs.Result.{OkIff, result_ok}
 use Rattle.std.specs.Int.{w16, w32, w64, cast_signed, cast_unsigned}
 use Rattle.std.specs.List.{AllByRecursion, before_first, position_or_len}
 use Rattle.std.specs.Char.{is_ascii_digit}
@@ -33,7 +34,7 @@ use Rattle.ebpf_asm.specs.Assembly.{LabelMap, fitting, jump_by, jump_to, resolve
 use Rattle.text_lines.specs.Cut.{is_blank_byte}
 use Rattle.ebpf_decode.proofs.Proved.{fits-32}
 use Rattle.ebpf_asm.proofs.EachLine.{LineHas, lines_have}
-use Rattle.ebpf_asm.proofs.RoundOperands.{IsSource}
+use Rattle.ebpf_asm.proofs.RoundOperands.{IsSource, long_again, short_again}
 
 -- ---- readings that follow one another
 
@@ -69,6 +70,20 @@ short_fits = in_range_fits 32767 32767 (FitsSigned w16) (λ n low. omega (arith,
 
 long_fits : (z : ℤ) → IfOk (long_of z) (FitsSigned w32)
 long_fits = in_range_fits 2147483647 2147483647 (FitsSigned w32) (λ n low. omega (arith, ints)) (λ n low. omega (arith, ints))
+
+-- a number that a field doesn't take is out of range
+not_in_range : (least greatest z : ℤ) (Fit : ℤ → Type 0) → IfOk (in_range least greatest z) Fit → ¬ Fit z → Err OutOfRange ≡ in_range least greatest z
+not_in_range least greatest z Fit fits none =
+    cond_both (int_le least z && int_le z greatest) (Ok z) (Err OutOfRange) (λ r. IfOk r Fit → Err OutOfRange ≡ r) (λ _ fit. absurd (none fit)) (λ _ _. refl) fits
+
+-- what the library converts a number to is the number, where a field takes it
+pub short_converted : {E : Type 0} (z : ℤ) (converted : Result ℤ E) → OkIff converted (FitsSigned w16 z) z → ok_or (result_ok converted) OutOfRange ≡ short_of z
+short_converted z (Ok x) is = ap (λ (n : ℤ). Ok n) is.1 ∙ sym (short_again z is.0)
+short_converted z (Err e) none = not_in_range (negsuc 32767) (pos 32767) z (FitsSigned w16) (short_fits z) none
+
+pub long_converted : {E : Type 0} (z : ℤ) (converted : Result ℤ E) → OkIff converted (FitsSigned w32 z) z → ok_or (result_ok converted) OutOfRange ≡ long_of z
+long_converted z (Ok x) is = ap (λ (n : ℤ). Ok n) is.1 ∙ sym (long_again z is.0)
+long_converted z (Err e) none = not_in_range (negsuc 2147483647) (pos 2147483647) z (FitsSigned w32) (long_fits z) none
 
 wide_in_range : (z : ℤ) → IfOk (in_range (negsuc 9223372036854775807) (pos 18446744073709551615) z) (λ x. cast_unsigned w64 x < 2 ^ 64)
 wide_in_range = in_range_fits 9223372036854775807 18446744073709551615 (λ x. cast_unsigned w64 x < 2 ^ 64) (λ n low. omega (arith, ints)) (λ n low. omega (arith, ints))

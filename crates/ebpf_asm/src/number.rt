@@ -12,7 +12,7 @@ pub(crate) fn immediate(text: &[u8]) -> Result<i32, FaultKind>
     ensures { result ≡ immediate_told text.now }
 {
     let number = number(text)?;
-    if number < -0x8000_0000 || number > 0xffff_ffff {
+    if !(-0x8000_0000..=0xffff_ffff).contains(&number) {
         return Err(FaultKind::OutOfRange);
     }
     if number < 0 {
@@ -28,7 +28,7 @@ pub(crate) fn wide(text: &[u8]) -> Result<u64, FaultKind>
     ensures { result ≡ wide_of text.now }
 {
     let number = number(text)?;
-    if number < -0x8000_0000_0000_0000 || number > 0xffff_ffff_ffff_ffff {
+    if !(-0x8000_0000_0000_0000..=0xffff_ffff_ffff_ffff).contains(&number) {
         return Err(FaultKind::OutOfRange);
     }
     if number < 0 {
@@ -42,20 +42,14 @@ pub(crate) fn wide(text: &[u8]) -> Result<u64, FaultKind>
 pub(crate) fn short(number: i128) -> Result<i16, FaultKind>
     ensures { result ≡ short_of number }
 {
-    if number < -0x8000 || number > 0x7fff {
-        return Err(FaultKind::OutOfRange);
-    }
-    Ok(number as i16)
+    i16::try_from(number).ok().ok_or(FaultKind::OutOfRange)
 }
 
 /// The number, where a field of 32 bits takes it.
 pub(crate) fn long(number: i128) -> Result<i32, FaultKind>
     ensures { result ≡ long_of number }
 {
-    if number < -0x8000_0000 || number > 0x7fff_ffff {
-        return Err(FaultKind::OutOfRange);
-    }
-    Ok(number as i32)
+    i32::try_from(number).ok().ok_or(FaultKind::OutOfRange)
 }
 
 /// A `+` or a `-`, and a number without a sign.
