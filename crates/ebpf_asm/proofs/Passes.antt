@@ -148,10 +148,16 @@ HasMade-nothing left all line labels number slot bytes none h = at line.instruct
     later : ℕ → Result (List ℕ) Fault
     later s = bytes_from labels (number + 1) s left
 
+    skipped : slots_in line ≡ 0 → bytes_in_front labels number slot line.instruction line.target (later (slot + slots_in line)) ≡ later (slot + slots_in line) → HasMade left all labels (number + 1) slot bytes
+    skipped no_slot skips = record {
+      so_far = ap (λ s. with_front bytes (later s)) (omega (arith, no_slot)) ∙ ap (with_front bytes) (sym skips) ∙ h.so_far;
+      room = omega (arith, h.room, no_slot);
+    }
+
     at : (instruction : Result (Option Instruction) FaultKind) → line.instruction ≡ instruction → HasMade left all labels (number + 1) slot bytes
     at (Ok (Some instruction)) e = absurd (none instruction e)
-    at (Ok None) e = record { so_far = ap (λ s. with_front bytes (bytes_from labels (number + 1) s left)) (omega (arith, ap slots_of_instruction e)) ∙ ap (λ i. with_front bytes (bytes_in_front labels number slot i line.target (bytes_from labels (number + 1) (slot + slots_in line) left))) (sym e) ∙ h.so_far; room = omega (arith, h.room, ap slots_of_instruction e) }
-    at (Err kind) e = record { so_far = ap (λ s. with_front bytes (bytes_from labels (number + 1) s left)) (omega (arith, ap slots_of_instruction e)) ∙ ap (λ i. with_front bytes (bytes_in_front labels number slot i line.target (bytes_from labels (number + 1) (slot + slots_in line) left))) (sym e) ∙ h.so_far; room = omega (arith, h.room, ap slots_of_instruction e) }
+    at (Ok None) e = skipped (ap slots_of_instruction e) (ap (λ i. bytes_in_front labels number slot i line.target (later (slot + slots_in line))) e)
+    at (Err kind) e = skipped (ap slots_of_instruction e) (ap (λ i. bytes_in_front labels number slot i line.target (later (slot + slots_in line))) e)
 
 pub HasMade-more : (left all : List Line) (line : Line) (labels : LabelMap) (number slot n : ℕ) (bytes more : List ℕ) (instruction made : Instruction) → line.instruction ≡ Ok (Some instruction) → Ok made ≡ resolved labels slot instruction line.target
     → more ≡ bytes ++ spelling made → n ≡ slots_in line → HasMade (line ∷ left) all labels number slot bytes → HasMade left all labels (number + 1) (slot + n) more
