@@ -8,7 +8,9 @@ use Rattle.std.specs.Fmt.{decimal, signed_decimal, digits}
 use Rattle.std.proofs.lemmas.Bool.{and_parts, le-ltb, lt-ltb, not-true}
 use Rattle.std.proofs.lemmas.Bool.Decides.{nat_tests}
 use Rattle.std.proofs.lemmas.List.{take_at, drop_at, append-nil, length-append}
+use Rattle.std.proofs.lemmas.List.Elements.{All-weaker}
 use Rattle.std.proofs.lemmas.List.Folds.{list_all-append}
+use Rattle.std.proofs.lemmas.List.Sums.{AllPass-from_list_all, list_all-from_AllPass, position_or_len_is}
 use Rattle.std.proofs.lemmas.Fmt.{decimal_is_IsNumeral, digits_is_IsNumeral}
 use Rattle.text_lines.specs.Cut.{cut_at, is_blank_byte, parts_at, trimmed, without_end_blanks, without_first_blanks}
 use Rattle.ebpf_asm.specs.Statement.{operands_of}
@@ -25,8 +27,7 @@ abbrev pub is_inline : ℕ → Bool
 is_inline b = is_plain b || (eqb b 32 || eqb b 44)
 
 pub weaker : (p q : ℕ → Bool) → ((b : ℕ) → p b ≡ true → q b ≡ true) → (xs : List ℕ) → list_all p xs ≡ true → list_all q xs ≡ true
-weaker p q imp [] h = refl
-weaker p q imp (x ∷ xs) h = let parts = and_parts (p x) (list_all p xs) h in rw (imp x parts.0, weaker p q imp xs parts.1) refl
+weaker p q imp xs h = list_all-from_AllPass q xs (All-weaker (λ b. p b ≡ true) (λ b. q b ≡ true) imp xs (AllPass-from_list_all p xs h))
 
 pub plain_inline : (b : ℕ) → is_plain b ≡ true → is_inline b ≡ true
 plain_inline b h = rw h refl
@@ -104,12 +105,9 @@ wide_is_text value small =
 
 -- ---- places
 
-none_step : (p : ℕ → Bool) (x : ℕ) (xs : List ℕ) → not (p x) ≡ true → position_or_len p xs ≡ length xs → position_or_len p (x ∷ xs) ≡ suc (length xs)
-none_step p x xs q more = rw q (omega (arith, more))
-
 pub place_none : (p : ℕ → Bool) (xs : List ℕ) → list_all (λ b. not (p b)) xs ≡ true → position_or_len p xs ≡ length xs
-place_none p [] h = refl
-place_none p (x ∷ xs) h = let parts = and_parts (not (p x)) (list_all (λ b. not (p b)) xs) h in none_step p x xs parts.0 (place_none p xs parts.1)
+place_none p xs h =
+    position_or_len_is p xs (length xs) 0 (omega arith) (λ k inside. not-true _ (AllPass-from_list_all (λ b. not (p b)) xs h k 0 inside)) (λ inside. absurd (omega (arith, inside)))
 
 pub cut_none : (byte : ℕ) (text : List ℕ) → list_all (λ b. not (eqb b byte)) text ≡ true → cut_at byte text ≡ None
 cut_none byte text h =

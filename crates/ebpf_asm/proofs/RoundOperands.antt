@@ -1,5 +1,5 @@
 -- Operands that are listed are read again.
-use Rattle.std.proofs.Common.{◌≡◌, ℕ, ℤ, pos, negsuc, neg_ℤ, nat_abs, suc, ◌+◌, ◌-◌, ◌<◌, ◌^◌, Bool, true, false, not, ◌&&◌, cond, ltb, eqb, List, [], ◌∷◌, ◌++◌, length, get_or, drop, take, Some, None, Result, Ok, Err, refl, ap, ◌∙◌, arith}
+use Rattle.std.proofs.Common.{◌≡◌, ℕ, ℤ, pos, negsuc, neg_ℤ, nat_abs, suc, ◌+◌, ◌-◌, ◌<◌, ◌^◌, Bool, true, false, not, cond, ltb, eqb, List, [], ◌∷◌, ◌++◌, length, get_or, drop, take, Some, None, Result, Ok, Err, refl, ap, ◌∙◌, arith}
 use lib.Signed.{mag}
 use Rattle.std.specs.Prelude.{FitsSigned}
 use Rattle.std.specs.Int.{w16, w32}
@@ -7,11 +7,13 @@ use Rattle.std.specs.List.{list_all, before_first, position_or_len}
 use Rattle.std.specs.Str.Parse.{AllDigits}
 use Rattle.std.specs.Fmt.{decimal, signed_decimal}
 use Rattle.std.proofs.Math.Dec.{eqb-suc-zero}
-use Rattle.std.proofs.lemmas.Bool.{le-leb}
+use Rattle.std.proofs.Math.Seq.{get_or-append_seam}
+use Rattle.std.proofs.lemmas.Bool.{le-leb, not-true}
 use Rattle.std.proofs.lemmas.Bool.Decides.{nat_tests}
 use Rattle.std.proofs.lemmas.Fmt.{decimal_is_IsNumeral}
 use Rattle.std.proofs.lemmas.Str.Parse.{digit_from_value}
-use Rattle.std.proofs.lemmas.List.{take_at, drop_at, get_or_at, length-append}
+use Rattle.std.proofs.lemmas.List.{take_at, drop_at, get_or_append_left, get_or_at, length-append}
+use Rattle.std.proofs.lemmas.List.Sums.{AllPass-from_list_all, position_or_len_is}
 use Rattle.instruction_set.specs.declared.instruction.Source.{Source}
 use Rattle.instruction_set.specs.declared.instruction.Source.TheVariants as sources
 use Rattle.ebpf_asm.specs.declared.fault.FaultKind.{FaultKind}
@@ -23,15 +25,12 @@ use Rattle.ebpf_asm.specs.Laws.{LongDistancesReadBack, ShortDistancesReadBack}
 use Rattle.ebpf_asm.specs.Listing.{register_text, signed_text, source_text, memory_text}
 use Rattle.ebpf_asm.proofs.Round.{register_again, magnitude_again, immediate_again}
 
-place_step : (p : ℕ → Bool) (x : ℕ) (front : List ℕ) (y : ℕ) (rest : List ℕ) (b : Bool) → not (p x) ≡ b → (b && list_all (λ c. not (p c)) front) ≡ true
-    → (list_all (λ c. not (p c)) front ≡ true → position_or_len p (front ++ y ∷ rest) ≡ length front) → position_or_len p ((x ∷ front) ++ y ∷ rest) ≡ suc (length front)
-place_step p x front y rest true q g more = rw q (omega (arith, more g))
-place_step p x front y rest false q g more = absurd cc
-
 -- the first place of a byte of a kind, behind a front that has none
 pub place_behind : (p : ℕ → Bool) (front : List ℕ) (y : ℕ) (rest : List ℕ) → list_all (λ b. not (p b)) front ≡ true → p y ≡ true → position_or_len p (front ++ y ∷ rest) ≡ length front
-place_behind p [] y rest h e = rw e refl
-place_behind p (x ∷ front) y rest h e = place_step p x front y rest (not (p x)) refl h (λ g. place_behind p front y rest g e)
+place_behind p front y rest h e =
+    position_or_len_is p (front ++ y ∷ rest) (length front) 0 (omega (arith, length-append front (y ∷ rest)))
+    (λ k inside. ap p (get_or_append_left front (y ∷ rest) 0 k inside) ∙ not-true _ (AllPass-from_list_all (λ b. not (p b)) front h k 0 inside))
+    (λ _. ap p (get_or-append_seam front y rest 0) ∙ e)
 
 -- a signed text is a sign and a decimal number
 abbrev pub sign_of : ℤ → ℕ
