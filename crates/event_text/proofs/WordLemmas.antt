@@ -6,6 +6,8 @@ use Rattle.std.proofs.lemmas.List.{drop_more, length-take-le, take_all, drop_all
 use Rattle.std.proofs.lemmas.List.Splits.{slice_split_at, slice_split_first, slice_split_none, slice_split-cons_yes}
 use Rattle.std.proofs.lemmas.List.Sums.{fails_before_first, passes_at_first}
 use Rattle.text_lines.specs.Cut.{is_blank_byte, without_first_blanks}
+use Rattle.text_lines.specs.Laws.{NoBlankFirst}
+use Rattle.text_lines.proofs.Proved.{no_blank_first}
 use Rattle.event_text.specs.Words.{words_of}
 
 abbrev is_word : List ℕ → Bool
@@ -47,15 +49,10 @@ first_at text k some starts e (inl h) =
 first_at text k some starts e (inr h) =
     rw (take_all k text h, drop_all k text h) (word_last text some (λ n d inside. fails_before_first is_blank_byte text n d (omega (arith, e, h, inside))))
 
--- no blank is left in front
-starts_if : (b : ℕ) (text : List ℕ) (blank : Bool) → is_blank_byte b ≡ blank → (0 < length (without_first_blanks text) → is_blank_byte (get_or (without_first_blanks text) 0 0) ≡ false)
-    → 0 < length (cond blank (without_first_blanks text) (b ∷ text)) → is_blank_byte (get_or (cond blank (without_first_blanks text) (b ∷ text)) 0 0) ≡ false
-starts_if b text true e more h = more h
-starts_if b text false e more h = e
-
-starts : (text : List ℕ) → 0 < length (without_first_blanks text) → is_blank_byte (get_or (without_first_blanks text) 0 0) ≡ false
-starts [] h = absurd (omega (arith, h))
-starts (b ∷ text) h = starts_if b text (is_blank_byte b) refl (starts text) h
+-- the byte at 0 is no blank where no blank is first
+begins_word : (text : List ℕ) → NoBlankFirst text → 0 < length text → is_blank_byte (get_or text 0 0) ≡ false
+begins_word [] none some = absurd (omega (arith, some))
+begins_word (byte ∷ rest) none some = none byte rest refl
 
 trimmed_if : (b : ℕ) (text : List ℕ) (blank : Bool) → is_blank_byte b ≡ blank → words_of (without_first_blanks text) ≡ words_of text
     → words_of (cond blank (without_first_blanks text) (b ∷ text)) ≡ words_of (b ∷ text)
@@ -77,5 +74,5 @@ pub next_word : (line text word behind : List ℕ) → text ≡ without_first_bl
     → words_of line ≡ word ∷ words_of behind
 next_word line text word behind e some front rest =
     let k = position_or_len is_blank_byte text in
-    let begins : is_blank_byte (get_or text 0 0) ≡ false = rw e (starts line (omega (arith, some, ap length e))) in
+    let begins = begins_word text (subst NoBlankFirst (sym e) (no_blank_first line)) some in
     sym (words_of-trimmed line) ∙ sym (ap words_of e) ∙ first_at text k some begins refl (cases_lt k (length text)) ∙ rw (front, rest) refl

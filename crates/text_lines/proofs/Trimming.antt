@@ -33,7 +33,7 @@ no_blank_by byte text false is more = λ other rest e.
     let same : byte ≡ other = cc in
     subst (λ (b : ℕ). is_blank_byte b ≡ false) same is
 
-no_blank_first : (text : List ℕ) → NoBlankFirst (without_first_blanks text)
+pub no_blank_first : (text : List ℕ) → NoBlankFirst (without_first_blanks text)
 no_blank_first [] = λ byte rest e. cc
 no_blank_first (byte ∷ text) = no_blank_by byte text (is_blank_byte byte) refl (no_blank_first text)
 
