@@ -82,7 +82,8 @@ impl Device {
         self.namespace.image()
     }
 
-    /// Does one event. The data of the reply lies at the front of `output`.
+    /// Does one event. The data of the reply goes to the front of `output`, which has room for the largest
+    /// transfer; what lies behind it stays.
     pub fn apply(&mut self, event: &Event, output: &mut [u8]) -> Reply
         requires { MOST_TRANSFER ≤ length output.old }
         ensures happened { HasHappened intervals event.now self.old self.new (record { reply = result; bytes = take (data_length result) output.new }) }
@@ -151,7 +152,8 @@ impl Device {
         out.take(reply, &output[..reply.data_length()])
     }
 
-    /// Does events in order, and hands out the reply to each with its data.
+    /// Does events in order, and hands out the reply to each with its data. `output` has room for the largest
+    /// transfer, and `out` can count one refusal more.
     ///
     /// # Errors
     ///
@@ -187,7 +189,7 @@ impl Device {
     }
 
     /// Gives turns, always to the run of the lowest number, until no run is left, and hands out the reply
-    /// to each.
+    /// to each. `output` and `out` are as in [`Device::serve`].
     ///
     /// # Errors
     ///

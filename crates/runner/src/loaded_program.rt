@@ -8,13 +8,12 @@ use program_interface::SCRATCH_BYTES;
 use verified_run::Prepared;
 use verifier::Verified;
 
-/// The program of a slot, and its result: the scratch bytes that the last of its runs to end left,
-/// zeros before one ended.
+/// The program of a slot, and its result.
 #[derive(Drop)]
 pub struct LoadedProgram {
     /// The accepted program, ready to run.
     pub prepared: Prepared<Verified<Intervals>>,
-    /// The scratch bytes that the last of its runs to end left.
+    /// The scratch bytes that the last of its runs to end left, zeros before one ended.
     pub result: [u8; SCRATCH_BYTES],
 }
 
