@@ -23,7 +23,7 @@ pub trait Out {
     ///
     /// # Errors
     ///
-    /// The reply is refused.
+    /// [`NotTaken`] where the reply is refused, which is counted; it isn't taken then.
     fn take(&mut self, reply: Reply, bytes: &[u8]) -> Result<(), NotTaken>
         requires { refusals self.old + 1 < 2 ^ 64 }
         ensures ok { OnOk result (took self.old self.new (record { reply = reply; bytes = bytes.now } ∷ [])) }
