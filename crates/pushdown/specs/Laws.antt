@@ -92,7 +92,7 @@ pub record IsWholeOutcome (task : Task) (block_runs : List BlockRun) (turns : Li
   pub one_each : length turns ≡ length block_runs
   pub ending : 1 ≤ length block_runs → ending_of turns ≡ Some (success_of block_runs turns)
 
--- where each block run ends by EXIT, all that the turns append is the groups, packed
+-- where each block run of a run ends by EXIT, its turns are such an outcome
 abbrev pub OutcomeIsPacked : Type 0
 OutcomeIsPacked =
     (task : Task) (blocks : List (List ℕ)) → AllByRecursion (λ run. IsExit run.end) (block_runs_of task blocks)

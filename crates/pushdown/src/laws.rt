@@ -32,8 +32,8 @@ pub fn rest_is_few()
     ensures { RestIsFew }
 {}
 
-/// Where each block run of a run ends by EXIT, all that the run appends is the packing of their groups, and its
-/// completion tells their frames and blocks.
+/// Where each block run of a run ends by EXIT, the run has as many turns as block runs, all that it appends is the
+/// packing of their groups, and its completion tells their frames and blocks.
 pub fn outcome_is_packed()
     ensures { OutcomeIsPacked }
 {}
