@@ -18,7 +18,7 @@ is_load (Ok (commands.Run command)) = false
 is_load (Ok (commands.Result slot)) = false
 is_load (Err status) = false
 
--- a Load does
+-- does the event ask for memory? A Load alone does
 abbrev pub wants_memory : Event → Bool
 wants_memory (event.Submit queue entry input) = is_load (decoded entry)
 wants_memory (event.Turn run) = false

@@ -20,7 +20,8 @@ use Rattle.zns_commands.specs.Address.{zone_number, lowest_checks}
 use Rattle.zns_commands.specs.Resources.{room_for, closing_of, closed}
 use Rattle.zns_commands.specs.Transfer.{transfer_checks}
 
--- what an action on a zone of this state needs: only Open takes resources
+-- the zone to be closed so that the action can be taken on one of this state, if one has to be, or why there is no room: only
+-- Open takes resources
 abbrev pub room_of : ZonedNamespace → Holds → Action → ZoneState → Result (Option ℕ) Status
 room_of ns holds action.Open state = room_for ns holds state
 room_of ns holds _ state = Ok None
