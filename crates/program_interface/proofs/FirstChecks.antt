@@ -46,6 +46,11 @@ pub demanded : {F : Type 0} (test : Bool) (fault : F) → demand test fault ≡ 
 demanded true fault none = refl
 demanded false fault none = cc
 
+-- what is demanded and holds passes
+pub met : {F : Type 0} (test : Bool) (fault : F) → test ≡ true → demand test fault ≡ None
+met true fault holds = refl
+met false fault holds = cc
+
 -- what a guard lets through
 pub guarded : {X F : Type 0} (test : Bool) (r : Result X F) (fault : F) (x : X) → cond test r (Err fault) ≡ Ok x → (test ≡ true) × (r ≡ Ok x)
 guarded true r fault x e = (refl, e)
