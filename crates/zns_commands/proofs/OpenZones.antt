@@ -1,29 +1,31 @@
 -- That an open zone wants nothing, and takes blocks as by an Append.
-use Rattle.std.proofs.Common.{◌≡◌, ℕ, ◌+◌, ◌*◌, ◌%◌, ◌≤◌, ◌<◌, Bool, true, List, [], ◌∷◌, length, get_or, Option, None, Result, Ok, refl, ap, sym, subst, ◌∙◌, arith}
-use Rattle.std.specs.Prelude.{nat_eq, nat_le, nat_lt, not}
+use Rattle.std.proofs.Common.{◌≡◌, ℕ, ◌+◌, ◌*◌, ◌≤◌, ◌<◌, true, List, length, get_or, Option, None, Result, Ok, refl, ap, sym, subst, ◌∙◌, arith}
 use Rattle.std.specs.Result.{result_err}
 use Rattle.std.proofs.lemmas.Bool.{eq-eqb, le-leb, lt-ltb}
-use Rattle.program_interface.specs.Checks.{demand, first_failed}
+use Rattle.program_interface.specs.Checks.{first_failed}
+use Rattle.program_interface.specs.FirstCheck.{NoneFails}
+use Rattle.program_interface.proofs.Proved.{met, no_fault_where_none_fails}
 use Rattle.zone_state.specs.State.{is_open}
 use Rattle.zone_state.specs.Zone.{write_check, write_refusal}
 use Rattle.zone_state.specs.declared.state.ZoneState.{ZoneState}
 use Rattle.zone_state.specs.declared.state.ZoneState.TheVariants.{Empty, ImplicitlyOpened, ExplicitlyOpened, Closed}
 use Rattle.zone_resources.specs.Admission.{wanted_of}
 use Rattle.zone_state.specs.declared.status.Status.{Status}
-use Rattle.zone_state.specs.declared.status.TheConstants.Status.{SUCCESS, INVALID_FIELD_IN_COMMAND, LBA_OUT_OF_RANGE, ZONE_HELD}
+use Rattle.zone_state.specs.declared.status.TheConstants.Status.{SUCCESS}
 use Rattle.zone_state.proofs.Proved.{allowed_passes}
-use Rattle.zone_resources.specs.Holds.{is_destination, no_holds}
+use Rattle.zone_resources.specs.Holds.{no_holds}
 use Rattle.zone_resources.specs.declared.admission.Wanted.{Wanted}
 use Rattle.zone_resources.specs.declared.holds.Holds.{Holds}
 use Rattle.image_store.specs.Blocks.{as_blocks, block_count}
 use Rattle.image_store.specs.Namespace.{ZoneBlocks, ZonedNamespace, no_zone, zone_at, grown, appended, IsNamespace, IsWithinLimits}
 use Rattle.image_store.proofs.Proved.{is_one_of}
 use Rattle.nvme_entry.specs.declared.command.TheConstants.{MOST_TRANSFER}
-use Rattle.zns_commands.specs.Address.{block_total, counted_zone_at, zone_number}
+use Rattle.zns_commands.specs.Address.{counted_zone_at, zone_number}
 use Rattle.zns_commands.specs.Append.{TakesBlocks, append_checks, append_effect}
 use Rattle.zns_commands.specs.Effect.{concluded}
 use Rattle.zns_commands.specs.Laws.{AddedBlocksAreAppended, AddedBlocksKeepNamespacesSound}
-use Rattle.zns_commands.specs.Resources.{room_by, room_for, closing_of}
+use Rattle.zns_commands.specs.Resources.{room_by, closing_of}
+use Rattle.zns_commands.specs.Write.{zone_write_checks}
 use Rattle.zns_commands.specs.declared.write.WritePlan.{WritePlan}
 use Rattle.zns_commands.specs.steps.Plans.{write_plan, written_by}
 use Rattle.zns_commands.proofs.FittingZones.{one_within, open_holds}
@@ -82,18 +84,16 @@ blocks_are_the_effect ns z bytes sound takes =
 
 -- ---- no check refuses that Append
 
--- the checks of an Append to a zone, by its number and what is tested of the data and of the address
-abbrev checked_by : ZonedNamespace → ℕ → Bool → Bool → Bool → Bool → ℕ → Option Status
-checked_by ns n few whole start lowest z =
-    first_failed (demand few INVALID_FIELD_IN_COMMAND ∷ demand whole INVALID_FIELD_IN_COMMAND ∷ demand start LBA_OUT_OF_RANGE
-    ∷ demand lowest INVALID_FIELD_IN_COMMAND ∷ demand (not (is_destination no_holds z)) ZONE_HELD
-    ∷ result_err (write_check (counted_zone_at ns z) (length (zone_at ns z).blocks) n) ∷ result_err (room_for ns no_holds (zone_at ns z).state) ∷ [])
-
-all_pass : (ns : ZonedNamespace) (n z : ℕ) (few whole start lowest : Bool) (fits : Result Unit Status) (room : Result (Option ℕ) Status)
-    → few ≡ true → whole ≡ true → start ≡ true → lowest ≡ true → fits ≡ Ok tt → room ≡ Ok None
-    → first_failed (demand few INVALID_FIELD_IN_COMMAND ∷ demand whole INVALID_FIELD_IN_COMMAND ∷ demand start LBA_OUT_OF_RANGE
-    ∷ demand lowest INVALID_FIELD_IN_COMMAND ∷ None ∷ result_err fits ∷ result_err room ∷ []) ≡ None
-all_pass ns n z few whole start lowest fits room e1 e2 e3 e4 e5 e6 = rw (e1, e2, e3, e4, e5, e6) refl
+-- none of the checks of that zone fails
+zone_passes : (ns : ZonedNamespace) (z n : ℕ) → is_open (zone_at ns z).state ≡ true → length (zone_at ns z).blocks + n ≤ ns.capacity
+    → NoneFails (zone_write_checks ns no_holds z (length (zone_at ns z).blocks) n)
+zone_passes ns z n is room = (
+  refl,
+  (
+    ap (λ (fits : Result Unit Status). result_err fits) (open_takes ns z n is room),
+    (ap (λ (wanted : Option Wanted). result_err (room_by ns no_holds wanted)) (open_wants_none (zone_at ns z).state is), tt),
+  ),
+)
 
 -- where a zone takes blocks, of which there are no more than a transfer may be, no check of an Append of them fails
 pub taken_blocks_pass : (ns : ZonedNamespace) (z : ℕ) (bytes : List ℕ) → IsNamespace ns → TakesBlocks ns z bytes → length bytes ≤ MOST_TRANSFER
@@ -104,12 +104,10 @@ taken_blocks_pass ns z bytes sound takes most =
     let lba = z * size in
     let lowest = lowest_of ns z sound (open_is_there ns.zones z takes.opened) in
     let few : n * ns.block ≤ MOST_TRANSFER = omega (arith, takes.whole, most) in
-    ap (checked_by ns n (nat_le (n * ns.block) MOST_TRANSFER) (nat_eq (length bytes) (n * ns.block)) (nat_lt lba (block_total ns)) (nat_eq (lba % size) 0)) lowest.named
-    ∙ all_pass ns n z (nat_le (n * ns.block) MOST_TRANSFER) (nat_eq (length bytes) (n * ns.block)) (nat_lt lba (block_total ns)) (nat_eq (lba % size) 0)
-    (write_check (counted_zone_at ns z) (length (zone_at ns z).blocks) n) (room_for ns no_holds (zone_at ns z).state)
-    (le-leb _ _ few) (eq-eqb _ _ takes.whole) (lt-ltb _ _ lowest.inside) (eq-eqb _ _ lowest.first)
-    (open_takes ns z n takes.opened takes.room)
-    (ap (room_by ns no_holds) (open_wants_none (zone_at ns z).state takes.opened))
+    let of_zone = subst (λ (k : ℕ). NoneFails (zone_write_checks ns no_holds k (length (zone_at ns k).blocks) n)) (sym lowest.named)
+    (zone_passes ns z n takes.opened takes.room) in
+    (no_fault_where_none_fails Status (append_checks ns no_holds lba n bytes)).1
+    (met _ _ (le-leb _ _ few), (met _ _ (eq-eqb _ _ takes.whole), (met _ _ (lt-ltb _ _ lowest.inside), (met _ _ (eq-eqb _ _ lowest.first), of_zone))))
 
 pub added_blocks_are_appended : AddedBlocksAreAppended
 added_blocks_are_appended ns z bytes sound takes most =

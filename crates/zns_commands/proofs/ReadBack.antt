@@ -1,5 +1,5 @@
 -- That written and appended blocks read back, whatever comes in between.
-use Rattle.std.proofs.Common.{◌≡◌, ◌≢◌, ℕ, suc, ◌+◌, ◌*◌, ◌/◌, ◌%◌, ◌^◌, ◌<◌, ◌≤◌, Bool, true, false, cond, List, [], ◌∷◌, ◌++◌, length, set, take, drop, replicate, Option, Some, None, refl, ap, sym, subst, ◌∙◌, arith, append_assoc}
+use Rattle.std.proofs.Common.{◌≡◌, ◌≢◌, ℕ, suc, ◌+◌, ◌*◌, ◌/◌, ◌%◌, ◌^◌, ◌<◌, ◌≤◌, Bool, true, false, cond, List, [], ◌++◌, length, set, take, drop, replicate, Option, Some, None, refl, ap, sym, subst, ◌∙◌, arith, append_assoc}
 use Rattle.std.specs.Prelude.{nat_le, nat_eq}
 use Rattle.std.specs.List.{concat}
 use Rattle.std.proofs.lemmas.Bool.{le-leb}
@@ -14,7 +14,8 @@ use Rattle.zone_state.specs.declared.status.TheConstants.Status.{SUCCESS}
 use Rattle.zone_resources.specs.declared.holds.Holds.{Holds}
 use Rattle.nvme_entry.specs.declared.command.StandardCommand.TheVariants.{Write, Read, Append}
 use Rattle.nvme_entry.specs.declared.command.TheConstants.{MOST_TRANSFER}
-use Rattle.program_interface.specs.Checks.{demand, first_failed}
+use Rattle.program_interface.specs.Checks.{first_failed}
+use Rattle.program_interface.proofs.Proved.{met, no_fault_where_none_fails}
 use Rattle.zone_state.proofs.Proved.{is_allowed}
 use Rattle.image_store.specs.Blocks.{as_blocks, block_count}
 use Rattle.image_store.specs.Geometry.{Shape}
@@ -51,10 +52,6 @@ readable true s = refl
 readable false ExplicitlyOpened = refl
 readable false s = refl
 
-all_pass : (a b c : Bool) (r : Option Status) (s t u : Status) → a ≡ true → b ≡ true → c ≡ true → r ≡ None
-    → first_failed (demand a s ∷ None ∷ demand b t ∷ demand c u ∷ r ∷ []) ≡ None
-all_pass a b c r s t u ea eb ec er = rw (ea, eb, ec, er) refl
-
 -- blocks in a zone, from one of its blocks on
 pub record BlocksLieAt (m : ZonedNamespace) (z w blocks : ℕ) (input : List ℕ) : Type 0 where
   pub front : List (List ℕ)
@@ -84,8 +81,8 @@ lying_is_read m z w blocks input h holds =
     let one : lba % size + blocks ≤ size = omega (arith, h.room) in
     let open_zone : read_refusal (zone_at m (lba / size)).state ≡ None = subst (λ (k : ℕ). read_refusal (zone_at m k).state ≡ None) (sym number) h.readable in
     let none : first_failed (read_checks m lba blocks []) ≡ None =
-    all_pass (nat_le (blocks * m.block) MOST_TRANSFER) (nat_le (lba + blocks) (block_total m)) (nat_le (lba % size + blocks) size)
-    (read_refusal (zone_at m (lba / size)).state) _ _ _ h.transfer (le-leb _ _ end) (le-leb _ _ one) open_zone in
+    (no_fault_where_none_fails Status (read_checks m lba blocks [])).1
+    (met _ _ h.transfer, (refl, (met _ _ (le-leb _ _ end), (met _ _ (le-leb _ _ one), (open_zone, tt))))) in
     let zeros : List (List ℕ) = replicate blocks (replicate m.block 0) in
     ap (λ (r : Option Status). concluded r m (read_effect m lba blocks)) none
     ∙ (ap (λ (k : ℕ). success_effect m 0 (concat (blocks_read m.block (zone_at m k).blocks (lba % size) blocks))) number

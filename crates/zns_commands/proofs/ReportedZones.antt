@@ -15,6 +15,7 @@ use Rattle.nvme_entry.specs.declared.command.TheConstants.{MOST_TRANSFER}
 use Rattle.nvme_entry.specs.declared.report.TheConstants.{REPORT_HEADER_BYTES}
 use Rattle.nvme_entry.specs.declared.filter.ZoneFilter.TheVariants as filters
 use Rattle.program_interface.specs.Checks.{demand, first_failed}
+use Rattle.program_interface.proofs.Proved.{met, no_fault_where_none_fails}
 use Rattle.nvme_entry.specs.ReportLaws.{ReportsZones, number_in, descriptors_in, descriptor_room}
 use Rattle.nvme_entry.specs.Report.{report, descriptor_at, matching, listed_zones}
 use Rattle.image_store.specs.Namespace.{ZonedNamespace, counted, counted_zones, IsNamespace}
@@ -26,9 +27,6 @@ use Rattle.zns_commands.specs.Laws.{ReportsEveryZone, ReportsWhatMatches, all_de
 use Rattle.nvme_entry.proofs.Proved.{reports_give_what_matches}
 use Rattle.zns_commands.proofs.PassedChecks.{lowest_of}
 
-both_pass : (a b : Bool) (s t : Status) → a ≡ true → b ≡ true → first_failed (demand a s ∷ None ∷ demand b t ∷ []) ≡ None
-both_pass a b s t ea eb = rw (ea, eb) refl
-
 pub reports_what_matches : ReportsWhatMatches
 reports_what_matches ns holds lba dwords filter partial sound inside room most =
     let zones = counted_zones ns in
@@ -36,8 +34,8 @@ reports_what_matches ns holds lba dwords filter partial sound inside room most =
     let found = matching zones first filter in
     let count : length zones ≡ length ns.zones = length-map ns.zones (counted ns.capacity) in
     let none : first_failed (receive_checks ns lba dwords []) ≡ None =
-    both_pass (nat_le (4 * dwords) MOST_TRANSFER) (nat_lt lba (block_total ns)) INVALID_FIELD_IN_COMMAND LBA_OUT_OF_RANGE
-    (le-leb _ _ most) (lt-ltb _ _ inside) in
+    (no_fault_where_none_fails Status (receive_checks ns lba dwords [])).1
+    (met _ _ (le-leb _ _ most), (refl, (met _ _ (lt-ltb _ _ inside), tt))) in
     let given = report (4 * dwords) zones first ns.size filter partial in
     let is : meaning ns holds (Receive lba dwords filter partial) [] ≡ success_effect ns 0 given =
     ap (λ (refusal : Option Status). concluded refusal ns (receive_effect ns lba dwords filter partial)) none in
