@@ -22,7 +22,7 @@ use Rattle.zns_commands.specs.steps.Plans.{zone_plan}
 use Rattle.zns_commands.proofs.FittingZones.{action_fits}
 use Rattle.zns_commands.proofs.GivenWay.{has_room, no_one_gives_way}
 use Rattle.zns_commands.proofs.MovedZones.{moved_sound}
-use Rattle.zns_commands.proofs.PassedChecks.{roomed, zone_inside}
+use Rattle.zns_commands.proofs.PassedChecks.{unrefused, zone_inside}
 
 -- the checks of an action on one zone, all passed, and what they give
 pub zone_checked : (address lowest : Option Status) (refused : Bool) (moves : Result ZoneState Status) (room : Result (Option ℕ) Status)
@@ -64,7 +64,7 @@ can_move ns holds lba a sound none =
     let state = (zone_at ns z).state in
     let start = ltb-true lba (block_total ns) (demanded (nat_lt lba (block_total ns)) _ (passed checks 0 none)) in
     let inside = zone_inside ns lba sound start in
-    let room = roomed (room_of ns holds a state) (passed checks 4 none) in
+    let room = unrefused (room_of ns holds a state) None (passed checks 4 none) in
     record {
       inside = inside;
       fits = action_fits a state (length (zone_at ns z).blocks) ns.capacity (sound.fits z inside);

@@ -31,7 +31,7 @@ use Rattle.zns_commands.specs.Send.{send_checks, room_of, takes, held_among}
 use Rattle.zns_commands.specs.Write.{write_checks}
 use Rattle.zns_commands.specs.steps.Plans.{zone_plan}
 use Rattle.zns_commands.proofs.Meanings.{after_command}
-use Rattle.zns_commands.proofs.PassedChecks.{roomed, taken_fault}
+use Rattle.zns_commands.proofs.PassedChecks.{taken_fault, unrefused}
 use Rattle.zns_commands.proofs.Sweeps.{none_offline}
 use Rattle.zns_commands.proofs.Untouched.{effect_left, faulted_left}
 
@@ -130,16 +130,16 @@ module _ (ns : ZonedNamespace) (holds : Holds) (d : ℕ) (held : is_destination 
       let state = (zone_at ns z).state in
       let free = or_parts (is_destination holds z) (forgets a && is_source holds z) (not_refused ns holds lba a input none) in
       neither_is plan.zone plan.closing free.0
-      (room_closable ns holds a state (roomed (room_of ns holds a state) (passed (send_checks ns holds lba a false input) 6 none)))
+      (room_closable ns holds a state (unrefused (room_of ns holds a state) None (passed (send_checks ns holds lba a false input) 6 none)))
 
   free : (command : StandardCommand) (input : List ℕ) → first_failed (checks_of ns holds command input) ≡ None
       → touches ns (Commanded holds command input) d ≡ false
   free (Write lba blocks) input none =
       let z = zone_number ns lba in
-      free_of z (write_checks ns holds lba blocks input) none (demanded (not (is_destination holds z)) ZONE_HELD) (roomed (room_for ns holds (zone_at ns z).state))
+      free_of z (write_checks ns holds lba blocks input) none (demanded (not (is_destination holds z)) ZONE_HELD) (unrefused (room_for ns holds (zone_at ns z).state) None)
   free (Append lba blocks) input none =
       let z = zone_number ns lba in
-      free_of z (append_checks ns holds lba blocks input) none (demanded (not (is_destination holds z)) ZONE_HELD) (roomed (room_for ns holds (zone_at ns z).state))
+      free_of z (append_checks ns holds lba blocks input) none (demanded (not (is_destination holds z)) ZONE_HELD) (unrefused (room_for ns holds (zone_at ns z).state) None)
   free (Read lba blocks) input none = refl
   free (Receive lba dwords filter partial) input none = refl
   free (Send lba a select_all) input none = sent_free lba a select_all input none

@@ -4,7 +4,7 @@ use Rattle.std.specs.Prelude.{◌&&◌, nat_lt, nat_le, nat_eq, not}
 use Rattle.std.specs.List.{AllByRecursion}
 use Rattle.std.proofs.Math.Nat.{div-lt_iff_lt-mul, mul-div_cancel, mul-le-mul_right, suc-mul}
 use Rattle.std.specs.Option.{option_or}
-use Rattle.std.specs.Result.{result_err}
+use Rattle.std.specs.Result.{result_err, result_unwrap_or}
 use Rattle.std.proofs.lemmas.Bool.{and_parts, eqb-true, leb-true, ltb-true, not-true}
 use Rattle.std.proofs.lemmas.Nat.{mod-mul-add}
 use Rattle.zone_state.specs.Zone.{CountedZone, checks_of_write, fault_refusal, write_check, write_refusal}
@@ -37,13 +37,10 @@ use Rattle.zns_commands.specs.Write.{write_address_checks, write_checks, write_e
 use Rattle.zns_commands.specs.Transfer.{transfer_checks}
 use Rattle.zns_commands.specs.Meaning.{meaning}
 
-pub roomed : (room : Result (Option ℕ) Status) → result_err room ≡ None → room ≡ Ok (closing_of room)
-roomed (Ok gives) none = refl
-roomed (Err status) none = cc
-
-allowed : (r : Result Unit Status) → result_err r ≡ None → r ≡ Ok tt
-allowed (Ok done) none = refl
-allowed (Err status) none = cc
+-- what isn't refused is given
+pub unrefused : {X : Type 0} (r : Result X Status) (other : X) → result_err r ≡ None → r ≡ Ok (result_unwrap_or r other)
+unrefused (Ok x) other none = refl
+unrefused (Err status) other none = cc
 
 -- a fault that isn't refused is of a zone, and of one that no run uses
 pub taken_fault : (ns : ZonedNamespace) (holds : Holds) (z : ℕ) (fault : FaultState) (done : Unit {0}) → zone_fault_refusal ns holds z fault ≡ Ok done
@@ -99,8 +96,8 @@ append_writes ns holds lba blocks input sound some none =
       some = some;
       size = eqb-true (length input) (blocks * ns.block) (demanded (nat_eq (length input) (blocks * ns.block)) _ (passed checks 1 none));
       transfer = demanded (nat_le (blocks * ns.block) MOST_TRANSFER) _ (passed checks 0 none);
-      fits = allowed (write_check (counted_zone_at ns z) (length (zone_at ns z).blocks) blocks) (passed checks 5 none);
-      room = roomed (room_for ns holds (zone_at ns z).state) (passed checks 6 none);
+      fits = unrefused (write_check (counted_zone_at ns z) (length (zone_at ns z).blocks) blocks) tt (passed checks 5 none);
+      room = unrefused (room_for ns holds (zone_at ns z).state) None (passed checks 6 none);
     }
 
 -- a Write that isn't refused begins at its zone's write pointer,
@@ -108,7 +105,7 @@ pub write_begins : (ns : ZonedNamespace) (holds : Holds) (lba blocks : ℕ) (inp
     → lba % ns.size ≡ length (zone_at ns (zone_number ns lba)).blocks
 write_begins ns holds lba blocks input none =
     let zone = counted_zone_at ns (zone_number ns lba) in
-    (is_allowed zone (lba % ns.size) blocks (allowed (write_check zone (lba % ns.size) blocks) (passed (write_checks ns holds lba blocks input) 5 none))).at_pointer
+    (is_allowed zone (lba % ns.size) blocks (unrefused (write_check zone (lba % ns.size) blocks) tt (passed (write_checks ns holds lba blocks input) 5 none))).at_pointer
 
 -- and writes
 pub write_writes : (ns : ZonedNamespace) (holds : Holds) (lba blocks : ℕ) (input : List ℕ) → IsNamespace ns → 1 ≤ blocks
@@ -125,8 +122,8 @@ write_writes ns holds lba blocks input sound some none =
       transfer = demanded (nat_le (blocks * ns.block) MOST_TRANSFER) _ (passed checks 0 none);
       fits =
           subst (λ (k : ℕ). write_check (counted_zone_at ns z) k blocks ≡ Ok tt) (write_begins ns holds lba blocks input none)
-          (allowed (write_check (counted_zone_at ns z) (lba % ns.size) blocks) (passed checks 5 none));
-      room = roomed (room_for ns holds (zone_at ns z).state) (passed checks 6 none);
+          (unrefused (write_check (counted_zone_at ns z) (lba % ns.size) blocks) tt (passed checks 5 none));
+      room = unrefused (room_for ns holds (zone_at ns z).state) None (passed checks 6 none);
     }
 
 -- where a check fails, its status isn't success
@@ -224,17 +221,17 @@ no_success status some is =
     omega (arith, some, none)
 
 -- a command that succeeds is one of which no check fails
-none_failed : (refusal : Option Status) (ns : ZonedNamespace) (effect : Effect)
+no_refusal : (refusal : Option Status) (ns : ZonedNamespace) (effect : Effect)
     → Fails refusal → (concluded refusal ns effect).status ≡ SUCCESS → refusal ≡ None
-none_failed None ns effect fails done = refl
-none_failed (Some status) ns effect fails done = absurd (no_success status (fails status refl) done)
+no_refusal None ns effect fails done = refl
+no_refusal (Some status) ns effect fails done = absurd (no_success status (fails status refl) done)
 
 pub append_passed : (ns : ZonedNamespace) (holds : Holds) (lba blocks : ℕ) (input : List ℕ)
     → (meaning ns holds (Append lba blocks) input).status ≡ SUCCESS → first_failed (append_checks ns holds lba blocks input) ≡ None
 append_passed ns holds lba blocks input done =
     let z = zone_number ns lba in
     let zone_checks = zone_write_checks ns holds z (length (zone_at ns z).blocks) blocks in
-    none_failed (first_failed (append_checks ns holds lba blocks input)) ns (append_effect ns holds lba input)
+    no_refusal (first_failed (append_checks ns holds lba blocks input)) ns (append_effect ns holds lba input)
     (some_fails (append_checks ns holds lba blocks input)
     (all_append Fails (append_address_checks ns lba blocks input) zone_checks
     (all_append Fails (transfer_checks (blocks * ns.block) (blocks * ns.block) input) (lowest_checks ns lba) (transfer_fails (blocks * ns.block) (blocks * ns.block) input) (lowest_fails ns lba))
@@ -245,7 +242,7 @@ pub write_passed : (ns : ZonedNamespace) (holds : Holds) (lba blocks : ℕ) (inp
     → (meaning ns holds (Write lba blocks) input).status ≡ SUCCESS → first_failed (write_checks ns holds lba blocks input) ≡ None
 write_passed ns holds lba blocks input done =
     let z = zone_number ns lba in
-    none_failed (first_failed (write_checks ns holds lba blocks input)) ns (write_effect ns holds lba input)
+    no_refusal (first_failed (write_checks ns holds lba blocks input)) ns (write_effect ns holds lba input)
     (some_fails (write_checks ns holds lba blocks input)
     (all_append Fails (write_address_checks ns lba blocks input) (zone_write_checks ns holds z (lba % ns.size) blocks)
     (all_append Fails (transfer_checks (blocks * ns.block) (blocks * ns.block) input) (range_checks ns lba blocks) (transfer_fails (blocks * ns.block) (blocks * ns.block) input) (range_fails ns lba blocks))
@@ -256,7 +253,7 @@ pub read_passed : (ns : ZonedNamespace) (holds : Holds) (lba blocks : ℕ) (inpu
     → (meaning ns holds (Read lba blocks) input).status ≡ SUCCESS → first_failed (read_checks ns lba blocks input) ≡ None
 read_passed ns holds lba blocks input done =
     let state = (zone_at ns (zone_number ns lba)).state in
-    none_failed (first_failed (read_checks ns lba blocks input)) ns (read_effect ns lba blocks)
+    no_refusal (first_failed (read_checks ns lba blocks input)) ns (read_effect ns lba blocks)
     (some_fails (read_checks ns lba blocks input)
     (all_append Fails (transfer_checks (blocks * ns.block) 0 input) (range_checks ns lba blocks ++ read_refusal state ∷ []) (transfer_fails (blocks * ns.block) 0 input)
     (all_append Fails (range_checks ns lba blocks) (read_refusal state ∷ []) (range_fails ns lba blocks) (read_refusal_fails state, tt))))

@@ -31,7 +31,7 @@ use Rattle.zns_commands.proofs.WrittenZones.{written_sound}
 use Rattle.zns_commands.proofs.MovedZones.{moved_sound, fault_sound}
 use Rattle.zns_commands.proofs.SweptZones.{all_sound}
 use Rattle.zns_commands.proofs.Meanings.{after_command}
-use Rattle.zns_commands.proofs.PassedChecks.{Writes, append_writes, roomed, write_writes, zone_inside}
+use Rattle.zns_commands.proofs.PassedChecks.{Writes, append_writes, unrefused, write_writes, zone_inside}
 
 written : (ns : ZonedNamespace) (holds : Holds) (z blocks : ℕ) (input : List ℕ) → IsNamespace ns → AreBytes input
     → Writes ns holds z blocks input → IsNamespace (with_written ns holds z input)
@@ -47,7 +47,7 @@ send_sound ns holds lba a false input sound none =
     let z = zone_number ns lba in
     let room = room_of ns holds a (zone_at ns z).state in
     let start = ltb-true lba (block_total ns) (demanded (nat_lt lba (block_total ns)) _ (passed checks 2 none)) in
-    moved_sound ns holds z a (closing_of room) sound (zone_inside ns lba sound start) (roomed room (passed checks 6 none))
+    moved_sound ns holds z a (closing_of room) sound (zone_inside ns lba sound start) (unrefused room None (passed checks 6 none))
 
 effect_sound : (ns : ZonedNamespace) (holds : Holds) (command : StandardCommand) (input : List ℕ) → IsNamespace ns → IsSpelled (Commanded holds command input)
     → first_failed (checks_of ns holds command input) ≡ None → IsNamespace (effect_of ns holds command input).namespace
