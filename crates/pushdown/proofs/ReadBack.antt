@@ -99,7 +99,7 @@ module _ {D : Type 0} (operations : Operations D) where
   pub reads : (s : State) (lba blocks : ℕ) (bytes : List ℕ) → AreRead s.namespace lba blocks bytes
       → ReadsGive operations s lba blocks bytes
   reads s lba blocks bytes is read submits =
-      subst (λ (o : Effect). IsCompleted read.event s o (happens operations s read.starved read.event)) (is (holds_at s))
+      subst (λ (effect : Effect). IsCompleted read.event s effect (happens operations s read.starved read.event)) (is (holds_at s))
       (completed read.event (Read lba blocks) [] s read.starved submits)
 
   -- what is left of a zone after a command and after events that don't clear it

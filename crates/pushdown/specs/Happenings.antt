@@ -186,7 +186,7 @@ faulting s zone state = record {
 
 -- what a standard command comes to
 abbrev pub commanded : Submission → State → Effect → Happening
-commanded sub s o = completed sub o.status o.dw0 o.dw1 o.output (with_namespace s o.namespace)
+commanded sub s effect = completed sub effect.status effect.dw0 effect.dw1 effect.output (with_namespace s effect.namespace)
 
 module _ {D : Type 0} (operations : Operations D) where
   -- what an entry comes to that names this command; only Load asks whether memory is refused
