@@ -8,7 +8,7 @@ use Rattle.zone_state.specs.Zone.{written_state}
 use Rattle.zone_state.specs.declared.state.ZoneState.{ZoneState}
 use Rattle.zone_state.specs.declared.state.ZoneState.TheVariants.{Full, Offline}
 use Rattle.program_interface.proofs.Proved.{all_append}
-use Rattle.emit_append.proofs.Proved.{AllBytes, by_place, by_recursion}
+use Rattle.emit_append.proofs.Proved.{AllBytes, FitsByte, by_place, by_recursion}
 use Rattle.program_interface.specs.Bytes.{AreBytes, pieces}
 use Rattle.image_store.specs.Blocks.{as_blocks, block_count}
 use Rattle.image_store.specs.Geometry.{Shape}
@@ -78,7 +78,7 @@ module _ (block : ℕ) where
 
   all_bytes : (blocks : List (List ℕ)) → AreBlocks block blocks → AllBytes (concat blocks)
   all_bytes [] h = tt
-  all_bytes (b ∷ bs) h = all_append (λ byte. byte < 256) b (concat bs) (by_recursion b h.0.are) (all_bytes bs h.1)
+  all_bytes (b ∷ bs) h = all_append FitsByte b (concat bs) (by_recursion b h.0.are) (all_bytes bs h.1)
 
   pub bytes_are : (blocks : List (List ℕ)) → AreBlocks block blocks → AreBytes (concat blocks)
   bytes_are blocks h = by_place (concat blocks) (all_bytes blocks h)

@@ -16,7 +16,7 @@ use Rattle.program_meaning.specs.State.{IsState, at_start}
 use Rattle.program_meaning.specs.TrapFree.{Exits, NeverTraps}
 use Rattle.program_meaning.proofs.Proved.{ends_in_run, start_is_in_run, start_is_state}
 use Rattle.program_interface.proofs.Proved.{all_append, all_same}
-use Rattle.emit_append.proofs.Proved.{AllBytes, by_place}
+use Rattle.emit_append.proofs.Proved.{AllBytes, FitsByte, by_place}
 use Rattle.program_interface.specs.Bytes.{AreBytes}
 use Rattle.pushdown.specs.BlockRuns.{Task, block_run, block_runs_from, block_runs_of, context, frames_of, goes_on, no_scratch, scratch_after, until_ended}
 use Rattle.pushdown.proofs.Bytes.{AreBlocks, IsBlock, little_are}
@@ -25,15 +25,14 @@ use Rattle.pushdown.proofs.Bytes.{AreBlocks, IsBlock, little_are}
 
 words_are : (words : List ℕ) → AllBytes (flat_map (little_bytes 4) words)
 words_are [] = tt
-words_are (x ∷ xs) = all_append (λ byte. byte < 2 ^ 8) (little_bytes 4 x) (flat_map (little_bytes 4) xs) (little_are 4 x) (words_are xs)
+words_are (x ∷ xs) = all_append FitsByte (little_bytes 4 x) (flat_map (little_bytes 4) xs) (little_are 4 x) (words_are xs)
 
 context_are : (task : Task) (index : ℕ) → AllBytes (context task index)
 context_are task index =
-    let P : ℕ → Type 0 = λ byte. byte < 2 ^ 8 in
     let words = flat_map (little_bytes 4) (index ∷ task.count ∷ task.sizes.block ∷ task.argument ∷ []) in
     let zeros : List ℕ = replicate 8 0 in
-    all_append P (little_bytes 8 (task.lba + index)) (words ++ zeros) (little_are 8 (task.lba + index))
-    (all_append P words zeros (words_are (index ∷ task.count ∷ task.sizes.block ∷ task.argument ∷ [])) (all_same P 8 0 (lit< tt)))
+    all_append FitsByte (little_bytes 8 (task.lba + index)) (words ++ zeros) (little_are 8 (task.lba + index))
+    (all_append FitsByte words zeros (words_are (index ∷ task.count ∷ task.sizes.block ∷ task.argument ∷ [])) (all_same FitsByte 8 0 (lit< tt)))
 
 pub record IsScratch (scratch : List ℕ) : Type 0 where
   pub long : length scratch ≡ 1024
@@ -42,7 +41,7 @@ pub record IsScratch (scratch : List ℕ) : Type 0 where
 pub no_scratch_is : IsScratch no_scratch
 no_scratch_is = record {
   long = length-replicate {A = ℕ} 1024 0;
-  are = by_place no_scratch (all_same (λ byte. byte < 2 ^ 8) 1024 0 (lit< tt));
+  are = by_place no_scratch (all_same FitsByte 1024 0 (lit< tt));
 }
 
 -- a program that never traps over blocks of this size
@@ -97,10 +96,10 @@ fewer (run ∷ block_runs) =
     let tail = cond_both (goes_on run.end) (until_ended block_runs) [] (λ kept. length kept ≤ length block_runs) (λ _. fewer block_runs) (λ _. omega arith) in
     omega (arith, tail)
 
-one_each : (task : Task) (index : ℕ) (scratch : List ℕ) (blocks : List (List ℕ)) → length (block_runs_from task index scratch blocks) ≤ length blocks
-one_each task index scratch [] = omega arith
-one_each task index scratch (b ∷ bs) =
-    let less = one_each task (index + 1) (scratch_after (block_run task index scratch b)) bs in
+at_most_one_each : (task : Task) (index : ℕ) (scratch : List ℕ) (blocks : List (List ℕ)) → length (block_runs_from task index scratch blocks) ≤ length blocks
+at_most_one_each task index scratch [] = omega arith
+at_most_one_each task index scratch (b ∷ bs) =
+    let less = at_most_one_each task (index + 1) (scratch_after (block_run task index scratch b)) bs in
     omega (arith, less)
 
 -- no more than blocks
@@ -108,8 +107,8 @@ pub few_runs : (task : Task) (index : ℕ) (scratch : List ℕ) (blocks : List (
     → length (until_ended (block_runs_from task index scratch blocks)) ≤ length blocks
 few_runs task index scratch blocks =
     let less = fewer (block_runs_from task index scratch blocks) in
-    let same = one_each task index scratch blocks in
-    omega (arith, less, same)
+    let most = at_most_one_each task index scratch blocks in
+    omega (arith, less, most)
 
 -- and some where there are blocks
 pub some_runs : (task : Task) (blocks : List (List ℕ)) → 1 ≤ length blocks → 1 ≤ length (block_runs_of task blocks)
