@@ -11,7 +11,7 @@ use Rattle.pushdown.specs.Happenings.{submitted}
 use Rattle.pushdown.specs.State.{State, new_state}
 use Rattle.device_events.specs.declared.reply.Reply.TheVariants.{Complete}
 use Rattle.pushdown.proofs.ExampleEvents.{asks, completes, completes_with, device, zone_of}
-use Rattle.pushdown.proofs.Examples.{block_of, entry_of, four_zones, passes, run_entry, sums, two_zones}
+use Rattle.pushdown.proofs.Examples.{block_of, entry_of, four_zones, leave, move, passes, run_entry, sums, two_zones}
 
 -- Load into slot 0 of a program of so many bytes, whose groups have at most `low + 256 * high` bytes
 abbrev pub load_entry : ℕ → ℕ → ℕ → ℕ → List ℕ
@@ -25,14 +25,6 @@ abbrev no_runs : State
 no_runs = new_state (four_zones (replicate 4 (zone_of zone.Empty [])))
 
 -- ---- programs
-
--- mov r0, 0
-abbrev pub move : List ℕ
-move = 0xb7 ∷ replicate 7 0
-
--- exit
-abbrev pub leave : List ℕ
-leave = 0x95 ∷ replicate 7 0
 
 -- the first half of a wide instruction, which is refused for that where it stands alone
 abbrev wide : List ℕ

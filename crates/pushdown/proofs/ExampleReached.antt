@@ -18,8 +18,8 @@ use Rattle.pushdown.specs.Reached.{IsReached}
 use Rattle.pushdown.specs.State.{State, new_state}
 use Rattle.device_events.specs.declared.event.Event.TheVariants as event
 use Rattle.pushdown.proofs.ExampleEvents.{zone_of}
-use Rattle.pushdown.proofs.ExampleLoads.{leave, load_entry, move}
-use Rattle.pushdown.proofs.Examples.{block_of, entry_of, four_zones, run_entry}
+use Rattle.pushdown.proofs.ExampleLoads.{load_entry}
+use Rattle.pushdown.proofs.Examples.{block_of, entry_of, four_zones, leave, move, run_entry}
 
 -- the shape of the four zones of other examples
 abbrev four : Shape

@@ -17,38 +17,43 @@ abbrev pub program_of : Result (List (Option Instruction)) Fault → List (Optio
 program_of (Ok program) = program
 program_of (Err fault) = []
 
+-- mov r0, 0
+abbrev pub move : List ℕ
+move = 0xb7 ∷ replicate 7 0
+
+-- exit
+abbrev pub leave : List ℕ
+leave = 0x95 ∷ replicate 7 0
+
 -- mov r0, 0; exit
 abbrev pub passes : List (Option Instruction)
-passes = program_of (decoded_program (
-    0xb7 ∷ 0 ∷ 0 ∷ 0 ∷ 0 ∷ 0 ∷ 0 ∷ 0
-    ∷ 0x95 ∷ 0 ∷ 0 ∷ 0 ∷ 0 ∷ 0 ∷ 0 ∷ 0 ∷ []))
+passes = program_of (decoded_program (move ++ leave))
 
 -- emits a block's first 8 bytes, where its first byte is 7:
 -- ldxb r6, [r2+0]; jne r6, 7, +3; mov r1, r2; mov r2, 8; call 1; mov r0, 0; exit
 abbrev pub sevens : List (Option Instruction)
 sevens = program_of (decoded_program (
-    0x71 ∷ 0x26 ∷ 0 ∷ 0 ∷ 0 ∷ 0 ∷ 0 ∷ 0
-    ∷ 0x55 ∷ 0x06 ∷ 3 ∷ 0 ∷ 7 ∷ 0 ∷ 0 ∷ 0
-    ∷ 0xbf ∷ 0x21 ∷ 0 ∷ 0 ∷ 0 ∷ 0 ∷ 0 ∷ 0
-    ∷ 0xb7 ∷ 0x02 ∷ 0 ∷ 0 ∷ 8 ∷ 0 ∷ 0 ∷ 0
+    0x71 ∷ 0x26 ∷ replicate 6 0
+    ++ 0x55 ∷ 0x06 ∷ 3 ∷ 0 ∷ 7 ∷ 0 ∷ 0 ∷ 0
+    ∷ 0xbf ∷ 0x21 ∷ replicate 6 0
+    ++ 0xb7 ∷ 0x02 ∷ 0 ∷ 0 ∷ 8 ∷ 0 ∷ 0 ∷ 0
     ∷ 0x85 ∷ 0 ∷ 0 ∷ 0 ∷ 1 ∷ 0 ∷ 0 ∷ 0
-    ∷ 0xb7 ∷ 0 ∷ 0 ∷ 0 ∷ 0 ∷ 0 ∷ 0 ∷ 0
-    ∷ 0x95 ∷ 0 ∷ 0 ∷ 0 ∷ 0 ∷ 0 ∷ 0 ∷ 0 ∷ []))
+    ∷ move ++ leave))
 
 -- adds the first bytes of its blocks up in the scratch bytes, and ends the run at the block of index 2:
 -- ldxb r4, [r2+0]; ldxdw r5, [r3+0]; add r5, r4; stxdw [r3+0], r5; ldxw r6, [r1+8]; mov r0, 0;
 -- jne r6, 2, +1; mov r0, 1; exit
 abbrev pub sums : List (Option Instruction)
 sums = program_of (decoded_program (
-    0x71 ∷ 0x24 ∷ 0 ∷ 0 ∷ 0 ∷ 0 ∷ 0 ∷ 0
-    ∷ 0x79 ∷ 0x35 ∷ 0 ∷ 0 ∷ 0 ∷ 0 ∷ 0 ∷ 0
-    ∷ 0x0f ∷ 0x45 ∷ 0 ∷ 0 ∷ 0 ∷ 0 ∷ 0 ∷ 0
-    ∷ 0x7b ∷ 0x53 ∷ 0 ∷ 0 ∷ 0 ∷ 0 ∷ 0 ∷ 0
-    ∷ 0x61 ∷ 0x16 ∷ 8 ∷ 0 ∷ 0 ∷ 0 ∷ 0 ∷ 0
-    ∷ 0xb7 ∷ 0 ∷ 0 ∷ 0 ∷ 0 ∷ 0 ∷ 0 ∷ 0
-    ∷ 0x55 ∷ 0x06 ∷ 1 ∷ 0 ∷ 2 ∷ 0 ∷ 0 ∷ 0
+    0x71 ∷ 0x24 ∷ replicate 6 0
+    ++ 0x79 ∷ 0x35 ∷ replicate 6 0
+    ++ 0x0f ∷ 0x45 ∷ replicate 6 0
+    ++ 0x7b ∷ 0x53 ∷ replicate 6 0
+    ++ 0x61 ∷ 0x16 ∷ 8 ∷ replicate 5 0
+    ++ move
+    ++ 0x55 ∷ 0x06 ∷ 1 ∷ 0 ∷ 2 ∷ 0 ∷ 0 ∷ 0
     ∷ 0xb7 ∷ 0 ∷ 0 ∷ 0 ∷ 1 ∷ 0 ∷ 0 ∷ 0
-    ∷ 0x95 ∷ 0 ∷ 0 ∷ 0 ∷ 0 ∷ 0 ∷ 0 ∷ 0 ∷ []))
+    ∷ leave))
 
 -- emits a block's first byte twice:
 -- mov r6, r2; mov r1, r6; mov r2, 1; call 1; mov r1, r6; mov r2, 1; call 1; exit
@@ -61,14 +66,14 @@ twice = program_of (decoded_program (
     ∷ 0xbf ∷ 0x61 ∷ replicate 6 0
     ++ 0xb7 ∷ 0x02 ∷ 0 ∷ 0 ∷ 1 ∷ 0 ∷ 0 ∷ 0
     ∷ 0x85 ∷ 0 ∷ 0 ∷ 0 ∷ 1 ∷ 0 ∷ 0 ∷ 0
-    ∷ 0x95 ∷ replicate 7 0))
+    ∷ leave))
 
 -- emits the context: mov r2, 32; call 1; exit
 abbrev pub tells : List (Option Instruction)
 tells = program_of (decoded_program (
     0xb7 ∷ 0x02 ∷ 0 ∷ 0 ∷ 32 ∷ 0 ∷ 0 ∷ 0
     ∷ 0x85 ∷ 0 ∷ 0 ∷ 0 ∷ 1 ∷ 0 ∷ 0 ∷ 0
-    ∷ 0x95 ∷ replicate 7 0))
+    ∷ leave))
 
 -- emits a block's first 510 bytes, and can't go on where the first is 9, at a load from address 0; the
 -- verifier refuses it:
@@ -80,14 +85,14 @@ traps = program_of (decoded_program (
     ∷ 0xbf ∷ 0x21 ∷ replicate 6 0
     ++ 0xb7 ∷ 0x02 ∷ 0 ∷ 0 ∷ 0xfe ∷ 0x01 ∷ 0 ∷ 0
     ∷ 0x85 ∷ 0 ∷ 0 ∷ 0 ∷ 1 ∷ 0 ∷ 0 ∷ 0
-    ∷ 0xb7 ∷ replicate 7 0
-    ++ 0x95 ∷ replicate 7 0
+    ∷ move
+    ++ leave
     ++ 0x79 ∷ replicate 7 0
-    ++ 0x95 ∷ replicate 7 0))
+    ++ leave))
 
 -- goes back for ever, and is refused too: ja -1; exit
 abbrev pub loops : List (Option Instruction)
-loops = program_of (decoded_program (0x05 ∷ 0 ∷ 0xff ∷ 0xff ∷ replicate 4 0 ++ 0x95 ∷ replicate 7 0))
+loops = program_of (decoded_program (0x05 ∷ 0 ∷ 0xff ∷ 0xff ∷ replicate 4 0 ++ leave))
 
 -- the frame that `sevens` emits of a block of 7 and zeros
 abbrev pub frame : List ℕ
