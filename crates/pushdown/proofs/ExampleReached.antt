@@ -10,7 +10,7 @@ use Rattle.emit_append.proofs.Proved.{AllBytes, FitsByte, by_place}
 use Rattle.image_store.specs.Geometry.{IsShape, Shape}
 use Rattle.image_store.specs.Namespace.{all_empty, shape}
 use Rattle.program_interface.specs.Bytes.{AreBytes}
-use Rattle.zns_commands.proofs.Proved.{empty_is_namespace}
+use Rattle.zns_commands.proofs.Proved.{empty_is_namespace, no_bytes}
 use Rattle.pushdown.specs.EventReplies.{submission_of}
 use Rattle.pushdown.specs.Events.{Occurrence, state_after}
 use Rattle.pushdown.specs.Pushdown.{IsAdmitted}
@@ -54,9 +54,6 @@ block_is = by_place (block_of 7) (then_zeros 7 511 (lit< tt))
 program_is : AreBytes program
 program_is = by_place program (all_append FitsByte move leave (then_zeros 0xb7 7 (lit< tt)) (then_zeros 0x95 7 (lit< tt)))
 
-none_is : AreBytes []
-none_is = by_place [] tt
-
 -- a run of one block of zone 0, which appends to zone 1
 abbrev command : RunCommand
 command = record { lba = 0; blocks = 1; slot = 0; argument = 0; destination = 8 }
@@ -87,7 +84,7 @@ module _ {D : Type 0} (operations : Operations D) (there : Ptr) (alloc : Global)
     first = all_empty four;
     events = events;
     namespace = empty_is_namespace four is_shape;
-    bytes = (block_is, (none_is, (program_is, tt)));
+    bytes = (block_is, (no_bytes, (program_is, tt)));
     leaves = refl;
   }
 

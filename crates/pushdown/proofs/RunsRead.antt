@@ -15,6 +15,7 @@ use Rattle.program_interface.specs.Bytes.{AreBytes}
 use Rattle.image_store.specs.Geometry.{Shape}
 use Rattle.image_store.specs.Namespace.{shape, IsNamespace}
 use Rattle.image_store.proofs.Proved.{block_most}
+use Rattle.zns_commands.proofs.Proved.{no_bytes}
 use Rattle.pushdown.specs.Admission.{admission_checks}
 use Rattle.pushdown.specs.EventReplies.{Submission, submission_of}
 use Rattle.pushdown.specs.Events.{AreEvents, Occurrence, state_after}
@@ -35,7 +36,7 @@ admitted_bytes : (s : State) (sub : Submission) (command : RunCommand) (run : �
 admitted_bytes s sub command run admitted =
     let checks = admission_checks s.namespace (holds_at s) (is_some (free_place s)) (loaded_at s command.slot) command sub.input in
     let test = nat_eq (length sub.input) 0 in
-    subst AreBytes (sym (nil_from_length sub.input (eqb-true (length sub.input) 0 (demanded test INVALID_FIELD_IN_COMMAND (passed checks 1 admitted.passed))))) (λ i. omega arith)
+    subst AreBytes (sym (nil_from_length sub.input (eqb-true (length sub.input) 0 (demanded test INVALID_FIELD_IN_COMMAND (passed checks 1 admitted.passed))))) no_bytes
 
 module _ {D : Type 0} (operations : Operations D) (never : AcceptedNeverTraps operations) (s : State) (reached : IsReached operations s)
     (queue : ℕ) (entry : List ℕ) (input : Vec ℕ Global) (starved : Bool) (command : RunCommand) (run : ℕ) (events later : List Occurrence) where

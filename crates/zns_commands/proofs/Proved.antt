@@ -1,6 +1,7 @@
 -- Laws of this crate, proved, and lemmas: what the proofs of other crates cite of it.
 use Rattle.zns_commands.specs.Left.{HeldDestinationsAreLeft, ShapesAreKept, HeldSourcesKeepBlocks}
 use Rattle.zns_commands.specs.Laws.{AddedBlocksKeepNamespacesSound, EmptyIsNamespace, EventsKeepNamespaces, RefusedCommandsChangeNothing}
+pub use Rattle.zns_commands.proofs.FittingZones.{no_bytes}
 use Rattle.zns_commands.proofs.HeldSources as held_sources
 use Rattle.zns_commands.proofs.HeldZones as held_zones
 use Rattle.zns_commands.proofs.KeptBlocks.{event_shape}
