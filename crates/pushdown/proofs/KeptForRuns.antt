@@ -66,7 +66,7 @@ unchanged : (place : Place) (s : State) → KeepsFor place s s
 unchanged place s = record { source = grows_by_none (zone_at s.namespace place.source).blocks; program = same_program (loaded_at s place.slot); shape_kept = refl }
 
 -- a Load doesn't take the slot of an active run
-not_loaded : (s : State) (run : ℕ) (place : Place) (load : LoadCommand) (input : List ℕ) → place_at s run ≡ Some place
+pub not_loaded : (s : State) (run : ℕ) (place : Place) (load : LoadCommand) (input : List ℕ) → place_at s run ≡ Some place
     → first_failed (load_checks s load input) ≡ None → place.slot ≢ load.slot
 not_loaded s run place load input at none same =
     let free = not-true (in_use s load.slot) (demanded (not (in_use s load.slot)) PROGRAM_IN_USE (passed (load_checks s load input) 3 none)) in

@@ -1,4 +1,4 @@
--- Laws of this crate, proved, and a lemma: what the proofs of other crates cite of it.
+-- Laws of this crate, proved, and lemmas: what the proofs of other crates cite of it.
 use Rattle.std.proofs.Common.{List}
 use Rattle.word_domain.specs.Domain.{Operations}
 use Rattle.accepted_programs.specs.Laws.{AcceptedNeverTraps}
@@ -16,6 +16,7 @@ use Rattle.pushdown.proofs.AnyOrder as any_order
 use Rattle.pushdown.proofs.Drained as drained
 use Rattle.pushdown.proofs.JoinedEvents as joined
 use Rattle.pushdown.proofs.KeptForRuns as kept
+pub use Rattle.pushdown.proofs.KeptForRuns.{not_loaded, same_program}
 pub use Rattle.pushdown.proofs.OthersEvents.{turned_is}
 use Rattle.pushdown.proofs.Pushdown as theorem
 use Rattle.pushdown.proofs.Reached as reached

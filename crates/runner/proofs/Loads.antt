@@ -1,34 +1,34 @@
 -- A program that is put into a slot that no run uses.
-use Rattle.std.proofs.Common.{◌≡◌, ◌≢◌, ℕ, zero, suc, Bool, false, List, [], ◌∷◌, map, set, get_or, Option, Some, None, refl, ap, sym, subst, ◌∙◌, inl, inr, get_or-set_other}
-use Rattle.std.specs.Prelude.{◌==◌, ◌||◌, not}
+use Rattle.std.proofs.Common.{◌≡◌, ◌≢◌, ℕ, Bool, false, List, [], ◌∷◌, map, set, get_or, Option, Some, None, refl, ap, sym, subst, ◌∙◌, inl, inr, get_or-set_other}
+use Rattle.std.specs.Prelude.{◌==◌, ◌||◌}
 use Rattle.std.specs.List.{list_any}
 use Rattle.std.proofs.lemmas.List.{map-set}
-use Rattle.std.proofs.lemmas.Bool.{eqb-false, not-true, or_parts}
 use Rattle.zone_state.specs.declared.status.Status.{Status}
-use Rattle.zone_state.specs.declared.status.TheConstants.Status.{PROGRAM_IN_USE, SUCCESS}
+use Rattle.zone_state.specs.declared.status.TheConstants.Status.{SUCCESS}
 use Rattle.program_interface.specs.Checks.{first_failed}
-use Rattle.program_interface.proofs.Proved.{demanded, passed}
 use Rattle.nvme_entry.specs.declared.command.LoadCommand.{LoadCommand}
 use Rattle.program_interface.specs.RunSizes.{Sizes}
 use Rattle.accepted_programs.proofs.Proved.{set_known}
 use Rattle.interval_domain.specs.Intervals.{intervals}
 use Rattle.verifier.specs.Verified.{program_of, sizes_of}
-use Rattle.image_store.specs.Namespace.{ZonedNamespace}
+use Rattle.image_store.specs.Namespace.{ZonedNamespace, zone_at}
 use Rattle.zns_commands.specs.Answer.{refused_answer, success_answer}
 use Rattle.zns_commands.specs.declared.answer.Answer.{Answer}
-use Rattle.pushdown.specs.Admission.{Loaded, task_of}
+use Rattle.zns_commands.proofs.Proved.{grows_by_none}
+use Rattle.pushdown.specs.Admission.{Loaded, SameProgram}
 use Rattle.pushdown.specs.EventReplies.{completed, submission_of}
 use Rattle.pushdown.specs.BlockRuns.{no_scratch}
 use Rattle.pushdown.specs.Happenings.{judged, just_loaded, load_checks, load_unless, read_program, sizes_for}
-use Rattle.pushdown.specs.Outcome.{rest}
-use Rattle.pushdown.specs.State.{Place, State, in_use, uses, with_slot}
-use Rattle.pushdown.specs.View.{Active, place_of, seen, to_come}
+use Rattle.pushdown.specs.State.{Place, State, in_use, loaded_at, with_slot}
+use Rattle.pushdown.specs.View.{place_of}
+use Rattle.pushdown.proofs.Proved.{not_loaded, same_program}
 use Rattle.runner.specs.steps.Answered.{HasLoaded}
-use Rattle.runner.specs.DeviceState.{loaded_slot, running, device_state}
+use Rattle.runner.specs.DeviceState.{active_of, loaded_slot, device_state}
 use Rattle.runner.specs.steps.Loading.{IsLoadable, IsNotAccepted, uses_slot}
 use Rattle.runner.specs.Ready.{IsForBlocks, IsReady}
 use Rattle.runner.specs.declared.active_run.ActiveRun.{ActiveRun}
 use Rattle.runner.specs.declared.loaded_program.LoadedProgram.{LoadedProgram}
+use Rattle.runner.proofs.Staying.{Stays, keeps_source, placed_at, places_stay}
 
 -- ---- which slots are used
 
@@ -38,29 +38,6 @@ used_is ns slots [] slot = refl
 used_is ns slots (None ∷ runs) slot = used_is ns slots runs slot
 used_is ns slots (Some a ∷ runs) slot = ap (λ (b : Bool). (a.command.slot == slot) || b) (used_is ns slots runs slot)
 
-not_at : (runs : List (Option ActiveRun)) (slot k : ℕ) (a : ActiveRun) → list_any (uses_slot slot) runs ≡ false → get_or runs k None ≡ Some a → (a.command.slot == slot) ≡ false
-not_at [] slot k a none at = cc
-not_at (r ∷ runs) slot zero a none at =
-    sym (ap (uses_slot slot) at) ∙ (or_parts (uses_slot slot r) (list_any (uses_slot slot) runs) none).0
-not_at (r ∷ runs) slot (suc k) a none at = not_at runs slot k a (or_parts (uses_slot slot r) (list_any (uses_slot slot) runs) none).1 at
-
--- ---- what is seen of runs that don't use it
-
-module _ (ns : ZonedNamespace) (slots : List (Option Loaded)) (slot : ℕ) (new : Option Loaded) where
-  seen_same : (a : Active) → a.command.slot ≢ slot → place_of ns (set slots slot new) a ≡ place_of ns slots a
-  seen_same a other =
-      ap (λ (program : Option Loaded). record (place_of ns slots a) { turns = rest (task_of ns program a.command) a.so_far (to_come ns a) })
-      (get_or-set_other slots slot a.command.slot new None other)
-
-  all_seen : (runs : List (Option Active)) → list_any (uses slot) (map (seen ns slots) runs) ≡ false
-      → map (seen ns (set slots slot new)) runs ≡ map (seen ns slots) runs
-  all_seen [] none = refl
-  all_seen (None ∷ runs) none = ap (λ (places : List (Option Place)). None ∷ places) (all_seen runs none)
-  all_seen (Some a ∷ runs) none =
-      let neither = or_parts (a.command.slot == slot) (list_any (uses slot) (map (seen ns slots) runs)) none in
-      ap (λ (place : Place). Some place ∷ map (seen ns (set slots slot new)) runs) (seen_same a (eqb-false a.command.slot slot neither.0))
-      ∙ ap (λ (places : List (Option Place)). Some (place_of ns slots a) ∷ places) (all_seen runs neither.1)
-
 -- ---- the program is put there
 
 module _ (ns : ZonedNamespace) (slots : List (Option LoadedProgram)) (runs : List (Option ActiveRun)) (load : LoadCommand) (input : List ℕ)
@@ -69,23 +46,30 @@ module _ (ns : ZonedNamespace) (slots : List (Option LoadedProgram)) (runs : Lis
   abbrev s : State
   s = device_state ns slots runs
 
-  unused : in_use s load.slot ≡ false
-  unused = not-true (in_use s load.slot) (demanded (not (in_use s load.slot)) PROGRAM_IN_USE (passed (load_checks s load input) 3 loadable.checks))
+  -- a run uses another slot
+  uses_other : (k : ℕ) (a : ActiveRun) → get_or runs k None ≡ Some a → a.command.slot ≢ load.slot
+  uses_other k a at = not_loaded s k (place_of ns s.slots (active_of a)) load input (placed_at ns slots runs k a at) loadable.checks
+
+  -- and is seen as before
+  stays : (k : ℕ) (a : ActiveRun) → get_or runs k None ≡ Some a → Stays ns ns slots (set slots load.slot (Some new)) a
+  stays k a at =
+      let same = ap (λ (all : List (Option Loaded)). get_or all a.command.slot None) (map-set loaded_slot slots load.slot (Some new))
+      ∙ get_or-set_other s.slots load.slot a.command.slot (loaded_slot (Some new)) None (uses_other k a at) in
+      record {
+        source = keeps_source ns ns a (ready.running k a at).fits refl (grows_by_none (zone_at ns a.source.zone).blocks);
+        program = subst (SameProgram (loaded_at s a.command.slot)) (sym same) (same_program (loaded_at s a.command.slot));
+      }
 
   put : new.result ≡ no_scratch → device_state ns (set slots load.slot (Some new)) runs
       ≡ with_slot s load.slot (Some (just_loaded (program_of new.prepared) load.limit))
   put blank =
-      let seen_with : List (Option Loaded) → State = λ all. record { namespace = ns; slots = all; places = map (seen ns all) (map running runs) } in
-      ap seen_with (map-set loaded_slot slots load.slot (Some new))
-      ∙ ap (λ (n : ℕ). seen_with (set (map loaded_slot slots) load.slot (Some (record { program = program_of new.prepared; limit = n; result = new.result }))))
+      let seen_with : List (Option Loaded) → List (Option Place) → State = λ all places. record { namespace = ns; slots = all; places = places } in
+      let loaded : ℕ → List ℕ → Loaded = λ limit result. record { program = program_of new.prepared; limit = limit; result = result } in
+      ap (seen_with (map loaded_slot (set slots load.slot (Some new)))) (places_stay ns ns slots (set slots load.slot (Some new)) runs stays)
+      ∙ ap (λ (all : List (Option Loaded)). seen_with all s.places) (map-set loaded_slot slots load.slot (Some new))
+      ∙ ap (λ (limit : ℕ). seen_with (set s.slots load.slot (Some (loaded limit new.result))) s.places)
       (ap (λ (sizes : Sizes). sizes.limit) loadable.accepted.kept_is)
-      ∙ ap (λ (bytes : List ℕ). seen_with (set (map loaded_slot slots) load.slot (Some (record { program = program_of new.prepared; limit = load.limit; result = bytes })))) blank
-      ∙ ap (λ (places : List (Option Place)). record {
-        namespace = ns;
-        slots = set (map loaded_slot slots) load.slot (Some (just_loaded (program_of new.prepared) load.limit));
-        places = places;
-      })
-      (all_seen ns (map loaded_slot slots) load.slot (Some (just_loaded (program_of new.prepared) load.limit)) (map running runs) unused)
+      ∙ ap (λ (result : List ℕ). seen_with (set s.slots load.slot (Some (loaded load.limit result))) s.places) blank
 
   pub loads : new.result ≡ no_scratch → HasLoaded load input s (device_state ns (set slots load.slot (Some new)) runs) (success_answer 0 0)
   loads blank = record {
@@ -108,10 +92,9 @@ module _ (ns : ZonedNamespace) (slots : List (Option LoadedProgram)) (runs : Lis
     ];
     running = λ k a at.
         let was = ready.running k a at in
-        let other = eqb-false a.command.slot load.slot (not_at runs load.slot k a (sym (used_is ns slots runs load.slot) ∙ unused) at) in
         record {
           program = was.program;
-          loaded = get_or-set_other slots load.slot a.command.slot (Some new) None other ∙ was.loaded;
+          loaded = get_or-set_other slots load.slot a.command.slot (Some new) None (uses_other k a at) ∙ was.loaded;
           accepted = was.accepted;
           fits = was.fits;
         };
