@@ -5,7 +5,7 @@ ghost use Rattle.interval_domain.specs.Intervals.{intervals};
 ghost use Rattle.nvme_entry.specs.declared.command.TheConstants.{MOST_BLOCKS};
 ghost use Rattle.device_events.specs.Replies.{data_length};
 ghost use Rattle.pushdown.specs.Draining.{HasDrained, StopsDraining, lowest_run, turns_left};
-ghost use Rattle.pushdown.specs.Events.{CarriesBytes, HasHappened, HasServed, HasStopped};
+ghost use Rattle.pushdown.specs.Events.{HasHappened, HasServed, HasStopped};
 ghost use Rattle.pushdown.specs.Happenings.{faulting};
 ghost use Rattle.pushdown.specs.State.{new_state};
 ghost use Rattle.pushdown.specs.Reached.{IsReached};
@@ -89,7 +89,6 @@ impl Device {
         ensures happened { HasHappened intervals event.now self.old self.new (record { reply = result; bytes = take (data_length result) output.new }) }
         ensures rest { drop (data_length result) output.new ≡ drop (data_length result) output.old }
         ensures within { data_length result ≤ length output.new }
-        ensures carried { CarriesBytes event.now }
     {
         match event {
             Event::Submit {

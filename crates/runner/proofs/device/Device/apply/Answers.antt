@@ -2,7 +2,7 @@ use Rattle.std.proofs.Common.{false, take, subst, sym, ◌∙◌}
 use Rattle.program_interface.specs.Bytes.{AreBytes}
 use Rattle.interval_domain.specs.Intervals.{intervals}
 use Rattle.device_events.specs.Replies.{ReplyWithData, data_length}
-use Rattle.pushdown.specs.Events.{CarriesBytes, HasHappened}
+use Rattle.pushdown.specs.Events.{HasHappened}
 use Rattle.pushdown.specs.State.{State}
 use Rattle.device_events.specs.declared.event.Event.{Event}
 use Rattle.device_events.specs.declared.event.Event.TheVariants as event
@@ -50,6 +50,3 @@ returns-in-Submit-clause-happened c =
     (made.ensures.input ∙ c.as_slice.ensures.value) c.submit.ensures.submitted in
     subst (λ (x : Event). HasHappened intervals x c.args.self.now new reply) (sym e.is)
     (subst (λ (s : State). HasHappened intervals (event.Submit e.queue e.entry e.input) s new reply) c.self.view_is happened)
-
-pub returns-in-Submit-clause-carried : goal.returns-in-Submit-clause-carried
-returns-in-Submit-clause-carried c = subst CarriesBytes (sym c.in-Submit.is) (subst AreBytes c.as_slice.ensures.value c.new-submission.ensures.bytes)
