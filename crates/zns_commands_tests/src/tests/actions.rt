@@ -9,7 +9,6 @@ use zone_state::Action;
 fn actions_change_states(rt: HostRuntime) -> Result<(), Fail> {
     let steps = [
         // One zone, of which nothing is written.
-        Step::Begin,
         send(24, Action::Open, OK),
         Step::Leaves([EMPTY, EMPTY, EMPTY, EXPLICIT]),
         send(24, Action::Close, OK),
@@ -44,7 +43,6 @@ fn actions_change_states(rt: HostRuntime) -> Result<(), Fail> {
 fn all_of_none_succeeds(rt: HostRuntime) -> Result<(), Fail> {
     let steps = [
         // No zone to take.
-        Step::Begin,
         send_all(Action::Close, OK),
         send_all(Action::Finish, OK),
         send_all(Action::Open, OK),
@@ -59,7 +57,6 @@ fn all_of_none_succeeds(rt: HostRuntime) -> Result<(), Fail> {
 fn faults_take_zones(rt: HostRuntime) -> Result<(), Fail> {
     let steps = [
         // A zone that can be read alone, and then not even that.
-        Step::Begin,
         append(0, 2, OK),
         Step::Fault(0, FaultState::ReadOnly, true),
         Step::Leaves([READ_ONLY, EMPTY, EMPTY, EMPTY]),

@@ -11,14 +11,13 @@ const PAST: Status = Status::LBA_OUT_OF_RANGE;
 const OUTSIDE: [u64; 6] = [32, 33, 39, 1 << 32, u64::MAX - 1, u64::MAX];
 
 /// Each command at an address of no block. Only an action with Select All doesn't look at it.
-fn outside(lba: u64) -> [Step; 13] {
+fn outside(lba: u64) -> [Step; 12] {
     let reset_all = StandardCommand::Send {
         lba,
         action: Action::Reset,
         select_all: true,
     };
     [
-        Step::Begin,
         read(lba, 1, PAST),
         read(lba, 256, PAST),
         write(lba, 1, PAST),
@@ -47,7 +46,6 @@ fn the_last_blocks(rt: HostRuntime) -> Result<(), Fail> {
     let last_zone = [zone(EMPTY, 24, 24), NONE, NONE, NONE];
     let steps = [
         // The last block is there, and the next isn't.
-        Step::Begin,
         read(31, 1, OK),
         Step::Gives(0, 0, 1),
         read(31, 2, PAST),

@@ -13,7 +13,6 @@ fn the_largest_transfer_holds_a_report(rt: HostRuntime) -> Result<(), Fail> {
         zone(EMPTY, 24, 24),
     ];
     let steps = [
-        Step::Begin,
         Step::Report(0, 131_072, ZoneFilter::All, false, OK),
         Step::Lists(131_072, 4, all),
     ];
@@ -24,7 +23,6 @@ fn the_largest_transfer_holds_a_report(rt: HostRuntime) -> Result<(), Fail> {
 fn reports_begin_at_the_zone_of_an_address(rt: HostRuntime) -> Result<(), Fail> {
     let steps = [
         // The empty zones behind one that is opened, and those of them that a transfer has room for.
-        Step::Begin,
         append(8, 1, OK),
         Step::Report(9, 256, ZoneFilter::Empty, false, OK),
         Step::Lists(

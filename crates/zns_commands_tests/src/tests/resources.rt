@@ -9,7 +9,6 @@ use zone_state::Action;
 fn appends_and_writes_make_room(rt: HostRuntime) -> Result<(), Fail> {
     let steps = [
         // The lowest implicitly opened zone gives way to an append.
-        Step::Begin,
         append(0, 1, OK),
         append(8, 1, OK),
         append(16, 1, OK),
@@ -50,7 +49,6 @@ fn appends_and_writes_make_room(rt: HostRuntime) -> Result<(), Fail> {
 fn opens_make_room(rt: HostRuntime) -> Result<(), Fail> {
     let steps = [
         // An implicitly opened zone gives way to a closed one.
-        Step::Begin,
         append(16, 1, OK),
         send(16, Action::Close, OK),
         append(0, 1, OK),
@@ -87,7 +85,6 @@ fn zones_of_runs_are_held(rt: HostRuntime) -> Result<(), Fail> {
     destination.destinations[0] = Some(0);
     let steps = [
         // A source among all that would be reset.
-        Step::Begin,
         append(0, 6, OK),
         append(16, 6, OK),
         Step::Hold(source),

@@ -47,7 +47,7 @@ pub const NONE: Descriptor = [0; 4];
 /// A step of a script.
 #[derive(Clone, Copy, Debug)]
 pub enum Step {
-    /// A new namespace, of which nothing is written and that no run uses.
+    /// Another new namespace, of which nothing is written and that no run uses.
     Begin,
     /// The zones that runs use from here on.
     Hold(Holds),
@@ -148,7 +148,7 @@ fn data(alloc: Global) -> Result<Vec<u8>, Fail> {
     Ok(bytes)
 }
 
-/// Takes the steps in turn.
+/// Takes the steps in turn, on a new namespace, of which nothing is written and that no run uses.
 pub fn play(rt: &impl Abort, alloc: Global, steps: &[Step]) -> Result<(), Fail> {
     let mut stage = Stage {
         alloc,
@@ -156,7 +156,7 @@ pub fn play(rt: &impl Abort, alloc: Global, steps: &[Step]) -> Result<(), Fail> 
         holds: Holds::none(),
         data: data(alloc)?,
         output: vec![in alloc; 1; MOST_TRANSFER]?,
-        last: Answer::refused(OK),
+        last: Answer::success(0, 0),
         number: 0,
     };
     for (number, step) in steps.iter().enumerate() {

@@ -8,7 +8,6 @@ use zns_commands::{BlockCount, StandardCommand, Status};
 fn appends_are_answered_and_read(rt: HostRuntime) -> Result<(), Fail> {
     let steps = [
         // An append that fills a zone.
-        Step::Begin,
         append(16, 6, OK),
         Step::Answers(16),
         Step::Leaves([EMPTY, EMPTY, FULL, EMPTY]),
@@ -43,7 +42,6 @@ fn appends_are_answered_and_read(rt: HostRuntime) -> Result<(), Fail> {
 fn writes_are_checked_in_order(rt: HostRuntime) -> Result<(), Fail> {
     let steps = [
         // A write that is not at the write pointer.
-        Step::Begin,
         append(8, 1, OK),
         write(10, 1, Status::ZONE_INVALID_WRITE),
         Step::Answers(0),
@@ -67,7 +65,6 @@ fn transfers_are_checked_before_addresses(rt: HostRuntime) -> Result<(), Fail> {
     let one = BlockCount::from_zero_based(0);
     let steps = [
         // A block of which a byte is missing.
-        Step::Begin,
         Step::Execute(
             StandardCommand::Write {
                 lba: 0,
