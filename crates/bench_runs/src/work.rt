@@ -98,8 +98,7 @@ pub fn load_filter(device: &mut Device, filter: Vec<u8>, data: &mut [u8]) -> io:
     requires { MOST_TRANSFER ≤ length data.old }
     ensures { MOST_TRANSFER ≤ length data.new }
 {
-    must(device, &load(LIMIT, filter)?, data)?;
-    Ok(())
+    must(device, &load(LIMIT, filter)?, data)
 }
 
 /// Starts a run over so many blocks to zone 1, which is emptied: the nanoseconds of its admission.
@@ -142,7 +141,7 @@ fn repeat(device: &mut Device, event: &Event, times: u32, data: &mut [u8]) -> (b
 ///
 /// # Errors
 ///
-/// A command is refused, the run goes on behind its last turn, or the clock fails.
+/// A command is refused, the run doesn't end with its last block, or the clock fails.
 pub fn whole_run(
     rt: &impl Clock,
     alloc: Global,
@@ -163,7 +162,7 @@ pub fn whole_run(
             turns,
             completion: entry,
         }),
-        _ => Err(io::Error::other("the run goes on")),
+        _ => Err(io::Error::other("the run didn't end with its last block")),
     }
 }
 
