@@ -3,8 +3,10 @@
 ghost use Rattle.std.specs.Prelude.{◌+◌, ◌<◌, ◌≤◌, ◌^◌, length};
 
 use super::scenes::{EIGHT_ZONES, Zones, device_of, saved};
-use super::steps::Step;
-use super::{EMITTING, Kept, room};
+use super::steps::Expected::{Done, DoneWith, Faulted, Idle, Pending, Refused};
+use super::steps::{Case, Step};
+use super::{DESTINATION_OPENED, EMITTING, Kept, SOURCE_APPENDED, check_kept, events_of, room};
+use nvme_entry::Status;
 use runner::{Device, Event, Out, Reply};
 use std::alloc::Global;
 use std::process::Abort;
@@ -21,31 +23,29 @@ struct Whole {
     image: Vec<u8>,
 }
 
-/// Two runs, of which the second has a turn left.
-const STEPS: &[Step] = &[
-    Step::Append(1, 0, "07*1024"),
-    Step::Send(2, 8, Action::Open),
-    Step::Send(3, 16, Action::Open),
-    Step::Load(4, 0, 10, EMITTING),
-    Step::Run(5, 0, 2, 8),
-    Step::Turns(0, 1),
-    Step::Run(6, 0, 2, 16),
-    Step::Fault(3, FaultState::Offline),
-    Step::Turns(0, 1),
-    Step::Turns(0, 1),
-    Step::Read(7, 8, 1, ""),
-    Step::Load(8, 0, 10, EMITTING),
-    Step::Turns(1, 1),
+/// Two runs, and what is replied to each step.
+const STEPS: &[Case] = &[
+    SOURCE_APPENDED,
+    DESTINATION_OPENED,
+    (Step::Send(3, 16, Action::Open), Done(3)),
+    (Step::Load(4, 0, 10, EMITTING), Done(4)),
+    (Step::Run(5, 0, 2, 8), Pending(0)),
+    (Step::Turns(0, 1), Pending(0)),
+    (Step::Run(6, 0, 2, 16), Pending(1)),
+    (Step::Fault(3, FaultState::Offline), Faulted),
+    (Step::Turns(0, 1), DoneWith(5, 2, 1)),
+    (Step::Turns(0, 1), Idle),
+    (Step::Read(7, 8, 1, "0800 07*8 0800 07*8 00*492"), Done(7)),
+    (
+        Step::Load(8, 0, 10, EMITTING),
+        Refused(8, Status::PROGRAM_IN_USE),
+    ),
+    (Step::Turns(1, 1), Pending(1)),
+    (Step::Turns(1, 1), DoneWith(6, 2, 1)),
 ];
 
-/// What happens in them.
-fn events(alloc: Global) -> Result<Vec<Event>, Fail> {
-    let mut events = Vec::new(alloc);
-    for step in STEPS {
-        events.push(step.event(alloc)?)?;
-    }
-    Ok(events)
-}
+/// How many of them are served. Behind these a turn is left, which is drained.
+const SERVED: usize = 13;
 
 /// Does events and then the turns that are left. An `Err` tells how many of both were done where a reply was refused.
 fn serve_and_drain<O: Out>(
@@ -115,10 +115,10 @@ fn check_refused(
 #[test]
 fn each_reply_is_refused_in_turn(rt: HostRuntime) -> Result<(), Fail> {
     let alloc = rt.alloc();
-    let events = events(alloc)?;
+    let events = events_of(alloc, STEPS.get(..SERVED).unwrap_or(&[]))?;
     let whole = all_taken(&rt, alloc, &events)?;
-    assert_eq!(rt; whole.out.replies.len(), 14);
-    for taken in 0..14 {
+    check_kept(&rt, alloc, &whole.out, STEPS)?;
+    for taken in 0..STEPS.len() {
         check_refused(&rt, alloc, &events, &whole, taken)?;
     }
     Ok(())
