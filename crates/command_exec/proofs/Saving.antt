@@ -9,7 +9,7 @@ use Rattle.device_events.specs.Printed.{Printed, Prints}
 use Rattle.device_events.specs.Refusals.{CountsRefusals}
 use Rattle.device_events.specs.Replies.{Joins, ReplyWithData}
 use Rattle.device_events.proofs.Proved.{prints_in_parts}
-use Rattle.pushdown.specs.Draining.{HasDrained, StopsDraining}
+use Rattle.pushdown.specs.Draining.{HasDrained, HasStoppedDraining}
 use Rattle.pushdown.specs.Events.{HasServed, HasStopped}
 use Rattle.pushdown.specs.JoinedEvents.{HasServedAndDrained}
 use Rattle.pushdown.specs.State.{State, new_state}
@@ -67,7 +67,7 @@ module _ (events : List Event) (old between new : State) (before then after : �
       }
 
   -- one that stops
-  pub stops_in_turns : (result : Result (Unit {0}) Stopped) → IfErr result (λ stopped. StopsDraining between new (Took then after) stopped.done)
+  pub stops_in_turns : (result : Result (Unit {0}) Stopped) → IfErr result (λ stopped. HasStoppedDraining between new (Took then after) stopped.done)
       → OnErr result (HasBegun events old new)
   stops_in_turns (Ok done) stopped = tt
   stops_in_turns (Err error) stopped = InTurns between error.done
@@ -84,7 +84,7 @@ module _ (events : List Event) (old between new : State) (before then after : �
 
   -- it goes on printing to the same writer
   pub same_writer : (result : Result (Unit {0}) Stopped) → OnOk result (HasDrained between new (Took then after))
-      → IfErr result (λ stopped. StopsDraining between new (Took then after) stopped.done) → after.0 ≡ before.0
+      → IfErr result (λ stopped. HasStoppedDraining between new (Took then after) stopped.done) → after.0 ≡ before.0
   same_writer (Ok done) drained stopped = drained.replies.0 ∙ served.replies.0
   same_writer (Err error) drained stopped = stopped.replies.0 ∙ served.replies.0
 

@@ -6,7 +6,7 @@ use Rattle.image_store.specs.Reading.{namespace_in}
 use Rattle.image_store.specs.Text.{text}
 use Rattle.interval_domain.specs.Intervals.{intervals}
 use Rattle.device_events.specs.Replies.{ReplyWithData}
-use Rattle.pushdown.specs.Draining.{StopsDraining}
+use Rattle.pushdown.specs.Draining.{HasStoppedDraining}
 use Rattle.pushdown.specs.Events.{HasServed, HasStopped}
 use Rattle.pushdown.specs.JoinedEvents.{HasServedAndDrained}
 use Rattle.pushdown.specs.State.{State, new_state}
@@ -28,7 +28,7 @@ Untold replies = Unit {0}
 pub data HasBegun (events : List Event) (old new : State) : Type 0 where
   InEvents : (done : ℕ) (stopped : HasStopped intervals events old new Untold done) → HasBegun events old new
   InTurns : (between : State) (done : ℕ) (served : HasServed intervals events old between Untold)
-      (stopped : StopsDraining between new Untold done) → HasBegun events old new
+      (stopped : HasStoppedDraining between new Untold done) → HasBegun events old new
 
 -- the events are done on an image, and the turns behind them, the line of each reply is printed, and the file is made
 -- anew of the image that is left, where what is written of it is told

@@ -17,7 +17,7 @@ use Rattle.instruction_set.specs.Spelling.{Fits, spelling}
 use Rattle.ebpf_asm.specs.declared.fault.Fault.{Fault}
 use Rattle.ebpf_asm.specs.declared.fault.FaultKind.{FaultKind}
 use Rattle.ebpf_asm.specs.Line.{Line, slots_in, slots_of_instruction}
-use Rattle.ebpf_asm.specs.Assembly.{LabelMap, before_later, bytes_from, bytes_in_front, fault_behind, first_fault, is_twice, jump_to, label_at, label_map, labels_from, line_fault, lines_of, resolved, slot_count, slot_named, slot_of_line}
+use Rattle.ebpf_asm.specs.Assembly.{LabelMap, before_later, bytes_of_lines, bytes_in_front, fault_behind, first_fault, is_twice, jump_to, label_at, label_map, labels_from, line_fault, lines_of, resolved, slot_count, slot_named, slot_of_line}
 use Rattle.ebpf_asm.specs.LowestFault.{HaveNone, own_fault}
 use Rattle.ebpf_asm.specs.Assembled.{IsInPlace, IsMadeOf, LeadsToLabel, label_of_line}
 use Rattle.ebpf_asm.specs.Laws.{LinesAreInOrder}
@@ -117,12 +117,12 @@ module _ (labels : LabelMap) (slot : ℕ) (line : Line) (rest : List Line) where
   line_read number (Ok None) later bytes has fits jumps next e = nothing_more bytes (λ i is. absurd cc) (ap slots_of_instruction has) (next bytes e)
   line_read number (Err kind) later bytes has fits jumps next e = nothing_more bytes (λ i is. absurd cc) (ap slots_of_instruction has) (next bytes e)
 
-are_put : (labels : LabelMap) (number slot : ℕ) (all : List Line) (bytes : List ℕ) → AllByRecursion LineFits all → AllByRecursion LineJumps all → bytes_from labels number slot all ≡ Ok bytes → ArePut labels slot all bytes
+are_put : (labels : LabelMap) (number slot : ℕ) (all : List Line) (bytes : List ℕ) → AllByRecursion LineFits all → AllByRecursion LineJumps all → bytes_of_lines labels number slot all ≡ Ok bytes → ArePut labels slot all bytes
 are_put labels number slot [] bytes fits jumps e =
     let none : bytes ≡ [] = cc in
     record { whole = ap length none; each = λ index line instruction at is. absurd cc }
 are_put labels number slot (line ∷ rest) bytes fits jumps e =
-    line_read labels slot line rest number line.instruction (bytes_from labels (number + 1) (slot + slots_in line) rest) bytes refl fits.0 jumps.0
+    line_read labels slot line rest number line.instruction (bytes_of_lines labels (number + 1) (slot + slots_in line) rest) bytes refl fits.0 jumps.0
     (λ more h. are_put labels (number + 1) (slot + slots_in line) rest more fits.1 jumps.1 h) e
 
 -- ---- labels
@@ -233,7 +233,7 @@ module _ (all : List Line) (faultless : HaveNone (own_fault all)) where
 pub lines_are_in_order : LinesAreInOrder
 lines_are_in_order text bytes e =
     let all = lines_of text in
-    let done = no_fault (first_fault [] all) (bytes_from (label_map all) 1 0 all) bytes e in
+    let done = no_fault (first_fault [] all) (bytes_of_lines (label_map all) 1 0 all) bytes e in
     let faultless = own_none all [] all refl (λ k h. absurd (omega (arith, h))) done.0 in
     let put = are_put (label_map all) 1 0 all bytes (lines_fit (lines text)) (lines_jump (lines text)) done.1 in
     record {

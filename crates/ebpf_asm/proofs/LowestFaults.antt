@@ -13,7 +13,7 @@ use Rattle.program_interface.specs.Readings.{unless_fault}
 use Rattle.ebpf_asm.specs.declared.fault.Fault.{Fault}
 use Rattle.ebpf_asm.specs.declared.fault.FaultKind.{FaultKind}
 use Rattle.ebpf_asm.specs.Line.{Line, slots_in}
-use Rattle.ebpf_asm.specs.Assembly.{before_later, bytes_from, bytes_in_front, fault_behind, first_fault, label_map, lines_of, resolved, slot_count, told_first}
+use Rattle.ebpf_asm.specs.Assembly.{before_later, bytes_of_lines, bytes_in_front, fault_behind, first_fault, label_map, lines_of, resolved, slot_count, told_first}
 use Rattle.ebpf_asm.specs.LowestFault.{HaveNone, IsLowest, IsLowestFault, jump_fault, jump_fault_of, own_fault}
 use Rattle.ebpf_asm.specs.Laws.{FaultIsLowest}
 use Rattle.ebpf_asm.proofs.Passes.{slot_count-push}
@@ -120,10 +120,10 @@ module _ (all : List Line) where
   jump_told before fault (Err kind) target later below here e more = more here e
 
   jump_lowest : (before rest : List Line) (number slot : ℕ) (fault : Fault) → all ≡ before ++ rest → number ≡ length before + 1 → slot ≡ slot_count before → JumpBelow before
-      → bytes_from (label_map all) number slot rest ≡ Err fault → IsLowest (jump_fault all) fault
+      → bytes_of_lines (label_map all) number slot rest ≡ Err fault → IsLowest (jump_fault all) fault
   jump_lowest before [] number slot fault are n s below e = absurd cc
   jump_lowest before (line ∷ rest) number slot fault are n s below e =
-      let later = bytes_from (label_map all) (number + 1) (slot + slots_in line) rest in
+      let later = bytes_of_lines (label_map all) (number + 1) (slot + slots_in line) rest in
       jump_told before fault line.instruction line.target later below (at_behind jump before rest all line are)
       (ap (λ m. bytes_in_front (label_map all) m (slot_count before) line.instruction line.target later) (sym n) ∙ ap (λ t. bytes_in_front (label_map all) number t line.instruction line.target later) (sym s) ∙ e)
       (λ here behind.
@@ -131,7 +131,7 @@ module _ (all : List Line) where
       (omega (arith, n, length-append before (line ∷ []))) (omega (arith, s, slot_count-push before line))
       (below_pushed (jump_fault all) before line below here) behind)
 
-  lowest : (first : Option Fault) (fault : Fault) → first_fault [] all ≡ first → unless_fault first (bytes_from (label_map all) 1 0 all) ≡ Err fault → IsLowestFault all fault
+  lowest : (first : Option Fault) (fault : Fault) → first_fault [] all ≡ first → unless_fault first (bytes_of_lines (label_map all) 1 0 all) ≡ Err fault → IsLowestFault all fault
   lowest (Some told) fault is e =
       let same : told ≡ fault = IfErr-at_err (λ f. told ≡ f) e refl in
       inl (own_lowest [] all fault refl (λ k h. absurd (omega (arith, h))) (is ∙ ap (λ (f : Fault). Some f) same))

@@ -16,7 +16,7 @@ use Rattle.ebpf_asm.specs.declared.fault.FaultKind.TheVariants.{TooLong}
 use Rattle.ebpf_asm.specs.declared.line as code
 use Rattle.ebpf_asm.specs.Line.{Line, slots_in, slots_of_instruction}
 use Rattle.ebpf_asm.specs.steps.LineView.{line_view, line_views}
-use Rattle.ebpf_asm.specs.Assembly.{LabelMap, label_at, labels_from, label_map, slot_named, slot_count, is_twice, line_fault, first_fault, resolved, before_later, bytes_in_front, bytes_from, told_first}
+use Rattle.ebpf_asm.specs.Assembly.{LabelMap, label_at, labels_from, label_map, slot_named, slot_count, is_twice, line_fault, first_fault, resolved, before_later, bytes_in_front, bytes_of_lines, told_first}
 use Rattle.ebpf_asm.specs.steps.Labels.{with_label}
 
 -- ---- the lines that are left, and those before
@@ -137,7 +137,7 @@ HasRead-fault before rest all line twice kind labels slots h known told = told_h
 
 -- what the second pass knows before these lines
 pub record HasMade (left all : List Line) (labels : LabelMap) (number slot : ℕ) (bytes : List ℕ) : Type 0 where
-  pub so_far : with_front bytes (bytes_from labels number slot left) ≡ bytes_from labels 1 0 all
+  pub so_far : with_front bytes (bytes_of_lines labels number slot left) ≡ bytes_of_lines labels 1 0 all
   pub room : slot + slot_count left ≤ 4096
 
 -- a line without an instruction
@@ -146,7 +146,7 @@ pub HasMade-nothing : (left all : List Line) (line : Line) (labels : LabelMap) (
 HasMade-nothing left all line labels number slot bytes none h = at line.instruction refl
   where
     later : ℕ → Result (List ℕ) Fault
-    later s = bytes_from labels (number + 1) s left
+    later s = bytes_of_lines labels (number + 1) s left
 
     skipped : slots_in line ≡ 0 → bytes_in_front labels number slot line.instruction line.target (later (slot + slots_in line)) ≡ later (slot + slots_in line) → HasMade left all labels (number + 1) slot bytes
     skipped no_slot skips = record {
@@ -162,17 +162,17 @@ HasMade-nothing left all line labels number slot bytes none h = at line.instruct
 pub HasMade-more : (left all : List Line) (line : Line) (labels : LabelMap) (number slot n : ℕ) (bytes more : List ℕ) (instruction made : Instruction) → line.instruction ≡ Ok (Some instruction) → Ok made ≡ resolved labels slot instruction line.target
     → more ≡ bytes ++ spelling made → n ≡ slots_in line → HasMade (line ∷ left) all labels number slot bytes → HasMade left all labels (number + 1) (slot + n) more
 HasMade-more left all line labels number slot n bytes more instruction made e r m taken h =
-    let later = bytes_from labels (number + 1) (slot + slots_in line) left in
+    let later = bytes_of_lines labels (number + 1) (slot + slots_in line) left in
     record {
-      so_far = ap (λ s. with_front more (bytes_from labels (number + 1) (slot + s) left)) taken ∙ ap (λ b. with_front b later) m ∙ sym (with_front-more bytes (spelling made) later)
+      so_far = ap (λ s. with_front more (bytes_of_lines labels (number + 1) (slot + s) left)) taken ∙ ap (λ b. with_front b later) m ∙ sym (with_front-more bytes (spelling made) later)
           ∙ ap (λ i. with_front bytes (before_later number i later)) r ∙ ap (λ i. with_front bytes (bytes_in_front labels number slot i line.target later)) (sym e) ∙ h.so_far;
       room = omega (arith, h.room);
     }
 
 pub HasMade-fault : (left all : List Line) (line : Line) (labels : LabelMap) (number slot : ℕ) (bytes : List ℕ) (instruction : Instruction) (kind : FaultKind) → line.instruction ≡ Ok (Some instruction) → Err kind ≡ resolved labels slot instruction line.target
-    → HasMade (line ∷ left) all labels number slot bytes → bytes_from labels 1 0 all ≡ Err (record { line = number; kind = kind })
+    → HasMade (line ∷ left) all labels number slot bytes → bytes_of_lines labels 1 0 all ≡ Err (record { line = number; kind = kind })
 HasMade-fault left all line labels number slot bytes instruction kind e r h =
-    let later = bytes_from labels (number + 1) (slot + slots_in line) left in
+    let later = bytes_of_lines labels (number + 1) (slot + slots_in line) left in
     sym h.so_far ∙ ap (λ i. with_front bytes (bytes_in_front labels number slot i line.target later)) e ∙ ap (λ i. with_front bytes (before_later number i later)) (sym r)
 
 -- ---- both, over the lines that the assembler holds
@@ -216,6 +216,6 @@ made_more all i line labels slot n bytes more instruction made lt is e r m taken
 
 pub made_fault : (all : List code.Line.Line) (i : ℕ) (line : code.Line.Line) (labels : LabelMap) (slot : ℕ) (bytes : List ℕ) (instruction : Instruction) (kind : FaultKind) → i < length all → line ≡ get_or all i line
     → line.instruction ≡ Ok (Some instruction) → Err kind ≡ resolved labels slot instruction (line_view line).target
-    → HasMade (drop i (line_views all)) (line_views all) labels (i + 1) slot bytes → bytes_from labels 1 0 (line_views all) ≡ Err (record { line = i + 1; kind = kind })
+    → HasMade (drop i (line_views all)) (line_views all) labels (i + 1) slot bytes → bytes_of_lines labels 1 0 (line_views all) ≡ Err (record { line = i + 1; kind = kind })
 made_fault all i line labels slot bytes instruction kind lt is e r h =
     HasMade-fault (drop (i + 1) (line_views all)) (line_views all) (line_view line) labels (i + 1) slot bytes instruction kind e r (at_line all i line labels slot bytes lt is h)

@@ -10,7 +10,7 @@ use Rattle.program_interface.proofs.Proved.{no_fault}
 use Rattle.ebpf_asm.specs.declared.fault.Fault.{Fault}
 use Rattle.ebpf_asm.specs.declared.fault.FaultKind.{FaultKind}
 use Rattle.ebpf_asm.specs.Line.{Line, slots_in, slots_of_instruction}
-use Rattle.ebpf_asm.specs.Assembly.{LabelMap, before_later, bytes_from, bytes_in_front, fault_behind, first_fault, is_twice, label_map, lines_of, resolved, slot_count, told_first}
+use Rattle.ebpf_asm.specs.Assembly.{LabelMap, before_later, bytes_of_lines, bytes_in_front, fault_behind, first_fault, is_twice, label_map, lines_of, resolved, slot_count, told_first}
 use Rattle.ebpf_asm.specs.Laws.{AssembledIsProgram}
 use Rattle.ebpf_asm.proofs.Fitting.{Fills, LineFits, lines_fit, resolved_fits}
 use Rattle.ebpf_asm.proofs.Passes.{fits_if, slot_count-push}
@@ -71,10 +71,10 @@ at_line labels number slot slots (Ok (Some instruction)) target later bytes fits
 at_line labels number slot slots (Ok None) target later bytes fits rest e = no_slot bytes slots (rest bytes e)
 at_line labels number slot slots (Err kind) target later bytes fits rest e = no_slot bytes slots (rest bytes e)
 
-spells : (labels : LabelMap) (number slot : ℕ) (all : List Line) (bytes : List ℕ) → AllByRecursion LineFits all → bytes_from labels number slot all ≡ Ok bytes → Spells bytes (slot_count all)
+spells : (labels : LabelMap) (number slot : ℕ) (all : List Line) (bytes : List ℕ) → AllByRecursion LineFits all → bytes_of_lines labels number slot all ≡ Ok bytes → Spells bytes (slot_count all)
 spells labels number slot [] bytes fits e = record { instructions = []; fits = tt; spelled = let none : bytes ≡ [] = cc in none; counted = refl }
 spells labels number slot (line ∷ rest) bytes fits e =
-    at_line labels number slot (slot_count rest) line.instruction line.target (bytes_from labels (number + 1) (slot + slots_in line) rest) bytes fits.0
+    at_line labels number slot (slot_count rest) line.instruction line.target (bytes_of_lines labels (number + 1) (slot + slots_in line) rest) bytes fits.0
     (λ more h. spells labels (number + 1) (slot + slots_in line) rest more fits.1 h) e
 
 -- ---- the program
@@ -98,7 +98,7 @@ program (instruction ∷ instructions) bytes slots fits spelled counted most = i
 pub assembled_is_program : AssembledIsProgram
 assembled_is_program text bytes e =
     let all = lines_of text in
-    let done = no_fault (first_fault [] all) (bytes_from (label_map all) 1 0 all) bytes e in
+    let done = no_fault (first_fault [] all) (bytes_of_lines (label_map all) 1 0 all) bytes e in
     let made = spells (label_map all) 1 0 all bytes (lines_fit (lines text)) done.1 in
     let within : slot_count all ≤ 4096 = omega (arith, room [] all (omega arith) done.0) in
     program made.instructions bytes (slot_count all) made.fits made.spelled made.counted within

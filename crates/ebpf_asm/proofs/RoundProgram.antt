@@ -23,7 +23,7 @@ use Rattle.ebpf_asm.specs.Operand.{source_told, short_of, long_of}
 use Rattle.text_lines.specs.Cut.{is_blank_byte, trimmed, uncommented, without_end_blanks}
 use Rattle.ebpf_asm.specs.Statement.{Statement, statement_of, statement_with, operands_of, one_of, two_of, three_of, none_of}
 use Rattle.ebpf_asm.specs.Line.{Line, line_of, line_in, labelled, behind_label, split_label, with_statement, slots_in}
-use Rattle.ebpf_asm.specs.Assembly.{LabelMap, lines_of, slot_count, first_fault, bytes_from, label_map, before_later, told_first, assembled, assembled_lines}
+use Rattle.ebpf_asm.specs.Assembly.{LabelMap, lines_of, slot_count, first_fault, bytes_of_lines, label_map, before_later, told_first, assembled, assembled_lines}
 use Rattle.ebpf_asm.specs.Listing.{mnemonic_of, operand_texts, operands_text, further_texts, text_of_instruction, line_text, listing, source_text}
 use Rattle.text_lines.proofs.Proved.{end_stays, lines_are_cut, uncommented-same}
 use Rattle.ebpf_decode.proofs.Proved.{instructions_of-slots_of}
@@ -237,7 +237,7 @@ listed_faultless before (instruction ∷ instructions) h =
     let later = listed_faultless (before ++ line ∷ []) instructions (omega (arith, h, slot_count-push before line)) in
     ap (λ c. told_first (length before + 1) (cond c (Some TooLong) None) (first_fault (before ++ line ∷ []) (map line_with instructions))) (le-ltb 4096 (slot_count before + slots_in line) (omega (arith, h))) ∙ later
 
-bytes_again : (labels : LabelMap) (number slot : ℕ) (instructions : List Instruction) → bytes_from labels number slot (map line_with instructions) ≡ Ok (flat_map spelling instructions)
+bytes_again : (labels : LabelMap) (number slot : ℕ) (instructions : List Instruction) → bytes_of_lines labels number slot (map line_with instructions) ≡ Ok (flat_map spelling instructions)
 bytes_again labels number slot [] = refl
 bytes_again labels number slot (instruction ∷ instructions) = ap (before_later number (Ok instruction)) (bytes_again labels (number + 1) (slot + slots_in (line_with instruction)) instructions)
 
@@ -250,7 +250,7 @@ lines_assemble instructions fits most =
     let good = all_from Fits IsListed is_listed instructions fits in
     let all : lines_of (flat_map line_text instructions) ≡ map line_with instructions = ap (map line_of) (lines_again instructions good) ∙ read_again instructions good in
     ap assembled_lines all
-    ∙ ap (λ f. unless_fault f (bytes_from (label_map (map line_with instructions)) 1 0 (map line_with instructions))) (listed_faultless [] instructions (omega (arith, most, slots_counted instructions)))
+    ∙ ap (λ f. unless_fault f (bytes_of_lines (label_map (map line_with instructions)) 1 0 (map line_with instructions))) (listed_faultless [] instructions (omega (arith, most, slots_counted instructions)))
     ∙ bytes_again (label_map (map line_with instructions)) 1 0 instructions
 
 pub listing_again : (slots : List (Option Instruction)) → IsProgram slots → assembled (listing slots) ≡ Ok (program_bytes slots)

@@ -110,10 +110,10 @@ bytes_in_front labels number slot (Ok None) target later = later
 bytes_in_front labels number slot (Err kind) target later = later
 
 -- the bytes of lines without other faults, from this line number and this slot on
-abbrev pub bytes_from : LabelMap → ℕ → ℕ → List Line → Result (List ℕ) Fault
-bytes_from labels number slot [] = Ok []
-bytes_from labels number slot (line ∷ rest) =
-    bytes_in_front labels number slot line.instruction line.target (bytes_from labels (number + 1) (slot + slots_in line) rest)
+abbrev pub bytes_of_lines : LabelMap → ℕ → ℕ → List Line → Result (List ℕ) Fault
+bytes_of_lines labels number slot [] = Ok []
+bytes_of_lines labels number slot (line ∷ rest) =
+    bytes_in_front labels number slot line.instruction line.target (bytes_of_lines labels (number + 1) (slot + slots_in line) rest)
 
 -- the lines of a text, read
 abbrev pub lines_of : List ℕ → List Line
@@ -121,7 +121,7 @@ lines_of text = map line_of (lines text)
 
 -- the bytes of the instructions of lines, or the first fault
 abbrev pub assembled_lines : List Line → Result (List ℕ) Fault
-assembled_lines all = unless_fault (first_fault [] all) (bytes_from (label_map all) 1 0 all)
+assembled_lines all = unless_fault (first_fault [] all) (bytes_of_lines (label_map all) 1 0 all)
 
 -- what a text gives: the bytes of its instructions, or the first fault
 abbrev pub assembled : List ℕ → Result (List ℕ) Fault

@@ -1,7 +1,7 @@
 //! The assembler: labels in a first pass over the lines, bytes in a second.
 
 ghost use Rattle.std.specs.Prelude.{◌≡◌, ◌≤◌, ◌<◌, ◌+◌, ◌-ℤ◌, ◌^◌, ℕ, pos, List, [], None, IfOk, OnOk, IfErr, IfSome, Some, option_copied};
-ghost use Rattle.ebpf_asm.specs.Assembly.{assembled, first_fault, label_map, line_fault, jump_by as jumping_by, resolved, bytes_from, slot_count, fault_in};
+ghost use Rattle.ebpf_asm.specs.Assembly.{assembled, first_fault, label_map, line_fault, jump_by as jumping_by, resolved, bytes_of_lines, slot_count, fault_in};
 ghost use Rattle.program_interface.specs.Gives.{Gives};
 ghost use Rattle.ebpf_asm.specs.steps.Labels.{label_in};
 ghost use Rattle.ebpf_asm.specs.steps.LineView.{line_views};
@@ -90,7 +90,7 @@ fn bytes_of(
     labels: &Labels<'_>,
 ) -> Result<Vec<u8>, AssembleFault>
     requires { slot_count (line_views lines.now) ≤ MOST_SLOTS }
-    ensures { Gives fault_in (λ bytes. bytes.items) result (bytes_from (label_in labels.now) 1 0 (line_views lines.now)) }
+    ensures { Gives fault_in (λ bytes. bytes.items) result (bytes_of_lines (label_in labels.now) 1 0 (line_views lines.now)) }
 {
     let mut bytes = Vec::new(alloc);
     let mut slot = 0;

@@ -72,7 +72,7 @@ pub enum AssembleFault {
 impl From<AllocError> for AssembleFault {
     ghost from_gives = { λ _ e. e ≡ Memory };
 
-    fn from(_e: AllocError) -> AssembleFault {
+    fn from(_error: AllocError) -> AssembleFault {
         AssembleFault::Memory
     }
 }

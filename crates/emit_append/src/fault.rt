@@ -22,7 +22,7 @@ pub enum UnpackFault {
 impl From<AllocError> for UnpackFault {
     ghost from_gives = { λ _ e. e ≡ Memory };
 
-    fn from(_e: AllocError) -> UnpackFault {
+    fn from(_error: AllocError) -> UnpackFault {
         UnpackFault::Memory
     }
 }
@@ -30,7 +30,7 @@ impl From<AllocError> for UnpackFault {
 impl<T: Drop> From<AllocFailed<T>> for UnpackFault {
     ghost from_gives = { λ _ e. e ≡ Memory };
 
-    fn from(_e: AllocFailed<T>) -> UnpackFault {
+    fn from(_error: AllocFailed<T>) -> UnpackFault {
         UnpackFault::Memory
     }
 }

@@ -10,7 +10,7 @@ use Rattle.image_store.specs.declared.header.Header.{Header}
 use Rattle.image_store.specs.declared.version.Version.{Version}
 use Rattle.image_store.specs.declared.version.Version.TheVariants.{One, Two}
 use Rattle.program_interface.proofs.Proved.{found_where_ok}
-use Rattle.image_store.specs.FirstFault.{Begins, HasHeader, IsFirstFault}
+use Rattle.image_store.specs.FirstFault.{HasMagic, HasHeader, IsFirstFault}
 use Rattle.image_store.specs.Geometry.{IsShape}
 use Rattle.image_store.specs.Reading.{shape_in, version_in, total_told, header_of, header_told}
 use Rattle.image_store.specs.Version.{HasText, numbers_of_version}
@@ -44,7 +44,7 @@ no_magic bytes none version e =
 
 -- ---- the header
 
-begun_by : (bytes : List ℕ) (version : Version) → 64 ≤ length bytes → begins (take 64 bytes) version ≡ true → Begins version bytes
+begun_by : (bytes : List ℕ) (version : Version) → 64 ≤ length bytes → begins (take 64 bytes) version ≡ true → HasMagic version bytes
 begun_by bytes version there e = record { whole = there; magic = magic_of version bytes e }
 
 pub header_first : (bytes : List ℕ) (fault : LoadFault) → 64 ≤ length bytes → header_told (take 64 bytes) ≡ Err fault → IsFirstFault bytes fault

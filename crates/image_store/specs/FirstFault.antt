@@ -22,7 +22,7 @@ use Rattle.image_store.specs.Text.{written_blocks}
 use Rattle.image_store.specs.Version.{HasText, has_block, numbers_of_version}
 
 -- a text as long as a header, which begins with the magic of a version
-pub record Begins (version : Version) (bytes : List ℕ) : Type 0 where
+pub record HasMagic (version : Version) (bytes : List ℕ) : Type 0 where
   pub whole : HEADER_BYTES ≤ length bytes
   pub magic : take 8 bytes ≡ (numbers_of_version version).magic
 
@@ -42,7 +42,7 @@ IsHeaderFault version header s (header_faults.Reserved told) =
 
 -- a text whose header has no fault
 pub record HasHeader (version : Version) (bytes : List ℕ) : Type 0 where
-  pub begins : Begins version bytes
+  pub begins : HasMagic version bytes
   pub shape : IsShape (shape_in bytes)
   pub has : HasText version (shape_in bytes)
   pub zeros : are_zeros (drop (numbers_of_version version).zeros_from (take HEADER_BYTES bytes)) ≡ true
@@ -118,7 +118,7 @@ IsFirstFault bytes faults.Truncated = EndsEarly bytes
 -- a header is there, but has the magic of no version;
 IsFirstFault bytes faults.Magic = (HEADER_BYTES ≤ length bytes) × ((version : Version) → take 8 bytes ≢ (numbers_of_version version).magic)
 -- it has that of one, and this is wrong behind it;
-IsFirstFault bytes (faults.Header why) = (version : Version) × Begins version bytes × IsHeaderFault version (take HEADER_BYTES bytes) (shape_in bytes) why
+IsFirstFault bytes (faults.Header why) = (version : Version) × HasMagic version bytes × IsHeaderFault version (take HEADER_BYTES bytes) (shape_in bytes) why
 -- it has no fault, and this is wrong with the first row that tells no zone;
 IsFirstFault bytes (faults.ZoneRow zone why) = (version : Version) × IsFaultOfRow version bytes zone why
 -- all rows tell zones, but not with as many written blocks as the header tells;

@@ -24,7 +24,7 @@ use Rattle.interval_facts.proofs.FactSound.{any_law, bounds_law, constant_law, e
 use Rattle.interval_facts.proofs.PointerSound.{moved_back_law, moved_on_law}
 use Rattle.interval_facts.proofs.RangeSound.{combined_law, either, known, top_law, wrapped_law}
 use Rattle.interval_facts.specs.Arithmetic.{sum_of, alu_of, are_known, combined_64, combined_of, cut, estimated, extended_of, is_known, operand_of, difference_of, swapped_of, unsigned_below}
-use Rattle.interval_facts.specs.Fact.{ContainsWord, IsWithin, bounds_of, is_single, single}
+use Rattle.interval_facts.specs.Fact.{ContainsWord, IsInBounds, bounds_of, is_single, single}
 use Rattle.interval_facts.specs.Range.{combined, number_count}
 use Rattle.word_domain.specs.declared.bounds.Bounds.{Bounds}
 use Rattle.interval_facts.specs.declared.fact.Fact.{Fact}
@@ -32,15 +32,15 @@ use Rattle.interval_facts.specs.declared.fact.Fact.TheVariants.{Words, Pointer}
 
 -- ---- operands
 
-cut_law : (b : Bounds) (x : ℕ) → IsWithin b x → IsWithin (cut b) (x % 2 ^ 32)
+cut_law : (b : Bounds) (x : ℕ) → IsInBounds b x → IsInBounds (cut b) (x % 2 ^ 32)
 cut_law b x within =
     either (is_single b) _ _ (x % 2 ^ 32)
-    (λ one. subst (λ n. IsWithin (single (b.low % 2 ^ 32)) (n % 2 ^ 32)) (sym (known b x within one)) (omega arith, omega arith))
+    (λ one. subst (λ n. IsInBounds (single (b.low % 2 ^ 32)) (n % 2 ^ 32)) (sym (known b x within one)) (omega arith, omega arith))
     (λ _. either (nat_lt b.high (2 ^ 32)) _ _ (x % 2 ^ 32)
     (λ fits. let below = ltb-true b.high (2 ^ 32) fits in (omega arith, omega arith))
     (λ _. (omega arith, omega arith)))
 
-operand_law : (w : Width) (f : Fact) (x : ℕ) → ContainsWord f x → IsWithin (operand_of w f) (low_bits w x)
+operand_law : (w : Width) (f : Fact) (x : ℕ) → ContainsWord f x → IsInBounds (operand_of w f) (low_bits w x)
 operand_law Bits32 f x is = cut_law (bounds_of f) x (bounds_law f x is)
 operand_law Bits64 f x is = bounds_law f x is
 
@@ -107,7 +107,7 @@ extended_below Bits16To64 y h = words_are_computed (MoveSigned Bits16To64) 0 y (
 extended_below Bits32To64 y h = words_are_computed (MoveSigned Bits32To64) 0 y (omega arith) h
 
 extended_of_law : (extension : SignExtension) (s : Bounds) (y : ℕ) → y < 2 ^ 64
-    → IsWithin s (low_bits (extension_width extension) y) → IsWithin (extended_of extension s) (extended extension y)
+    → IsInBounds s (low_bits (extension_width extension) y) → IsInBounds (extended_of extension s) (extended extension y)
 extended_of_law extension s y fits within =
     either (nat_lt s.high (unsigned_below extension)) _ _ (extended extension y)
     (λ unsigned.
@@ -115,12 +115,12 @@ extended_of_law extension s y fits within =
     rw (extended_is extension y (omega arith)) within)
     (λ _. top_law (extension_width extension) (extended extension y) (extended_below extension y fits))
 
-reversed_law : (size : SwapSize) (x : ℕ) → x < 2 ^ 64 → IsWithin (swapped_of size) (reversed size x)
+reversed_law : (size : SwapSize) (x : ℕ) → x < 2 ^ 64 → IsInBounds (swapped_of size) (reversed size x)
 reversed_law kept.Bits16 x h = (omega arith, omega arith)
 reversed_law kept.Bits32 x h = (omega arith, omega arith)
 reversed_law kept.Bits64 x h = (omega arith, omega arith)
 
-swapped_law : (swap : Swap) (size : SwapSize) (x : ℕ) → x < 2 ^ 64 → IsWithin (swapped_of size) (reordered swap size x)
+swapped_law : (swap : Swap) (size : SwapSize) (x : ℕ) → x < 2 ^ 64 → IsInBounds (swapped_of size) (reordered swap size x)
 swapped_law ToLittle kept.Bits16 x h = (omega arith, omega arith)
 swapped_law ToLittle kept.Bits32 x h = (omega arith, omega arith)
 swapped_law ToLittle kept.Bits64 x h = (omega arith, omega arith)

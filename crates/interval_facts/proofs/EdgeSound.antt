@@ -12,16 +12,16 @@ use Rattle.instruction_set.specs.declared.operation.Width.TheVariants.{Bits32, B
 use Rattle.program_meaning.specs.Word.{is_taken, low_bits, relates, signed}
 use Rattle.word_domain.specs.Domain.{BelongAfter}
 use Rattle.interval_facts.specs.Edge.{as_facts, at_most, different, edge_of, equal, exchanged, fits, is_empty, less, narrowed, refine_of, refine_words, without}
-use Rattle.interval_facts.specs.Fact.{ContainsWord, IsWithin, is_single, range}
+use Rattle.interval_facts.specs.Fact.{ContainsWord, IsInBounds, is_single, range}
 use Rattle.word_domain.specs.declared.bounds.Bounds.{Bounds}
 use Rattle.interval_facts.specs.declared.fact.Fact.{Fact}
 use Rattle.interval_facts.specs.declared.fact.Fact.TheVariants.{Words, Pointer}
 
 -- both numbers are within what is kept
 abbrev Keeps : ℕ → ℕ → Option (Bounds × Bounds) → Type 0
-Keeps x y o = BelongAfter IsWithin x y o
+Keeps x y o = BelongAfter IsInBounds x y o
 
-edge_law : (d s : Bounds) (x y : ℕ) → IsWithin d x → IsWithin s y → Keeps x y (edge_of d s)
+edge_law : (d s : Bounds) (x y : ℕ) → IsInBounds d x → IsInBounds s y → Keeps x y (edge_of d s)
 edge_law d s x y hd hs =
     cond_both (is_empty d || is_empty s) None (Some (d, s)) (Keeps x y)
     (λ empty. elim (or_cases (is_empty d) (is_empty s) empty) [
@@ -30,12 +30,12 @@ edge_law d s x y hd hs =
     ])
     (λ _. (hd, hs))
 
-equal_law : (d s : Bounds) (x y : ℕ) → IsWithin d x → IsWithin s y → x ≡ y → Keeps x y (equal d s)
+equal_law : (d s : Bounds) (x y : ℕ) → IsInBounds d x → IsInBounds s y → x ≡ y → Keeps x y (equal d s)
 equal_law d s x y hd hs same =
     let both = range (max d.low s.low) (min d.high s.high) in
     edge_law both both x y (omega arith, omega arith) (omega arith, omega arith)
 
-without_law : (n : ℕ) (b : Bounds) (x : ℕ) → IsWithin b x → x ≢ n → IsWithin (without n b) x
+without_law : (n : ℕ) (b : Bounds) (x : ℕ) → IsInBounds b x → x ≢ n → IsInBounds (without n b) x
 without_law n b x within other = (
   cond_both (b.low == n) (n + 1) b.low (λ low. low ≤ x)
       (λ same. let e = eqb-true b.low n same in omega arith) (λ _. within.0),
@@ -43,7 +43,7 @@ without_law n b x within other = (
       (λ same. let e = eqb-true b.high n same in omega arith) (λ _. within.1),
 )
 
-different_law : (d s : Bounds) (x y : ℕ) → IsWithin d x → IsWithin s y → x ≢ y → Keeps x y (different d s)
+different_law : (d s : Bounds) (x y : ℕ) → IsInBounds d x → IsInBounds s y → x ≢ y → Keeps x y (different d s)
 different_law d s x y hd hs other =
     cond_both (is_single s) _ _ (Keeps x y)
     (λ one.
@@ -55,14 +55,14 @@ different_law d s x y hd hs other =
     edge_law d (without d.low s) x y hd (without_law d.low s y hs (λ same. other (omega arith))))
     (λ _. (hd, hs)))
 
-less_law : (d s : Bounds) (x y : ℕ) → IsWithin d x → IsWithin s y → x < y → Keeps x y (less d s)
+less_law : (d s : Bounds) (x y : ℕ) → IsInBounds d x → IsInBounds s y → x < y → Keeps x y (less d s)
 less_law d s x y hd hs below =
     cond_both (s.high == 0) _ _ (Keeps x y)
     (λ none. let e = eqb-true s.high 0 none in absurd (omega arith))
     (λ _. edge_law (range d.low (min d.high (s.high - 1))) (range (max s.low (d.low + 1)) s.high) x y
     (omega arith, omega arith) (omega arith, omega arith))
 
-at_most_law : (d s : Bounds) (x y : ℕ) → IsWithin d x → IsWithin s y → x ≤ y → Keeps x y (at_most d s)
+at_most_law : (d s : Bounds) (x y : ℕ) → IsInBounds d x → IsInBounds s y → x ≤ y → Keeps x y (at_most d s)
 at_most_law d s x y hd hs below =
     edge_law (range d.low (min d.high s.high)) (range (max s.low d.low) s.high) x y
     (omega arith, omega arith) (omega arith, omega arith)
@@ -71,7 +71,7 @@ exchanged_law : (o : Option (Bounds × Bounds)) (x y : ℕ) → Keeps y x o → 
 exchanged_law None x y kept = kept
 exchanged_law (Some both) x y kept = (kept.1, kept.0)
 
-narrowed_law : (relation : Relation) (taken : Bool) (d s : Bounds) (x y : ℕ) (a b : ℤ) → IsWithin d x → IsWithin s y
+narrowed_law : (relation : Relation) (taken : Bool) (d s : Bounds) (x y : ℕ) (a b : ℤ) → IsInBounds d x → IsInBounds s y
     → relates relation x y a b ≡ taken → Keeps x y (narrowed relation taken d s)
 narrowed_law Equal true d s x y a b hd hs is = equal_law d s x y hd hs (eqb-true x y is)
 narrowed_law Equal false d s x y a b hd hs is = different_law d s x y hd hs (eqb-false x y is)
@@ -96,7 +96,7 @@ as_facts_law : (o : Option (Bounds × Bounds)) (x y : ℕ) → x < 2 ^ 64 → y 
 as_facts_law None x y fx fy kept = kept
 as_facts_law (Some both) x y fx fy kept = ((kept.0, fx), (kept.1, fy))
 
-low_is : (width : Width) (b : Bounds) (x : ℕ) → IsWithin b x → fits width b ≡ true → low_bits width x ≡ x
+low_is : (width : Width) (b : Bounds) (x : ℕ) → IsInBounds b x → fits width b ≡ true → low_bits width x ≡ x
 low_is Bits32 b x within small = let e = ltb-true b.high (2 ^ 32) small in mod-eq_of_lt {n = x} {m = 2 ^ 32} (omega arith)
 low_is Bits64 b x within small = refl
 

@@ -14,7 +14,7 @@ use Rattle.instruction_set.specs.declared.operation.Size.TheVariants.{Byte, Half
 use Rattle.program_meaning.proofs.Proved.{extensions_are_words}
 use Rattle.program_meaning.specs.Effect.{sign_extended}
 use Rattle.program_interface.specs.Area.{address_of}
-use Rattle.interval_facts.specs.Fact.{ContainsWord, IsWithin, bounds_of, full, is_single, join_of, loaded_of, loaded_signed_of, single, widened}
+use Rattle.interval_facts.specs.Fact.{ContainsWord, IsInBounds, bounds_of, full, is_single, join_of, loaded_of, loaded_signed_of, single, widened}
 use Rattle.interval_facts.specs.declared.fact.Fact.{Fact}
 use Rattle.interval_facts.specs.declared.fact.Fact.TheVariants.{Words, Pointer}
 
@@ -33,7 +33,7 @@ pub either_fact : (test : Bool) (f g : Fact) (w : ℕ) → (test ≡ true → Co
     → ContainsWord (cond test f g) w
 either_fact test f g w when unless = cond_both test f g (λ chosen. ContainsWord chosen w) when unless
 
-pub bounds_law : (f : Fact) (w : ℕ) → ContainsWord f w → IsWithin (bounds_of f) w
+pub bounds_law : (f : Fact) (w : ℕ) → ContainsWord f w → IsInBounds (bounds_of f) w
 bounds_law (Words b) w is = is.0
 bounds_law (Pointer area low high) w is = (omega arith, omega arith)
 

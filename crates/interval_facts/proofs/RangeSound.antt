@@ -14,23 +14,23 @@ use Rattle.instruction_set.specs.declared.operation.Width.TheVariants.{Bits32, B
 use Rattle.program_meaning.specs.Word.{bits, count, result_of, signed}
 use Rattle.program_meaning.proofs.Proved.{operations_keep_width}
 use Rattle.interval_facts.proofs.Numbers.{quotient_grows, wraps_once}
-use Rattle.interval_facts.specs.Fact.{IsWithin, is_single, range, single}
+use Rattle.interval_facts.specs.Fact.{IsInBounds, is_single, range, single}
 use Rattle.interval_facts.specs.Range.{number_count, half, top, sum, difference, product, quotient, remainder, if_unsigned, conjunction, shifted_left, shifted_left_by, shifted_right, shifted_right_by, combined}
 use Rattle.word_domain.specs.declared.bounds.Bounds.{Bounds}
 
 -- the bounds that a test chooses are right where both are
-pub either : (test : Bool) (b c : Bounds) (n : ℕ) → (test ≡ true → IsWithin b n) → (test ≡ false → IsWithin c n)
-    → IsWithin (cond test b c) n
-either test b c n when unless = cond_both test b c (λ chosen. IsWithin chosen n) when unless
+pub either : (test : Bool) (b c : Bounds) (n : ℕ) → (test ≡ true → IsInBounds b n) → (test ≡ false → IsInBounds c n)
+    → IsInBounds (cond test b c) n
+either test b c n when unless = cond_both test b c (λ chosen. IsInBounds chosen n) when unless
 
-pub top_law : (w : Width) (n : ℕ) → n < number_count w → IsWithin (top w) n
+pub top_law : (w : Width) (n : ℕ) → n < number_count w → IsInBounds (top w) n
 top_law w n fits = (omega arith, omega arith)
 
-pub wrapped_law : (w : Width) (n : ℕ) → IsWithin (top w) (n % number_count w)
+pub wrapped_law : (w : Width) (n : ℕ) → IsInBounds (top w) (n % number_count w)
 wrapped_law w n = top_law w (n % number_count w) (mod_below n (number_count w) (pow_pos (bits w)))
 
-sum_law : (w : Width) (d s : Bounds) (x y : ℕ) → IsWithin d x → IsWithin s y → x < number_count w → y < number_count w
-    → IsWithin (sum w d s) (result_of w Add x y)
+sum_law : (w : Width) (d s : Bounds) (x y : ℕ) → IsInBounds d x → IsInBounds s y → x < number_count w → y < number_count w
+    → IsInBounds (sum w d s) (result_of w Add x y)
 sum_law w d s x y hd hs fx fy =
     either (nat_lt (d.high + s.high) (number_count w)) _ _ ((x + y) % number_count w)
     (λ fits.
@@ -42,8 +42,8 @@ sum_law w d s x y hd hs fx fy =
     rw (wraps_once (number_count w) (x + y) (omega arith) (omega arith)) (omega arith, omega arith))
     (λ _. wrapped_law w (x + y)))
 
-difference_law : (w : Width) (d s : Bounds) (x y : ℕ) → IsWithin d x → IsWithin s y → x < number_count w → y < number_count w
-    → IsWithin (difference w d s) (result_of w Subtract x y)
+difference_law : (w : Width) (d s : Bounds) (x y : ℕ) → IsInBounds d x → IsInBounds s y → x < number_count w → y < number_count w
+    → IsInBounds (difference w d s) (result_of w Subtract x y)
 difference_law w d s x y hd hs fx fy =
     either (nat_le s.high d.low) _ _ ((x + (number_count w - y)) % number_count w)
     (λ fits.
@@ -55,8 +55,8 @@ difference_law w d s x y hd hs fx fy =
     rw (mod-eq_of_lt {n = x + (number_count w - y)} {m = number_count w} (omega arith)) (omega arith, omega arith))
     (λ _. wrapped_law w (x + (number_count w - y))))
 
-product_law : (w : Width) (d s : Bounds) (x y : ℕ) → IsWithin d x → IsWithin s y
-    → IsWithin (product w d s) (result_of w Multiply x y)
+product_law : (w : Width) (d s : Bounds) (x y : ℕ) → IsInBounds d x → IsInBounds s y
+    → IsInBounds (product w d s) (result_of w Multiply x y)
 product_law w d s x y hd hs =
     either (nat_lt (d.high * s.high) (number_count w)) _ _ ((x * y) % number_count w)
     (λ fits.
@@ -69,18 +69,18 @@ product_law w d s x y hd hs =
 divided_below : (x y : ℕ) → (cond (y == 0) 0 (x / y)) ≤ x
 divided_below x y = cond_both (y == 0) 0 (x / y) (λ q. q ≤ x) (λ _. omega arith) (λ _. div-le_self x y)
 
-quotient_law : (d s : Bounds) (x y : ℕ) → IsWithin d x → IsWithin s y → IsWithin (quotient d s) (cond (y == 0) 0 (x / y))
+quotient_law : (d s : Bounds) (x y : ℕ) → IsInBounds d x → IsInBounds s y → IsInBounds (quotient d s) (cond (y == 0) 0 (x / y))
 quotient_law d s x y hd hs =
     either (s.high == 0) _ _ (cond (y == 0) 0 (x / y))
     (λ zero_divisor.
     let none = eqb-true s.high 0 zero_divisor in
-    cond_both (y == 0) 0 (x / y) (λ q. IsWithin (single 0) q)
+    cond_both (y == 0) 0 (x / y) (λ q. IsInBounds (single 0) q)
     (λ _. (omega arith, omega arith))
     (λ some. absurd (eqb-false y 0 some (omega arith))))
     (λ _. either (nat_le 1 s.low) _ _ (cond (y == 0) 0 (x / y))
     (λ some.
     let least = leb-true 1 s.low some in
-    cond_both (y == 0) 0 (x / y) (λ q. IsWithin (range (d.low / s.high) (d.high / s.low)) q)
+    cond_both (y == 0) 0 (x / y) (λ q. IsInBounds (range (d.low / s.high) (d.high / s.low)) q)
     (λ none. let is = eqb-true y 0 none in absurd (omega arith))
     (λ _. (
       quotient_grows d.low s.high x y hd.0 hs.1 (omega arith),
@@ -91,19 +91,19 @@ quotient_law d s x y hd hs =
 remainder_of_below : (x y : ℕ) → (cond (y == 0) x (x % y)) ≤ x
 remainder_of_below x y = cond_both (y == 0) x (x % y) (λ r. r ≤ x) (λ _. omega arith) (λ _. mod-le x y)
 
-remainder_law : (d s : Bounds) (x y : ℕ) → IsWithin d x → IsWithin s y → IsWithin (remainder d s) (cond (y == 0) x (x % y))
+remainder_law : (d s : Bounds) (x y : ℕ) → IsInBounds d x → IsInBounds s y → IsInBounds (remainder d s) (cond (y == 0) x (x % y))
 remainder_law d s x y hd hs =
     let below = remainder_of_below x y in
     either (nat_le 1 s.low && nat_lt d.high s.low) _ _ (cond (y == 0) x (x % y))
     (λ smaller.
     let less = ltb-true d.high s.low (and_parts (nat_le 1 s.low) (nat_lt d.high s.low) smaller).1 in
-    cond_both (y == 0) x (x % y) (λ r. IsWithin d r)
+    cond_both (y == 0) x (x % y) (λ r. IsInBounds d r)
     (λ _. hd)
     (λ _. rw (mod-eq_of_lt {n = x} {m = y} (omega arith)) hd))
     (λ _. either (nat_le 1 s.low) _ _ (cond (y == 0) x (x % y))
     (λ some.
     let least = leb-true 1 s.low some in
-    cond_both (y == 0) x (x % y) (λ r. IsWithin (range 0 (min d.high (s.high - 1))) r)
+    cond_both (y == 0) x (x % y) (λ r. IsInBounds (range 0 (min d.high (s.high - 1))) r)
     (λ none. let is = eqb-true y 0 none in absurd (omega arith))
     (λ _. let small = mod_below x y (omega arith) in let less = mod-le x y in (omega arith, omega (arith, small, less))))
     (λ _. (omega arith, omega (arith, below))))
@@ -113,7 +113,7 @@ signed_is : (w : Width) (x : ℕ) → x < half w → signed w x ≡ pos x
 signed_is Bits32 x h = to_z_pos w32 x h
 signed_is Bits64 x h = to_z_pos w64 x h
 
-both_signed : (w : Width) (d s : Bounds) (x y : ℕ) → IsWithin d x → IsWithin s y
+both_signed : (w : Width) (d s : Bounds) (x y : ℕ) → IsInBounds d x → IsInBounds s y
     → (nat_lt d.high (half w) && nat_lt s.high (half w)) ≡ true → (signed w x ≡ pos x) × (signed w y ≡ pos y)
 both_signed w d s x y hd hs unsigned =
     let both = and_parts (nat_lt d.high (half w)) (nat_lt s.high (half w)) unsigned in
@@ -121,8 +121,8 @@ both_signed w d s x y hd hs unsigned =
     let source = ltb-true s.high (half w) both.1 in
     (signed_is w x (omega arith), signed_is w y (omega arith))
 
-signed_quotient_law : (w : Width) (d s : Bounds) (x y : ℕ) → IsWithin d x → IsWithin s y → x < number_count w → y < number_count w
-    → IsWithin (if_unsigned w d s (quotient d s)) (result_of w SignedDivide x y)
+signed_quotient_law : (w : Width) (d s : Bounds) (x y : ℕ) → IsInBounds d x → IsInBounds s y → x < number_count w → y < number_count w
+    → IsInBounds (if_unsigned w d s (quotient d s)) (result_of w SignedDivide x y)
 signed_quotient_law w d s x y hd hs fx fy =
     either (nat_lt d.high (half w) && nat_lt s.high (half w)) _ _ (result_of w SignedDivide x y)
     (λ unsigned.
@@ -130,8 +130,8 @@ signed_quotient_law w d s x y hd hs fx fy =
     rw (are.0, are.1) (quotient_law d s x y hd hs))
     (λ _. top_law w (result_of w SignedDivide x y) (operations_keep_width w SignedDivide x y fx fy))
 
-signed_remainder_law : (w : Width) (d s : Bounds) (x y : ℕ) → IsWithin d x → IsWithin s y → x < number_count w → y < number_count w
-    → IsWithin (if_unsigned w d s (remainder d s)) (result_of w SignedModulo x y)
+signed_remainder_law : (w : Width) (d s : Bounds) (x y : ℕ) → IsInBounds d x → IsInBounds s y → x < number_count w → y < number_count w
+    → IsInBounds (if_unsigned w d s (remainder d s)) (result_of w SignedModulo x y)
 signed_remainder_law w d s x y hd hs fx fy =
     either (nat_lt d.high (half w) && nat_lt s.high (half w)) _ _ (result_of w SignedModulo x y)
     (λ unsigned.
@@ -139,18 +139,18 @@ signed_remainder_law w d s x y hd hs fx fy =
     rw (are.0, are.1) (remainder_law d s x y hd hs))
     (λ _. top_law w (result_of w SignedModulo x y) (operations_keep_width w SignedModulo x y fx fy))
 
-conjunction_law : (d s : Bounds) (x y : ℕ) → IsWithin d x → IsWithin s y → IsWithin (conjunction d s) (bit_and x y)
+conjunction_law : (d s : Bounds) (x y : ℕ) → IsInBounds d x → IsInBounds s y → IsInBounds (conjunction d s) (bit_and x y)
 conjunction_law d s x y hd hs =
     let first = and_le_l x y in
     let second = and_le_r x y in
     (omega arith, omega (arith, first, second))
 
 -- the word of a single source
-pub known : (s : Bounds) (y : ℕ) → IsWithin s y → is_single s ≡ true → y ≡ s.low
+pub known : (s : Bounds) (y : ℕ) → IsInBounds s y → is_single s ≡ true → y ≡ s.low
 known s y hs one = let e = eqb-true s.low s.high one in omega arith
 
-shifted_left_by_law : (w : Width) (c : ℕ) (d : Bounds) (x : ℕ) → IsWithin d x
-    → IsWithin (shifted_left_by w c d) ((x * 2 ^ c) % number_count w)
+shifted_left_by_law : (w : Width) (c : ℕ) (d : Bounds) (x : ℕ) → IsInBounds d x
+    → IsInBounds (shifted_left_by w c d) ((x * 2 ^ c) % number_count w)
 shifted_left_by_law w c d x hd =
     either (nat_lt (d.high * 2 ^ c) (number_count w)) _ _ ((x * 2 ^ c) % number_count w)
     (λ fits.
@@ -160,24 +160,24 @@ shifted_left_by_law w c d x hd =
     rw (mod-eq_of_lt {n = x * 2 ^ c} {m = number_count w} (omega (arith, most))) (least, most))
     (λ _. wrapped_law w (x * 2 ^ c))
 
-shifted_left_law : (w : Width) (d s : Bounds) (x y : ℕ) → IsWithin d x → IsWithin s y
-    → IsWithin (shifted_left w d s) (result_of w LeftShift x y)
+shifted_left_law : (w : Width) (d s : Bounds) (x y : ℕ) → IsInBounds d x → IsInBounds s y
+    → IsInBounds (shifted_left w d s) (result_of w LeftShift x y)
 shifted_left_law w d s x y hd hs =
     either (is_single s) _ _ (result_of w LeftShift x y)
-    (λ one. subst (λ n. IsWithin (shifted_left_by w (count w s.low) d) (result_of w LeftShift x n)) (sym (known s y hs one))
+    (λ one. subst (λ n. IsInBounds (shifted_left_by w (count w s.low) d) (result_of w LeftShift x n)) (sym (known s y hs one))
     (shifted_left_by_law w (count w s.low) d x hd))
     (λ _. wrapped_law w (x * 2 ^ count w y))
 
-shifted_right_law : (w : Width) (d s : Bounds) (x y : ℕ) → IsWithin d x → IsWithin s y
-    → IsWithin (shifted_right w d s) (result_of w RightShift x y)
+shifted_right_law : (w : Width) (d s : Bounds) (x y : ℕ) → IsInBounds d x → IsInBounds s y
+    → IsInBounds (shifted_right w d s) (result_of w RightShift x y)
 shifted_right_law w d s x y hd hs =
     either (is_single s) _ _ (result_of w RightShift x y)
-    (λ one. subst (λ n. IsWithin (shifted_right_by (count w s.low) d) (result_of w RightShift x n)) (sym (known s y hs one))
+    (λ one. subst (λ n. IsInBounds (shifted_right_by (count w s.low) d) (result_of w RightShift x n)) (sym (known s y hs one))
     (shr_mono (count w s.low) hd.0, shr_mono (count w s.low) hd.1))
     (λ _. let below = shr_le x (count w y) in (omega arith, omega (arith, below)))
 
-arithmetic_shift_law : (w : Width) (d s : Bounds) (x y : ℕ) → IsWithin d x → IsWithin s y → x < number_count w → y < number_count w
-    → IsWithin (combined w ArithmeticShift d s) (result_of w ArithmeticShift x y)
+arithmetic_shift_law : (w : Width) (d s : Bounds) (x y : ℕ) → IsInBounds d x → IsInBounds s y → x < number_count w → y < number_count w
+    → IsInBounds (combined w ArithmeticShift d s) (result_of w ArithmeticShift x y)
 arithmetic_shift_law w d s x y hd hs fx fy =
     either (nat_lt d.high (half w)) _ _ (result_of w ArithmeticShift x y)
     (λ unsigned.
@@ -185,8 +185,8 @@ arithmetic_shift_law w d s x y hd hs fx fy =
     rw (signed_is w x (omega arith)) (shifted_right_law w d s x y hd hs))
     (λ _. top_law w (result_of w ArithmeticShift x y) (operations_keep_width w ArithmeticShift x y fx fy))
 
-pub combined_law : (w : Width) (operation : Operation) (d s : Bounds) (x y : ℕ) → IsWithin d x → IsWithin s y
-    → x < number_count w → y < number_count w → IsWithin (combined w operation d s) (result_of w operation x y)
+pub combined_law : (w : Width) (operation : Operation) (d s : Bounds) (x y : ℕ) → IsInBounds d x → IsInBounds s y
+    → x < number_count w → y < number_count w → IsInBounds (combined w operation d s) (result_of w operation x y)
 combined_law w Add d s x y hd hs fx fy = sum_law w d s x y hd hs fx fy
 combined_law w Subtract d s x y hd hs fx fy = difference_law w d s x y hd hs fx fy
 combined_law w Multiply d s x y hd hs fx fy = product_law w d s x y hd hs

@@ -14,13 +14,13 @@ use Rattle.interval_facts.specs.declared.fact.Fact.{Fact}
 use Rattle.interval_facts.specs.declared.fact.Fact.TheVariants.{Words, Pointer}
 
 -- the numbers from the lowest to the greatest
-abbrev pub IsWithin : Bounds → ℕ → Type 0
-IsWithin b n = (b.low ≤ n) × (n ≤ b.high)
+abbrev pub IsInBounds : Bounds → ℕ → Type 0
+IsInBounds b n = (b.low ≤ n) × (n ≤ b.high)
 
 -- the words that belong to a fact: those within the bounds; those whose distance from the area's
 -- address is within the bounds
 abbrev pub ContainsWord : Fact → ℕ → Type 0
-ContainsWord (Words b) w = IsWithin b w × (w < 2 ^ 64)
+ContainsWord (Words b) w = IsInBounds b w × (w < 2 ^ 64)
 ContainsWord (Pointer area low high) w = IsAtOffset (record { area = area; low = low; high = high }) w × (w < 2 ^ 64)
 
 -- how far from its area's address a pointer is known, either way

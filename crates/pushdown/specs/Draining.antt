@@ -47,7 +47,7 @@ pub record HasDrained (old new : State) (took : List ReplyWithData → Type 0) :
 
 -- so many turns are done, each of the lowest active run of then, and the reply to the last of them was
 -- refused; those before it were taken
-pub record StopsDraining (old new : State) (took : List ReplyWithData → Type 0) (done : ℕ) : Type 0 where
+pub record HasStoppedDraining (old new : State) (took : List ReplyWithData → Type 0) (done : ℕ) : Type 0 where
   pub runs : List ℕ
   pub lowest : AreLowest runs old
   pub some : 1 ≤ done

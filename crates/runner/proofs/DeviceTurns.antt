@@ -29,7 +29,7 @@ use Rattle.device_events.specs.declared.reply.Reply.TheVariants as reply
 use Rattle.pushdown.proofs.Proved.{events_keep_for_runs, turned_is}
 use Rattle.runner.specs.steps.Answered.{complete_reply}
 use Rattle.runner.specs.DeviceState.{active_of, loaded_slot, loaded_of, running, device_state}
-use Rattle.runner.specs.Ready.{Fits, IsForBlocks, IsReady, IsRunning}
+use Rattle.runner.specs.Ready.{FitsNamespace, IsForBlocks, IsReady, IsRunning}
 use Rattle.pushdown.specs.Reached.{IsReached}
 use Rattle.runner.specs.steps.Turning.{FitsAt, FitsIn, FitsOn, TurnGoesOn, HasEnded, IsTurned, Keeps, SlotTurned}
 use Rattle.runner.specs.declared.active_run.ActiveRun.{ActiveRun}
@@ -58,7 +58,7 @@ module _ (ns : ZonedNamespace) (slots : List (Option LoadedProgram)) (runs : Lis
   here : place_at s k ≡ Some place
   here = placed_at ns slots runs k a at
 
-  fits : Fits ns a
+  fits : FitsNamespace ns a
   fits = (ready.running k a at).fits
 
   accepted : IsForBlocks ns p
@@ -136,13 +136,13 @@ module _ (ns : ZonedNamespace) (slots : List (Option LoadedProgram)) (runs : Lis
     ]
 
     -- a run whose program was in its slot, and is
-    is_running : (b : ActiveRun) (x : LoadedProgram) → get_or slots b.command.slot None ≡ Some x → Fits new b → IsRunning new slots' b
+    is_running : (b : ActiveRun) (x : LoadedProgram) → get_or slots b.command.slot None ≡ Some x → FitsNamespace new b → IsRunning new slots' b
     is_running b x was fit =
         let z = the_value _ (set_some slots a.command.slot b.command.slot q (ap is_some was)) in
         record { program = z.0; loaded = z.1; accepted = still_for b.command.slot z.0 z.1; fits = fit }
 
     abbrev OwnFits : ActiveRun → Type 0
-    OwnFits b = (b.command ≡ a.command) × Fits new b
+    OwnFits b = (b.command ≡ a.command) × FitsNamespace new b
 
     all_ready : IfSome r OwnFits → IsReady new slots' (set runs k r)
     all_ready own = record {
@@ -214,7 +214,7 @@ module _ (ns : ZonedNamespace) (slots : List (Option LoadedProgram)) (runs : Lis
         ∙ ap (λ (cid : ℕ). sees b.queue cid a.command ns.size later) kept.cid
         ∙ ap (λ (queue : ℕ). sees queue a.cid a.command ns.size later) kept.queue
 
-    goes_turned : Fits new b → IsTurned s k new (set slots a.command.slot (Some q)) (set runs k (Some b)) (reply.Pending k)
+    goes_turned : FitsNamespace new b → IsTurned s k new (set slots a.command.slot (Some q)) (set runs k (Some b)) (reply.Pending k)
     goes_turned fit =
         is_turned new q (Some b) turn later g.turns g.namespace prepared_same (sym programs_same) (reply.Pending k) refl (ap Some own_place) (kept.command, fit)
 

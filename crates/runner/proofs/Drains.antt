@@ -10,13 +10,13 @@ use Rattle.image_store.specs.Namespace.{ZonedNamespace, zone_at}
 use Rattle.zns_commands.specs.Address.{zone_number}
 use Rattle.pushdown.specs.Admission.{task_of}
 use Rattle.device_events.specs.Replies.{Joins, ReplyWithData}
-use Rattle.pushdown.specs.Draining.{AreLowest, StopsDraining, lowest_run, replies_to_turns, state_after_turns, turns_left, turns_left_at}
+use Rattle.pushdown.specs.Draining.{AreLowest, HasStoppedDraining, lowest_run, replies_to_turns, state_after_turns, turns_left, turns_left_at}
 use Rattle.pushdown.specs.Happenings.{turned}
 use Rattle.pushdown.specs.State.{State}
 use Rattle.pushdown.specs.View.{seen, to_come}
 use Rattle.pushdown.proofs.Proved.{rest_is_few, turns_leave_fewer}
 use Rattle.runner.specs.DeviceState.{active_of, loaded_slot, device_state}
-use Rattle.runner.specs.Ready.{Fits}
+use Rattle.runner.specs.Ready.{FitsNamespace}
 use Rattle.pushdown.specs.Reached.{IsReached}
 use Rattle.runner.specs.declared.active_run.ActiveRun.{ActiveRun}
 use Rattle.runner.specs.declared.loaded_program.LoadedProgram.{LoadedProgram}
@@ -28,7 +28,7 @@ pub turn_less : (s : State) (run : ℕ) → IsReached intervals s → lowest_run
 turn_less s run reached low = turns_leave_fewer intervals never s run reached ((position-Some is_some s.places run None low).1)
 
 -- a run has at most as many turns left as it has source blocks
-few_of : (ns : ZonedNamespace) (slots : List (Option LoadedProgram)) (a : ActiveRun) → Fits ns a
+few_of : (ns : ZonedNamespace) (slots : List (Option LoadedProgram)) (a : ActiveRun) → FitsNamespace ns a
     → turns_left (seen ns (map loaded_slot slots) (Some (active_of a)) ∷ []) ≤ MOST_BLOCKS
 few_of ns slots a fits =
     let b = active_of a in
@@ -38,7 +38,7 @@ few_of ns slots a fits =
     omega (arith, few, left, fits.most)
 
 pub few_left : (ns : ZonedNamespace) (slots : List (Option LoadedProgram)) (runs : List (Option ActiveRun))
-    → ((k : ℕ) (a : ActiveRun) → get_or runs k None ≡ Some a → Fits ns a)
+    → ((k : ℕ) (a : ActiveRun) → get_or runs k None ≡ Some a → FitsNamespace ns a)
     → turns_left (device_state ns slots runs).places ≤ MOST_BLOCKS * length runs
 few_left ns slots [] fit = omega arith
 few_left ns slots (None ∷ runs) fit = let rest = few_left ns slots runs (λ k. fit (suc k)) in omega (arith, rest)
@@ -101,7 +101,7 @@ module _ {T : Type 0} (took : T → T → List ReplyWithData → Type 0) (joins 
       few = more_few;
     }
 
-    pub drained_stops : took then after [] → StopsDraining old new (took first after) (done + 1)
+    pub drained_stops : took then after [] → HasStoppedDraining old new (took first after) (done + 1)
     drained_stops none =
         let before : done + 1 - 1 ≡ length d.runs = omega (arith, d.count) in
         let those : take (done + 1 - 1) (d.runs ++ run ∷ []) ≡ d.runs =

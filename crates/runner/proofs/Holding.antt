@@ -7,13 +7,13 @@ use Rattle.pushdown.specs.State.{Place, destination_of, holds_at, source_of}
 use Rattle.pushdown.specs.View.{seen}
 use Rattle.runner.specs.DeviceState.{loaded_slot, running, device_state}
 use Rattle.runner.specs.steps.ActiveRuns.{destination_held, held_by, source_held}
-use Rattle.runner.specs.Ready.{Fits, IsReady}
+use Rattle.runner.specs.Ready.{FitsNamespace, IsReady}
 use Rattle.runner.specs.declared.active_run.ActiveRun.{ActiveRun}
 use Rattle.runner.specs.declared.loaded_program.LoadedProgram.{LoadedProgram}
 
 -- there is no run at a place, or it fits
 abbrev NoneOrFits : ZonedNamespace → Option ActiveRun → Type 0
-NoneOrFits ns r = (a : ActiveRun) → r ≡ Some a → Fits ns a
+NoneOrFits ns r = (a : ActiveRun) → r ≡ Some a → FitsNamespace ns a
 
 abbrev AllFit : ZonedNamespace → List (Option ActiveRun) → Type 0
 AllFit ns runs = (k : ℕ) → NoneOrFits ns (get_or runs k None)

@@ -11,7 +11,7 @@ use Rattle.pushdown.specs.State.{Place, place_at}
 use Rattle.pushdown.specs.View.{KeepsSource, place_of, seen}
 use Rattle.pushdown.proofs.Proved.{seen_stays}
 use Rattle.runner.specs.DeviceState.{active_of, loaded_slot, running, device_state}
-use Rattle.runner.specs.Ready.{Fits}
+use Rattle.runner.specs.Ready.{FitsNamespace}
 use Rattle.runner.specs.declared.active_run.ActiveRun.{ActiveRun}
 use Rattle.runner.specs.declared.loaded_program.LoadedProgram.{LoadedProgram}
 
@@ -22,8 +22,8 @@ pub record Stays (ns later : ZonedNamespace) (slots slots' : List (Option Loaded
 
 -- ---- a run
 
-pub still_fits : (ns later : ZonedNamespace) (a : ActiveRun) → Fits ns a → shape later ≡ shape ns
-    → Grows (zone_at ns a.source.zone).blocks (zone_at later a.source.zone).blocks → Fits later a
+pub still_fits : (ns later : ZonedNamespace) (a : ActiveRun) → FitsNamespace ns a → shape later ≡ shape ns
+    → Grows (zone_at ns a.source.zone).blocks (zone_at later a.source.zone).blocks → FitsNamespace later a
 still_fits ns later a fits same grows =
     let size : ns.size ≡ later.size = ap (λ (s : Shape). s.size) (sym same) in
     let block : ns.block ≡ later.block = ap (λ (s : Shape). s.block) (sym same) in
@@ -44,7 +44,7 @@ still_fits ns later a fits same grows =
     }
 
 -- the source blocks of a run that fits are kept where they grow
-pub keeps_source : (ns later : ZonedNamespace) (a : ActiveRun) → Fits ns a → shape later ≡ shape ns
+pub keeps_source : (ns later : ZonedNamespace) (a : ActiveRun) → FitsNamespace ns a → shape later ≡ shape ns
     → Grows (zone_at ns a.source.zone).blocks (zone_at later a.source.zone).blocks → KeepsSource ns later (active_of a)
 keeps_source ns later a fits same grows =
     let zone : a.source.zone ≡ zone_number ns a.command.lba = ap (λ (p : ZoneBlock). p.zone) fits.source in
@@ -58,7 +58,7 @@ keeps_source ns later a fits same grows =
     }
 
 -- the source blocks of a run that fits are kept where its source grows, as it is found by its first address
-pub grows_there : (ns later : ZonedNamespace) (a : ActiveRun) → Fits ns a
+pub grows_there : (ns later : ZonedNamespace) (a : ActiveRun) → FitsNamespace ns a
     → Grows (zone_at ns (zone_number ns a.command.lba)).blocks (zone_at later (zone_number ns a.command.lba)).blocks
     → Grows (zone_at ns a.source.zone).blocks (zone_at later a.source.zone).blocks
 grows_there ns later a fits grows =

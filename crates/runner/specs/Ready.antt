@@ -17,7 +17,7 @@ abbrev pub AreWritten : ZonedNamespace → ZoneBlock → ℕ → Type 0
 AreWritten ns first blocks = first.offset + blocks ≤ length (zone_at ns first.zone).blocks
 
 -- what holds of each active run, whatever its program
-pub record Fits (ns : ZonedNamespace) (a : ActiveRun) : Type 0 where
+pub record FitsNamespace (ns : ZonedNamespace) (a : ActiveRun) : Type 0 where
   pub source : a.source ≡ zone_block_in ns a.command.lba
   pub destination : a.destination ≡ zone_number ns a.command.destination
   pub other : a.source.zone ≢ a.destination
@@ -39,7 +39,7 @@ pub record IsRunning (ns : ZonedNamespace) (slots : List (Option LoadedProgram))
   pub program : LoadedProgram
   pub loaded : get_or slots a.command.slot None ≡ Some program
   pub accepted : IsForBlocks ns program
-  pub fits : Fits ns a
+  pub fits : FitsNamespace ns a
 
 -- the programs of the slots are for the namespace's blocks, and each active run can go on
 pub record IsReady (ns : ZonedNamespace) (slots : List (Option LoadedProgram)) (runs : List (Option ActiveRun)) : Type 0 where

@@ -4,7 +4,7 @@ ghost use Rattle.std.specs.Prelude.{◌≡◌, ◌≤◌, ◌<◌, ◌+◌, ◌*
 ghost use Rattle.interval_domain.specs.Intervals.{intervals};
 ghost use Rattle.nvme_entry.specs.declared.command.TheConstants.{MOST_BLOCKS};
 ghost use Rattle.device_events.specs.Replies.{data_length};
-ghost use Rattle.pushdown.specs.Draining.{HasDrained, StopsDraining, lowest_run, turns_left};
+ghost use Rattle.pushdown.specs.Draining.{HasDrained, HasStoppedDraining, lowest_run, turns_left};
 ghost use Rattle.pushdown.specs.Events.{HasHappened, HasServed, HasStopped};
 ghost use Rattle.pushdown.specs.Happenings.{faulting};
 ghost use Rattle.pushdown.specs.State.{new_state};
@@ -197,7 +197,7 @@ impl Device {
         requires room { MOST_TRANSFER ≤ length output.old }
         requires counts { O.refusals out.old + 1 < 2 ^ 64 }
         ensures drained { OnOk result (HasDrained self.old self.new (O.took out.old out.new)) }
-        ensures stopped { IfErr result (λ stopped. StopsDraining self.old self.new (O.took out.old out.new) stopped.done) }
+        ensures stopped { IfErr result (λ stopped. HasStoppedDraining self.old self.new (O.took out.old out.new) stopped.done) }
         ensures refused { CountsRefusals (O.refusals out.old) (O.refusals out.new) result }
     {
         let mut done = 0;

@@ -10,7 +10,7 @@ ghost use Rattle.pushdown.specs.BlockRuns.{scratch_after};
 ghost use Rattle.pushdown.specs.Happenings.{added};
 ghost use Rattle.runner.specs.DeviceState.{active_of, device_state};
 ghost use Rattle.runner.specs.steps.Ran.{HasRun};
-ghost use Rattle.runner.specs.Ready.{Fits, IsReady};
+ghost use Rattle.runner.specs.Ready.{FitsNamespace, IsReady};
 ghost use Rattle.pushdown.specs.Reached.{IsReached};
 ghost use Rattle.runner.specs.steps.Turning.{FitsAt, FitsIn, FitsOn, HasRoom, IsTaking, IsTurned, Keeps, PlaceTurned, SlotTurned, Turned, next_block, next_block_run, with_packer, with_scratch};
 
@@ -28,7 +28,7 @@ use zone_resources::RUNS;
 
 /// The block that a run reads next.
 fn source_block<'a>(namespace: &'a Namespace, active: &ActiveRun) -> &'a [u8]
-    requires { Fits namespace.now active.now }
+    requires { FitsNamespace namespace.now active.now }
     ensures value { result.now ≡ next_block namespace.now (active_of active.now) }
     ensures size { length result.now ≡ namespace.now.block }
 {
@@ -45,7 +45,7 @@ fn run_next<V: TrapFree + Drop>(
     active: &mut ActiveRun,
     group: &mut [u8; LARGEST_BLOCK],
 ) -> Exit
-    requires fits { Fits namespace.now active.old }
+    requires fits { FitsNamespace namespace.now active.old }
     requires block { V.block prepared.now ≡ namespace.now.block }
     requires limit { V.limit prepared.now ≤ namespace.now.block }
     ensures run { HasRun (next_block_run namespace.now (V.code prepared.now) (V.limit prepared.now) (active_of active.old)) result.r0 result.frames (take result.group_length group.new) active.new.scratch }
@@ -126,7 +126,7 @@ fn advance<V: TrapFree + Drop>(
     requires block { V.block prepared.now ≡ namespace.old.block }
     ensures turn { Turned namespace.old namespace.new (V.code prepared.now) (V.limit prepared.now) active.old active.new result }
     ensures kept { Keeps active.old active.new }
-    ensures fits { IsNone result → Fits namespace.new active.new }
+    ensures fits { IsNone result → FitsNamespace namespace.new active.new }
 {
     let exit = run_next(namespace, prepared, active, group);
     put(namespace, active, &group[..exit.group_length]);

@@ -16,7 +16,7 @@ use Rattle.pushdown.specs.State.{State}
 use Rattle.pushdown.specs.View.{Active, turns_of}
 use Rattle.device_events.specs.declared.reply.Reply.{Reply}
 use Rattle.runner.specs.DeviceState.{active_of, device_state}
-use Rattle.runner.specs.Ready.{Fits, IsForBlocks, IsReady}
+use Rattle.runner.specs.Ready.{FitsNamespace, IsForBlocks, IsReady}
 use Rattle.runner.specs.declared.active_run.ActiveRun.{ActiveRun}
 use Rattle.runner.specs.declared.loaded_program.LoadedProgram.{LoadedProgram}
 
@@ -50,7 +50,7 @@ HasRoom ns z (b ∷ bs) = IsTaking ns z (length (b ∷ bs))
 -- what holds of an active run with its program: a group fits a block, and what is left of the run fits into
 -- its destination
 pub record FitsOn (ns : ZonedNamespace) (program : List (Option Instruction)) (limit : ℕ) (a : ActiveRun) : Type 0 where
-  pub run : Fits ns a
+  pub run : FitsNamespace ns a
   pub some : 1 ≤ ns.block
   pub limits : limit ≤ ns.block
   pub room : RoomIn ns.capacity (zone_at ns a.destination) (turns_of ns program limit (active_of a))
@@ -87,7 +87,7 @@ FitsIn ns slot a = IsSomeAnd slot (λ p. IsForBlocks ns p × FitsOn ns (program_
 -- a turn of a run, by the program of a slot, which has the scratch bytes as its result once the run has ended
 abbrev pub SlotTurned : ZonedNamespace → ZonedNamespace → Option LoadedProgram → Option LoadedProgram → ActiveRun → ActiveRun → Option Answer → Type 0
 SlotTurned old new (Some p) (Some q) a b None =
-    (q ≡ p) × TurnGoesOn old new (program_of p.prepared) (sizes_of p.prepared).limit a b × Keeps a b × Fits new b
+    (q ≡ p) × TurnGoesOn old new (program_of p.prepared) (sizes_of p.prepared).limit a b × Keeps a b × FitsNamespace new b
 SlotTurned old new (Some p) (Some q) a b (Some answer) =
     (q ≡ record p { result = b.scratch }) × HasEnded old new (program_of p.prepared) (sizes_of p.prepared).limit a b answer × Keeps a b
 SlotTurned old new _ _ a b answer = ⊥
