@@ -10,7 +10,7 @@ use bench_common::{load, read_words};
 use interval_domain::Intervals;
 use program_interface::{CONTEXT_BYTES, LARGEST_BLOCK, RunSizes, SCRATCH_BYTES};
 use runs::{Form, repeat, run};
-use std::rt::{Clock, Env, Files};
+use std::rt::Clock;
 use std::time::Instant;
 use std::{env, io};
 use verified_run::Prepared;
