@@ -2,9 +2,9 @@
 use Rattle.std.proofs.Common.{◌≡◌, ◌≢◌, ℕ, ◌^◌, ◌<◌, ◌==◌, nat_lt, not, Bool, true, false, ◌&&◌, cond, List, [], ◌∷◌, ◌++◌, length, Some, None, ap, ◌∙◌, arith}
 use Rattle.std.specs.Fmt.{decimal}
 use Rattle.std.specs.List.{All, AllPass, list_all}
-use Rattle.std.specs.Char.{is_ascii, is_ascii_digit}
+use Rattle.std.specs.Char.{is_ascii}
 use Rattle.std.specs.Option.{option_and_then}
-use Rattle.std.specs.Str.Parse.{AllDigits, digits_value}
+use Rattle.std.specs.Str.Parse.{AllDigits}
 use Rattle.std.proofs.lemmas.Bool.{lt-ltb}
 use Rattle.std.proofs.lemmas.Bool.Decides.{nat_tests}
 use Rattle.std.proofs.lemmas.Fmt.{decimal_is_IsNumeral, decimal_nonempty}
@@ -16,7 +16,7 @@ use Rattle.text_lines.specs.Number.{decimal_of}
 use Rattle.event_text.specs.CommandFile.{ToldEvent, below, line_told, words_told}
 use Rattle.event_text.specs.Words.{words_of}
 use Rattle.event_text.proofs.WordLemmas.{word_first, word_last}
-use Rattle.text_lines.proofs.Proved.{digits, uncommented-same}
+use Rattle.text_lines.proofs.Proved.{number_again, uncommented-same}
 
 -- a byte of a word: ASCII behind the space, and no `;`
 abbrev pub InWord : ℕ → Type 0
@@ -95,18 +95,11 @@ words_of-numbered name n some plain small =
     word_first name (decimal n) some (unblank name (spelled_in_word name plain))
     ∙ ap (λ (ws : List (List ℕ)). name ∷ ws) (word_last (decimal n) (decimal_nonempty n small) (unblank (decimal n) (decimal_in_word n small)))
 
-value_again : (ds : List ℕ) (n : ℕ) → list_all is_ascii_digit ds ≡ true → 0 < length ds → digits_value 10 ds ≡ n → n < 2 ^ 32 → decimal_of ds ≡ Some n
-value_again ds n all some value small =
-    let v = digits_value 10 ds in
-    ap (λ (b : Bool). cond (b && (nat_lt 0 (length ds) && nat_lt v (2 ^ 32))) (Some v) None) all
-    ∙ (ap (λ (b : Bool). cond (b && nat_lt v (2 ^ 32)) (Some v) None) (lt-ltb 0 (length ds) some)
-    ∙ (ap (λ (m : ℕ). cond (nat_lt m (2 ^ 32)) (Some m) None) value ∙ ap (λ (b : Bool). cond b (Some n) None) (lt-ltb n (2 ^ 32) small)))
-
 -- what a number is printed as spells it
 pub decimal_again : (n : ℕ) → n < 2 ^ 32 → decimal_of (decimal n) ≡ Some n
 decimal_again n small =
     let numeral = decimal_is_IsNumeral n (omega arith) in
-    value_again (decimal n) n (digits.from (decimal n) numeral.0.1) numeral.0.0 numeral.1 small
+    number_again (2 ^ 32) 10 (decimal n) n numeral.0 numeral.1 small
 
 pub decimal_below : (bound n : ℕ) → n < bound → n < 2 ^ 32 → option_and_then (below bound) (decimal_of (decimal n)) ≡ Some n
 decimal_below bound n within small =

@@ -4,7 +4,7 @@ pub use Rattle.text_lines.proofs.Blanks.{ascii_behind, blank_is_ascii, blank_is_
 pub use Rattle.text_lines.proofs.Comments.{uncommented-comment, uncommented-cons, uncommented-same}
 use Rattle.text_lines.proofs.LineLemmas.{cut_line}
 use Rattle.text_lines.proofs.PartLemmas.{split_more, split_some, split_whole}
-pub use Rattle.text_lines.proofs.NumberLemmas.{all_digits, digits}
+pub use Rattle.text_lines.proofs.NumberLemmas.{all_digits, number_again, number_read}
 pub use Rattle.text_lines.proofs.Trimming.{back_goes, front_goes, no_blank_first, without_end_blanks-cons, without_first_blanks-cons}
 
 pub uncut_is_one_part : UncutIsOnePart

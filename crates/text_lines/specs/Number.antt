@@ -1,13 +1,15 @@
 -- The numbers that words spell (profile).
-use Rattle.std.specs.Prelude.{ℕ, Bool, ◌^◌, nat_lt, ◌&&◌, if◌then◌else◌, List, length, Option, Some, None}
+use Rattle.std.specs.Prelude.{ℕ, ◌^◌, nat_lt, ◌&&◌, if◌then◌else◌, List, length, Option, Some, None}
 use Rattle.std.specs.List.{list_all}
-use Rattle.std.specs.Char.{is_ascii_digit}
+use Rattle.std.specs.Char.{is_digit}
 use Rattle.std.specs.Str.Parse.{digits_value}
 
--- one decimal digit or more, leading zeros allowed, of a number below 2 ^ 32
-abbrev pub is_number : List ℕ → Bool
-is_number word = list_all is_ascii_digit word && (nat_lt 0 (length word) && nat_lt (digits_value 10 word) (2 ^ 32))
+-- the number that one digit of a radix or more spell, leading zeros allowed, if it is below a bound
+unfoldable pub number_below : ℕ → ℕ → List ℕ → Option ℕ
+number_below bound radix word =
+    if list_all (λ byte. is_digit byte radix) word && (nat_lt 0 (length word) && nat_lt (digits_value radix word) bound)
+    then Some (digits_value radix word) else None
 
--- the number that such a word spells
+-- the number below 2 ^ 32 that decimal digits spell
 abbrev pub decimal_of : List ℕ → Option ℕ
-decimal_of word = if is_number word then Some (digits_value 10 word) else None
+decimal_of word = number_below (2 ^ 32) 10 word

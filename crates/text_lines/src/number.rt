@@ -8,6 +8,7 @@ ghost use Rattle.text_lines.specs.Number.{decimal_of};
 use std::str;
 
 /// The number that decimal digits alone spell, leading zeros allowed, if it is below 2^32.
+#[tactic(auto, using(crate::proofs::NumberLemmas::no_decimal))]
 pub fn decimal(word: &[u8]) -> Option<u32>
     ensures { result ≡ decimal_of word.now }
 {
