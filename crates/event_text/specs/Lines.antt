@@ -1,10 +1,12 @@
 -- The lines that replies are printed as (profile).
-use Rattle.std.specs.Prelude.{ℕ, ◌==◌, if◌then◌else◌, List, [], ◌∷◌, ◌++◌, length, codes}
+use Rattle.std.specs.Prelude.{ℕ, ◌≡◌, ◌==◌, if◌then◌else◌, List, [], ◌∷◌, ◌++◌, length, codes, Option}
 use Rattle.std.specs.Fmt.{decimal}
 use Rattle.hex.specs.Hex.{encode_lower}
+use Rattle.device_events.specs.Printed.{Printed, Prints}
 use Rattle.device_events.specs.Replies.{ReplyWithData}
 use Rattle.device_events.specs.declared.reply.Reply.{Reply}
 use Rattle.device_events.specs.declared.reply.Reply.TheVariants.{Complete, Pending, Idle, FaultTaken, FaultRefused}
+use Rattle.event_text.specs.declared.lines.Lines.{Lines}
 
 -- a space and the data, where there is any
 abbrev pub data_text : List ℕ → List ℕ
@@ -25,3 +27,11 @@ line_text reply bytes = reply_text reply bytes ++ 10 ∷ []
 -- the line of a reply and its data
 abbrev pub reply_line : ReplyWithData → List ℕ
 reply_line given = line_text given.reply given.bytes
+
+-- the name of the writer of `Lines`, how many replies it refused, and what is printed there
+abbrev pub printed_by : {W : Type 0} → (W → Option (List ℕ)) → Lines W → ℕ × Printed
+printed_by contents lines = (lines.out.ghost_name, record { refusals = lines.refusals; bytes = contents lines.out.now })
+
+-- the same writer took the lines of these replies, in order, and nothing else
+abbrev pub Took : ℕ × Printed → ℕ × Printed → List ReplyWithData → Type 0
+Took old new replies = (new.0 ≡ old.0) × Prints reply_line old.1 new.1 replies

@@ -4,10 +4,9 @@ ghost use Rattle.std.specs.Prelude.{◌≡◌, ◌≤◌, ◌<◌, ◌+◌, ◌^
 ghost use Rattle.std.proofs.Common.{◌∙◌, refl};
 ghost use Rattle.std.specs.Io.KnownBytes.{Appends};
 ghost use Rattle.hex.specs.Hex.{encode_lower};
-ghost use Rattle.device_events.specs.Printed.{Prints};
 ghost use Rattle.device_events.specs.Refusals.{CountsRefusals};
 ghost use Rattle.device_events.proofs.Proved.{prints_in_parts, prints_none};
-ghost use Rattle.event_text.specs.Lines.{data_text, reply_line, line_text, reply_text};
+ghost use Rattle.event_text.specs.Lines.{Took, data_text, printed_by, reply_line, line_text, reply_text};
 
 use device_events::{NotTaken, Out, Reply};
 use nvme_entry::MOST_TRANSFER;
@@ -58,8 +57,7 @@ impl<'a, W: Write> Lines<'a, W> {
 }
 
 impl<W: Write> Out for Lines<'_, W> {
-    ghost took = { λ old new replies. (new.out.ghost_name ≡ old.out.ghost_name)
-        × Prints reply_line (record { refusals = old.refusals; bytes = W.contents old.out.now }) (record { refusals = new.refusals; bytes = W.contents new.out.now }) replies };
+    ghost took = { λ old new replies. Took (printed_by W.contents old) (printed_by W.contents new) replies };
 
     ghost refusals = { λ lines. lines.refusals };
 
