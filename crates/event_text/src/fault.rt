@@ -12,13 +12,13 @@ pub enum LineFault {
     /// The first word names no event. The line without its comment.
     #[error("{0}: no such event; submit, turn or fault is expected")]
     NoSuchEvent(Excerpt),
-    /// The line without its comment.
+    /// `submit` has other words behind it than it takes. The line without its comment.
     #[error("{0}: submit is expected with a queue, an entry and, where there is any, data")]
     SubmitWords(Excerpt),
-    /// The line without its comment.
+    /// `turn` has other words behind it than it takes. The line without its comment.
     #[error("{0}: turn is expected with a run alone")]
     TurnWords(Excerpt),
-    /// The line without its comment.
+    /// `fault` has other words behind it than it takes. The line without its comment.
     #[error("{0}: fault is expected with a zone and a state")]
     FaultWords(Excerpt),
     /// The word that spells no queue.

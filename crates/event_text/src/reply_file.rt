@@ -31,7 +31,7 @@ pub enum RepliesFault {
 /// Why the reply of a line isn't read.
 #[derive(Clone, Copy, Debug, PartialEq, Eq)]
 enum ReplyFault {
-    Malformed,
+    Refused,
     Memory,
 }
 
@@ -61,7 +61,7 @@ pub fn replies(alloc: Global, file: &[u8]) -> Result<Vec<ToldReply>, RepliesFaul
         let (line, behind) = first_line(rest);
         match told_by(alloc, line) {
             Ok(reply) => told.push(reply)?,
-            Err(ReplyFault::Malformed) => return Err(RepliesFault::Line(number)),
+            Err(ReplyFault::Refused) => return Err(RepliesFault::Line(number)),
             Err(ReplyFault::Memory) => return Err(RepliesFault::Memory),
         }
         rest = behind;
@@ -79,7 +79,7 @@ fn told_by(alloc: Global, line: &[u8]) -> Result<ToldReply, ReplyFault>
     let mut again = Vec::new(alloc);
     match push_reply(&mut again, told.reply, told.bytes.as_slice()) {
         Ok(()) if again.as_slice() == line => Ok(told),
-        Ok(()) => Err(ReplyFault::Malformed),
+        Ok(()) => Err(ReplyFault::Refused),
         Err(_) => Err(ReplyFault::Memory),
     }
 }
@@ -96,7 +96,7 @@ fn candidate(alloc: Global, line: &[u8]) -> Result<ToldReply, ReplyFault>
             Some(run) => pending(alloc, run),
             None => complete(
                 alloc,
-                line.strip_prefix(b"cpl ").ok_or(ReplyFault::Malformed)?,
+                line.strip_prefix(b"cpl ").ok_or(ReplyFault::Refused)?,
             ),
         },
     }
@@ -115,7 +115,7 @@ fn without_data(alloc: Global, reply: Reply) -> ToldReply
 fn pending(alloc: Global, run: &[u8]) -> Result<ToldReply, ReplyFault>
     ensures { IfOk result HasItsData }
 {
-    let run = run_number(run).ok_or(ReplyFault::Malformed)?;
+    let run = run_number(run).ok_or(ReplyFault::Refused)?;
     Ok(without_data(alloc, Reply::Pending { run }))
 }
 
@@ -123,11 +123,11 @@ fn pending(alloc: Global, run: &[u8]) -> Result<ToldReply, ReplyFault>
 fn complete(alloc: Global, words: &[u8]) -> Result<ToldReply, ReplyFault>
     ensures { IfOk result HasItsData }
 {
-    let (queue, behind) = cut(words, b' ').ok_or(ReplyFault::Malformed)?;
+    let (queue, behind) = cut(words, b' ').ok_or(ReplyFault::Refused)?;
     let (entry, behind) = behind
         .split_at_checked(ENTRY_DIGITS)
-        .ok_or(ReplyFault::Malformed)?;
-    let queue = queue_number(queue).ok_or(ReplyFault::Malformed)?;
+        .ok_or(ReplyFault::Refused)?;
+    let queue = queue_number(queue).ok_or(ReplyFault::Refused)?;
     let entry = <[u8; 16]>::from_hex(entry)?;
     let bytes = hex::decode(alloc, behind.strip_prefix(b" ").unwrap_or(&[]))?;
     let length = bytes.len();
@@ -145,7 +145,7 @@ impl From<FromHexError> for ReplyFault {
     fn from(error: FromHexError) -> ReplyFault {
         match error {
             FromHexError::OutOfMemory => ReplyFault::Memory,
-            _ => ReplyFault::Malformed,
+            _ => ReplyFault::Refused,
         }
     }
 }
