@@ -1,15 +1,14 @@
 //! Lines of a command file, made of words.
 
-use super::scenes::{Act, EMPTY_ZONE, EXEC, MAGIC, SHAPE, Scene, play};
+use super::scenes::{Act, EMPTY_ZONE, EXEC, LIMITS, MAGIC, Scene, ZONE_NUMBERS, play};
 use super::stage::{At, Stage};
 use std::test::Fail;
-
-/// Emits nothing: `mov r0, 0` and `exit`.
-const RETURNING: &[u8] = b"\xb7\0\0\0\0\0\0\0\x95\0\0\0\0\0\0\0";
+use test_inputs::programs::RETURNING;
 
 /// Each kind but `append` and `write`, which have blocks beside them.
 const LINES: &[Act] = &[
-    Act::Put("exit", &[(RETURNING, 1)]),
+    Act::Text("text", RETURNING),
+    Act::Prints("zscli asm text exit", ""),
     Act::Submits(
         "zscli entry read --lba 8589934600 --blocks 3 --cid 9",
         1,
@@ -93,7 +92,8 @@ const LINES: &[Act] = &[
 /// A command file of lines that are printed one after another, and what it does.
 const WORK: &[Act] = &[
     Act::Start(b""),
-    Act::Put("exit", &[(RETURNING, 1)]),
+    Act::Text("text", RETURNING),
+    Act::Prints("zscli asm text exit", ""),
     Act::Put("block", &[(b"a", 512)]),
     Act::Adds("zscli entry append --lba 8 --data block"),
     Act::Adds("zscli entry write --lba 9 --data block --block 512 --cid 2"),
@@ -116,7 +116,8 @@ cpl 1 00000000000000000000010005000000
         "image",
         &[
             (MAGIC, 1),
-            (SHAPE, 1),
+            (ZONE_NUMBERS, 1),
+            (LIMITS, 1),
             (b"\x02", 1),
             (b"\0", 31),
             (EMPTY_ZONE, 1),

@@ -201,10 +201,10 @@ const REFUSED: &[Act] = &[
         "cannot read none: no such file or folder\n",
     ),
     Act::Tells("zscli explain", 2),
-    Act::Put("replies", &[(b"idle\ndone\nturn 0\nrefused 1\n", 1)]),
+    Act::Put("replies", &[(b"idle\nturn 0\n", 1)]),
     Act::Refuses(
         "zscli explain replies",
-        "replies, line 3: not one that `exec` prints\nline 3 refused\n",
+        "replies, line 2: not one that `exec` prints\nline 2 refused\n",
     ),
 ];
 

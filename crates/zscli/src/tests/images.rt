@@ -1,6 +1,6 @@
 //! Images in files: made, listed and changed, and files that fail.
 
-use super::scenes::{Act, EMPTY_IMAGE, EMPTY_ZONE, EXEC, MAGIC, NUMBERS, SHAPE, Scene, play};
+use super::scenes::{Act, EMPTY_IMAGE, EMPTY_ZONE, EXEC, LIMITS, MAGIC, Scene, ZONE_NUMBERS, play};
 use super::stage::Parts;
 use std::test::Fail;
 
@@ -53,7 +53,8 @@ const READ_AND_APPENDED: Parts = &[
 /// The image of one written block that is saved.
 const NEW: Parts = &[
     (MAGIC, 1),
-    (SHAPE, 1),
+    (ZONE_NUMBERS, 1),
+    (LIMITS, 1),
     (b"\x01", 1),
     (b"\0", 31),
     (EMPTY_ZONE, 1),
@@ -65,7 +66,9 @@ const NEW: Parts = &[
 /// An image of version 1, whose header doesn't tell that a block is written.
 const OLD_IMAGE: Parts = &[
     (b"ZNSIMG01", 1),
-    (NUMBERS, 1),
+    (ZONE_NUMBERS, 1),
+    (LIMITS, 1),
+    (b"\0", 32),
     (EMPTY_ZONE, 1),
     (b"\x02\0\0\0\x01\0\0\0", 1),
     (EMPTY_ZONE, 2),
@@ -91,7 +94,8 @@ const UPGRADED: &[Act] = &[
         "old",
         &[
             (MAGIC, 1),
-            (SHAPE, 1),
+            (ZONE_NUMBERS, 1),
+            (LIMITS, 1),
             (b"\x02", 1),
             (b"\0", 31),
             (EMPTY_ZONE, 1),

@@ -3,27 +3,14 @@
 use super::scenes::{Act, Scene, play};
 use super::stage::Parts;
 use std::test::Fail;
-
-/// Emits the first 8 bytes of a block whose first byte is 7.
-const MATCHING: &[u8] = b"\x71\x26\0\0\0\0\0\0\x55\x06\x03\0\x07\0\0\0\xbf\x21\0\0\0\0\0\0\
-\xb7\x02\0\0\x08\0\0\0\x85\0\0\0\x01\0\0\0\xb7\0\0\0\0\0\0\0\x95\0\0\0\0\0\0\0";
-
-const LISTING: &str = "\
-ldxb r6, [r2+0]
-jne r6, 7, +3
-mov r1, r2
-mov r2, 8
-call 1
-mov r0, 0
-exit
-";
+use test_inputs::{programs, slots};
 
 /// An output block with one frame.
 const FRAMED: Parts = &[(b"\x03\0abc", 1), (b"\0", 507)];
 
 const LISTED: &[Act] = &[
-    Act::Start(MATCHING),
-    Act::Prints("zscli disasm events", LISTING),
+    Act::Slots("program", &slots::MATCHING),
+    Act::Lists("zscli disasm program", programs::MATCHING),
     Act::Fails(
         "zscli disasm none",
         1,
@@ -34,8 +21,8 @@ const LISTED: &[Act] = &[
 
 /// A wide instruction takes slots 0 and 1.
 const WITH_SLOTS: &[Act] = &[
-    Act::Start(b"lddw r0, 7\nja +0\nexit\n"),
-    Act::Prints("zscli asm events made", ""),
+    Act::Text("text", "lddw r0, 7\nja +0\nexit\n"),
+    Act::Prints("zscli asm text made", ""),
     Act::Prints(
         "zscli disasm made --slots",
         "   0  lddw r0, 0x0000000000000007\n   2  ja +0\n   3  exit\n",
@@ -47,9 +34,8 @@ const WITH_SLOTS: &[Act] = &[
 ];
 
 const UNPACKED: &[Act] = &[
-    Act::Start(b""),
-    Act::Put("events", FRAMED),
-    Act::Prints("zscli unpack events --block 512", "616263\n"),
+    Act::Put("blocks", FRAMED),
+    Act::Prints("zscli unpack blocks --block 512", "616263\n"),
 ];
 
 const EXPLAINED: &str = "\
@@ -61,35 +47,35 @@ r2 is 8
 ";
 
 const VERIFIED: &[Act] = &[
-    Act::Start(MATCHING),
-    Act::Prints("zscli verify events --block 512 --emit 10", "accepted 7\n"),
+    Act::Slots("program", &slots::MATCHING),
+    Act::Prints("zscli verify program --block 512 --emit 10", "accepted 7\n"),
     Act::Fails(
-        "zscli verify events --block 512 --emit 9",
+        "zscli verify program --block 512 --emit 9",
         3,
         "refused 4 10\n",
         "",
     ),
     Act::Fails(
-        "zscli verify events --block 512 --emit 9 --explain",
+        "zscli verify program --block 512 --emit 9 --explain",
         3,
         EXPLAINED,
         "",
     ),
     Act::Fails(
-        "zscli verify events --block 513 --emit 514",
+        "zscli verify program --block 513 --emit 514",
         3,
         "",
         "geometry refused 1\n",
     ),
     Act::Fails(
-        "zscli verify events --block 512 --emit 513",
+        "zscli verify program --block 512 --emit 513",
         2,
         "",
         "error: '513' for --emit is not a number from 0 to 512\n",
     ),
-    Act::Start(b""),
+    Act::Put("program", &[]),
     Act::Fails(
-        "zscli verify events --block 513 --emit 514",
+        "zscli verify program --block 513 --emit 514",
         3,
         "",
         "program refused 0 21\n",
@@ -97,12 +83,12 @@ const VERIFIED: &[Act] = &[
 ];
 
 const ASSEMBLED: &[Act] = &[
-    Act::Start(b"jeq r1, 0, nowhere\nmov r11, 1\n"),
-    Act::Fails("zscli asm events made", 3, "", "assembly refused 2 2\n"),
-    Act::Start(MATCHING),
-    Act::AddsTo("listing", "zscli disasm events"),
+    Act::Text("text", "jeq r1, 0, nowhere\nmov r11, 1\n"),
+    Act::Fails("zscli asm text made", 3, "", "assembly refused 2 2\n"),
+    Act::Slots("program", &slots::MATCHING),
+    Act::AddsTo("listing", "zscli disasm program"),
     Act::Prints("zscli asm listing made", ""),
-    Act::Has("made", &[(MATCHING, 1)]),
+    Act::HasSlots("made", &slots::MATCHING),
     Act::Room(55),
     Act::Fails(
         "zscli asm listing made",
@@ -113,42 +99,42 @@ const ASSEMBLED: &[Act] = &[
 ];
 
 const TRACED: &[Act] = &[
-    Act::Start(MATCHING),
+    Act::Slots("program", &slots::MATCHING),
     Act::Put("short", &[(b"a", 100)]),
     Act::Refuses(
-        "zscli trace events short",
+        "zscli trace program short",
         "short: 100 bytes; a block has a power of 2 from 512 to 16384\ndata refused 4\n",
     ),
     Act::Put("block", &[(b"\x07", 1), (b"\0", 511)]),
     Act::Prints(
-        "zscli trace events block --emit 10",
+        "zscli trace program block --emit 10",
         "0\n1\n2\n3\n4\n5\n6\nexit 0 7 08000700000000000000\n",
     ),
     // With no limit said, it is the block's size.
     Act::Prints(
-        "zscli trace events block",
+        "zscli trace program block",
         "0\n1\n2\n3\n4\n5\n6\nexit 0 7 08000700000000000000\n",
     ),
     // 8 bytes and their length are 10.
     Act::Prints(
-        "zscli trace events block --emit 9",
+        "zscli trace program block --emit 9",
         "0\n1\n2\n3\ntrap 4 8\n",
     ),
     Act::Prints(
-        "zscli trace events block --emit 9 --fuel 4",
+        "zscli trace program block --emit 9 --fuel 4",
         "0\n1\n2\n3\nfuel\n",
     ),
     // A block that doesn't match takes 4 steps.
     Act::Put("block", &[(b"\x08", 1), (b"\0", 511)]),
     Act::Prints(
-        "zscli trace events block --emit 10",
+        "zscli trace program block --emit 10",
         "0\n1\n5\n6\nexit 0 4 -\n",
     ),
 ];
 
 /// Instructions of many kinds: of 100000007h and the block's second byte, 2ah, the sum goes to scratch, and its lowest
 /// byte, 31h, is emitted from there.
-const STEPS: &[u8] = b"\
+const STEPS: &str = "\
 lddw r6, 0x100000007
 ldxb r7, [r2+1]
 add r6, r7
@@ -180,9 +166,9 @@ exit 5 12 010031
 ";
 
 const TRACED_WITH_REGISTERS: &[Act] = &[
-    Act::Start(STEPS),
+    Act::Text("text", STEPS),
     Act::Put("block", &[(b"\0\x2a", 1), (b"\0", 510)]),
-    Act::Prints("zscli asm events made", ""),
+    Act::Prints("zscli asm text made", ""),
     Act::Prints(
         "zscli trace made block --emit 3 --registers",
         STEPS_WITH_REGISTERS,
@@ -196,8 +182,8 @@ const TRACED_WITH_REGISTERS: &[Act] = &[
         "   0  lddw r6, 0x0000000100000007  r6 = 0x100000007\n   2  ldxb r7, [r2+1]  r7 = 0x2a\nfuel\n",
     ),
     // 8 bytes of the block, whose address is 2_0000_0000h; with one less the emit traps.
-    Act::Start(b"mov r1, r2\nadd r1, 16\nmov r2, 8\ncall 1\nexit"),
-    Act::Prints("zscli asm events made", ""),
+    Act::Text("text", "mov r1, r2\nadd r1, 16\nmov r2, 8\ncall 1\nexit"),
+    Act::Prints("zscli asm text made", ""),
     Act::Prints(
         "zscli trace made block --emit 10 --registers",
         "   0  mov r1, r2  r1 = 0x200000000\n   1  add r1, 16  r1 = 0x200000010\n   2  mov r2, 8  r2 = 0x8\n\

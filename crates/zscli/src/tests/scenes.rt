@@ -10,17 +10,21 @@ use std::test::Fail;
 pub(super) const EXEC: &str = "zscli exec image events";
 
 /// An image of 4 zones of 8 blocks, 6 of them writable, at most 2 open and 3 active, all Empty.
-pub(super) const EMPTY_IMAGE: Parts = &[(MAGIC, 1), (NUMBERS, 1), (EMPTY_ZONE, 4)];
+pub(super) const EMPTY_IMAGE: Parts = &[
+    (MAGIC, 1),
+    (ZONE_NUMBERS, 1),
+    (LIMITS, 1),
+    (b"\0", 32),
+    (EMPTY_ZONE, 4),
+];
 
 pub(super) const MAGIC: &[u8] = b"ZNSIMG02";
 
-/// The numbers of such an image, without that of its written blocks.
-pub(super) const SHAPE: &[u8] = b"\0\x02\0\0\x04\0\0\0\x08\0\0\0\x06\0\0\0\x02\0\0\0\x03\0\0\0";
+/// What the header of such an image says of its zones, in blocks of 512 bytes.
+pub(super) const ZONE_NUMBERS: &[u8] = b"\0\x02\0\0\x04\0\0\0\x08\0\0\0\x06\0\0\0";
 
-/// The same, where nothing is written.
-pub(super) const NUMBERS: &[u8] = b"\
-\0\x02\0\0\x04\0\0\0\x08\0\0\0\x06\0\0\0\x02\0\0\0\x03\0\0\0\
-\0\0\0\0\0\0\0\0\0\0\0\0\0\0\0\0\0\0\0\0\0\0\0\0\0\0\0\0\0\0\0\0";
+/// What it says behind that: how many zones are open and active at most.
+pub(super) const LIMITS: &[u8] = b"\x02\0\0\0\x03\0\0\0";
 
 pub(super) const EMPTY_ZONE: &[u8] = b"\x01\0\0\0\0\0\0\0";
 
@@ -39,12 +43,18 @@ pub(super) enum Act {
     Start(&'static [u8]),
     /// Puts a file of these bytes.
     Put(&'static str, Parts),
+    /// Puts a file of this text.
+    Text(&'static str, &'static str),
+    /// Puts a file of these slots of a program.
+    Slots(&'static str, &'static [u64]),
     /// From now on no file can be larger.
     Room(usize),
     /// From now on reading fails behind the first bytes of a file.
     Unreadable,
     /// A command line succeeds, and prints this alone.
     Prints(&'static str, &'static str),
+    /// A command line succeeds, and prints this text and a line end alone.
+    Lists(&'static str, &'static str),
     /// A command line succeeds, and prints the submission to this queue of the entry of these dwords, with this data in
     /// hexadecimal.
     Submits(&'static str, u16, Dwords, &'static str),
@@ -71,6 +81,8 @@ pub(super) enum Act {
     Says(&'static str, &'static str),
     /// A file has these bytes.
     Has(&'static str, Parts),
+    /// A file has these slots of a program.
+    HasSlots(&'static str, &'static [u64]),
     /// There is no such file.
     HasNo(&'static str),
     /// A program as text, the most bytes that it may emit, and what `verify --explain` says of it.
@@ -100,6 +112,8 @@ fn perform(rt: &impl Abort, stage: &mut Stage, scene: &str, act: Act) -> Result<
             stage.files.put("events", events)?;
         }
         Act::Put(file, parts) => stage.put(file, parts)?,
+        Act::Text(file, text) => stage.files.put(file, text.as_bytes())?,
+        Act::Slots(file, slots) => stage.put_slots(file, slots)?,
         Act::Add(file, bytes) => stage.files.add(file, bytes)?,
         Act::AddSubmission(file, dwords) => stage.add_submission(file, dwords)?,
         Act::Room(room) => stage.files.room = room,
@@ -113,6 +127,7 @@ fn perform(rt: &impl Abort, stage: &mut Stage, scene: &str, act: Act) -> Result<
 fn judge(rt: &impl Abort, stage: &mut Stage, scene: &str, act: Act) -> Result<(), Fail> {
     match act {
         Act::Prints(line, out) => stage.check(rt, &At { scene, what: line }, 0, out, "")?,
+        Act::Lists(line, text) => stage.check_list(rt, &At { scene, what: line }, text)?,
         Act::Submits(line, queue, dwords, data) => {
             stage.check_submission(rt, &At { scene, what: line }, queue, dwords, data)?;
         }
@@ -135,10 +150,11 @@ fn judge(rt: &impl Abort, stage: &mut Stage, scene: &str, act: Act) -> Result<()
         }
         Act::Says(line, text) => stage.check_said(rt, &At { scene, what: line }, text)?,
         Act::Has(file, parts) => stage.check_file(rt, &At { scene, what: file }, parts)?,
+        Act::HasSlots(file, slots) => stage.check_slots(rt, &At { scene, what: file }, slots)?,
         Act::HasNo(file) => assert!(rt; stage.files.bytes(file).is_none(), "{scene}: {file}"),
         Act::Verify(text, emit, said) => {
-            stage.files.put("events", text.as_bytes())?;
-            let what = "zscli asm events made";
+            stage.files.put("text", text.as_bytes())?;
+            let what = "zscli asm text made";
             stage.check(rt, &At { scene: text, what }, 0, "", "")?;
             stage.check_program(rt, text, "made", emit, said)?;
         }

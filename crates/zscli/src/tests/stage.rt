@@ -9,6 +9,7 @@ use std::io::{self, Write};
 use std::process::Abort;
 use std::str;
 use std::test::Fail;
+use test_inputs::slots::bytes_of;
 
 /// Bytes: parts, each repeated so many times.
 pub(super) type Parts = &'static [(&'static [u8], usize)];
@@ -73,6 +74,12 @@ impl Stage {
         self.files.put(file, bytes.as_slice())
     }
 
+    /// Puts a file of these slots of a program.
+    pub(super) fn put_slots(&mut self, file: &str, slots: &[u64]) -> Result<(), AllocError> {
+        let bytes = bytes_of(self.alloc, slots)?;
+        self.files.put(file, bytes.as_slice())
+    }
+
     /// Runs a command line, whose words spaces separate, where standard output takes so many writes.
     pub(super) fn run(&mut self, line: &str, writes: usize) -> Result<(), AllocError> {
         let mut words = Vec::new(self.alloc);
@@ -100,6 +107,17 @@ impl Stage {
         self.check_end(rt, at, status, err);
         assert_printed(rt, at, self.out.bytes.as_slice(), out);
         Ok(())
+    }
+
+    /// Runs a command line that succeeds, and compares what it prints with this text and a line end.
+    pub(super) fn check_list(
+        &mut self,
+        rt: &impl Abort,
+        at: &At,
+        text: &str,
+    ) -> Result<(), AllocError> {
+        let out = format!(in self.alloc; "{text}\n")?;
+        self.check(rt, at, 0, out.as_str(), "")
     }
 
     /// Runs a command line that succeeds, and puts what it prints behind the bytes of a file.
@@ -215,11 +233,24 @@ impl Stage {
         parts: Parts,
     ) -> Result<(), AllocError> {
         let bytes = joined(self.alloc, parts)?;
-        assert!(rt;
-            self.files.bytes(at.what) == Some(bytes.as_slice()),
-            "{at:?}"
-        );
+        self.check_bytes(rt, at, bytes.as_slice());
         Ok(())
+    }
+
+    /// Compares the bytes of the file of this name with slots of a program.
+    pub(super) fn check_slots(
+        &self,
+        rt: &impl Abort,
+        at: &At,
+        slots: &[u64],
+    ) -> Result<(), AllocError> {
+        let bytes = bytes_of(self.alloc, slots)?;
+        self.check_bytes(rt, at, bytes.as_slice());
+        Ok(())
+    }
+
+    fn check_bytes(&self, rt: &impl Abort, at: &At, bytes: &[u8]) {
+        assert!(rt; self.files.bytes(at.what) == Some(bytes), "{at:?}");
     }
 }
 

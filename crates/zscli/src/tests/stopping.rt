@@ -1,16 +1,17 @@
 //! Where standard output fails in the turns after the last event.
 
-use super::scenes::{Act, EMPTY_ZONE, MAGIC, SHAPE, Scene, play};
+use super::scenes::{Act, EMPTY_ZONE, LIMITS, MAGIC, Scene, ZONE_NUMBERS, play};
 use super::stage::Parts;
 use std::test::Fail;
 
 /// Emits 510 bytes of each block, which fill an output block.
-const COPYING: &[u8] = b"mov r1, r2\nmov r2, 510\ncall 1\nmov r0, 0\nexit\n";
+const COPYING: &str = "mov r1, r2\nmov r2, 510\ncall 1\nmov r0, 0\nexit\n";
 
 /// Zone 0 is Closed and has three blocks, and zone 1 is open.
 const THREE_BLOCKS: Parts = &[
     (MAGIC, 1),
-    (SHAPE, 1),
+    (ZONE_NUMBERS, 1),
+    (LIMITS, 1),
     (b"\x03", 1),
     (b"\0", 31),
     (b"\x04\0\0\0\x03\0\0\0", 1),
@@ -26,7 +27,7 @@ const THREE_BLOCKS: Parts = &[
 
 /// The turn is done whose line standard output doesn't take, and no later one.
 const STOPPED: &[Act] = &[
-    Act::Put("text", &[(COPYING, 1)]),
+    Act::Text("text", COPYING),
     Act::Prints("zscli asm text copying", ""),
     Act::Adds("zscli entry load --slot 0 --program copying --emit 512 --cid 1"),
     Act::Adds("zscli entry run --slot 0 --from 0 --blocks 3 --to 8 --cid 2"),

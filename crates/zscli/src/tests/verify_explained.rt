@@ -3,6 +3,7 @@
 use super::scenes::Act::{self, Verify};
 use super::scenes::{Scene, play};
 use std::test::Fail;
+use test_inputs::programs::MATCHING;
 
 const ACCEPTED: &[Act] = &[
     Verify(
@@ -12,7 +13,7 @@ const ACCEPTED: &[Act] = &[
     ),
     // 8 bytes and their length, of the 512 that may be.
     Verify(
-        "ldxb r6, [r2+0]\njne r6, 7, +3\nmov r1, r2\nmov r2, 8\ncall 1\nmov r0, 0\nexit",
+        MATCHING,
         512,
         "accepted 7\nfor a block at most 7 steps, and 10 bytes emitted",
     ),

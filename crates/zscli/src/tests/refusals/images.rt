@@ -1,6 +1,6 @@
 //! Refused geometries and images.
 
-use super::super::scenes::{Act, EMPTY_ZONE, MAGIC, NUMBERS, SHAPE, Scene, play};
+use super::super::scenes::{Act, EMPTY_ZONE, LIMITS, MAGIC, Scene, ZONE_NUMBERS, play};
 use std::test::Fail;
 
 const GEOMETRIES: &[Act] = &[
@@ -44,14 +44,11 @@ const GEOMETRIES: &[Act] = &[
     Act::HasNo("new"),
 ];
 
-/// What a header says of zones: 4 of 8 blocks, of which 6 can be written, of 512 bytes.
-const ZONE_NUMBERS: &[u8] = b"\0\x02\0\0\x04\0\0\0\x08\0\0\0\x06\0\0\0";
-
 /// Blocks of 8192 bytes.
-const LARGE_BLOCKS: &[u8] = b"\0\x20\0\0\x04\0\0\0\x08\0\0\0\x06\0\0\0\x02\0\0\0\x03\0\0\0";
+const LARGE_BLOCKS: &[u8] = b"\0\x20\0\0\x04\0\0\0\x08\0\0\0\x06\0\0\0";
 
 /// 1025 zones.
-const MANY_ZONES: &[u8] = b"\0\x02\0\0\x01\x04\0\0\x08\0\0\0\x06\0\0\0\x02\0\0\0\x03\0\0\0";
+const MANY_ZONES: &[u8] = b"\0\x02\0\0\x01\x04\0\0\x08\0\0\0\x06\0\0\0";
 
 const IMAGES: &[Act] = &[
     Act::Put("image", &[]),
@@ -59,12 +56,30 @@ const IMAGES: &[Act] = &[
         "zscli exec image missing",
         "image: the file is no whole image: its header, a zone row or a block is cut\nimage refused 10\n",
     ),
-    Act::Put("image", &[(MAGIC, 1), (NUMBERS, 1), (EMPTY_ZONE, 3)]),
+    Act::Put(
+        "image",
+        &[
+            (MAGIC, 1),
+            (ZONE_NUMBERS, 1),
+            (LIMITS, 1),
+            (b"\0", 32),
+            (EMPTY_ZONE, 3),
+        ],
+    ),
     Act::Refuses(
         "zscli zones image",
         "image: the file is no whole image: its header, a zone row or a block is cut\nimage refused 10\n",
     ),
-    Act::Put("image", &[(b"ZNSIMG03", 1), (NUMBERS, 1), (EMPTY_ZONE, 4)]),
+    Act::Put(
+        "image",
+        &[
+            (b"ZNSIMG03", 1),
+            (ZONE_NUMBERS, 1),
+            (LIMITS, 1),
+            (b"\0", 32),
+            (EMPTY_ZONE, 4),
+        ],
+    ),
     Act::Refuses(
         "zscli zones image",
         "image: the first 8 bytes are neither ZNSIMG01 nor ZNSIMG02\nimage refused 11\n",
@@ -105,18 +120,35 @@ const IMAGES: &[Act] = &[
     ),
     Act::Put(
         "image",
-        &[(b"ZNSIMG01", 1), (SHAPE, 1), (b"\0", 31), (b"\x01", 1)],
+        &[
+            (b"ZNSIMG01", 1),
+            (ZONE_NUMBERS, 1),
+            (LIMITS, 1),
+            (b"\0", 31),
+            (b"\x01", 1),
+        ],
     ),
     Act::Refuses(
         "zscli zones image",
         "image: header: bytes 32 to 63 are not zero\nimage refused 12\n",
     ),
-    Act::Put("image", &[(b"ZNSIMG01", 1), (LARGE_BLOCKS, 1), (b"\0", 32)]),
+    Act::Put(
+        "image",
+        &[
+            (b"ZNSIMG01", 1),
+            (LARGE_BLOCKS, 1),
+            (LIMITS, 1),
+            (b"\0", 32),
+        ],
+    ),
     Act::Refuses(
         "zscli zones image",
         "image: header: a block of 8192 bytes: version 1 has no such size\nimage refused 12\n",
     ),
-    Act::Put("image", &[(b"ZNSIMG01", 1), (MANY_ZONES, 1), (b"\0", 32)]),
+    Act::Put(
+        "image",
+        &[(b"ZNSIMG01", 1), (MANY_ZONES, 1), (LIMITS, 1), (b"\0", 32)],
+    ),
     Act::Refuses(
         "zscli zones image",
         "image: header: 1025 zones: version 1 has at most 1024\nimage refused 12\n",
@@ -125,7 +157,9 @@ const IMAGES: &[Act] = &[
         "image",
         &[
             (MAGIC, 1),
-            (NUMBERS, 1),
+            (ZONE_NUMBERS, 1),
+            (LIMITS, 1),
+            (b"\0", 32),
             (EMPTY_ZONE, 3),
             (b"\x01\0\0\0\x01\0\0\0", 1),
         ],
@@ -138,7 +172,9 @@ const IMAGES: &[Act] = &[
         "image",
         &[
             (MAGIC, 1),
-            (NUMBERS, 1),
+            (ZONE_NUMBERS, 1),
+            (LIMITS, 1),
+            (b"\0", 32),
             (EMPTY_ZONE, 1),
             (b"\x02\0\0\0\x00\0\0\0", 1),
             (EMPTY_ZONE, 2),
@@ -152,7 +188,9 @@ const IMAGES: &[Act] = &[
         "image",
         &[
             (MAGIC, 1),
-            (NUMBERS, 1),
+            (ZONE_NUMBERS, 1),
+            (LIMITS, 1),
+            (b"\0", 32),
             (EMPTY_ZONE, 1),
             (b"\x02\0\0\0\x06\0\0\0", 1),
             (EMPTY_ZONE, 2),
@@ -166,7 +204,9 @@ const IMAGES: &[Act] = &[
         "image",
         &[
             (MAGIC, 1),
-            (NUMBERS, 1),
+            (ZONE_NUMBERS, 1),
+            (LIMITS, 1),
+            (b"\0", 32),
             (EMPTY_ZONE, 2),
             (b"\x05\0\0\0\0\0\0\0", 2),
         ],
@@ -177,7 +217,13 @@ const IMAGES: &[Act] = &[
     ),
     Act::Put(
         "image",
-        &[(MAGIC, 1), (NUMBERS, 1), (b"\x01\0\0\x01\0\0\0\0", 4)],
+        &[
+            (MAGIC, 1),
+            (ZONE_NUMBERS, 1),
+            (LIMITS, 1),
+            (b"\0", 32),
+            (b"\x01\0\0\x01\0\0\0\0", 4),
+        ],
     ),
     Act::Refuses(
         "zscli zones image",
@@ -187,7 +233,9 @@ const IMAGES: &[Act] = &[
         "image",
         &[
             (MAGIC, 1),
-            (NUMBERS, 1),
+            (ZONE_NUMBERS, 1),
+            (LIMITS, 1),
+            (b"\0", 32),
             (b"\x02\0\0\0\x01\0\0\0", 3),
             (EMPTY_ZONE, 1),
         ],
@@ -200,7 +248,8 @@ const IMAGES: &[Act] = &[
         "image",
         &[
             (MAGIC, 1),
-            (SHAPE, 1),
+            (ZONE_NUMBERS, 1),
+            (LIMITS, 1),
             (b"\x03", 1),
             (b"\0", 31),
             (b"\x02\0\0\0\x01\0\0\0", 3),
@@ -213,7 +262,14 @@ const IMAGES: &[Act] = &[
     ),
     Act::Put(
         "image",
-        &[(MAGIC, 1), (NUMBERS, 1), (EMPTY_ZONE, 4), (b"\0", 1)],
+        &[
+            (MAGIC, 1),
+            (ZONE_NUMBERS, 1),
+            (LIMITS, 1),
+            (b"\0", 32),
+            (EMPTY_ZONE, 4),
+            (b"\0", 1),
+        ],
     ),
     Act::Refuses(
         "zscli zones image",
