@@ -1,7 +1,7 @@
 #!/bin/sh
 # Compares the programs in the tests of filters with what clang makes of this folder's files today, for both versions of the
-# instruction set, and of those of spills/ and refused/. Prints the digits of those that aren't there, and then ends with
-# status 1.
+# instruction set, and of those of spills/ and refused/; and the filter of the README's test and of pushdown.cmd. Prints the
+# digits of those that aren't there, and then ends with status 1.
 set -eu
 cd "$(dirname "$0")"
 work=$(mktemp -d)
@@ -37,4 +37,22 @@ make -s -C spills TO="$work/spills"
 compare program "$work/spills" ../crates/compiled_filters/src/tests/spills/*.rt
 make -s -C refused TO="$work/refused"
 compare program "$work/refused" ../crates/compiled_filters/src/tests/refused.rt
+
+# the README's test has the filter's bytes as Rust escapes them, in lines that a backslash joins
+digits=$(xxd -p "$work/v3/filter.bin" | tr -d '\n')
+escaped=$(echo "$digits" | sed 's/../\\x&/g; s/\\x00/\\0/g')
+readme=$(sed -e ':more' -e '/\\$/{N;s/\\\n//;b more' -e '}' ../crates/zscli/src/tests/readme.rt)
+case $readme in
+*"\"$escaped\""*) ;;
+*)
+    echo "the filter is not in the README's test:"
+    echo "$digits"
+    status=1
+    ;;
+esac
+if ! grep -q " $digits\$" pushdown.cmd; then
+    echo "the filter is not in pushdown.cmd:"
+    echo "$digits"
+    status=1
+fi
 exit $status

@@ -16,15 +16,13 @@ const ORDERS: Parts = &[
     (b" ", 494),
 ];
 
-/// What `make` makes of `examples/filter.c`.
+/// What `make` makes of `examples/filter.c`, as in `compiled_filters`.
 const FILTER: &[u8] = b"\
 \x61\x11\x14\0\0\0\0\0\x61\x23\x08\0\0\0\0\0\x5e\x13\x03\0\0\0\0\0\xbf\x21\0\0\0\0\0\0\
 \xb7\x02\0\0\x40\0\0\0\x85\0\0\0\x01\0\0\0\xb7\0\0\0\0\0\0\0\x95\0\0\0\0\0\0\0";
 
 /// The numbers of the image: 4 zones of 64 blocks of 512 bytes, at most 3 of them open and active.
-const NUMBERS: &[u8] = b"\
-\0\x02\0\0\x04\0\0\0\x40\0\0\0\x40\0\0\0\x03\0\0\0\x03\0\0\0\
-\0\0\0\0\0\0\0\0\0\0\0\0\0\0\0\0\0\0\0\0\0\0\0\0\0\0\0\0\0\0\0\0";
+const NUMBERS: &[u8] = b"\0\x02\0\0\x04\0\0\0\x40\0\0\0\x40\0\0\0\x03\0\0\0\x03\0\0\0";
 
 const REPLIES: Parts = &[
     (
@@ -66,7 +64,10 @@ const EXAMPLE: &[Act] = &[
         "zscli format zoned.img --block 512 --zones 4 --size 64 --capacity 64 --open 3 --active 3",
         "",
     ),
-    Act::Has("zoned.img", &[(MAGIC, 1), (NUMBERS, 1), (EMPTY_ZONE, 4)]),
+    Act::Has(
+        "zoned.img",
+        &[(MAGIC, 1), (NUMBERS, 1), (b"\0", 32), (EMPTY_ZONE, 4)],
+    ),
     Act::Prints(
         "zscli verify examples/filter.bin --block 512 --emit 66 --explain",
         "\
