@@ -1,5 +1,5 @@
 -- What the user is told of a failure (profile).
-use Rattle.std.specs.Prelude.{◌≡◌, ℕ, List, [], ◌∷◌, ◌++◌, codes, Option, Result, Ok, Err}
+use Rattle.std.specs.Prelude.{◌≡◌, ℕ, List, [], ◌∷◌, ◌++◌, codes, Option}
 use Rattle.std.specs.Fmt.{decimal}
 use Rattle.std.specs.Io.KnownBytes.{Appends}
 use Rattle.ebpf_asm.specs.Fault.{fault_number as assembly_number}
@@ -123,9 +123,3 @@ IsPrinted (Said text) old new = Appends old new text
 IsPrinted (Around front behind) old new = GrowsAround front behind old new
 IsPrinted Elsewhere old new = Unit {0}
 IsPrinted Silence old new = new ≡ old
-
--- what stands on standard error at the end of a command line: nothing more where all was done, else what the user is
--- told of the failure
-abbrev pub IsConcluded : Result (Unit {0}) Failure → Option (List ℕ) → Option (List ℕ) → Type 0
-IsConcluded (Ok done) old new = new ≡ old
-IsConcluded (Err failure) old new = IsPrinted (failure_text failure) old new

@@ -1,9 +1,9 @@
 //! Why a command ends before its work is done, and what the user is told.
 
-ghost use Rattle.std.specs.Prelude.{◌≡◌, ◌≢◌, OnOk, OnErr};
+ghost use Rattle.std.specs.Prelude.{◌≡◌, ◌≢◌, IfErr, OnOk, OnErr};
 ghost use Rattle.std.specs.IoError.{error_kind};
 ghost use Rattle.command_failure.specs.Failure.{exit_status, status_of};
-ghost use Rattle.command_failure.specs.Lines.{IsConcluded};
+ghost use Rattle.command_failure.specs.Lines.{IsPrinted, failure_text};
 ghost use Rattle.command_failure.specs.declared.failure.Failure.TheVariants.{NoMemory};
 ghost use Rattle.command_failure.specs.UserTold.{told_of_command_line, told_of_commands, told_of_words};
 
@@ -78,7 +78,7 @@ pub enum Failure<'a> {
         path: &'a str,
         fault: DataFault,
     },
-    /// What a verifier says of a program stands on standard output alone.
+    /// A program that the verifier refuses. What it says stands on standard output alone.
     NotAccepted,
 }
 
@@ -144,8 +144,8 @@ pub struct Conclusion {
 /// Ends a command line: tells the user why the work wasn't done, where it wasn't.
 pub fn conclude<E: Write>(done: Result<(), Failure<'_>>, err: &mut E) -> Conclusion
     ensures status { result.status ≡ exit_status done.entry }
-    ensures told { OnOk result.told (IsConcluded done.entry (E.contents err.old) (E.contents err.new)) }
-    ensures quiet { OnOk done.entry (err.new ≡ err.old) }
+    ensures quiet { OnOk done.entry ((result.told ≡ Ok tt) × (err.new ≡ err.old)) }
+    ensures told { IfErr done.entry (λ failure. OnOk result.told (IsPrinted (failure_text failure) (E.contents err.old) (E.contents err.new))) }
 {
     match done {
         Ok(()) => Conclusion {
