@@ -13,19 +13,13 @@ two_lines (Ok done) old between new None first whole is begins goes_on = tt
 two_lines (Ok done) old between new (Some text) first whole is begins goes_on =
     subst (λ (t : List ℕ). Appends old new t) (is text) (Appends-trans old between new first (text ++ 10 ∷ []) begins goes_on)
 
--- a text that has the words between two others
-pub around : {T E : Type 0} (result : Result T E) (front words behind text : List ℕ) (old new : Option (List ℕ))
-    → text ≡ front ++ words ++ behind → OnOk result (Appends old new text) → OnOk result (GrowsAround front behind old new)
-around (Err error) front words behind text old new is grows = tt
-around (Ok done) front words behind text old new is grows = record { words = words; grows = subst (λ (t : List ℕ). Appends old new t) is grows }
-
--- the same, where the line for programs may be known
-pub around_known : {T E : Type 0} (result : Result T E) (front words : List ℕ) (behind old new : Option (List ℕ)) (whole : List ℕ → List ℕ)
+-- a text that has the words between another and the line for programs, where that is known
+pub around : {T E : Type 0} (result : Result T E) (front words : List ℕ) (behind old new : Option (List ℕ)) (whole : List ℕ → List ℕ)
     → ((text : List ℕ) → whole text ≡ front ++ words ++ (10 ∷ text ++ 10 ∷ [])) → OnOk result (IfSome behind (λ text. Appends old new (whole text)))
     → OnOk result (IfSome behind (λ text. GrowsAround front (10 ∷ text ++ 10 ∷ []) old new))
-around_known (Err error) front words behind old new whole is grows = tt
-around_known (Ok done) front words None old new whole is grows = tt
-around_known (Ok done) front words (Some text) old new whole is grows = record { words = words; grows = subst (λ (t : List ℕ). Appends old new t) (is text) grows }
+around (Err error) front words behind old new whole is grows = tt
+around (Ok done) front words None old new whole is grows = tt
+around (Ok done) front words (Some text) old new whole is grows = record { words = words; grows = subst (λ (t : List ℕ). Appends old new t) (is text) grows }
 
 -- the same, with another text behind the words, which is equal
 pub reframed : {T E : Type 0} (result : Result T E) (front behind other : List ℕ) (old new : Option (List ℕ))
