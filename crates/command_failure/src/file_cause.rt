@@ -15,7 +15,7 @@ pub enum FileCause {
     /// The name is a folder's.
     IsADirectory,
     /// Nothing can be written to the file system.
-    ReadOnly,
+    ReadOnlyFilesystem,
     /// The file system, or what the user may have of it, is full.
     NoRoom,
     /// Another one, or none that is told.
@@ -32,7 +32,7 @@ impl FileCause {
             FileCause::PermissionDenied => ": permission denied",
             FileCause::NotADirectory => ": a part of its path is no folder",
             FileCause::IsADirectory => ": it is a folder",
-            FileCause::ReadOnly => ": the file system is read-only",
+            FileCause::ReadOnlyFilesystem => ": the file system is read-only",
             FileCause::NoRoom => ": no room is left",
             FileCause::Other => "",
         }

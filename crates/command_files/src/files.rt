@@ -110,7 +110,7 @@ impl From<io::Error> for FileFault {
             ErrorKind::PermissionDenied => FileFault::Failed(FileCause::PermissionDenied),
             ErrorKind::NotADirectory => FileFault::Failed(FileCause::NotADirectory),
             ErrorKind::IsADirectory => FileFault::Failed(FileCause::IsADirectory),
-            ErrorKind::ReadOnlyFilesystem => FileFault::Failed(FileCause::ReadOnly),
+            ErrorKind::ReadOnlyFilesystem => FileFault::Failed(FileCause::ReadOnlyFilesystem),
             ErrorKind::StorageFull | ErrorKind::QuotaExceeded => {
                 FileFault::Failed(FileCause::NoRoom)
             }
