@@ -52,6 +52,7 @@ impl MemoryFiles {
         ensures made { OnOk result (made_of self.new.files.items ≡ made_of self.old.files.items ++ record { path = path.now; bytes = bytes.now } ∷ []) }
         ensures replaced { OnOk result (HasReplaced path.now bytes.now (bytes_named self.old.files.items) (bytes_named self.new.files.items)) }
         ensures kept { OnErr result (self.new.files.items ≡ self.old.files.items) }
+        ensures same { (self.new.room ≡ self.old.room) × (self.new.fails ≡ self.old.fails) }
     {
         let file = NamedFile {
             name: String::from_str(self.alloc, path)?,
@@ -61,7 +62,7 @@ impl MemoryFiles {
         Ok(())
     }
 
-    /// Puts bytes behind those of the file with this name, if there is one.
+    /// Puts a file in the place of the one with this name: of that one's bytes, if there is one, and these behind them.
     ///
     /// # Errors
     ///
@@ -69,6 +70,7 @@ impl MemoryFiles {
     pub fn add(&mut self, path: &str, bytes: &[u8]) -> Result<(), AllocError>
         ensures made { OnOk result (made_of self.new.files.items ≡ made_of self.old.files.items ++ record { path = path.now; bytes = unwrap_or (bytes_named self.old.files.items path.now) [] ++ bytes.now } ∷ []) }
         ensures kept { OnErr result (self.new.files.items ≡ self.old.files.items) }
+        ensures same { (self.new.room ≡ self.old.room) × (self.new.fails ≡ self.old.fails) }
     {
         let mut all = Vec::new(self.alloc);
         if let Some(before) = self.bytes(path) {
