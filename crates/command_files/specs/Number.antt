@@ -1,15 +1,12 @@
 -- The numbers that words of a command line spell (profile). Those without a sign in a program's text are spelled so too, where
 -- `ebpf_asm` also tells what is wrong with one. Those of a command file are decimal alone, and below 2 ^ 32 (`text_lines`).
-use Rattle.std.specs.Prelude.{ℕ, ◌^◌, nat_lt, ◌&&◌, ◌==◌, if◌then◌else◌, List, length, drop, codes, Option, Some, None}
-use Rattle.std.specs.List.{list_all, starts_with}
-use Rattle.std.specs.Char.{is_digit}
-use Rattle.std.specs.Str.Parse.{digits_value}
+use Rattle.std.specs.Prelude.{ℕ, ◌^◌, ◌==◌, if◌then◌else◌, List, drop, codes, Option}
+use Rattle.std.specs.List.{starts_with}
+use Rattle.text_lines.specs.Number.{number_below}
 
 -- one digit or more, leading zeros allowed, of a number below 2 ^ 64
 abbrev pub numeral_of : ℕ → List ℕ → Option ℕ
-numeral_of radix digits =
-    if list_all (λ byte. is_digit byte radix) digits && (nat_lt 0 (length digits) && nat_lt (digits_value radix digits) (2 ^ 64))
-    then Some (digits_value radix digits) else None
+numeral_of radix digits = number_below (2 ^ 64) radix digits
 
 -- hexadecimal digits behind `0x`, else decimal ones
 unfoldable pub spelled : List ℕ → Option ℕ
