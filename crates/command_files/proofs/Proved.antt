@@ -1,5 +1,5 @@
 -- What the proofs of other crates cite of this one.
-use Rattle.std.proofs.Common.{◌≡◌, ℕ, List, Option, subst}
+use Rattle.std.proofs.Common.{◌≡◌, ℕ, List, Option, ◌∙◌, ap, subst}
 use Rattle.std.specs.Borrow.{Bor}
 use Rattle.command_failure.specs.declared.failure.Failure.{Failure}
 use Rattle.command_failure.specs.declared.failure.Failure.TheVariants.{CannotWrite, NoMemory}
@@ -13,6 +13,10 @@ pub unwritten_holds : (path : Bor (List ℕ)) (P : Failure → Type 0) → ((tol
 unwritten_holds path P refused none (CannotWrite told cause) is = refused told cause is
 unwritten_holds path P refused none NoMemory is = none
 unwritten_holds path P refused none _ is = absurd is
+
+-- the file that is told is the one that was named so
+pub same_name : {told path : Bor (List ℕ)} {named : List ℕ} → told ≡ path → path.now ≡ named → told.now ≡ named
+same_name is is_named = ap (λ (b : Bor (List ℕ)). b.now) is ∙ is_named
 
 -- a file was replaced, of the name that was wanted, behind what left the bytes of all names as they were
 pub others_kept : (path wanted : List ℕ) (before between after : List ℕ → Option (List ℕ)) → path ≡ wanted → between ≡ before

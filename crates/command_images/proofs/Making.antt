@@ -13,7 +13,7 @@ use Rattle.command_failure.specs.declared.failure.Failure.{Failure}
 use Rattle.command_failure.specs.declared.failure.Failure.TheVariants.{CannotWrite, NoMemory, NotInRange}
 use Rattle.command_files.specs.Made.{Made, then_made}
 use Rattle.command_files.specs.UserTold.{IsUnwritten, SpellsNone}
-use Rattle.command_files.proofs.Proved.{unwritten_holds}
+use Rattle.command_files.proofs.Proved.{same_name, unwritten_holds}
 use Rattle.command_images.specs.Images.{IsAskedFor, MakesEmpty, MakesAnew}
 use Rattle.command_images.specs.UserTold.{FormatFails, LoadingFails, RefusesShape, UpgradeFails, shape_options}
 
@@ -65,14 +65,11 @@ format_of_shape matches path _ is = is
 
 -- the image can't be written
 module _ (path : Bor (List ℕ)) (named : List ℕ) (is_named : path.now ≡ named) where
-  same_name : (told : Bor (List ℕ)) → told ≡ path → told.now ≡ named
-  same_name told is = ap (λ (b : Bor (List ℕ)). b.now) is ∙ is_named
-
   pub format_of_writing : (matches : ArgMatches) (failure : Failure) → IsUnwritten path failure → FormatFails matches named failure
-  format_of_writing matches = unwritten_holds path (FormatFails matches named) (λ told cause is. same_name told is) tt
+  format_of_writing matches = unwritten_holds path (FormatFails matches named) (λ told cause is. same_name is is_named) tt
 
   pub upgrade_of_writing : (reads : Type 0) (known : Option (List ℕ)) (failure : Failure) → IsUnwritten path failure → UpgradeFails reads known named failure
-  upgrade_of_writing reads known = unwritten_holds path (UpgradeFails reads known named) (λ told cause is. same_name told is) tt
+  upgrade_of_writing reads known = unwritten_holds path (UpgradeFails reads known named) (λ told cause is. same_name is is_named) tt
 
 -- it isn't loaded
 pub upgrade_of_loading : (reads : Type 0) (known : Option (List ℕ)) (path : List ℕ) (failure : Failure) → LoadingFails reads known path failure → UpgradeFails reads known path failure
