@@ -5,7 +5,7 @@ use Rattle.image_store.specs.Namespace.{ZonedNamespace}
 use Rattle.image_store.specs.Reading.{namespace_in}
 use Rattle.image_store.specs.Text.{text}
 use Rattle.interval_domain.specs.Intervals.{intervals}
-use Rattle.device_events.specs.Printed.{Printed, Prints}
+use Rattle.device_events.specs.Printed.{Printed}
 use Rattle.device_events.specs.Refusals.{CountsRefusals}
 use Rattle.device_events.specs.Replies.{Joins, ReplyWithData}
 use Rattle.device_events.proofs.Proved.{prints_in_parts}
@@ -17,8 +17,7 @@ use Rattle.device_events.specs.declared.event.Event.{Event}
 use Rattle.pushdown.proofs.Proved.{served_and_drained}
 use Rattle.runner.specs.declared.device.Stopped.{Stopped}
 use Rattle.event_text.specs.CommandFile.{events_in, told_of}
-use Rattle.event_text.specs.Lines.{reply_line}
-use Rattle.event_text.specs.declared.lines.Lines.{Lines}
+use Rattle.event_text.specs.Lines.{Took, reply_line}
 use Rattle.command_files.specs.Made.{Made, then_made}
 use Rattle.command_exec.specs.Saved.{AreInFiles, Executes, ExecutesFirst, HasBegun, HasPrinted, InEvents, InTurns, SavesAll, SavesFirst}
 
@@ -26,14 +25,7 @@ pub on_err : {T E fact : Type 0} (result : Result T E) → fact → OnErr result
 on_err (Ok value) holds = tt
 on_err (Err error) holds = holds
 
--- the name of the writer of `Lines`, and what was printed to it
-abbrev pub printed_by : {W : Type 0} → (W → Option (List ℕ)) → Lines W → ℕ × Printed
-printed_by contents lines = (lines.out.ghost_name, record { refusals = lines.refusals; bytes = contents lines.out.now })
-
--- what `Lines` took: its writer stays the same
-abbrev pub Took : ℕ × Printed → ℕ × Printed → List ReplyWithData → Type 0
-Took a b replies = (b.0 ≡ a.0) × Prints reply_line a.1 b.1 replies
-
+-- what `Lines` takes in two parts it takes in order
 took_joins : Joins Took
 took_joins a b c first later early late = (late.0 ∙ early.0, prints_in_parts reply_line a.1 b.1 c.1 first later early.1 late.1)
 

@@ -9,6 +9,7 @@ use Rattle.command_failure.specs.declared.failure.Failure.{Failure}
 use Rattle.command_failure.specs.declared.failure.Failure.TheVariants.{NoMemory, CannotRead, CannotWrite, AssemblyRefused}
 use Rattle.command_files.specs.Made.{Made}
 use Rattle.command_files.specs.UserTold.{IsUnread}
+use Rattle.command_files.proofs.Proved.{same_name}
 use Rattle.command_programs.specs.MakesProgram.{MakesProgram}
 use Rattle.command_programs.specs.UserTold.{AsmFails}
 use Rattle.command_programs.specs.steps.Told.{IsToldOfAssembly, MakesNone}
@@ -36,7 +37,7 @@ none_of_fault text_file program_file text Memory failure is found = subst (λ (f
 -- the text file couldn't be read
 pub fails_unread : (contents : List ℕ → Option (List ℕ)) (text_file : Bor (List ℕ)) (asked named : List ℕ) → text_file.now ≡ asked
     → (failure : Failure) → IsUnread text_file failure → AsmFails contents asked named failure
-fails_unread contents text_file asked named is_asked (CannotRead told cause) is = ap (λ (b : Bor (List ℕ)). b.now) is ∙ is_asked
+fails_unread contents text_file asked named is_asked (CannotRead told cause) is = same_name is is_asked
 fails_unread contents text_file asked named is_asked NoMemory is = tt
 fails_unread contents text_file asked named is_asked _ is = absurd is
 
@@ -45,10 +46,10 @@ module _ (contents : List ℕ → Option (List ℕ)) (text_file program_file : B
   pub fails_none : (text slice : List ℕ) → slice ≡ text → IfSome (contents text_file.now) (λ bytes. text ≡ bytes)
       → (failure : Failure) → MakesNone text_file program_file slice failure → AsmFails contents asked named failure
   fails_none text slice slice_is is (AssemblyRefused told refusal) fails = (
-    ap (λ (b : Bor (List ℕ)). b.now) fails.0 ∙ is_asked,
+    same_name fails.0 is_asked,
     subst (λ (s : List ℕ). IfSome (contents s) (λ bytes. assembled bytes ≡ Err refusal.fault)) is_asked
         (IfSome_then (contents text_file.now) is (λ bytes same. ap assembled (sym (slice_is ∙ same)) ∙ fails.1)),
   )
-  fails_none text slice slice_is is (CannotWrite told cause) fails = ap (λ (b : Bor (List ℕ)). b.now) fails ∙ is_named
+  fails_none text slice slice_is is (CannotWrite told cause) fails = same_name fails is_named
   fails_none text slice slice_is is NoMemory fails = tt
   fails_none text slice slice_is is _ fails = absurd fails

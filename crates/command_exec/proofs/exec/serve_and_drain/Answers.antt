@@ -1,4 +1,5 @@
-use Rattle.command_exec.proofs.Saving.{on_err, printed_by, same_writer, serves_and_drains, stops_in_events, stops_in_turns}
+use Rattle.event_text.specs.Lines.{printed_by}
+use Rattle.command_exec.proofs.Saving.{on_err, same_writer, serves_and_drains, stops_in_events, stops_in_turns}
 use Rattle.command_exec.proofs.exec.serve_and_drain.Goals as goal
 
 pub returns-in_err-serve-clause-same_writer : goal.returns-in_err-serve-clause-same_writer
