@@ -1,15 +1,6 @@
 use Rattle.std.proofs.Common.{eq-eqb}
 use Rattle.interp.proofs.machine.Machine.perform.Goals as goal
 
-pub returns-in-LoadImmediate-clause-answer : goal.returns-in-LoadImmediate-clause-answer
-returns-in-LoadImmediate-clause-answer c program slot = c.perform_load.ensures.answer program c.args.limit slot c.args.group.now
-
-pub returns-in-StoreImmediate-clause-answer : goal.returns-in-StoreImmediate-clause-answer
-returns-in-StoreImmediate-clause-answer c program slot = c.perform_store.ensures.answer program c.args.limit slot c.args.group.now
-
-pub returns-in-Negate-clause-answer : goal.returns-in-Negate-clause-answer
-returns-in-Negate-clause-answer c program slot = c.perform_unary.ensures.answer program c.args.limit slot c.args.group.now
-
 pub returns-then-helper-eq-EMIT-clause-answer : goal.returns-then-helper-eq-EMIT-clause-answer
 returns-then-helper-eq-EMIT-clause-answer c program slot =
     rw (c.in-Call.is, eq-eqb _ _ c.if-helper-eq-EMIT.true) (c.emit.ensures.answer slot)
