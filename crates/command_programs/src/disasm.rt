@@ -69,11 +69,10 @@ pub fn disasm<'a, F: Files, O: Write>(
     ensures contents { F.contents files.new ≡ F.contents files.old }
 {
     let program = program_in_file(alloc, required(matches, PROGRAM), files)?;
-    let mut text = String::new(alloc);
-    if matches.get_flag(SLOTS) {
-        disassemble_with_slots(&program, &mut text)?;
+    let text = if matches.get_flag(SLOTS) {
+        disassemble_with_slots(alloc, &program)?
     } else {
-        disassemble(&program, &mut text)?;
-    }
+        disassemble(alloc, &program)?
+    };
     printed(out.write_all(text.as_bytes()))
 }

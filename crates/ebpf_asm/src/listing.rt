@@ -1,6 +1,6 @@
 //! Listings: a program as text.
 
-ghost use Rattle.std.specs.Prelude.{◌≡◌, ◌++◌, IfOk, OnOk, OnErr, drop, slice_get, option_map, option_to_list};
+ghost use Rattle.std.specs.Prelude.{◌≡◌, ◌++◌, IfOk, OnOk, drop, slice_get, option_map, option_to_list};
 ghost use Rattle.std.specs.String.{string_bytes};
 ghost use Rattle.ebpf_asm.specs.Listing.{register_text, signed_text, memory_text, wide_text, source_text, mnemonic_of, operand_texts, operands_text, text_of_instruction, line_text, slot_text, listing, listing_with_slots};
 ghost use Rattle.ebpf_asm.specs.steps.ListedOperands.{operand_text, text_behind};
@@ -30,19 +30,17 @@ enum Slots {
     With,
 }
 
-/// Adds the listing of a program at the end of a text: each instruction on a line, its mnemonic, a
-/// space, and its operands with `, ` between them. Immediates are signed decimal numbers, offsets
-/// and distances have their sign always, a wide value is `0x` and 16 digits, and there are no
-/// labels.
+/// The listing of a program: each instruction on a line, its mnemonic, a space, and its operands with
+/// `, ` between them. Immediates are signed decimal numbers, offsets and distances have their sign
+/// always, a wide value is `0x` and 16 digits, and there are no labels.
 ///
 /// # Errors
 ///
-/// Want of memory. The text is as before then.
-pub fn disassemble(program: &Program, out: &mut String) -> Result<(), AllocError>
-    ensures ok { OnOk result (string_bytes out.new ≡ string_bytes out.old ++ listing program.now) }
-    ensures err { OnErr result (string_bytes out.new ≡ string_bytes out.old) }
+/// Want of memory.
+pub fn disassemble(alloc: Global, program: &Program) -> Result<String, AllocError>
+    ensures { IfOk result (λ text. string_bytes text ≡ listing program.now) }
 {
-    list(program, Slots::Without, out)
+    list(alloc, program, Slots::Without)
 }
 
 /// As [`disassemble`], with each instruction's slot before it: a decimal number in four columns, and two
@@ -50,26 +48,24 @@ pub fn disassemble(program: &Program, out: &mut String) -> Result<(), AllocError
 ///
 /// # Errors
 ///
-/// Want of memory. The text is as before then.
-pub fn disassemble_with_slots(program: &Program, out: &mut String) -> Result<(), AllocError>
-    ensures ok { OnOk result (string_bytes out.new ≡ string_bytes out.old ++ listing_with_slots program.now) }
-    ensures err { OnErr result (string_bytes out.new ≡ string_bytes out.old) }
+/// Want of memory.
+pub fn disassemble_with_slots(alloc: Global, program: &Program) -> Result<String, AllocError>
+    ensures { IfOk result (λ text. string_bytes text ≡ listing_with_slots program.now) }
 {
-    list(program, Slots::With, out)
+    list(alloc, program, Slots::With)
 }
 
-fn list(program: &Program, slots: Slots, out: &mut String) -> Result<(), AllocError>
-    ensures ok { OnOk result (string_bytes out.new ≡ string_bytes out.old ++ listed slots program.now) }
-    ensures err { OnErr result (string_bytes out.new ≡ string_bytes out.old) }
+fn list(alloc: Global, program: &Program, slots: Slots) -> Result<String, AllocError>
+    ensures { IfOk result (λ text. string_bytes text ≡ listed slots program.now) }
 {
-    let mut text = String::new(*out.allocator());
+    let mut text = String::new(alloc);
     for slot in 0..program.slots() {
         let Some(instruction) = program.at(slot) else {
             continue;
         };
         push_listed(&mut text, slots, slot, instruction)?;
     }
-    out.push_str(&text)
+    Ok(text)
 }
 
 /// The text of an instruction, as it stands in listings, without a line end.
