@@ -16,7 +16,7 @@ long packets(const struct context *context, const u8 *block)
 
     if (big16(block + 12) != 0x0800 || block[23] != 6 || (block[14] & 0x0f) != 5)
         return 0;
-    source = block[26] << 24 | block[27] << 16 | block[28] << 8 | block[29];
+    source = (u32)block[26] << 24 | block[27] << 16 | block[28] << 8 | block[29];
     if ((source & 0xff000000) == 0x7f000000)
         return 0;
     port = big16(block + 36);
