@@ -80,7 +80,7 @@ impl MemoryFiles {
         self.put(path, all.as_slice())
     }
 
-    /// The bytes of the file with this name.
+    /// The bytes of the last file that was made with this name; `None` where none was.
     pub fn bytes(&self, path: &str) -> Option<&[u8]>
         ensures { option_copied result ≡ bytes_named self.now.files.items path.now }
     {

@@ -42,7 +42,7 @@ pub enum LineFault {
     /// The word that spells no zone.
     #[error("{0}: no zone; a number from 0 to 4294967295 is expected")]
     Zone(Excerpt),
-    /// The word that names no state into which a zone fails.
+    /// The word that names no state to which a fault leads.
     #[error("{0}: no state of a fault; readonly or offline is expected")]
     State(Excerpt),
 }

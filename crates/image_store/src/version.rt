@@ -24,7 +24,7 @@ const VERSION_1_BLOCK_SIZES: [u32; 4] = [512, 1024, 2048, 4096];
 const VERSION_1_MOST_ZONES: u32 = 1024;
 
 impl Version {
-    /// The version whose texts begin as these bytes do.
+    /// The version whose texts begin as these bytes do; `None` where those of no version do.
     pub fn of(bytes: &[u8]) -> Option<Version>
         ensures { result ≡ version_in bytes.now }
     {

@@ -103,6 +103,7 @@ fn entries_name_reports(rt: HostRuntime) -> Result<(), Fail> {
     Ok(())
 }
 
+/// Asks that the filter of a state lists the zones of that state, and no others.
 fn lists_alone(rt: &impl Abort, state: ZoneState) {
     for other in ZoneState::ALL {
         let lists = ZoneFilter::of(state).lists(other);

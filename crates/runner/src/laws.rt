@@ -32,8 +32,8 @@ pub fn turns_keep_reached()
 {}
 
 /// In every state that events leave, the open and active zones are within the limits, each zone's state fits its
-/// written blocks, each block is whole and of bytes, each loaded program is accepted, and no append of a run's turns
-/// can be refused.
+/// written blocks, each block is whole and of bytes, each loaded program is accepted, what is left of each run fits
+/// into its destination, which is open as long as it isn't filled, and no append of a run's turns can be refused.
 pub fn states_are_sound()
     ensures { StatesAreSound intervals }
 {}
@@ -89,9 +89,11 @@ pub fn turns_in_any_order()
     ensures { TurnsInAnyOrder intervals }
 {}
 
-/// The pushdown theorem holds of each Run that a device admits: no turn traps, each takes at most as many
-/// steps as the program has instructions, a turn changes its destination alone, by blocks at its end, and
-/// the appended blocks and the completion are those that are fixed at admission.
+/// The pushdown theorem, as the law of this name of `pushdown` says it, holds of each Run that a device admits: no
+/// turn traps; each takes at most as many steps as the program has instructions; each changes no zone but its
+/// destination, and that one by blocks at its end, leaves other runs' places and other slots, and reads nothing but
+/// source blocks; the appended blocks, the completion, and what a turn leaves at the run's place and in the slots are
+/// those that are fixed at admission; and the numbers that the completion tells fit into its 32 bits.
 pub fn pushdown()
     ensures { Pushdown intervals }
 {}

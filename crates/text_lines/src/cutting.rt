@@ -6,7 +6,7 @@ ghost use Rattle.text_lines.specs.Cut.{cut_at, is_blank_byte, without_first_blan
 
 use memchr::{memchr, memchr2};
 
-/// The text before the first such byte and the text behind it.
+/// The text before the first such byte and the text behind it; `None` where there is no such byte.
 pub fn cut(text: &[u8], byte: u8) -> Option<(&[u8], &[u8])>
     ensures { option_map (λ parts. (parts.0.now, parts.1.now)) result ≡ cut_at byte text.now }
 {

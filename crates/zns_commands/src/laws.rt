@@ -68,7 +68,7 @@ pub fn reports_list_every_zone()
 {}
 
 /// A command changes no zone but the one that it names, the one that gives way to that, and those that
-/// Select All takes; a fault none but the one that fails.
+/// Select All takes; a fault none but the zone that has it.
 pub fn other_zones_are_left()
     ensures { OtherZonesAreLeft }
 {}

@@ -80,9 +80,10 @@ impl Namespace {
         self.image.append(zone, bytes);
     }
 
-    /// Executes a command, with the data that stands beside its entry. The data that the command
-    /// gives goes to the front of `output`, which has room for the largest transfer; what lies
-    /// behind it stays. A command that is refused changes nothing.
+    /// Executes a command, with the data that stands beside its entry, under the holds of the active runs,
+    /// which refuse it with Zone Held where they keep a zone from it. The data that the command gives goes to
+    /// the front of `output`, which has room for the largest transfer; what lies behind it stays. A command
+    /// that is refused changes nothing.
     pub fn execute(
         &mut self,
         command: &StandardCommand,
