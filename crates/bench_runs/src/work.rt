@@ -284,7 +284,7 @@ pub fn events(
     }
     let spent = begin.elapsed(rt)?.as_nanos();
     if !done {
-        return Err(io::Error::other("a Read was refused"));
+        return Err(io::Error::other("an event was refused"));
     }
     Ok(spent)
 }
