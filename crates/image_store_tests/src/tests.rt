@@ -20,12 +20,14 @@ const EMPTY: [u8; 96] =
 \x00\x00\x00\x00\x00\x00\x00\x00\x00\x00\x00\x00\x00\x00\x00\x00\x00\x00\x00\x00\x00\x00\x00\x00\x00\x00\x00\x00\x00\x00\x00\x00\
 \x01\x00\x00\x00\x00\x00\x00\x00\x01\x00\x00\x00\x00\x00\x00\x00\x01\x00\x00\x00\x00\x00\x00\x00\x01\x00\x00\x00\x00\x00\x00\x00";
 
+/// Its limits.
+const LIMITS: Limits = Limits {
+    open_limit: 2,
+    active_limit: 3,
+};
+
 fn geometry() -> Result<Geometry, GeometryRefusal> {
-    let limits = Limits {
-        open_limit: 2,
-        active_limit: 3,
-    };
-    Geometry::new(512, 4, 8, 6, limits)
+    Geometry::new(512, 4, 8, 6, LIMITS)
 }
 
 /// Changes some bytes of a text.
@@ -178,14 +180,10 @@ fn bad_count(written: u32) -> Option<LoadFault> {
 
 /// What is told of three open zones, where two may be open and three active.
 fn too_many() -> Option<LoadFault> {
-    let limits = Limits {
-        open_limit: 2,
-        active_limit: 3,
-    };
     Some(LoadFault::Limits {
         opened: 3,
         active: 3,
-        limits,
+        limits: LIMITS,
     })
 }
 
