@@ -8,7 +8,7 @@ use scenes::{ALL_EMPTY, FOUR_ZONES, check_steps, check_zones, device_of};
 use std::alloc::Global;
 use std::process::Abort;
 use std::test::Fail;
-use steps::Expected::{Done, DoneWith, Faulted, Idle, Pending};
+use steps::Expected::{Done, DoneWith, FaultTaken, Idle, Pending};
 use steps::{Case, Step, bytes_of};
 use test_inputs::programs::Text;
 use zns_commands::{FaultState, MOST_TRANSFER};
@@ -56,7 +56,7 @@ const FROM_THERE_ON: &[Case] = &[
     (Step::Turns(0, 1), DoneWith(4, 2, 1)),
     (Step::Turns(0, 1), Idle),
     (Step::Read(5, 8, 1, "0800 07*8 0800 07*8 00*492"), Done(5)),
-    (Step::Fault(0, FaultState::ReadOnly), Faulted),
+    (Step::Fault(0, FaultState::ReadOnly), FaultTaken),
 ];
 
 #[test]

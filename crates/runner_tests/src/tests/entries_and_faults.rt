@@ -1,7 +1,7 @@
 //! Entries that are refused, and faults, on an image of Empty zones.
 
 use super::scenes::{ALL_EMPTY, FOUR_ZONES, Scene, play};
-use super::steps::Expected::{FaultRefused, Faulted, Refused};
+use super::steps::Expected::{FaultRefused, FaultTaken, Refused};
 use super::steps::{A_BLOCK, Case, Step};
 use nvme_entry::Status;
 use std::test::Fail;
@@ -20,10 +20,10 @@ const ENTRIES_THAT_ARE_REFUSED: &[Case] = &[
 ];
 
 const FAULTS: &[Case] = &[
-    (Step::Fault(0, FaultState::ReadOnly), Faulted),
+    (Step::Fault(0, FaultState::ReadOnly), FaultTaken),
     (Step::Fault(4, FaultState::Offline), FaultRefused),
-    (Step::Fault(3, FaultState::Offline), Faulted),
-    (Step::Fault(3, FaultState::Offline), Faulted),
+    (Step::Fault(3, FaultState::Offline), FaultTaken),
+    (Step::Fault(3, FaultState::Offline), FaultTaken),
     (Step::Fault(3, FaultState::ReadOnly), FaultRefused),
 ];
 

@@ -3,7 +3,7 @@
 ghost use Rattle.std.specs.Prelude.{◌+◌, ◌<◌, ◌≤◌, ◌^◌, length};
 
 use super::scenes::{EIGHT_ZONES, Zones, device_of, saved};
-use super::steps::Expected::{Done, DoneWith, Faulted, Idle, Pending, Refused};
+use super::steps::Expected::{Done, DoneWith, FaultTaken, Idle, Pending, Refused};
 use super::steps::{Case, Step};
 use super::{DESTINATION_OPENED, EMITTING, Kept, SOURCE_APPENDED, check_kept, events_of, room};
 use nvme_entry::Status;
@@ -32,7 +32,7 @@ const STEPS: &[Case] = &[
     (Step::Run(5, 0, 2, 8), Pending(0)),
     (Step::Turns(0, 1), Pending(0)),
     (Step::Run(6, 0, 2, 16), Pending(1)),
-    (Step::Fault(3, FaultState::Offline), Faulted),
+    (Step::Fault(3, FaultState::Offline), FaultTaken),
     (Step::Turns(0, 1), DoneWith(5, 2, 1)),
     (Step::Turns(0, 1), Idle),
     (Step::Read(7, 8, 1, "0800 07*8 0800 07*8 00*492"), Done(7)),

@@ -1,7 +1,7 @@
 //! Runs from and to zones of each state, and runs in each other's zones.
 
 use super::scenes::{EIGHT_ZONES, FOUR_ZONES, Scene, Zones, play};
-use super::steps::Expected::{self, Done, DoneWith, FaultRefused, Faulted, Pending, Refused};
+use super::steps::Expected::{self, Done, DoneWith, FaultRefused, FaultTaken, Pending, Refused};
 use super::steps::{A_BLOCK, Case, Step};
 use nvme_entry::Status;
 use std::test::Fail;
@@ -76,7 +76,7 @@ const CROSSED: &[Case] = &[
     (Step::Fault(1, FaultState::ReadOnly), FaultRefused),
     (Step::Turns(1, 1), Pending(1)),
     // A zone that no run uses has a fault.
-    (Step::Fault(2, FaultState::Offline), Faulted),
+    (Step::Fault(2, FaultState::Offline), FaultTaken),
     (Step::Turns(0, 1), Pending(0)),
     (Step::Turns(0, 1), DoneWith(2, 2, 1)),
     (Step::Turns(1, 1), DoneWith(3, 2, 1)),
@@ -90,7 +90,7 @@ const CROSSED: &[Case] = &[
         Done(4),
     ),
     // Nothing is held any more.
-    (Step::Fault(0, FaultState::ReadOnly), Faulted),
+    (Step::Fault(0, FaultState::ReadOnly), FaultTaken),
     (Step::Send(4, 8, Action::Reset), Done(4)),
 ];
 

@@ -77,9 +77,9 @@ pub(super) enum Expected {
     Pending(u8),
     /// The run isn't active.
     Idle,
-    /// The zone has its fault.
-    Faulted,
-    /// It can't have it.
+    /// The fault is taken.
+    FaultTaken,
+    /// It is refused.
     FaultRefused,
 }
 
@@ -262,7 +262,7 @@ impl Expected {
             }
             Expected::Pending(run) => Reply::Pending { run },
             Expected::Idle => Reply::Idle,
-            Expected::Faulted => Reply::FaultTaken,
+            Expected::FaultTaken => Reply::FaultTaken,
             Expected::FaultRefused => Reply::FaultRefused,
         }
     }
