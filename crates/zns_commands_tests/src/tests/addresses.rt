@@ -43,7 +43,7 @@ fn addresses_of_no_block(rt: HostRuntime) -> Result<(), Fail> {
 
 #[test]
 fn the_last_blocks(rt: HostRuntime) -> Result<(), Fail> {
-    let last_zone = [zone(EMPTY, 24, 24), NONE, NONE, NONE];
+    let last_zone = [descriptor(EMPTY, 24, 24), NONE, NONE, NONE];
     let steps = [
         // The last block is there, and the next isn't.
         read(31, 1, OK),

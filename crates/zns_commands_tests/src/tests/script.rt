@@ -125,7 +125,7 @@ pub fn send_all(action: Action, status: Status) -> Step {
 }
 
 /// The descriptor of a zone in this state, which can hold 6 blocks.
-pub fn zone(state: ZoneState, lowest: u64, pointer: u64) -> Descriptor {
+pub fn descriptor(state: ZoneState, lowest: u64, pointer: u64) -> Descriptor {
     [(u64::from(state.code()) << 12) | 0x02, 6, lowest, pointer]
 }
 
