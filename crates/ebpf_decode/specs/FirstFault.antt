@@ -44,7 +44,7 @@ pub record IsOfSlot (slots : List Fields) (fault : Fault) : Type 0 where
   pub fields : Fields
   pub here : slice_get slots fault.slot ≡ Some fields
   -- no instruction begins, for the reason that is told
-  pub begins_none : (i : Instruction) → Begins fields (slice_get slots (fault.slot + 1)) i → ⊥
+  pub begins_none : (i : Instruction) → ¬ Begins fields (slice_get slots (fault.slot + 1)) i
   pub told : IsTold fault.kind (opcode_named fields.opcode) fields (slice_get slots (fault.slot + 1))
 
 -- a fault of a slot, of bytes whose length has none

@@ -100,7 +100,7 @@ pub record CanBegin (block : ℕ) (front : List ℕ) : Type 0 where
 pub record IsLowestRefused (block : ℕ) (bytes : List ℕ) (at : ℕ) : Type 0 where
   pub inside : at < length bytes
   pub before : CanBegin block (take at bytes)
-  pub there : (CanBegin block (take (at + 2) bytes) → ⊥) ⊎ (at ≡ length bytes / block * block)
+  pub there : (¬ CanBegin block (take (at + 2) bytes)) ⊎ (at ≡ length bytes / block * block)
 
 -- The byte that is refused is the lowest one.
 abbrev pub RefusedIsLowest : Type 0

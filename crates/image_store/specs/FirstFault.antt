@@ -128,7 +128,7 @@ IsFirstFault bytes (faults.Total told counted) =
 -- with as many, but too many of them are open or active;
 IsFirstFault bytes (faults.Limits opened active limits) =
     (version : Version) × (zones : List CountedZone) × TellsAllZones version bytes zones × TellsTotal version bytes zones
-    × (opened ≡ open_count zones) × (active ≡ active_count zones) × (limits ≡ (shape_in bytes).limits) × (IsWithin zones limits → ⊥)
+    × (opened ≡ open_count zones) × (active ≡ active_count zones) × (limits ≡ (shape_in bytes).limits) × (¬ IsWithin zones limits)
 -- no more than may be, and the text goes on behind the last block;
 IsFirstFault bytes faults.Trailing =
     (version : Version) × (zones : List CountedZone) × HasRows version bytes zones × (blocks_end bytes zones < length bytes)

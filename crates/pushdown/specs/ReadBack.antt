@@ -87,7 +87,7 @@ module _ {D : Type 0} (operations : Operations D) where
   NoEventReplaces slot [] s = Unit {0}
   NoEventReplaces slot (o ∷ os) s =
       let h = happens operations s o.starved o.event in
-      NoRunEnds slot s h.state × ((LoadSucceeds slot o.event h.reply → ⊥) × NoEventReplaces slot os h.state)
+      NoRunEnds slot s h.state × ((¬ LoadSucceeds slot o.event h.reply) × NoEventReplaces slot os h.state)
 
   -- an admitted Run, the events between it and a turn of it, and events after that turn
   module _ (s : State) (queue : ℕ) (entry : List ℕ) (input : Vec ℕ Global) (starved : Bool) (command : RunCommand) (run : ℕ)

@@ -51,6 +51,6 @@ pub record HoldsRefuse : Type 0 where
   pub destination : (holds : Holds) (a : Action) (zone : ℕ) → IsAppendedTo holds zone → refuses holds a zone ≡ true
   pub source : (holds : Holds) (zone : ℕ) → IsReadFrom holds zone
       → (refuses holds action.Reset zone ≡ true) × (refuses holds action.Offline zone ≡ true)
-  pub read : (holds : Holds) (a : Action) (zone : ℕ) → (IsAppendedTo holds zone → ⊥) → forgets a ≡ false → refuses holds a zone ≡ false
-  pub free : (holds : Holds) (a : Action) (zone : ℕ) → (IsAppendedTo holds zone → ⊥) → (IsReadFrom holds zone → ⊥) → refuses holds a zone ≡ false
-  pub none : (zone : ℕ) → (IsAppendedTo no_holds zone → ⊥) × (IsReadFrom no_holds zone → ⊥)
+  pub read : (holds : Holds) (a : Action) (zone : ℕ) → ¬ IsAppendedTo holds zone → forgets a ≡ false → refuses holds a zone ≡ false
+  pub free : (holds : Holds) (a : Action) (zone : ℕ) → ¬ IsAppendedTo holds zone → ¬ IsReadFrom holds zone → refuses holds a zone ≡ false
+  pub none : (zone : ℕ) → (¬ IsAppendedTo no_holds zone) × (¬ IsReadFrom no_holds zone)
