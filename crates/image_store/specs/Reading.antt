@@ -74,11 +74,11 @@ version_checks version s =
     ∷ []
 
 -- a shape is one that texts of the version have
-abbrev pub version_kept : Version → Shape → Result (Unit {0}) LoadFault
+abbrev pub version_kept : Version → Shape → Result Unit LoadFault
 version_kept version s = unless_failed (first_failed (version_checks version s)) tt
 
 -- the bytes behind what a header tells are zero
-abbrev pub zeros_kept : Version → List ℕ → Result (Unit {0}) LoadFault
+abbrev pub zeros_kept : Version → List ℕ → Result Unit LoadFault
 zeros_kept version bytes =
     if are_zeros (drop (numbers_of_version version).zeros_from bytes)
     then Ok tt
@@ -136,7 +136,7 @@ zone_rows_in s bytes =
     bytes_in (s.zones * ZONE_ROW_BYTES) bytes >>= λ front. zones_in 0 s.capacity s.zones front.0 >>= λ zs. Ok (zs, front.1)
 
 -- the rows have as many written blocks as the header tells, if it tells that
-abbrev pub total_kept : Option ℕ → List CountedZone → Result (Unit {0}) LoadFault
+abbrev pub total_kept : Option ℕ → List CountedZone → Result Unit LoadFault
 total_kept None zs = Ok tt
 total_kept (Some total) zs = if total == written_blocks zs then Ok tt else Err (fault.Total total (written_blocks zs))
 
