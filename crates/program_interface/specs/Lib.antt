@@ -7,5 +7,6 @@ pub mod Registers
 pub mod Frame
 pub mod Readings
 pub mod Gives
+pub mod Below
 pub mod Checks
 pub mod FirstCheck
