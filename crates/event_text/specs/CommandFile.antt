@@ -1,11 +1,12 @@
 -- Command files (profile): a list of events as text, one on a line.
-use Rattle.std.specs.Prelude.{ℕ, ◌+◌, ◌^◌, nat_lt, List, [], ◌∷◌, Option, Some, None, option_and_then, option_map, Result, Ok, Err, codes, if◌then◌else◌}
+use Rattle.std.specs.Prelude.{ℕ, ◌+◌, ◌^◌, List, [], ◌∷◌, Option, Some, None, option_and_then, option_map, Result, Ok, Err, codes, if◌then◌else◌}
 use Rattle.std.specs.List.{list_all}
 use Rattle.std.specs.Char.{is_ascii}
 use Rattle.std.specs.Str.{bytes_eq}
 use Rattle.std.specs.Str.Lines.{lines}
 use Rattle.std.specs.Result.{result_ok}
 use Rattle.hex.specs.Hex.{decode_of, decode_sized}
+use Rattle.program_interface.specs.Below.{below}
 use Rattle.program_interface.specs.Readings.{with_front}
 use Rattle.zone_state.specs.Words.{fault_word}
 use Rattle.zone_state.specs.declared.state.FaultState.{FaultState}
@@ -30,10 +31,6 @@ abbrev pub told_of : Event → ToldEvent
 told_of (event.Submit queue entry input) = Submitted queue entry input.items
 told_of (event.Turn run) = Turned run
 told_of (event.Fault zone state) = Faulted zone state
-
--- the number, where it is below a bound
-abbrev pub below : ℕ → ℕ → Option ℕ
-below bound number = if nat_lt number bound then Some number else None
 
 -- a submission, where its queue, its entry and the data beside it are each read
 abbrev pub submission : Option ℕ → Option (List ℕ) → Option (List ℕ) → Option ToldEvent

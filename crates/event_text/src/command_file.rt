@@ -9,13 +9,14 @@
 
 ghost use Rattle.std.specs.Prelude.{◌≡◌, ◌^◌, map, option_and_then};
 ghost use Rattle.std.specs.Str.{bytes_eq};
+ghost use Rattle.program_interface.specs.Below.{below};
 ghost use Rattle.program_interface.specs.Gives.{Gives};
 ghost use Rattle.zone_state.specs.Words.{fault_word};
 ghost use Rattle.text_lines.specs.Number.{decimal_of};
 ghost use Rattle.event_text.specs.Words.{words_of};
 ghost use Rattle.event_text.specs.declared.command_file.EventFault.TheVariants.{Refused};
 ghost use Rattle.event_text.specs.declared.command_file.ParseFault.TheVariants.{Memory};
-ghost use Rattle.event_text.specs.CommandFile.{told_of, below, submission_of, turn_of, fault_of, state_named, event_named as named_event, line_told, events_in, refused_line};
+ghost use Rattle.event_text.specs.CommandFile.{told_of, submission_of, turn_of, fault_of, state_named, event_named as named_event, line_told, events_in, refused_line};
 ghost use Rattle.event_text.specs.steps.ReadLines.{entry_fault as fault_of_entry, data_fault as fault_of_data, GivesEvent, GivesLine};
 
 use crate::fault::LineFault;
