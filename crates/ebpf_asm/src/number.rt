@@ -1,8 +1,8 @@
 //! Numbers.
 
-ghost use Rattle.std.specs.Prelude.{◌≡◌, ◌+◌, ◌*◌, ◌<◌, ◌≤◌, ℕ};
+ghost use Rattle.std.specs.Prelude.{◌≡◌, ◌+◌, ◌*◌, ◌^◌, ◌<◌, ◌≤◌, ℕ};
 ghost use Rattle.ebpf_asm.specs.Operand.{numeral_of, magnitude_of, literal_of, signed_of, short_of, long_of, immediate_told, wide_of};
-ghost use Rattle.ebpf_asm.specs.steps.Number.{below_2_64};
+ghost use Rattle.program_interface.specs.Below.{below};
 
 use crate::fault::FaultKind;
 
@@ -106,7 +106,7 @@ fn numeral(text: &[u8], radix: u32) -> Result<u64, FaultKind>
 /// The number with one more digit behind it, unless it is 2^64 or more.
 fn with_digit(value: Option<u64>, radix: u32, digit: u32) -> Option<u64>
     requires { 2 ≤ radix }
-    ensures { (n : ℕ) → value ≡ below_2_64 n → result ≡ below_2_64 (n * radix + digit) }
+    ensures { (n : ℕ) → value ≡ below (2 ^ 64) n → result ≡ below (2 ^ 64) (n * radix + digit) }
 {
     let value = value?;
     value
