@@ -1,9 +1,11 @@
 -- What holds refuse.
-use Rattle.std.proofs.Common.{◌≡◌, ℕ, zero, suc, false, List, [], ◌∷◌, Option, Some, None, get_or, refl, ap, inl, inr}
+use Rattle.std.proofs.Common.{◌≡◌, ℕ, false, List, Option, Some, None, get_or, refl, ap, inl, inr}
 use Rattle.std.specs.Prelude.{◌&&◌}
 use Rattle.std.specs.List.{list_any}
 use Rattle.std.proofs.lemmas.Bool.{and_left, and_right, or_from, or_left, or_right}
 use Rattle.std.proofs.lemmas.Bool.Decides.{eqb_tells}
+use Rattle.std.proofs.lemmas.List.Elements.{All-from_get_or}
+use Rattle.std.proofs.lemmas.List.Folds.{list_any_none}
 use Rattle.zone_resources.specs.Holds.{HoldsRefuse, IsAppendedTo, IsReadFrom, forgets, is_destination, is_source, names, no_holds}
 use Rattle.zone_resources.specs.declared.holds.Holds.{Holds}
 use Rattle.zone_resources.proofs.NamedZones.{named}
@@ -16,9 +18,9 @@ not_this zone (Some number) other = elim (eqb_tells number zone) [
 ]
 
 unnamed : (zone : ℕ) (users : List (Option ℕ)) → ((run : ℕ) → get_or users run None ≡ Some zone → ⊥) → list_any (names zone) users ≡ false
-unnamed zone [] none = refl
-unnamed zone (user ∷ users) none =
-    or_from (names zone user) (list_any (names zone) users) (not_this zone user (none zero)) (unnamed zone users (λ run. none (suc run)))
+unnamed zone users none =
+    list_any_none (names zone) users
+    (All-from_get_or (λ user. names zone user ≡ false) users None (λ run inside. not_this zone (get_or users run None) (none run)))
 
 elsewhere : (zone : ℕ) (users : List (Option ℕ)) → list_any (names zone) users ≡ false → (run : ℕ) → get_or users run None ≡ Some zone → ⊥
 elsewhere zone users none run at = let there = named zone users run at in cc
