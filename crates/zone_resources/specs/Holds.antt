@@ -1,6 +1,7 @@
 -- The zones that active runs use, and what is refused there (profile).
 use Rattle.std.specs.Prelude.{ℕ, ◌≡◌, Bool, true, false, Option, Some, None, ◌==◌, ◌||◌, ◌&&◌, get_or, replicate}
 use Rattle.std.specs.List.{list_any}
+use Rattle.std.specs.Option.{option_eq}
 use Rattle.zone_resources.specs.declared.holds.Holds.{Holds}
 use Rattle.zone_resources.specs.declared.holds.TheConstants.{RUNS}
 use Rattle.zone_state.specs.declared.action.Action.{Action}
@@ -8,8 +9,7 @@ use Rattle.zone_state.specs.declared.action.Action.TheVariants as action
 
 -- is the zone the one with this number, if there is a number?
 abbrev pub names : ℕ → Option ℕ → Bool
-names zone None = false
-names zone (Some number) = number == zone
+names zone gives = option_eq (λ a b. a == b) gives (Some zone)
 
 -- does a run read from this zone?
 abbrev pub is_source : Holds → ℕ → Bool
