@@ -173,6 +173,6 @@ pub fn block_size<'a>(bytes: u32) -> Result<BlockSize, Failure<'a>>
             let _most = size.bytes();
             Ok(size)
         }
-        None => Err(Failure::GeometryRefused(GeometryRefusal::BlockSize(bytes as usize))),
+        None => Err(Failure::GeometryRefused(GeometryRefusal::BlockSize(bytes))),
     }
 }

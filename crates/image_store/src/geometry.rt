@@ -23,7 +23,7 @@ const MOST_BYTES: u64 = 268_435_456;
 pub enum GeometryRefusal {
     /// No block has so many bytes.
     #[error("a block of {0} bytes: the block size is no power of 2 from 512 to {most}", most = LARGEST_BLOCK)]
-    BlockSize(usize),
+    BlockSize(u32),
     /// There are no zones, or more than [`MOST_ZONES`].
     #[error("{0} zones: the number of zones is not from 1 to {most}", most = MOST_ZONES)]
     ZoneCount(u32),
@@ -117,7 +117,7 @@ impl Geometry {
         ensures { result ≡ tested (shape_of block zones size capacity limits) }
     {
         let Some(block) = BlockSize::new(block) else {
-            return Err(GeometryRefusal::BlockSize(block as usize));
+            return Err(GeometryRefusal::BlockSize(block));
         };
         if !is_from_one_to(MOST_ZONES, zones) {
             return Err(GeometryRefusal::ZoneCount(zones));
