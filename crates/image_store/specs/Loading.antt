@@ -1,5 +1,5 @@
 -- What a call gives that reads from a source, over what reading the source's bytes gives.
-use Rattle.std.specs.Prelude.{ℕ, ◌≡◌, ◌<◌, Result, Ok, Err}
+use Rattle.std.specs.Prelude.{ℕ, ◌≡◌, ◌+◌, Result, Ok, Err}
 use Rattle.image_store.specs.declared.fault.LoadFault.{LoadFault}
 use Rattle.image_store.specs.declared.fault.LoadFault.TheVariants.{Stream, Memory}
 
@@ -16,12 +16,12 @@ abbrev pub LoadGives : {X Y : Type 0} → Type 0 → (X → Y) → Result X Load
 LoadGives wanted view (Ok x) reading = reading ≡ Ok (view x)
 LoadGives wanted view (Err fault) reading = LoadFails wanted fault reading
 
--- the count of failures grows with the fault of a stream, and stays with each other fault
+-- the count of failures is one more with the fault of a stream, and stays with each other fault
 abbrev pub CountsFault : ℕ → ℕ → LoadFault → Type 0
-CountsFault before after Stream = before < after
+CountsFault before after Stream = after ≡ before + 1
 CountsFault before after _ = after ≡ before
 
--- a load counts a failure of its source where the stream failed, and else none
+-- a load counts one failure of its source where the stream failed, and else none
 abbrev pub CountsLoad : {X : Type 0} → ℕ → ℕ → Result X LoadFault → Type 0
 CountsLoad before after (Ok x) = after ≡ before
 CountsLoad before after (Err fault) = CountsFault before after fault

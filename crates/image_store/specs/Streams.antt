@@ -1,5 +1,5 @@
 -- What reading does to the bytes that are to come, and writing to those that were taken.
-use Rattle.std.specs.Prelude.{ℕ, ◌≡◌, ◌≤◌, ◌<◌, List, ◌++◌, length, take, Result, Ok, Err}
+use Rattle.std.specs.Prelude.{ℕ, ◌≡◌, ◌≤◌, ◌+◌, List, ◌++◌, length, take, Result, Ok, Err}
 
 -- the first n bytes that were to come are at the front of `to` now, at least one of them where there
 -- is one and `to` has room
@@ -23,7 +23,7 @@ abbrev pub Takes : {E : Type 0} → List ℕ → List ℕ → List ℕ → Resul
 Takes before after text (Ok done) = after ≡ before ++ text
 Takes before after text (Err fault) = (rest : List ℕ) × IsBegun before after text rest
 
--- the count of failures stays, and grows where the stream failed
+-- the count of failures stays, and is one more where the stream failed
 abbrev pub CountsFailure : {X E : Type 0} → ℕ → ℕ → Result X E → Type 0
 CountsFailure before after (Ok x) = after ≡ before
-CountsFailure before after (Err fault) = before < after
+CountsFailure before after (Err fault) = after ≡ before + 1

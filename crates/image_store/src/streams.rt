@@ -1,6 +1,6 @@
 //! The streams that an image is read from and written to. Each counts its failures.
 
-ghost use Rattle.std.specs.Prelude.{◌≡◌, ℕ, List, ◌++◌, ◌^◌, ◌<◌, ◌≤◌, ◌-◌, length, take, IfOk, OnOk, OnErr};
+ghost use Rattle.std.specs.Prelude.{◌≡◌, ℕ, List, ◌++◌, ◌^◌, ◌<◌, ◌≤◌, ◌-◌, ◌+◌, length, take, IfOk, OnOk, OnErr};
 ghost use Rattle.image_store.specs.Streams.{IsRead};
 
 use thiserror::Error;
@@ -34,7 +34,7 @@ pub trait Source {
         ensures read { tells → IfOk result (IsRead (rest self.old) (rest self.new) to.new) }
         ensures kept { tells → OnErr result (rest self.new ≡ rest self.old) }
         ensures healthy { OnOk result (failures self.new ≡ failures self.old) }
-        ensures failed { OnErr result (failures self.old < failures self.new) };
+        ensures failed { OnErr result (failures self.new ≡ failures self.old + 1) };
 
     /// How many calls have failed.
     fn failures(&self) -> u64
@@ -66,7 +66,7 @@ pub trait Sink {
         ensures taken { tells → IfOk result (λ n. taken self.new ≡ taken self.old ++ take n from.now) }
         ensures kept { tells → OnErr result (taken self.new ≡ taken self.old) }
         ensures healthy { OnOk result (failures self.new ≡ failures self.old) }
-        ensures failed { OnErr result (failures self.old < failures self.new) };
+        ensures failed { OnErr result (failures self.new ≡ failures self.old + 1) };
 
     /// How many calls have failed.
     fn failures(&self) -> u64
