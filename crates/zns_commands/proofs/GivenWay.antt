@@ -27,7 +27,7 @@ closed_with_within : (ns : ZonedNamespace) (z : ℕ) (zone : ZoneBlocks) (gives 
 closed_with_within ns z zone None inside within =
     subst (λ (zones : List CountedZone). IsWithin zones ns.limits) (sym (counted_zones_with ns z zone)) within
 closed_with_within ns z zone (Some k) inside within =
-    let given : ZoneBlocks = record { state = Closed; blocks = (zone_at ns k).blocks } in
+    let given = arrived Closed (zone_at ns k) in
     let there = counted_zone_there ns k (inside k refl) in
     subst (λ (zones : List CountedZone). IsWithin zones ns.limits)
     (ap (λ (r : Option CountedZone). slice_set (closed_in (counted_zones ns) k r) z (counted ns.capacity zone)) there
@@ -41,7 +41,7 @@ closed_limits : (ns : ZonedNamespace) (holds : Holds) (gives : Option ℕ) → I
 closed_limits ns holds None sound closable = sound.within
 closed_limits ns holds (Some k) sound closable =
     let may = closable k refl in
-    one_within ns k (record { state = Closed; blocks = (zone_at ns k).blocks }) (closable_zone ns holds k may) sound.within
+    one_within ns k (arrived Closed (zone_at ns k)) (closable_zone ns holds k may) sound.within
     (open_holds Closed (zone_at ns k).state (ap is_open (closable_state ns holds k may)))
 
 can_give_way : (ns : ZonedNamespace) (holds : Holds) (zone : ℕ) (wanted : Wanted) (gives : Option ℕ) → IsNamespace ns
@@ -69,7 +69,7 @@ no_one_gives_way ns zone sound = record {
 closed_namespace : (ns : ZonedNamespace) (z : ℕ) (gives : Option ℕ) → IsNamespace ns → CanGiveWay ns z gives → IsNamespace (closed ns gives)
 closed_namespace ns z None sound give = sound
 closed_namespace ns z (Some k) sound give =
-    set_namespace ns k (record { state = Closed; blocks = (zone_at ns k).blocks }) sound
+    set_namespace ns k (arrived Closed (zone_at ns k)) sound
     (record { state = give.fits k refl; whole = sound.whole k; bytes = sound.bytes k }) give.limits
 
 closed_fit : (ns : ZonedNamespace) (gives : Option ℕ) (zone : ZoneBlocks) → FitsIn ns.block ns.capacity zone
@@ -119,7 +119,7 @@ room_sound ns z gives zone sound has fits less =
 pub closed_zone : (ns : ZonedNamespace) (z : ℕ) (gives : Option ℕ) → gives ≢ Some z → zone_at (closed ns gives) z ≡ zone_at ns z
 closed_zone ns z None other = refl
 closed_zone ns z (Some k) other =
-    get_or-set_other ns.zones k z (record { state = Closed; blocks = (zone_at ns k).blocks }) no_zone (λ (same : z ≡ k). other (ap Some (sym same)))
+    get_or-set_other ns.zones k z (arrived Closed (zone_at ns k)) no_zone (λ (same : z ≡ k). other (ap Some (sym same)))
 
 pub written_is : (ns : ZonedNamespace) (z : ℕ) (gives : Option ℕ) (input : List ℕ) → gives ≢ Some z
     → written_by ns (record { zone = z; closing = gives }) input ≡ with_zone (closed ns gives) z (grown ns.capacity (zone_at ns z) (as_blocks ns.block input))

@@ -62,8 +62,7 @@ set_grows clears zones y z zone grows stays =
 pub closed_grows : (ns : ZonedNamespace) (gives : Option ℕ) (z : ℕ) → Grows (zone_at ns z).blocks (zone_at (closed ns gives) z).blocks
 closed_grows ns None z = grows_by_none (zone_at ns z).blocks
 closed_grows ns (Some k) z =
-    let blocks = (zone_at ns k).blocks in
-    set_grows (λ s. false) ns.zones k z (record { state = Closed; blocks = blocks }) (λ stays. grows_by_none blocks) refl
+    set_grows (λ s. false) ns.zones k z (arrived Closed (zone_at ns k)) (λ stays. grows_by_none (zone_at ns k).blocks) refl
 
 pub written_grows : (ns : ZonedNamespace) (plan : WritePlan) (input : List ℕ) (z : ℕ)
     → Grows (zone_at ns z).blocks (zone_at (written_by ns plan input) z).blocks
@@ -133,7 +132,7 @@ with_zone_shape ns z zone = ap (resized (shape ns)) (length-set ns.zones z zone)
 
 closed_shape : (ns : ZonedNamespace) (gives : Option ℕ) → shape (closed ns gives) ≡ shape ns
 closed_shape ns None = refl
-closed_shape ns (Some k) = with_zone_shape ns k (record { state = Closed; blocks = (zone_at ns k).blocks })
+closed_shape ns (Some k) = with_zone_shape ns k (arrived Closed (zone_at ns k))
 
 pub written_shape : (ns : ZonedNamespace) (plan : WritePlan) (input : List ℕ) → shape (written_by ns plan input) ≡ shape ns
 written_shape ns plan input =

@@ -19,7 +19,7 @@ use Rattle.program_interface.proofs.Proved.{met, no_fault_where_none_fails}
 use Rattle.zone_state.proofs.Proved.{is_allowed}
 use Rattle.image_store.specs.Blocks.{as_blocks, block_count}
 use Rattle.image_store.specs.Geometry.{Shape}
-use Rattle.image_store.specs.Namespace.{ZoneBlocks, ZonedNamespace, no_zone, zone_at, grown, IsNamespace}
+use Rattle.image_store.specs.Namespace.{ZoneBlocks, ZonedNamespace, no_zone, zone_at, arrived, grown, IsNamespace}
 use Rattle.image_store.proofs.Proved.{block_some, blocks_keep_bytes}
 use Rattle.zns_commands.specs.Address.{counted_zone_at, zone_number, block_total, write_pointer}
 use Rattle.zns_commands.specs.Effect.{Effect, success_effect, concluded}
@@ -40,7 +40,7 @@ written_zone : (ns : ZonedNamespace) (z : ℕ) (gives : Option ℕ) (input : Lis
 written_zone ns z None input other inside =
     get_or-set_same ns.zones z (grown ns.capacity (zone_at ns z) (as_blocks ns.block input)) no_zone inside
 written_zone ns z (Some k) input other inside =
-    let given : ZoneBlocks = record { state = Closed; blocks = (zone_at ns k).blocks } in
+    let given = arrived Closed (zone_at ns k) in
     let zone = grown ns.capacity (zone_at ns z) (as_blocks ns.block input) in
     let in_list : z < length (set ns.zones k given) = omega (arith, length-set ns.zones k given) in
     ap (λ (m : ZonedNamespace). zone_at m z) (written_is ns z (Some k) input other)
