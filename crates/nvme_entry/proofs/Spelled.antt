@@ -1,17 +1,14 @@
 -- An entry that is decoded spells its command, and one that spells a command is decoded to it.
-use Rattle.std.proofs.Common.{◌≡◌, ℕ, ◌+◌, ◌*◌, ◌%◌, ◌==◌, nat_le, nat_lt, Bool, true, false, cond, List, [], ◌∷◌, Option, Some, None, Ok, slice_index, refl, ap, sym, subst, ◌∙◌, ◌≤◌, ◌<◌, arith}
-use Rattle.std.specs.Prelude.{Result}
+use Rattle.std.proofs.Common.{◌≡◌, ℕ, ◌+◌, ◌*◌, ◌%◌, ◌==◌, nat_le, nat_lt, Bool, true, false, cond, List, Option, Some, None, Ok, slice_index, refl, ap, sym, subst, ◌∙◌, ◌≤◌, ◌<◌, arith}
 use Rattle.std.specs.Option.{ok_or, option_and_then, option_map}
 use Rattle.std.proofs.lemmas.Bool.{eqb-true, leb-true, le-leb, lt-ltb, ltb-true}
 use Rattle.std.proofs.lemmas.Option.{cond_some, option_and_then_some}
 use Rattle.zone_state.specs.declared.action.Action.{Action}
-use Rattle.zone_state.specs.declared.status.Status.{Status}
 use Rattle.zone_state.specs.declared.status.TheConstants.Status.{INVALID_FIELD_IN_COMMAND, INVALID_NAMESPACE_OR_FORMAT}
 use Rattle.zone_state.specs.Transition.{action_of}
-use Rattle.program_interface.specs.Readings.{unless_fault}
-use Rattle.program_interface.proofs.Proved.{found_passes, found_where_ok}
-use Rattle.program_interface.specs.Checks.{demand, first_failed}
-use Rattle.nvme_entry.specs.Entry.{asked, asked_blocks, command_of, decoded_by, dwords_of, fuse_of, namespace_identifier, opcode_code, opcode_of, opcodes, starting_lba}
+use Rattle.program_interface.proofs.Proved.{demanded, found_passes, found_where_ok, no_fault, passed as check_passed}
+use Rattle.program_interface.specs.Checks.{first_failed}
+use Rattle.nvme_entry.specs.Entry.{asked, asked_blocks, command_of, decoded_by, dwords_of, entry_checks, fuse_of, namespace_identifier, opcode_code, opcode_of, opcodes, starting_lba}
 use Rattle.nvme_entry.specs.EntryLaws.{AsksFor, FieldsAreSpelled, SpelledEntriesAreDecoded, Spells}
 use Rattle.program_interface.specs.Bytes.{field}
 use Rattle.nvme_entry.specs.Dwords.{dword}
@@ -87,18 +84,16 @@ spelled_by opcode.Result entry c is e =
     mapped (Spells entry) (λ (slot : ℕ). command.Result slot) (program_slot_of (dword entry 10)) c
     (λ slot told. let number = slot_told (dword entry 10) slot told in (is, number.0, number.1)) e
 
-past : (a b : Bool) (r : Result Command Status) (c : Command) → unless_fault (first_failed (demand a INVALID_FIELD_IN_COMMAND ∷ demand b INVALID_NAMESPACE_OR_FORMAT ∷ [])) r ≡ Ok c
-    → (a ≡ true) × (b ≡ true) × (r ≡ Ok c)
-past true true r c e = (refl, refl, e)
-past true false r c e = absurd cc
-past false b r c e = absurd cc
-
 decoded_as : (entry : List ℕ) (found : Option Opcode) (c : Command) → opcode_of (slice_index entry 0) ≡ found → decoded_by found entry ≡ Ok c
     → AsksFor entry c
 decoded_as entry None c is e = absurd cc
 decoded_as entry (Some o) c is e =
-    let told = past (fuse_of entry == 0) (namespace_identifier entry == 1) (asked o entry) c e in
-    (eqb-true (fuse_of entry) 0 told.0, eqb-true (namespace_identifier entry) 1 told.1, spelled_by o entry c (code_told (slice_index entry 0) o is) (found_where_ok (command_of o entry) INVALID_FIELD_IN_COMMAND c told.2))
+    let checks = entry_checks entry in
+    let read = no_fault (first_failed checks) (asked o entry) c e in (
+      eqb-true (fuse_of entry) 0 (demanded (fuse_of entry == 0) INVALID_FIELD_IN_COMMAND (check_passed checks 0 read.0)),
+      eqb-true (namespace_identifier entry) 1 (demanded (namespace_identifier entry == 1) INVALID_NAMESPACE_OR_FORMAT (check_passed checks 1 read.0)),
+      spelled_by o entry c (code_told (slice_index entry 0) o is) (found_where_ok (command_of o entry) INVALID_FIELD_IN_COMMAND c read.1),
+    )
 
 pub fields_are_spelled : FieldsAreSpelled
 fields_are_spelled entry c e = decoded_as entry (opcode_of (slice_index entry 0)) c refl e
