@@ -18,6 +18,7 @@ use Rattle.nvme_entry.specs.declared.command.StandardCommand.TheVariants.{Send, 
 use Rattle.nvme_entry.specs.declared.command.TheConstants.{MOST_TRANSFER}
 use Rattle.nvme_entry.specs.declared.encoding.CommandDwords.{CommandDwords}
 use Rattle.nvme_entry.specs.declared.filter.ZoneFilter.{ZoneFilter}
+use Rattle.nvme_entry.proofs.Encodings.{fuse_is}
 use Rattle.nvme_entry.proofs.Spelled.{code_told, count_told, spelled_entries_are_decoded}
 
 flag_back : (flag : Bool) (n : ℕ) → n ≡ bool_byte flag → flag ≡ (n % 2 == 1)
@@ -31,7 +32,7 @@ bit_small false = omega arith
 -- an entry is decoded to the command that it spells behind its opcode's code
 told : (entry : List ℕ) (o : Opcode) (cid : ℕ) (d : CommandDwords) (c : Command) → HasFields entry o cid d → (slice_index entry 0 ≡ opcode_code o → Spells entry c)
     → decoded entry ≡ Ok c
-told entry o cid d c has spells = spelled_entries_are_decoded entry c (has.fuse, has.namespace, spells (code_told (slice_index entry 0) o has.code))
+told entry o cid d c has spells = spelled_entries_are_decoded entry c (fuse_is entry has.second_byte, has.namespace, spells (code_told (slice_index entry 0) o has.code))
 
 pub told_send : (entry : List ℕ) (d : CommandDwords) (cid lba code : ℕ) (what : Action) (all : Bool) → HasFields entry opcode.ZoneManagementSend cid d
     → d.cdw10 + d.cdw11 * 2 ^ 32 ≡ lba → d.cdw13 ≡ code + bool_byte all * 2 ^ 8 → code < 2 ^ 8 → action_of code ≡ Some what

@@ -1,9 +1,11 @@
 -- What the dwords of an entry tell a decoder.
 use Rattle.std.proofs.Common.{◌≡◌, ℕ, ◌+◌, ◌*◌, ◌%◌, ◌^◌, ◌<◌, ◌==◌, List, [], ◌∷◌, ◌++◌, drop, Option, Some, slice_index, refl, sym, ap, subst, ◌∙◌, arith}
 use Rattle.std.specs.List.{flat_map}
+use Rattle.std.proofs.lemmas.Grind.{get_or_after_one}
 use Rattle.byteorder.specs.Endian.{little_bytes, little_number}
 use Rattle.byteorder.specs.Numbers.{little_from-bytes, little_number-reads_back}
 use Rattle.zone_state.specs.declared.status.TheConstants.Status.{INVALID_FIELD_IN_COMMAND, INVALID_NAMESPACE_OR_FORMAT}
+use Rattle.program_interface.specs.Bytes.{field}
 use Rattle.program_interface.specs.Readings.{unless_fault}
 use Rattle.program_interface.proofs.Proved.{byte_is}
 use Rattle.program_interface.specs.Checks.{demand, first_failed}
@@ -31,6 +33,12 @@ decoded_is entry opcode is_opcode is_fuse is_namespace =
     ∙ (ap (λ (n : ℕ). unless_fault (first_failed (demand (n == 0) INVALID_FIELD_IN_COMMAND ∷ demand (namespace_identifier entry == 1) INVALID_NAMESPACE_OR_FORMAT ∷ [])) (asked opcode entry)) is_fuse
     ∙ ap (λ (n : ℕ). unless_fault (first_failed (demand (n == 1) INVALID_NAMESPACE_OR_FORMAT ∷ [])) (asked opcode entry)) is_namespace)
 
+-- where the second byte is 0, so are the bits of it that tell a part of a fused command
+pub fuse_is : (entry : List ℕ) → field entry 1 1 ≡ 0 → fuse_of entry ≡ 0
+fuse_is entry none =
+    let second : slice_index entry 1 ≡ 0 = sym (get_or_after_one entry 0 0) ∙ omega (arith, none) in
+    ap (λ (n : ℕ). n % 4) second
+
 -- each dword fits
 pub record AreDwords (d : CommandDwords) : Type 0 where
   pub cdw10 : d.cdw10 < 2 ^ 32
@@ -45,14 +53,12 @@ bytes_have : (first code cid : ℕ) (opcode : Opcode) (d : CommandDwords) → fi
 bytes_have first code cid opcode d is_first byte half is_opcode fit =
     let entry = bytes_of first d in
     let lowest : slice_index entry 0 ≡ code = byte_is 0 first ∙ omega arith in
-    let second : fuse_of entry ≡ 0 = ap (λ (n : ℕ). n % 4) (byte_is 1 first) ∙ omega arith in
     let high : identifier_of entry ≡ cid = little_from-bytes 2 2 first (drop 4 entry) ∙ omega arith in
     record {
       code = ap opcode_of lowest ∙ is_opcode;
-      fuse = second;
+      second_byte = little_from-bytes 1 1 first (drop 2 entry) ∙ omega arith;
       namespace = little_number-reads_back 4 1 (drop 8 entry) (omega arith);
       identifier = high;
-      second_byte = little_from-bytes 1 1 first (drop 2 entry) ∙ omega arith;
       pointers = refl;
       cdw10 = little_number-reads_back 4 d.cdw10 (drop 44 entry) (omega (arith, fit.cdw10));
       cdw11 = little_number-reads_back 4 d.cdw11 (drop 48 entry) (omega (arith, fit.cdw11));

@@ -1,6 +1,6 @@
 -- The fields that an entry is given.
 use Rattle.std.specs.Prelude.{◌≡◌, ℕ, ◌+◌, ◌*◌, ◌/◌, ◌%◌, ◌^◌, List, Some, slice_index}
-use Rattle.nvme_entry.specs.Entry.{fuse_of, identifier_of, namespace_identifier, opcode_of}
+use Rattle.nvme_entry.specs.Entry.{identifier_of, namespace_identifier, opcode_of}
 use Rattle.program_interface.specs.Bytes.{field}
 use Rattle.nvme_entry.specs.Dwords.{dword}
 use Rattle.nvme_entry.specs.declared.command.Opcode.{Opcode}
@@ -9,10 +9,9 @@ use Rattle.nvme_entry.specs.declared.encoding.CommandDwords.{CommandDwords}
 -- an entry for namespace 1 that isn't part of a fused command, with this opcode, identifier and Command Dwords
 pub record HasFields (entry : List ℕ) (opcode : Opcode) (cid : ℕ) (fields : CommandDwords) : Type 0 where
   pub code : opcode_of (slice_index entry 0) ≡ Some opcode
-  pub fuse : fuse_of entry ≡ 0
+  pub second_byte : field entry 1 1 ≡ 0
   pub namespace : namespace_identifier entry ≡ 1
   pub identifier : identifier_of entry ≡ cid
-  pub second_byte : field entry 1 1 ≡ 0
   pub pointers : field entry 8 32 ≡ 0
   -- these dwords,
   pub cdw10 : dword entry 10 ≡ fields.cdw10
