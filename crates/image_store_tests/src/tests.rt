@@ -57,10 +57,7 @@ fn written(alloc: Global) -> Result<Vec<u8>, AllocError> {
 /// The fault that a text is refused with, if it is.
 fn fault_of(alloc: Global, text: &[u8]) -> Option<LoadFault> {
     let mut source = text;
-    match Image::load(alloc, &mut source) {
-        Ok(_) => None,
-        Err(fault) => Some(fault),
-    }
+    Image::load(alloc, &mut source).err()
 }
 
 /// The same of the front of a text.
