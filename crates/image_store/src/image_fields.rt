@@ -50,13 +50,6 @@ fn replace(zones: &mut [Zone], counts: &mut Counts, zone: usize, is: Zone)
     zones[zone] = is;
 }
 
-/// How many written blocks a zone keeps that comes into a state.
-fn kept(to: ZoneState, written: u32) -> u32
-    ensures { result ≡ kept to written }
-{
-    if to.is_cleared() { 0 } else { written }
-}
-
 /// Puts a zone in another state, with the written blocks that it keeps there.
 pub fn set_state(
     geometry: Geometry,
@@ -73,7 +66,7 @@ pub fn set_state(
     ensures state { namespace_of geometry zones.new blocks.now ≡ with_state (namespace_of geometry zones.old blocks.now) zone to }
     ensures image { IsImage geometry zones.new counts.new blocks.now }
 {
-    let written = kept(to, zones[zone].written());
+    let written = to.kept(zones[zone].written());
     let is = Zone::new(to, written, geometry.capacity()).unwrap();
     replace(zones, counts, zone, is);
 }

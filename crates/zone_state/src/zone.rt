@@ -141,9 +141,7 @@ impl Zone {
         ensures err { OnErr result (self.new ≡ self.old) }
     {
         let to = action.transition(self.state)?;
-        if to.is_cleared() {
-            self.written = 0;
-        }
+        self.written = to.kept(self.written);
         self.state = to;
         Ok(to)
     }
@@ -160,18 +158,11 @@ impl Zone {
         ensures fits { OnOk result (IsZone (state_of_fault to) (kept (state_of_fault to) self.old.written) self.old.capacity) }
         ensures err { OnErr result (self.new ≡ self.old) }
     {
-        match to {
-            FaultState::ReadOnly => {
-                if self.state == ZoneState::Offline {
-                    return Err(FaultRefused);
-                }
-                self.state = ZoneState::ReadOnly;
-            }
-            FaultState::Offline => {
-                self.written = 0;
-                self.state = ZoneState::Offline;
-            }
+        if to == FaultState::ReadOnly && self.state == ZoneState::Offline {
+            return Err(FaultRefused);
         }
+        self.state = to.state();
+        self.written = self.state.kept(self.written);
         Ok(())
     }
 }
