@@ -2,6 +2,7 @@ mod Agreeing
 mod Commands
 mod Encodings
 mod Descriptors
+mod ListedStates
 mod Listings
 mod Reports
 mod Spelled

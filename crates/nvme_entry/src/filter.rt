@@ -1,6 +1,6 @@
 //! Which zones a report lists.
 
-ghost use Rattle.std.specs.Prelude.{◌≡◌};
+ghost use Rattle.std.specs.Prelude.{◌≡◌, ◌↔◌, true};
 ghost use Rattle.nvme_entry.specs.Filter.{filter_of, filter_for, lists};
 
 use zone_state::ZoneState;
@@ -29,8 +29,10 @@ pub enum ZoneFilter {
 
 impl ZoneFilter {
     /// The filter that lists the zones of this state, and no others.
+    #[tactic(auto, using(crate::proofs::ListedStates::lists_alone))]
     pub fn of(state: ZoneState) -> ZoneFilter
-        ensures { result ≡ filter_for state }
+        ensures value { result ≡ filter_for state }
+        ensures alone { (other : ZoneState) → (lists result other ≡ true) ↔ (other ≡ state) }
     {
         match state {
             ZoneState::Empty => ZoneFilter::Empty,
@@ -80,15 +82,6 @@ impl ZoneFilter {
     pub fn lists(self, state: ZoneState) -> bool
         ensures { result ≡ lists self state }
     {
-        match self {
-            ZoneFilter::All => true,
-            ZoneFilter::Empty => state == ZoneState::Empty,
-            ZoneFilter::ImplicitlyOpened => state == ZoneState::ImplicitlyOpened,
-            ZoneFilter::ExplicitlyOpened => state == ZoneState::ExplicitlyOpened,
-            ZoneFilter::Closed => state == ZoneState::Closed,
-            ZoneFilter::Full => state == ZoneState::Full,
-            ZoneFilter::ReadOnly => state == ZoneState::ReadOnly,
-            ZoneFilter::Offline => state == ZoneState::Offline,
-        }
+        self == ZoneFilter::All || self == ZoneFilter::of(state)
     }
 }
