@@ -54,10 +54,8 @@ pub fn decode(bytes: &[u8]) -> Result<Header, LoadFault>
     requires { length bytes.now ≡ HEADER_BYTES }
     ensures { result ≡ header_told bytes.now }
 {
-    match Version::of(bytes) {
-        Some(version) => decode_as(version, bytes),
-        None => Err(LoadFault::Magic),
-    }
+    let version = Version::of(bytes).ok_or(LoadFault::Magic)?;
+    decode_as(version, bytes)
 }
 
 /// What a header of this version tells.
@@ -87,10 +85,9 @@ fn geometry_told(bytes: &[u8]) -> Result<Geometry, LoadFault>
         open_limit: number(bytes, 24),
         active_limit: number(bytes, 28),
     };
-    match Geometry::new(block, zones, size, capacity, limits) {
-        Ok(geometry) => Ok(geometry),
-        Err(refusal) => Err(LoadFault::Header(HeaderFault::Numbers(refusal))),
-    }
+    Geometry::new(block, zones, size, capacity, limits).map_err(|refusal| LoadFault::Header(
+        HeaderFault::Numbers(refusal),
+    ))
 }
 
 /// Refuses a geometry that no text of the version has.

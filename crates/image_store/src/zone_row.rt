@@ -70,14 +70,9 @@ fn decode(zone: u32, bytes: &[u8], capacity: u32) -> Result<Zone, LoadFault>
         let fault = ZoneRowFault::Reserved;
         return Err(LoadFault::ZoneRow { zone, fault });
     }
-    let written = LittleEndian::read_u32(&bytes[4..]);
-    match ZoneState::from_code(bytes[0]) {
-        Some(state) => zone_of(zone, state, written, capacity),
-        None => {
-            let fault = ZoneRowFault::State(bytes[0]);
-            Err(LoadFault::ZoneRow { zone, fault })
-        }
-    }
+    let fault = ZoneRowFault::State(bytes[0]);
+    let state = ZoneState::from_code(bytes[0]).ok_or(LoadFault::ZoneRow { zone, fault })?;
+    zone_of(zone, state, LittleEndian::read_u32(&bytes[4..]), capacity)
 }
 
 /// The zone in a state with so many blocks written, if the state allows them.
@@ -85,15 +80,10 @@ fn zone_of(zone: u32, state: ZoneState, written: u32, capacity: u32) -> Result<Z
     requires { 1 ≤ capacity }
     ensures { result ≡ zone_with zone state written capacity }
 {
-    match Zone::new(state, written, capacity) {
-        Some(told) => Ok(told),
-        None => {
-            let fault = ZoneRowFault::Blocks {
-                state,
-                written,
-                capacity,
-            };
-            Err(LoadFault::ZoneRow { zone, fault })
-        }
-    }
+    let fault = ZoneRowFault::Blocks {
+        state,
+        written,
+        capacity,
+    };
+    Zone::new(state, written, capacity).ok_or(LoadFault::ZoneRow { zone, fault })
 }
