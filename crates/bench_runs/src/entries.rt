@@ -20,25 +20,29 @@ fn submit(command: Command, input: Vec<u8>) -> Event
     }
 }
 
-/// So many blocks, of which there is one at least.
-fn block_count(blocks: u16) -> BlockCount {
-    BlockCount::from_zero_based(blocks.saturating_sub(1))
+/// So many blocks.
+fn block_count(blocks: u16) -> io::Result<BlockCount> {
+    BlockCount::new(u32::from(blocks)).ok_or(io::Error::other("no command has so many blocks"))
 }
 
 /// Writes so many blocks at the write pointer of the zone whose lowest block this is.
-pub fn append(lowest: u64, blocks: u16, input: Vec<u8>) -> Event {
+///
+/// # Errors
+///
+/// No command has so many blocks.
+pub fn append(lowest: u64, blocks: u16, input: Vec<u8>) -> io::Result<Event> {
     let command = StandardCommand::Append {
         lba: lowest,
-        blocks: block_count(blocks),
+        blocks: block_count(blocks)?,
     };
-    submit(Command::Standard(command), input)
+    Ok(submit(Command::Standard(command), input))
 }
 
 /// Reads one block.
 pub fn read(lba: u64, none: Vec<u8>) -> Event {
     let command = StandardCommand::Read {
         lba,
-        blocks: block_count(1),
+        blocks: BlockCount::from_zero_based(0),
     };
     submit(Command::Standard(command), none)
 }
@@ -83,11 +87,11 @@ pub fn load(limit: u32, program: Vec<u8>) -> io::Result<Event> {
 ///
 /// # Errors
 ///
-/// There is no slot 0.
+/// No command has so many blocks, or there is no slot 0.
 pub fn run(lba: u64, blocks: u16, to: u64, none: Vec<u8>) -> io::Result<Event> {
     let run = RunCommand {
         lba,
-        blocks: block_count(blocks),
+        blocks: block_count(blocks)?,
         slot: first_slot()?,
         argument: 0,
         destination: to,

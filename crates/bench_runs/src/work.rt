@@ -84,7 +84,7 @@ pub fn fill(alloc: Global, device: &mut Device, blocks: u16, data: &mut [u8]) ->
 {
     for block in 0..blocks {
         let bytes = vec![in alloc; (block % 251) as u8; BLOCK as usize]?;
-        must(device, &append(0, 1, bytes), data)?;
+        must(device, &append(0, 1, bytes)?, data)?;
     }
     Ok(())
 }
@@ -293,7 +293,7 @@ pub fn events(
 ///
 /// # Errors
 ///
-/// A command is refused, the clock fails, or memory is wanting.
+/// No command has so many blocks, one is refused, the clock fails, or memory is wanting.
 pub fn appends(
     rt: &impl Clock,
     alloc: Global,
@@ -306,7 +306,7 @@ pub fn appends(
 {
     let lowest = u64::from(2 * ZONE_SIZE);
     let bytes = usize::from(blocks) * BLOCK as usize;
-    let event = append(lowest, blocks, vec![in alloc; 0xA5; bytes]?);
+    let event = append(lowest, blocks, vec![in alloc; 0xA5; bytes]?)?;
     must(device, &reset(lowest, Vec::new(alloc)), data)?;
     let times = ZONE_SIZE / u32::from(blocks.max(1));
     let begin = Instant::now(rt)?;
