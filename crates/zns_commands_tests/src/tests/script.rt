@@ -1,6 +1,6 @@
 //! Scripts: what happens to a small namespace, step by step, and what is seen of it.
 
-ghost use Rattle.std.specs.Prelude.{length};
+ghost use Rattle.std.specs.Prelude.{◌≤◌, length};
 
 use std::alloc::Global;
 use std::process::Abort;
@@ -72,13 +72,17 @@ pub enum Step {
     Uses(usize, usize),
 }
 
-/// So many blocks, of which there is one at least.
-fn block_count(blocks: u16) -> BlockCount {
-    BlockCount::from_zero_based(blocks.saturating_sub(1))
+/// So many blocks.
+fn block_count(blocks: u16) -> BlockCount
+    requires { 1 ≤ blocks }
+{
+    BlockCount::from_zero_based(blocks - 1)
 }
 
 /// An Append of blocks.
-pub fn append(lba: u64, blocks: u16, status: Status) -> Step {
+pub fn append(lba: u64, blocks: u16, status: Status) -> Step
+    requires { 1 ≤ blocks }
+{
     let command = StandardCommand::Append {
         lba,
         blocks: block_count(blocks),
@@ -87,7 +91,9 @@ pub fn append(lba: u64, blocks: u16, status: Status) -> Step {
 }
 
 /// A Write of blocks.
-pub fn write(lba: u64, blocks: u16, status: Status) -> Step {
+pub fn write(lba: u64, blocks: u16, status: Status) -> Step
+    requires { 1 ≤ blocks }
+{
     let command = StandardCommand::Write {
         lba,
         blocks: block_count(blocks),
@@ -96,7 +102,9 @@ pub fn write(lba: u64, blocks: u16, status: Status) -> Step {
 }
 
 /// A Read of blocks.
-pub fn read(lba: u64, blocks: u16, status: Status) -> Step {
+pub fn read(lba: u64, blocks: u16, status: Status) -> Step
+    requires { 1 ≤ blocks }
+{
     let command = StandardCommand::Read {
         lba,
         blocks: block_count(blocks),
