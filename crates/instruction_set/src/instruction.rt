@@ -1,7 +1,7 @@
 //! Instructions.
 
 ghost use Rattle.std.specs.Prelude.{◌≡◌, ◌<◌};
-ghost use Rattle.instruction_set.specs.Instruction.{access_of, destination_register, distance_of, immediate_word, is_this_register, is_emit, target, writes};
+ghost use Rattle.instruction_set.specs.Instruction.{access_of, destination_register, distance_of, immediate_word, is_emit, target, writes};
 ghost use Rattle.instruction_set.specs.Program.{slots_taken};
 
 use crate::access::{Access, AccessKind};
@@ -193,7 +193,7 @@ impl Instruction {
     pub fn writes(&self, register: Register) -> bool
         ensures { result ≡ writes self.now register }
     {
-        is_this_register(self.destination(), register)
+        self.destination() == Some(register)
     }
 
     /// The distance of a jump, in slots from the slot after it, and `None` where the instruction is
@@ -226,16 +226,5 @@ impl Instruction {
         ensures { result ≡ immediate_word immediate }
     {
         i64::from(immediate).cast_unsigned()
-    }
-}
-
-/// Is there a register, and is it this one?
-#[inline(always)]
-fn is_this_register(destination: Option<Register>, register: Register) -> bool
-    ensures { result ≡ is_this_register destination register }
-{
-    match destination {
-        Some(dst) => dst == register,
-        None => false,
     }
 }
