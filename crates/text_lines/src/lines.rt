@@ -1,7 +1,7 @@
 //! The lines of a text.
 
-ghost use Rattle.std.specs.Prelude.{◌≡◌, ◌<◌, ◌∷◌, length, slice_get, option_copied};
-ghost use Rattle.std.specs.List.{list_all};
+ghost use Rattle.std.specs.Prelude.{◌≡◌, ◌<◌, ◌==◌, ◌∷◌, length, slice_get, option_copied};
+ghost use Rattle.std.specs.List.{after_first, list_all};
 ghost use Rattle.std.specs.Char.{is_ascii};
 ghost use Rattle.std.specs.Str.Lines.{lines as text_lines, strip_carriage_return};
 ghost use Rattle.text_lines.specs.Cut.{uncommented};
@@ -12,6 +12,7 @@ use crate::cutting::cut;
 pub fn first_line(text: &[u8]) -> (&[u8], &[u8])
     requires { 0 < length text.now }
     ensures lines { text_lines text.now ≡ result.0.now ∷ text_lines result.1.now }
+    ensures behind { result.1.now ≡ after_first (λ b. b == 10) text.now }
     ensures shorter { length result.1.now < length text.now }
 {
     match cut(text, b'\n') {
