@@ -1,11 +1,11 @@
 -- The beginning of a text.
-use Rattle.std.proofs.Common.{◌≡◌, ℕ, List, ◌++◌, length, take, min, ap, ◌∙◌, arith}
-use Rattle.std.proofs.lemmas.List.{take_all, take-append-le, length-take, take_min}
+use Rattle.std.proofs.Common.{◌≡◌, ℕ, ◌-◌, List, ◌++◌, length, take, replicate, min, ap, ◌∙◌, arith}
+use Rattle.std.proofs.lemmas.List.{take_min}
 
--- what is kept in front of other bytes are a text's first
-pub excerpt_is_first : (kept most : ℕ) (front rest text : List ℕ) → front ≡ take kept text → kept ≡ min most (length text)
-    → take kept (front ++ rest) ≡ take most text
-excerpt_is_first kept most front rest text is least =
-    let same : length front ≡ kept = omega (arith, ap length is ∙ length-take kept text, least) in
-    take-append-le kept front rest (omega (arith, same)) ∙ take_all kept front (omega (arith, same)) ∙ is
-    ∙ ap (λ (n : ℕ). take n text) least ∙ take_min most text
+-- a text's first bytes are kept in front of as many zeros as there are bytes fewer
+pub bytes_of_excerpt : (kept most : ℕ) (front zeros text : List ℕ) → front ≡ take kept text → kept ≡ min most (length text)
+    → zeros ≡ replicate (most - kept) 0 → front ++ zeros ≡ take most text ++ replicate (most - length text) 0
+bytes_of_excerpt kept most front zeros text first least behind =
+    let as_many : most - kept ≡ most - length text = omega (arith, least) in
+    ap (λ (bytes : List ℕ). bytes ++ zeros) (first ∙ ap (λ (n : ℕ). take n text) least ∙ take_min most text)
+    ∙ ap (λ (bytes : List ℕ). take most text ++ bytes) (behind ∙ ap (λ (n : ℕ). replicate n 0) as_many)
