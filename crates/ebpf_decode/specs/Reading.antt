@@ -45,6 +45,10 @@ abbrev pub slots_at : ℕ → List ℕ → List Fields
 slots_at zero bytes = []
 slots_at (suc count) bytes = fields_at bytes ∷ slots_at count (drop 8 bytes)
 
+-- the fields of a slot, where the bytes have it
+abbrev pub fields_in : ℕ → List ℕ → Option Fields
+fields_in slot bytes = slice_get (slots_at (length bytes / 8) bytes) slot
+
 -- ---- the first fault of an instruction
 
 -- is it an instruction that this profile leaves out, though RFC 9669 has its opcode?

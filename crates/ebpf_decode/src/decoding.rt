@@ -1,9 +1,9 @@
 //! Programs out of bytes.
 
-ghost use Rattle.std.specs.Prelude.{◌≡◌, ◌<◌, ◌≤◌, ◌+◌, ◌*◌, ◌/◌, ◌^◌, drop, length, slice_get, false, None};
+ghost use Rattle.std.specs.Prelude.{◌≡◌, ◌<◌, ◌≤◌, ◌+◌, ◌*◌, ◌/◌, ◌^◌, drop, length, false, None};
 ghost use Rattle.std.specs.Int.{w32, cast_unsigned};
 ghost use Rattle.program_interface.specs.Gives.{Gives};
-ghost use Rattle.ebpf_decode.specs.Reading.{begins_wide, decoded_program, begun, fault_in, fields_at, first_fault, has_more, has_no_register, has_unused, immediate_of, instruction_with, is_left_out, jump, length_fault, load_or_store, read, read_slots, slots_at, source_of, signed_move};
+ghost use Rattle.ebpf_decode.specs.Reading.{begins_wide, decoded_program, begun, fault_in, fields_at, fields_in, first_fault, has_more, has_no_register, has_unused, immediate_of, instruction_with, is_left_out, jump, length_fault, load_or_store, read, read_slots, slots_at, source_of, signed_move};
 
 use crate::fault::{DecodeFault, Fault, FaultKind};
 use crate::fields::from_bytes;
@@ -260,7 +260,7 @@ fn read(fields: &Fields, next: Option<Fields>) -> Result<Instruction, FaultKind>
 
 /// The fields of a slot, where the bytes have it.
 pub(crate) fn slot_at(bytes: &[u8], slot: usize) -> Option<Fields>
-    ensures { result ≡ slice_get (slots_at (length bytes.now / 8) bytes.now) slot }
+    ensures { result ≡ fields_in slot bytes.now }
 {
     if slot < bytes.len() / 8 {
         Some(from_bytes(&bytes[8 * slot..]))
@@ -272,7 +272,7 @@ pub(crate) fn slot_at(bytes: &[u8], slot: usize) -> Option<Fields>
 /// What begins at a slot: nothing at a wide instruction's second.
 fn begun_at(bytes: &[u8], slot: usize, second: bool) -> Result<Option<Instruction>, FaultKind>
     requires { slot < length bytes.now / 8 }
-    ensures { result ≡ begun second (fields_at (drop (8 * slot) bytes.now)) (slice_get (slots_at (length bytes.now / 8) bytes.now) (slot + 1)) }
+    ensures { result ≡ begun second (fields_at (drop (8 * slot) bytes.now)) (fields_in (slot + 1) bytes.now) }
 {
     if second {
         return Ok(None);
