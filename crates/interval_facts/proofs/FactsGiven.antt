@@ -42,51 +42,51 @@ use Rattle.interval_facts.proofs.PointerSound.{int_le-true, negative_is}
 abbrev IsOrdered : Bounds → Type 0
 IsOrdered b = b.low ≤ b.high
 
-pick : (test : Bool) (b c : Bounds) → (test ≡ true → IsOrdered b) → (test ≡ false → IsOrdered c) → IsOrdered (cond test b c)
-pick test b c when unless = cond_both test b c (λ chosen. IsOrdered chosen) when unless
+either_ordered : (test : Bool) (b c : Bounds) → (test ≡ true → IsOrdered b) → (test ≡ false → IsOrdered c) → IsOrdered (cond test b c)
+either_ordered test b c when unless = cond_both test b c (λ chosen. IsOrdered chosen) when unless
 
-pick_fact : (test : Bool) (f g : Fact) → (test ≡ true → IsFact f) → (test ≡ false → IsFact g) → IsFact (cond test f g)
-pick_fact test f g when unless = cond_both test f g (λ chosen. IsFact chosen) when unless
+either_is_fact : (test : Bool) (f g : Fact) → (test ≡ true → IsFact f) → (test ≡ false → IsFact g) → IsFact (cond test f g)
+either_is_fact test f g when unless = cond_both test f g (λ chosen. IsFact chosen) when unless
 
 -- ---- ranges
 
 module _ (w : Width) (d s : Bounds) (hd : IsOrdered d) (hs : IsOrdered s) where
   sum_is : IsOrdered (sum w d s)
   sum_is =
-      pick (nat_lt (d.high + s.high) (number_count w)) _ _ (λ _. omega arith)
-      (λ _. pick (nat_le (number_count w) (d.low + s.low)) _ _ (λ _. omega arith) (λ _. omega arith))
+      either_ordered (nat_lt (d.high + s.high) (number_count w)) _ _ (λ _. omega arith)
+      (λ _. either_ordered (nat_le (number_count w) (d.low + s.low)) _ _ (λ _. omega arith) (λ _. omega arith))
 
   difference_is : IsOrdered (difference w d s)
   difference_is =
-      pick (nat_le s.high d.low) _ _ (λ _. omega arith)
-      (λ _. pick (nat_lt d.high s.low) _ _ (λ _. omega arith) (λ _. omega arith))
+      either_ordered (nat_le s.high d.low) _ _ (λ _. omega arith)
+      (λ _. either_ordered (nat_lt d.high s.low) _ _ (λ _. omega arith) (λ _. omega arith))
 
   product_is : IsOrdered (product w d s)
-  product_is = pick (nat_lt (d.high * s.high) (number_count w)) _ _ (λ _. mul-le d.low s.low d.high s.high hd hs) (λ _. omega arith)
+  product_is = either_ordered (nat_lt (d.high * s.high) (number_count w)) _ _ (λ _. mul-le d.low s.low d.high s.high hd hs) (λ _. omega arith)
 
   quotient_is : IsOrdered (quotient d s)
   quotient_is =
-      pick (s.high == 0) _ _ (λ _. omega arith)
-      (λ _. pick (nat_le 1 s.low) _ _
+      either_ordered (s.high == 0) _ _ (λ _. omega arith)
+      (λ _. either_ordered (nat_le 1 s.low) _ _
       (λ some. quotient_grows d.low s.high d.high s.low hd hs (leb-true 1 s.low some))
       (λ _. omega arith))
 
   remainder_is : IsOrdered (remainder d s)
   remainder_is =
-      pick (nat_le 1 s.low && nat_lt d.high s.low) _ _ (λ _. hd)
-      (λ _. pick (nat_le 1 s.low) _ _ (λ _. omega arith) (λ _. omega arith))
+      either_ordered (nat_le 1 s.low && nat_lt d.high s.low) _ _ (λ _. hd)
+      (λ _. either_ordered (nat_le 1 s.low) _ _ (λ _. omega arith) (λ _. omega arith))
 
   unsigned_is : (bounds : Bounds) → IsOrdered bounds → IsOrdered (if_unsigned w d s bounds)
-  unsigned_is bounds is = pick (nat_lt d.high (half w) && nat_lt s.high (half w)) _ _ (λ _. is) (λ _. omega arith)
+  unsigned_is bounds is = either_ordered (nat_lt d.high (half w) && nat_lt s.high (half w)) _ _ (λ _. is) (λ _. omega arith)
 
   left_by_is : (c : ℕ) → IsOrdered (shifted_left_by w c d)
-  left_by_is c = pick (nat_lt (d.high * 2 ^ c) (number_count w)) _ _ (λ _. mul-le d.low (2 ^ c) d.high (2 ^ c) hd (omega arith)) (λ _. omega arith)
+  left_by_is c = either_ordered (nat_lt (d.high * 2 ^ c) (number_count w)) _ _ (λ _. mul-le d.low (2 ^ c) d.high (2 ^ c) hd (omega arith)) (λ _. omega arith)
 
   left_is : IsOrdered (shifted_left w d s)
-  left_is = pick (is_single s) _ _ (λ _. left_by_is (count w s.low)) (λ _. omega arith)
+  left_is = either_ordered (is_single s) _ _ (λ _. left_by_is (count w s.low)) (λ _. omega arith)
 
   right_is : IsOrdered (shifted_right w d s)
-  right_is = pick (is_single s) _ _ (λ _. shr_mono (count w s.low) hd) (λ _. omega arith)
+  right_is = either_ordered (is_single s) _ _ (λ _. shr_mono (count w s.low) hd) (λ _. omega arith)
 
   combined_is : (operation : Operation) → IsOrdered (combined w operation d s)
   combined_is Add = sum_is
@@ -102,13 +102,13 @@ module _ (w : Width) (d s : Bounds) (hd : IsOrdered d) (hs : IsOrdered s) where
   combined_is SignedModulo = unsigned_is (remainder d s) remainder_is
   combined_is Xor = omega arith
   combined_is Move = hs
-  combined_is ArithmeticShift = pick (nat_lt d.high (half w)) _ _ (λ _. right_is) (λ _. omega arith)
+  combined_is ArithmeticShift = either_ordered (nat_lt d.high (half w)) _ _ (λ _. right_is) (λ _. omega arith)
 
 -- ---- pointers
 
 pointer_to_is : (area : Area) (low high : ℤ) → low ≤ℤ high → IsFact (pointer_to area low high)
 pointer_to_is area low high order =
-    pick_fact (int_le (pos 0 -ℤ farthest) low && int_le high farthest) _ _
+    either_is_fact (int_le (pos 0 -ℤ farthest) low && int_le high farthest) _ _
     (λ near.
     let both = and_parts (int_le (pos 0 -ℤ farthest) low) (int_le high farthest) near in
     (int_le-true (pos 0 -ℤ farthest) low both.0, order, int_le-true high farthest both.1))
@@ -156,7 +156,7 @@ bounds_is (Words b) is = is
 bounds_is (Pointer area low high) is = omega arith
 
 cut_is : (b : Bounds) → IsOrdered b → IsOrdered (cut b)
-cut_is b is = pick (is_single b) _ _ (λ _. omega arith) (λ _. pick (nat_lt b.high (2 ^ 32)) _ _ (λ _. is) (λ _. omega arith))
+cut_is b is = either_ordered (is_single b) _ _ (λ _. omega arith) (λ _. either_ordered (nat_lt b.high (2 ^ 32)) _ _ (λ _. is) (λ _. omega arith))
 
 operand_is : (w : Width) (f : Fact) → IsFact f → IsOrdered (operand_of w f)
 operand_is Bits32 f is = cut_is (bounds_of f) (bounds_is f is)
@@ -190,7 +190,7 @@ module _ (d s : Fact) (hd : IsFact d) (hs : IsFact s) where
 
   extended_of_is : (extension : SignExtension) → IsOrdered (extended_of extension (operand_of (extension_width extension) s))
   extended_of_is extension =
-      pick (nat_lt (operand_of (extension_width extension) s).high (unsigned_below extension)) _ _ (λ _. operand_is (extension_width extension) s hs) (λ _. omega arith)
+      either_ordered (nat_lt (operand_of (extension_width extension) s).high (unsigned_below extension)) _ _ (λ _. operand_is (extension_width extension) s hs) (λ _. omega arith)
 
   swapped_is : (size : SwapSize) → IsOrdered (swapped_of size)
   swapped_is kept.Bits16 = omega arith
@@ -204,7 +204,7 @@ module _ (d s : Fact) (hd : IsFact d) (hs : IsFact s) where
   estimated_is (SwapBytes swap size) = swapped_is size
 
   alu_is : (a : Arithmetic) → IsFact (alu_of a d s)
-  alu_is a = pick_fact (are_known a d s) _ _ (λ _. omega arith) (λ _. estimated_is a)
+  alu_is a = either_is_fact (are_known a d s) _ _ (λ _. omega arith) (λ _. estimated_is a)
 
 -- ---- edges
 
@@ -296,11 +296,11 @@ joined_is (Words d) (Words s) hd hs = omega arith
 joined_is (Words d) (Pointer area low high) hd hs = omega arith
 joined_is (Pointer area low high) (Words s) hd hs = omega arith
 joined_is (Pointer area low high) (Pointer area' low' high') hd hs =
-    pick_fact (address_of area == address_of area') _ _ (λ _. joined_order low high low' high' hd.0 hd.1 hd.2 hs.0 hs.1 hs.2) (λ _. omega arith)
+    either_is_fact (address_of area == address_of area') _ _ (λ _. joined_order low high low' high' hd.0 hd.1 hd.2 hs.0 hs.1 hs.2) (λ _. omega arith)
 
 widened_is : (f : Fact) → IsFact f → IsFact (widened f)
-widened_is (Words b) is = pick_fact (is_single b) _ _ (λ _. is) (λ _. omega arith)
-widened_is (Pointer area low high) is = pick_fact (int_eq low high) _ _ (λ _. is) (λ _. omega arith)
+widened_is (Words b) is = either_is_fact (is_single b) _ _ (λ _. is) (λ _. omega arith)
+widened_is (Pointer area low high) is = either_is_fact (int_eq low high) _ _ (λ _. is) (λ _. omega arith)
 
 both_widened_are : (o : Option (Fact × Fact)) → AreFacts o → AreFacts (both_widened o)
 both_widened_are None are = tt
