@@ -1,4 +1,4 @@
-//! Programs by name, as text: those that both the tests of the verifier and those of the device load.
+//! Programs by name, as text: those that the tests of several crates take.
 
 /// A program as text.
 pub type Text = &'static str;
@@ -13,6 +13,14 @@ pub const MATCHING: Text =
 /// Emits 1 to 8 of a block's bytes, as its first says.
 pub const GROWING: Text =
     "ldxb r6, [r2+0]\nand r6, 7\nadd r6, 1\nmov r1, r2\nmov r2, r6\ncall 1\nmov r0, 0\nexit";
+
+/// Emits a block's first 3 bytes twice.
+pub const EMITTING_TWICE: Text =
+    "mov r6, r2\nmov r1, r6\nmov r2, 3\ncall 1\nmov r1, r6\nmov r2, 3\ncall 1\nexit";
+
+/// Emits a block's first byte once where it is 0, and else twice.
+pub const ONCE_OR_TWICE: Text = "\
+mov r7, r2\nldxb r6, [r7+0]\njeq r6, 0, +3\nmov r1, r7\nmov r2, 1\ncall 1\nmov r1, r7\nmov r2, 1\ncall 1\nexit";
 
 /// Adds a block's first byte to a sum in scratch, and ends the run with its third block.
 pub const ADDING_THREE: Text = "\

@@ -5,7 +5,7 @@ use super::verdicts::Case::{self, Text};
 use super::verdicts::Verdict::{Accepted, Refused};
 use super::verdicts::check_both;
 use std::test::Fail;
-use test_inputs::programs::MATCHING;
+use test_inputs::programs::{EMITTING_TWICE, MATCHING, ONCE_OR_TWICE};
 
 const EMITS: &[Case] = &[
     // There is one helper, number 1.
@@ -45,31 +45,13 @@ const EMITS: &[Case] = &[
     // One byte too many.
     Text(MATCHING, 9, Refused(4, 10)),
     // Two frames of 5 bytes.
-    Text(
-        "mov r6, r2\nmov r1, r6\nmov r2, 3\ncall 1\nmov r1, r6\nmov r2, 3\ncall 1\nexit",
-        10,
-        Accepted(8),
-    ),
+    Text(EMITTING_TWICE, 10, Accepted(8)),
     // The second takes the group over the limit.
-    Text(
-        "mov r6, r2\nmov r1, r6\nmov r2, 3\ncall 1\nmov r1, r6\nmov r2, 3\ncall 1\nexit",
-        9,
-        Refused(6, 10),
-    ),
+    Text(EMITTING_TWICE, 9, Refused(6, 10)),
     // One frame or two, of 3 bytes each.
-    Text(
-        "mov r7, r2\nldxb r6, [r7+0]\njeq r6, 0, +3\nmov r1, r7\nmov r2, 1\ncall 1\n\
-mov r1, r7\nmov r2, 1\ncall 1\nexit",
-        6,
-        Accepted(10),
-    ),
+    Text(ONCE_OR_TWICE, 6, Accepted(10)),
     // Where two ways meet, the longer group counts.
-    Text(
-        "mov r7, r2\nldxb r6, [r7+0]\njeq r6, 0, +3\nmov r1, r7\nmov r2, 1\ncall 1\n\
-mov r1, r7\nmov r2, 1\ncall 1\nexit",
-        5,
-        Refused(8, 10),
-    ),
+    Text(ONCE_OR_TWICE, 5, Refused(8, 10)),
     // A frame of 10 bytes, where the first is 7, and one of 6.
     Text(TWO_FRAMES, 16, Accepted(11)),
     // Both are longer than the group may be.

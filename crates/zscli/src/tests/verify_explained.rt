@@ -3,7 +3,7 @@
 use super::scenes::Act::{self, Verify};
 use super::scenes::{Scene, play};
 use std::test::Fail;
-use test_inputs::programs::MATCHING;
+use test_inputs::programs::{EMITTING_TWICE, MATCHING, ONCE_OR_TWICE};
 
 const ACCEPTED: &[Act] = &[
     Verify(
@@ -19,8 +19,7 @@ const ACCEPTED: &[Act] = &[
     ),
     // One frame or two, of 3 bytes each.
     Verify(
-        "mov r7, r2\nldxb r6, [r7+0]\njeq r6, 0, +3\nmov r1, r7\nmov r2, 1\ncall 1\nmov r1, r7\nmov r2, 1\ncall 1\n\
-exit",
+        ONCE_OR_TWICE,
         512,
         "accepted 10\nfor a block at most 10 steps, and 6 bytes emitted",
     ),
@@ -162,7 +161,7 @@ r2 is 1",
     ),
     // Two frames of 5 bytes.
     Verify(
-        "mov r6, r2\nmov r1, r6\nmov r2, 3\ncall 1\nmov r1, r6\nmov r2, 3\ncall 1\nexit",
+        EMITTING_TWICE,
         9,
         "refused 6 10\n   6  call 1\n\
 an emit over the limit: behind 5 bytes, 2 for its length and 3 bytes come to 10, and 9 may be emitted\n\
