@@ -17,19 +17,6 @@ const CAUSES: [Cause; 8] = [
     Cause::EmitLength,
 ];
 
-const REASONS: [Reason; 10] = [
-    Reason::JumpBack,
-    Reason::JumpOutside,
-    Reason::FallsOff,
-    Reason::WriteToFramePointer,
-    Reason::LoadOutside,
-    Reason::StoreOutside,
-    Reason::UnknownHelper,
-    Reason::EmitAddress,
-    Reason::EmitLength,
-    Reason::EmitLimit,
-];
-
 /// What a word is refused with, and the help that tells the same range.
 const RANGES: &[Act] = &[
     Act::Says("zscli entry read --lba 0 --blocks 0", "from 1 to 65536"),
@@ -133,10 +120,11 @@ fn help_has_the_words_of_each_reason(rt: HostRuntime) -> Result<(), Fail> {
         what: "zscli verify --help",
     };
     let mut stage = Stage::new(rt.alloc());
-    for reason in REASONS {
-        let number = reason.number();
-        let text = format!(in rt.alloc(); "{number:3} {reason}")?;
-        stage.check_said(&rt, &at, text.as_str())?;
+    for number in 1..=u8::MAX {
+        if let Some(reason) = Reason::from_number(number) {
+            let text = format!(in rt.alloc(); "{number:3} {reason}")?;
+            stage.check_said(&rt, &at, text.as_str())?;
+        }
     }
     Ok(())
 }
