@@ -1,6 +1,6 @@
 //! The words that follow a command's name.
 
-ghost use Rattle.std.specs.Prelude.{◌≡◌, ◌≤◌, IfErr, IfOk, None, OnErr, OnOk, Some};
+ghost use Rattle.std.specs.Prelude.{◌≡◌, ◌≤◌, IfErr, IfOk, None, OnErr, Some};
 ghost use Rattle.program_interface.specs.BlockSize.{block_size as size_of_bytes};
 ghost use Rattle.command_files.specs.Arguments.{number_of, value_of};
 ghost use Rattle.command_files.specs.UserTold.{IsNotInRange, SpellsNone};
@@ -10,7 +10,7 @@ use clap::error::ErrorKind;
 use clap::{Arg, ArgAction, ArgMatches, Command};
 use command_failure::Failure;
 use image_store::GeometryRefusal;
-use program_interface::{BlockSize, LARGEST_BLOCK};
+use program_interface::BlockSize;
 use std::alloc::{AllocError, Global};
 
 /// The option that [`block_option`] describes.
@@ -164,15 +164,11 @@ pub fn not_in_range<'a>(
 /// [`Failure::GeometryRefused`] where no block has as many, as `format` tells it.
 pub fn block_size<'a>(bytes: u32) -> Result<BlockSize, Failure<'a>>
     ensures same { IfOk result (λ block. block ≡ bytes) }
-    ensures most { OnOk result (bytes ≤ LARGEST_BLOCK) }
     ensures told { IfErr result (λ failure. failure ≡ Failure.GeometryRefused (GeometryRefusal.BlockSize bytes)) }
     ensures refused { OnErr result (size_of_bytes bytes ≡ None) }
 {
     match BlockSize::new(bytes) {
-        Some(size) => {
-            let _most = size.bytes();
-            Ok(size)
-        }
+        Some(size) => Ok(size),
         None => Err(Failure::GeometryRefused(GeometryRefusal::BlockSize(bytes))),
     }
 }

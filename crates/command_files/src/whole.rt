@@ -62,7 +62,8 @@ pub fn size_as_block<'a>(path: &'a str, bytes: usize) -> Result<BlockSize, Failu
     };
     match size {
         Some(size) => {
-            let _most = size.bytes();
+            // Brings in the most bytes that a block has.
+            let _ = size.bytes();
             Ok(size)
         }
         None => Err(Failure::DataRefused {
