@@ -14,13 +14,13 @@ use program_interface::BlockSize;
 use std::alloc::{AllocError, Global};
 
 /// The option that [`block_option`] describes.
-pub const BLOCK: &str = "block";
+pub const BLOCK_OPTION: &str = "block";
 
 /// The option that [`emit_option`] describes.
-pub const EMIT: &str = "emit";
+pub const EMIT_OPTION: &str = "emit";
 
 /// The option that [`argument_option`] describes.
-pub const ARGUMENT: &str = "argument";
+pub const ARGUMENT_OPTION: &str = "argument";
 
 /// The argument that [`program_argument`] describes.
 pub const PROGRAM: &str = "PROGRAM";
@@ -35,21 +35,21 @@ pub fn option<'a>(alloc: Global, name: &'a str, value: &'a str) -> Arg<'a> {
 
 /// The option that gives the bytes of a block, which is required.
 pub fn block_option<'a>(alloc: Global) -> Arg<'a> {
-    option(alloc, BLOCK, "B")
+    option(alloc, BLOCK_OPTION, "B")
         .required(true)
         .help("Bytes of a block: a power of 2 from 512 to 16384")
 }
 
 /// The option that gives the most bytes that may be emitted for a block, which is required.
 pub fn emit_option<'a>(alloc: Global) -> Arg<'a> {
-    option(alloc, EMIT, "E").required(true).help(
+    option(alloc, EMIT_OPTION, "E").required(true).help(
         "The most bytes that may be emitted for a block, two for each record counted: at most a block's",
     )
 }
 
 /// The option that gives a run's argument, 0 where it isn't given.
 pub fn argument_option<'a>(alloc: Global) -> Arg<'a> {
-    option(alloc, ARGUMENT, "A").default_value("0").help(
+    option(alloc, ARGUMENT_OPTION, "A").default_value("0").help(
         "The argument of the run, a number that the program is told",
     )
 }

@@ -11,7 +11,9 @@ use crate::image_file::{self, IMAGE};
 use clap::{Arg, ArgMatches, Command};
 use command_failure::Failure;
 use command_files::Files;
-use command_files::arguments::{BLOCK, and_argument, block_option, number, option, required};
+use command_files::arguments::{
+    BLOCK_OPTION, and_argument, block_option, number, option, required,
+};
 use image_store::{Geometry, Image, Limits};
 use std::alloc::{AllocError, Global};
 
@@ -110,7 +112,7 @@ fn geometry<'a>(matches: &ArgMatches<'a>) -> Result<Geometry, Failure<'a>>
     ensures passes { IfOk result (λ shape. tested shape ≡ Ok shape) }
     ensures refused { IfErr result (RefusesShape matches.now) }
 {
-    let block = number(matches, BLOCK)?;
+    let block = number(matches, BLOCK_OPTION)?;
     let zones = number(matches, ZONES)?;
     let size = number(matches, SIZE)?;
     let capacity = number(matches, CAPACITY)?;

@@ -6,7 +6,7 @@ ghost use Rattle.command_programs.specs.steps.Sizes.{AreAskedFor, IsLimit, Spell
 
 use clap::ArgMatches;
 use command_failure::Failure;
-use command_files::arguments::{EMIT, not_in_range, number_in_range};
+use command_files::arguments::{EMIT_OPTION, not_in_range, number_in_range};
 use program_interface::{BlockSize, RunSizes};
 
 /// Blocks of this size, for each of which at most as many bytes may be emitted as `--emit` says, or all of a block's where
@@ -22,7 +22,7 @@ pub(crate) fn run_sizes<'a>(
     let limit = limit(matches, most)?;
     match RunSizes::new(block, limit) {
         Some(sizes) => Ok(sizes),
-        None => Err(not_in_range(matches, EMIT, 0, u64::from(most))),
+        None => Err(not_in_range(matches, EMIT_OPTION, 0, u64::from(most))),
     }
 }
 
@@ -32,8 +32,8 @@ fn limit<'a>(matches: &ArgMatches<'a>, most: u32) -> Result<u32, Failure<'a>>
     ensures within { IfOk result (λ limit. limit ≤ most) }
     ensures told { IfErr result (SpellsNoLimit matches.now most) }
 {
-    match matches.get_str(EMIT) {
-        Some(_) => Ok(number_in_range(matches, EMIT, 0, u64::from(most))? as u32),
+    match matches.get_str(EMIT_OPTION) {
+        Some(_) => Ok(number_in_range(matches, EMIT_OPTION, 0, u64::from(most))? as u32),
         None => Ok(most),
     }
 }

@@ -11,7 +11,7 @@ use crate::step_lines::{Emitting, print_cause, print_changes};
 use clap::{Arg, ArgAction, ArgMatches, Command};
 use command_failure::{Failure, printed};
 use command_files::arguments::{
-    ARGUMENT, PROGRAM, and_argument, argument_option, emit_option, number, option,
+    ARGUMENT_OPTION, PROGRAM, and_argument, argument_option, emit_option, number, option,
     program_argument, required,
 };
 use command_files::{Files, read, size_as_block};
@@ -130,7 +130,7 @@ struct TraceOptions {
 
 fn asked_for<'a>(matches: &ArgMatches<'a>) -> Result<TraceOptions, Failure<'a>> {
     Ok(TraceOptions {
-        argument: number(matches, ARGUMENT)?,
+        argument: number(matches, ARGUMENT_OPTION)?,
         fuel: number(matches, FUEL)?,
         registers: matches.get_flag(REGISTERS),
     })

@@ -5,7 +5,9 @@ ghost use Rattle.command_programs.specs.steps.Told.{IsToldOfFrame};
 
 use clap::{Arg, ArgMatches, Command};
 use command_failure::{Failure, printed};
-use command_files::arguments::{BLOCK, and_argument, block_option, block_size, number, required};
+use command_files::arguments::{
+    BLOCK_OPTION, and_argument, block_option, block_size, number, required,
+};
 use command_files::{Files, read};
 use emit_append::{BlockSize, FrameRefusal, UnpackFault, unpack as records_of};
 use std::alloc::{AllocError, Global};
@@ -62,7 +64,7 @@ pub fn unpack<'a, F: Files, O: Write>(
     ensures made { F.made files.new ≡ F.made files.old }
     ensures contents { F.contents files.new ≡ F.contents files.old }
 {
-    let block = block_size(number(matches, BLOCK)?)?;
+    let block = block_size(number(matches, BLOCK_OPTION)?)?;
     let path = required(matches, FILE);
     let file = read(path, files)?;
     let text = text_of(alloc, path, file.as_slice(), block)?;

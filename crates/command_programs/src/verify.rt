@@ -9,8 +9,8 @@ use accepted_programs::{Facts, Refusal};
 use clap::{Arg, ArgAction, ArgMatches, Command};
 use command_failure::{Failure, printed};
 use command_files::arguments::{
-    BLOCK, PROGRAM, and_argument, block_option, block_size, emit_option, number, program_argument,
-    required,
+    BLOCK_OPTION, PROGRAM, and_argument, block_option, block_size, emit_option, number,
+    program_argument, required,
 };
 use command_files::{Counted, Files};
 use ebpf_asm::instruction_text;
@@ -89,7 +89,7 @@ pub fn verify<'a, F: Files, O: Write>(
     ensures made { F.made files.new ≡ F.made files.old }
     ensures contents { F.contents files.new ≡ F.contents files.old }
 {
-    let block = number(matches, BLOCK)?;
+    let block = number(matches, BLOCK_OPTION)?;
     let program = program_in_file(alloc, required(matches, PROGRAM), files)?;
     let sizes = run_sizes(matches, block_size(block)?)?;
     let judgement = judge::<Intervals>(alloc, &program, sizes)?;
