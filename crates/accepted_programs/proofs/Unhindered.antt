@@ -5,7 +5,7 @@ use Rattle.std.proofs.lemmas.Bool.{and_parts, and_from, and_right, cond_both, eq
 use Rattle.std.proofs.lemmas.Int.{ints}
 use Rattle.std.specs.Int.{w16}
 use Rattle.std.specs.Option.{option_flatten}
-use Rattle.std.specs.Prelude.{◌==◌, if◌then◌else◌, nat_le, nat_lt, slice_index}
+use Rattle.std.specs.Prelude.{◌==◌, nat_le, nat_lt, slice_index}
 use Rattle.instruction_set.specs.Instruction.{access_of, distance_of, is_emit, signed_size_of, size_of, target}
 use Rattle.instruction_set.specs.Spelling.{first_slot}
 use Rattle.instruction_set.specs.declared.instruction.Instruction.{Instruction}
@@ -28,8 +28,8 @@ use Rattle.program_interface.specs.declared.frame.TheConstants.{FRAME_LENGTH_BYT
 use Rattle.program_interface.specs.RunSizes.{AreSizes, Sizes}
 use Rattle.word_domain.specs.Domain.{IsSound, Operations}
 use Rattle.program_meaning.proofs.Proved.{areas_are_apart, blocks_are_short}
-use Rattle.accepted_programs.specs.Accepted.{begins_at, fails, leads_nowhere, loads_outside, stores_outside, turns_away}
-use Rattle.accepted_programs.specs.Facts.{area_of, fact, greatest_length, least_length, slot_behind}
+use Rattle.accepted_programs.specs.Accepted.{emits_amiss, fails, falls_off, leads_nowhere, loads_outside, passes_limit, stores_outside}
+use Rattle.accepted_programs.specs.Facts.{area_of, fact, greatest_length, least_length}
 use Rattle.accepted_programs.proofs.KnownFacts.{AreFacts}
 use Rattle.accepted_programs.specs.Meets.{Meets}
 use Rattle.accepted_programs.proofs.Registers.{word_of}
@@ -52,7 +52,7 @@ stands (Some (Some i)) e = (refl, refl)
 
 module _ (program : List (Option Instruction)) (limit : ℕ) where
   goes_on : (s : State) (i : Instruction) → leads_nowhere program s.slot (distance_of i) ≡ false
-      → (if turns_away i then false else not (begins_at program (pos (slot_behind s.slot i)))) ≡ false
+      → falls_off program s.slot i ≡ false
       → (hinders program limit s i cause.NextOutside ≡ false) × (hinders program limit s i cause.NextInsideWide ≡ false)
   goes_on s (Jump distance) there behind = stands _ there
   goes_on s (JumpLong distance) there behind = stands _ there
@@ -161,14 +161,14 @@ module _ {D : Type 0} {IsFact : D → Type 0} {contains : D → ℕ → Type 0} 
     most = greatest_length operations facts
 
     -- the bytes to emit are within the limit
-    counted : nat_lt sizes.limit (facts.emitted + FRAME_LENGTH_BYTES + most) ≡ false → most < 2 ^ 64
+    counted : passes_limit operations sizes.limit facts ≡ false → most < 2 ^ 64
     counted within =
         let room = ltb-false sizes.limit (facts.emitted + FRAME_LENGTH_BYTES + most) within in
         let group = are_sizes.fits in
         let small = fits in
         omega (arith, room, group, small)
 
-    emits_well : (least == 0) ≡ false → nat_lt sizes.limit (facts.emitted + FRAME_LENGTH_BYTES + most) ≡ false
+    emits_well : (least == 0) ≡ false → passes_limit operations sizes.limit facts ≡ false
         → emits_badly sizes.limit s ≡ false
     emits_well some within =
         let (above, below) = bounded in
@@ -181,8 +181,8 @@ module _ {D : Type 0} {IsFact : D → Type 0} {contains : D → ℕ → Type 0} 
 
     -- what is checked where the instruction is emit
     emits : (emit : Bool)
-        → (emit && (least == 0 || is_none (area_of operations block facts 1 (pos 0) most))) ≡ false
-        → (emit && nat_lt sizes.limit (facts.emitted + FRAME_LENGTH_BYTES + most)) ≡ false
+        → (emit && emits_amiss operations block facts) ≡ false
+        → (emit && passes_limit operations sizes.limit facts) ≡ false
         → ((emit && emits_outside s) ≡ false) × ((emit && emits_badly sizes.limit s) ≡ false)
     emits false length limit = (refl, refl)
     emits true length limit =

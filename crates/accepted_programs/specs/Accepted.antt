@@ -57,6 +57,10 @@ turns_away (JumpLong distance) = true
 turns_away Exit = true
 turns_away _ = false
 
+-- does an instruction go on to the slot behind it, where none begins?
+abbrev pub falls_off : List (Option Instruction) → ℕ → Instruction → Bool
+falls_off program slot i = if turns_away i then false else not (begins_at program (pos (slot_behind slot i)))
+
 -- the refusal of a slot for a reason
 abbrev pub refused_at : ℕ → Reason → Refusal
 refused_at slot reason = record { slot = slot; reason = reason }
@@ -76,20 +80,32 @@ module _ {D : Type 0} (operations : Operations D) where
   stores_outside block facts (Some access) = hinders_store access.kind (area_accessed block facts access)
   stores_outside block facts None = false
 
+  -- may it be that the address to emit from lies in no area, nor at the end of one?
+  abbrev pub emits_from_nowhere : ℕ → Facts D → Bool
+  emits_from_nowhere block facts = is_none (area_of operations block facts 1 (pos 0) 0)
+
+  -- may there be no bytes to emit, or more than the area has?
+  abbrev pub emits_amiss : ℕ → Facts D → Bool
+  emits_amiss block facts =
+      least_length operations facts == 0 || is_none (area_of operations block facts 1 (pos 0) (greatest_length operations facts))
+
+  -- may a frame take the group over its limit?
+  abbrev pub passes_limit : ℕ → Facts D → Bool
+  passes_limit limit facts = nat_lt limit (facts.emitted + FRAME_LENGTH_BYTES + greatest_length operations facts)
+
   module _ (program : List (Option Instruction)) (sizes : Sizes) where
     -- the reasons, each for itself
     abbrev pub fails : ℕ → Facts D → Instruction → Reason → Bool
     fails slot facts i JumpBack = goes_back (distance_of i)
     fails slot facts i JumpOutside = leads_nowhere program slot (distance_of i)
-    fails slot facts i FallsOff = if turns_away i then false else not (begins_at program (pos (slot_behind slot i)))
+    fails slot facts i FallsOff = falls_off program slot i
     fails slot facts i WriteToFramePointer = writes i 10
     fails slot facts i LoadOutside = loads_outside sizes.block facts (access_of i)
     fails slot facts i StoreOutside = stores_outside sizes.block facts (access_of i)
     fails slot facts i UnknownHelper = calls_unknown i
-    fails slot facts i EmitAddress = is_emit i && is_none (area_of operations sizes.block facts 1 (pos 0) 0)
-    fails slot facts i EmitLength =
-        is_emit i && (least_length operations facts == 0 || is_none (area_of operations sizes.block facts 1 (pos 0) (greatest_length operations facts)))
-    fails slot facts i EmitLimit = is_emit i && nat_lt sizes.limit (facts.emitted + FRAME_LENGTH_BYTES + greatest_length operations facts)
+    fails slot facts i EmitAddress = is_emit i && emits_from_nowhere sizes.block facts
+    fails slot facts i EmitLength = is_emit i && emits_amiss sizes.block facts
+    fails slot facts i EmitLimit = is_emit i && passes_limit sizes.limit facts
 
     -- the least reason to refuse an instruction at a slot with these facts
     abbrev pub reason_of : ℕ → Facts D → Instruction → Option Reason

@@ -1,11 +1,10 @@
 //! The reasons to refuse an instruction, in the order of their numbers.
 
-ghost use Rattle.std.specs.Prelude.{◌≡◌, ◌<◌, ◌+◌, nat_lt, ◌&&◌, ◌||◌, ◌==◌, is_none, pos, not, false, if◌then◌else◌, Option, Some, None};
+ghost use Rattle.std.specs.Prelude.{◌≡◌, ◌<◌};
 ghost use Rattle.instruction_set.specs.Instruction.{access_of};
 ghost use Rattle.program_meaning.specs.Cause.{calls_unknown as instruction_calls_unknown, is_unwritable as area_is_unwritable};
-ghost use Rattle.accepted_programs.specs.Accepted.{area_accessed as area_of_access, begins_at, goes_back as distance_goes_back, leads_nowhere as distance_leads_nowhere, loads_outside as access_loads_outside, reason_of, stores_outside as access_stores_outside, turns_away as instruction_turns_away};
-ghost use Rattle.accepted_programs.specs.Facts.{area_of, greatest_length, least_length, slot_behind as instruction_slot_behind};
-ghost use Rattle.accepted_programs.specs.declared.reason.Reason.TheVariants.{EmitAddress, EmitLimit, EmitLength, FallsOff};
+ghost use Rattle.accepted_programs.specs.Accepted.{area_accessed as area_of_access, begins_at, emits_amiss as facts_emit_amiss, emits_from_nowhere as facts_emit_from_nowhere, falls_off as instruction_falls_off, goes_back as distance_goes_back, leads_nowhere as distance_leads_nowhere, loads_outside as access_loads_outside, passes_limit as facts_pass_limit, reason_of, stores_outside as access_stores_outside, turns_away as instruction_turns_away};
+ghost use Rattle.accepted_programs.specs.Facts.{area_of, slot_behind as instruction_slot_behind};
 
 use accepted_programs::{Facts, Reason};
 use instruction_set::{Access, AccessKind, Instruction, Program, Register};
@@ -64,7 +63,7 @@ fn turns_away(instruction: &Instruction) -> bool
 #[inline]
 fn falls_off(program: &Program, slot: usize, instruction: &Instruction) -> bool
     requires { slot < MOST_SLOTS }
-    ensures { result ≡ (if instruction_turns_away instruction.now then false else not (begins_at program.now (pos (instruction_slot_behind slot instruction.now)))) }
+    ensures { result ≡ instruction_falls_off program.now slot instruction.now }
 {
     !turns_away(instruction) && program.at(slot_behind(slot, instruction)).is_none()
 }
@@ -142,7 +141,7 @@ fn calls_unknown(instruction: &Instruction) -> bool
 /// May it be that the address to emit from lies in no area, nor at the end of one?
 #[inline]
 fn emits_from_nowhere<D: Domain>(block: BlockSize, facts: &Facts<D>) -> bool
-    ensures { result ≡ is_none (area_of D.operations block facts.now 1 (pos 0) 0) }
+    ensures { result ≡ facts_emit_from_nowhere D.operations block facts.now }
 {
     area(block, facts, Register::R1, 0, 0).is_none()
 }
@@ -150,7 +149,7 @@ fn emits_from_nowhere<D: Domain>(block: BlockSize, facts: &Facts<D>) -> bool
 /// May there be no bytes to emit, or more than the area has?
 #[inline]
 fn emits_amiss<D: Domain>(block: BlockSize, facts: &Facts<D>) -> bool
-    ensures { result ≡ (least_length D.operations facts.now == 0 || is_none (area_of D.operations block facts.now 1 (pos 0) (greatest_length D.operations facts.now))) }
+    ensures { result ≡ facts_emit_amiss D.operations block facts.now }
 {
     let bounds = facts.get(Register::R2).bounds();
     bounds.low == 0 || area(block, facts, Register::R1, 0, bounds.high).is_none()
@@ -159,7 +158,7 @@ fn emits_amiss<D: Domain>(block: BlockSize, facts: &Facts<D>) -> bool
 /// May a frame take the group over its limit?
 #[inline]
 fn passes_limit<D: Domain>(limit: u32, facts: &Facts<D>) -> bool
-    ensures { result ≡ nat_lt limit (facts.now.emitted + FRAME_LENGTH_BYTES + greatest_length D.operations facts.now) }
+    ensures { result ≡ facts_pass_limit D.operations limit facts.now }
 {
     let most = u128::from(facts.get(Register::R2).bounds().high);
     facts.emitted as u128 + FRAME_LENGTH_BYTES as u128 + most > u128::from(limit)
