@@ -51,8 +51,8 @@ between w n low high (pos k) small near first last inside =
 between w n low high (negsuc k) small near first last inside =
     record { least = omega (arith, ints, near.sfits, inside.from, inside.to); most = omega (arith, ints, near.sfits, inside.from, inside.to) }
 
-int_le-from : (a b : ℤ) → a ≤ℤ b → int_le a b ≡ true
-int_le-from a b h = grind (arith, ints)
+le-int_le : (a b : ℤ) → a ≤ℤ b → int_le a b ≡ true
+le-int_le a b h = grind (arith, ints)
 
 -- a cell with none of the bytes from one distance to another is before them or behind them
 cell_apart : (low high offset : ℤ) (at n j : ℕ) → IsBetween low high offset at → 1 ≤ n
@@ -68,7 +68,7 @@ cell_apart low high offset at n j near some none =
             let begins : first ≤ℤ pos (8 * j + 7) = omega (arith, ints, from, near.least) in
             let ends : pos (8 * j) ≤ℤ last = omega (arith, ints, into, near.most) in
             absurd (false≢true (sym none
-            ∙ and_from (int_le first (pos (8 * j + 7))) (int_le (pos (8 * j)) last) (int_le-from _ _ begins) (int_le-from _ _ ends)))
+            ∙ and_from (int_le first (pos (8 * j + 7))) (int_le (pos (8 * j)) last) (le-int_le _ _ begins) (le-int_le _ _ ends)))
         | inr behind ↦ inr behind
       ]
     ]
