@@ -1,6 +1,6 @@
 //! Numbers.
 
-ghost use Rattle.std.specs.Prelude.{◌≡◌, ◌+◌, ◌*◌, ◌^◌, ◌<◌, ◌≤◌, ℕ};
+ghost use Rattle.std.specs.Prelude.{◌≡◌, ◌+◌, ◌*◌, ◌^◌, ◌≤◌, ℕ};
 ghost use Rattle.ebpf_asm.specs.Operand.{numeral_of, magnitude_of, literal_of, signed_of, short_of, long_of, immediate_told, wide_of};
 ghost use Rattle.program_interface.specs.Below.{below};
 

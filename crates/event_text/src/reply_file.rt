@@ -1,6 +1,6 @@
 //! Files of replies: the lines that they were printed as, read back.
 
-ghost use Rattle.std.specs.Prelude.{◌≡◌, map, length, IfOk};
+ghost use Rattle.std.specs.Prelude.{◌≡◌, map, IfOk};
 ghost use Rattle.std.specs.Str.Lines.{lines};
 ghost use Rattle.std.specs.List.{All};
 ghost use Rattle.device_events.specs.Replies.{data_length};

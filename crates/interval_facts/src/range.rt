@@ -1,6 +1,6 @@
 //! Arithmetic on words between bounds.
 
-ghost use Rattle.std.specs.Prelude.{◌≡◌, ◌<◌, ◌-◌, ◌+◌, nat_lt};
+ghost use Rattle.std.specs.Prelude.{◌≡◌, ◌<◌, ◌+◌, nat_lt};
 ghost use Rattle.program_meaning.specs.Word.{count};
 ghost use Rattle.interval_facts.specs.Fact.{range};
 ghost use Rattle.interval_facts.specs.Range.{number_count, top as top_of_width, half, sum, difference, product, quotient, remainder, shifted_left, shifted_right, combined};

@@ -1,7 +1,6 @@
 //! One arithmetic instruction and one compare, on 64-bit words.
 
 ghost use Rattle.std.specs.Prelude.{◌≡◌, ◌%◌, ◌^◌};
-ghost use Rattle.std.specs.Int.{cast_signed};
 ghost use Rattle.program_meaning.specs.Word.{low_bits, result_of, reordered, extended, computed, relates, is_taken};
 
 use instruction_set::{Operation, Relation, SignExtension, Swap, SwapSize, Width};

@@ -1,6 +1,6 @@
 //! The facts for all slots, one slot visited after the other.
 
-ghost use Rattle.std.specs.Prelude.{◌≡◌, ◌<◌, ◌==◌, if◌then◌else◌, ℕ, length, Option, Some, None, IsSome, IfSome, IfNone, IfOk, OnOk, false};
+ghost use Rattle.std.specs.Prelude.{◌≡◌, ◌<◌, ◌==◌, if◌then◌else◌, ℕ, length, Some, None, IsSome, IfSome, IfNone, IfOk, OnOk, false};
 ghost use Rattle.instruction_set.specs.Instruction.{distance_of};
 ghost use Rattle.instruction_set.specs.Program.{instruction_at};
 ghost use Rattle.accepted_programs.specs.Accepted.{refusal_at, turns_away};
