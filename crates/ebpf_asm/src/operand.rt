@@ -35,7 +35,7 @@ pub(crate) fn register(text: &[u8]) -> Result<Register, FaultKind>
         [b'r', digit @ b'0'..=b'9'] => *digit - b'0',
         _ => return Err(FaultKind::Operand),
     };
-    Register::new(number).ok_or(FaultKind::Operand)
+    Ok(Register::from_number(number))
 }
 
 /// A register or an immediate.
