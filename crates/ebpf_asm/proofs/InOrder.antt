@@ -24,6 +24,7 @@ use Rattle.ebpf_asm.specs.Laws.{LinesAreInOrder}
 use Rattle.ebpf_asm.proofs.Fitting.{Fills, LineFits, lines_fit, resolved_fits}
 use Rattle.ebpf_asm.proofs.Jumps.{Jumps, LineJumps, lines_jump}
 use Rattle.ebpf_asm.proofs.LowestFaults.{own_none}
+use Rattle.ebpf_asm.proofs.Passes.{slot_count-cons}
 use Rattle.program_interface.proofs.Proved.{no_fault}
 
 length-spelling : (i : Instruction) → length (spelling i) ≡ 8 * slots_taken i
@@ -53,8 +54,9 @@ module _ (labels : LabelMap) (slot : ℕ) (line : Line) (rest : List Line) where
       → other.instruction ≡ Ok (Some instruction) → IsPut labels slot (line ∷ rest) (front ++ more) (suc index) other instruction
   behind front more long h index other instruction at is =
       let one = h.each index other instruction at is in
-      let same : slot + slot_of_line (line ∷ rest) (suc index) ≡ slot + slots_in line + slot_of_line rest index = omega arith in
-      let bytes : 8 * slot_of_line (line ∷ rest) (suc index) ≡ length front + 8 * slot_of_line rest index = omega (arith, long) in
+      let both = slot_count-cons line (take index rest) in
+      let same : slot + slot_of_line (line ∷ rest) (suc index) ≡ slot + slots_in line + slot_of_line rest index = omega (arith, both) in
+      let bytes : 8 * slot_of_line (line ∷ rest) (suc index) ≡ length front + 8 * slot_of_line rest index = omega (arith, long, both) in
       record {
         made = one.made;
         resolves = ap (λ (n : ℕ). resolved labels n instruction other.target) same ∙ one.resolves;
@@ -67,7 +69,7 @@ module _ (labels : LabelMap) (slot : ℕ) (line : Line) (rest : List Line) where
       }
 
   nothing_more : (bytes : List ℕ) → ((instruction : Instruction) → line.instruction ≡ Ok (Some instruction) → ⊥) → slots_in line ≡ 0 → Behind bytes → ArePut labels slot (line ∷ rest) bytes
-  nothing_more bytes nothing none h = record { whole = omega (arith, h.whole, none); each = each }
+  nothing_more bytes nothing none h = record { whole = omega (arith, h.whole, none, slot_count-cons line rest); each = each }
     where
       each : (index : ℕ) (other : Line) (instruction : Instruction) → slice_get (line ∷ rest) index ≡ Some other → other.instruction ≡ Ok (Some instruction)
           → IsPut labels slot (line ∷ rest) bytes index other instruction
@@ -76,7 +78,7 @@ module _ (labels : LabelMap) (slot : ℕ) (line : Line) (rest : List Line) where
 
   one_more : (instruction made : Instruction) (more : List ℕ) → line.instruction ≡ Ok (Some instruction) → resolved labels slot instruction line.target ≡ Ok made → Fills instruction made
       → IfSome line.target (λ (label : List ℕ). Jumps instruction) → Behind more → ArePut labels slot (line ∷ rest) (spelling made ++ more)
-  one_more instruction made more has resolves fills jumps h = record { whole = omega (arith, length-append (spelling made) more, long, h.whole); each = each }
+  one_more instruction made more has resolves fills jumps h = record { whole = omega (arith, length-append (spelling made) more, long, h.whole, slot_count-cons line rest); each = each }
     where
       long : length (spelling made) ≡ 8 * slots_in line
       long = omega (arith, length-spelling made, fills.1, ap slots_of_instruction has)
@@ -134,7 +136,7 @@ record IsNamed (slot to : ℕ) (all : List Line) (name : List ℕ) : Type 0 wher
   pub begins : to ≡ slot + slot_of_line all at
 
 named_behind : (slot to : ℕ) (line : Line) (rest : List Line) (name : List ℕ) → IsNamed (slot + slots_in line) to rest name → IsNamed slot to (line ∷ rest) name
-named_behind slot to line rest name h = record { at = suc h.at; labelled = h.labelled; begins = omega (arith, h.begins) }
+named_behind slot to line rest name h = record { at = suc h.at; labelled = h.labelled; begins = omega (arith, h.begins, slot_count-cons line (take h.at rest)) }
 
 named_here : (slot to : ℕ) (line : Line) (rest : List Line) (name : List ℕ) (label : Option (List ℕ)) → line.label ≡ label
     → (slot_named (labels_from (slot + slots_in line) rest) name ≡ Some to → IsNamed (slot + slots_in line) to rest name)

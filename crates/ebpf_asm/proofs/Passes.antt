@@ -4,6 +4,7 @@ use Rattle.std.specs.Option.{option_or, option_and_then, is_some}
 use Rattle.std.specs.Map.{lookup}
 use Rattle.std.specs.Str.{bytes_eq}
 use Rattle.std.proofs.lemmas.List.{append-nil, drop_more, drop-map, take_more, take-map, map_push, length-map, length-take}
+use Rattle.std.proofs.lemmas.List.Sums.{sum_by-append, sum_by-cons}
 use Rattle.std.proofs.lemmas.Bool.{ltb-false}
 use Rattle.std.proofs.lemmas.Slice.Eq.{bytes_eq-Decides}
 use Rattle.instruction_set.specs.declared.instruction.Instruction.{Instruction}
@@ -29,17 +30,21 @@ pub take_lines : (all : List code.Line.Line) (i : ℕ) (line : code.Line.Line) �
 take_lines all i line lt e =
     take-map line_view (i + 1) all ∙ ap line_views (take_more all i line lt) ∙ map_push line_view (take i all) (get_or all i line) ∙ ap (λ l. line_views (take i all) ++ line_view l ∷ []) (sym e) ∙ ap (λ ls. ls ++ line_view line ∷ []) (sym (take-map line_view i all))
 
+-- ---- slots
+
+pub slot_count-cons : (line : Line) (rest : List Line) → slot_count (line ∷ rest) ≡ slots_in line + slot_count rest
+slot_count-cons line rest = sum_by-cons slots_in line rest
+
+pub slot_count-push : (before : List Line) (line : Line) → slot_count (before ++ line ∷ []) ≡ slot_count before + slots_in line
+slot_count-push before line = omega (arith, sum_by-append slots_in before (line ∷ []))
+
 -- ---- labels
 
 labels_from-push : (slot : ℕ) (before : List Line) (line : Line) → labels_from slot (before ++ line ∷ []) ≡ labels_from slot before ++ label_at (slot + slot_count before) line.label
 labels_from-push slot [] line = append-nil (label_at slot line.label) ∙ ap (λ s. label_at s line.label) (omega arith)
 labels_from-push slot (b ∷ before) line =
-    ap (λ t. label_at slot b.label ++ t) (labels_from-push (slot + slots_in b) before line ∙ ap (λ s. labels_from (slot + slots_in b) before ++ label_at s line.label) (omega arith))
+    ap (λ t. label_at slot b.label ++ t) (labels_from-push (slot + slots_in b) before line ∙ ap (λ s. labels_from (slot + slots_in b) before ++ label_at s line.label) (omega (arith, slot_count-cons b before)))
     ∙ sym (append_assoc (label_at slot b.label) (labels_from (slot + slots_in b) before) (label_at (slot + slot_count (b ∷ before)) line.label))
-
-pub slot_count-push : (before : List Line) (line : Line) → slot_count (before ++ line ∷ []) ≡ slot_count before + slots_in line
-slot_count-push [] line = omega arith
-slot_count-push (b ∷ before) line = omega (arith, slot_count-push before line)
 
 lookup-push : (test : List ℕ → Bool) (es : List (List ℕ × ℕ)) (e : List ℕ × ℕ) → lookup test (es ++ e ∷ []) ≡ option_or (lookup test es) (cond (test e.0) (Some e.1) None)
 lookup-push test [] e = refl
@@ -151,7 +156,7 @@ HasMade-nothing left all line labels number slot bytes none h = at line.instruct
     skipped : slots_in line ≡ 0 → bytes_in_front labels number slot line.instruction line.target (later (slot + slots_in line)) ≡ later (slot + slots_in line) → HasMade left all labels (number + 1) slot bytes
     skipped no_slot skips = record {
       so_far = ap (λ s. with_front bytes (later s)) (omega (arith, no_slot)) ∙ ap (with_front bytes) (sym skips) ∙ h.so_far;
-      room = omega (arith, h.room, no_slot);
+      room = omega (arith, h.room, no_slot, slot_count-cons line left);
     }
 
     at : (instruction : Result (Option Instruction) FaultKind) → line.instruction ≡ instruction → HasMade left all labels (number + 1) slot bytes
@@ -166,7 +171,7 @@ HasMade-more left all line labels number slot n bytes more instruction made e r 
     record {
       so_far = ap (λ s. with_front more (bytes_of_lines labels (number + 1) (slot + s) left)) taken ∙ ap (λ b. with_front b later) m ∙ sym (with_front-more bytes (spelling made) later)
           ∙ ap (λ i. with_front bytes (before_later number i later)) r ∙ ap (λ i. with_front bytes (bytes_in_front labels number slot i line.target later)) (sym e) ∙ h.so_far;
-      room = omega (arith, h.room);
+      room = omega (arith, h.room, slot_count-cons line left);
     }
 
 pub HasMade-fault : (left all : List Line) (line : Line) (labels : LabelMap) (number slot : ℕ) (bytes : List ℕ) (instruction : Instruction) (kind : FaultKind) → line.instruction ≡ Ok (Some instruction) → Err kind ≡ resolved labels slot instruction line.target

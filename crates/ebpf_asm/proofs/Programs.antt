@@ -13,7 +13,7 @@ use Rattle.ebpf_asm.specs.Line.{Line, slots_in, slots_of_instruction}
 use Rattle.ebpf_asm.specs.Assembly.{LabelMap, before_later, bytes_of_lines, bytes_in_front, fault_behind, first_fault, is_twice, label_map, lines_of, resolved, slot_count, told_first}
 use Rattle.ebpf_asm.specs.Laws.{AssembledIsProgram}
 use Rattle.ebpf_asm.proofs.Fitting.{Fills, LineFits, lines_fit, resolved_fits}
-use Rattle.ebpf_asm.proofs.Passes.{fits_if, slot_count-push}
+use Rattle.ebpf_asm.proofs.Passes.{fits_if, slot_count-cons, slot_count-push}
 use Rattle.ebpf_decode.proofs.Proved.{instructions_of-slots_of}
 
 -- ---- the room
@@ -28,7 +28,7 @@ room before (line ∷ rest) h e =
     let none = none_told (length before + 1) (fault_behind before line) (first_fault (before ++ line ∷ []) rest) e in
     let fits = fits_if (slot_count before) (slots_in line) line.instruction (is_twice before line) none.0 refl in
     let more = room (before ++ line ∷ []) rest (omega (arith, fits.1, slot_count-push before line)) none.1 in
-    omega (arith, more, slot_count-push before line)
+    omega (arith, more, slot_count-push before line, slot_count-cons line rest)
 
 -- ---- the instructions
 
@@ -74,8 +74,9 @@ at_line labels number slot slots (Err kind) target later bytes fits rest e = no_
 spells : (labels : LabelMap) (number slot : ℕ) (all : List Line) (bytes : List ℕ) → AllByRecursion LineFits all → bytes_of_lines labels number slot all ≡ Ok bytes → Spells bytes (slot_count all)
 spells labels number slot [] bytes fits e = record { instructions = []; fits = tt; spelled = let none : bytes ≡ [] = cc in none; counted = refl }
 spells labels number slot (line ∷ rest) bytes fits e =
-    at_line labels number slot (slot_count rest) line.instruction line.target (bytes_of_lines labels (number + 1) (slot + slots_in line) rest) bytes fits.0
-    (λ more h. spells labels (number + 1) (slot + slots_in line) rest more fits.1 h) e
+    subst (λ (n : ℕ). Spells bytes n) (sym (slot_count-cons line rest))
+    (at_line labels number slot (slot_count rest) line.instruction line.target (bytes_of_lines labels (number + 1) (slot + slots_in line) rest) bytes fits.0
+    (λ more h. spells labels (number + 1) (slot + slots_in line) rest more fits.1 h) e)
 
 -- ---- the program
 

@@ -27,7 +27,7 @@ use Rattle.ebpf_asm.specs.Assembly.{LabelMap, lines_of, slot_count, first_fault,
 use Rattle.ebpf_asm.specs.Listing.{mnemonic_of, operand_texts, operands_text, further_texts, text_of_instruction, line_text, listing, source_text}
 use Rattle.text_lines.proofs.Proved.{end_stays, lines_are_cut, uncommented-same}
 use Rattle.ebpf_decode.proofs.Proved.{instructions_of-slots_of}
-use Rattle.ebpf_asm.proofs.Passes.{slot_count-push}
+use Rattle.ebpf_asm.proofs.Passes.{slot_count-cons, slot_count-push}
 use Rattle.ebpf_asm.proofs.Programs.{counted_more}
 use Rattle.ebpf_asm.proofs.Names.{mnemonic_again, mnemonic_plain}
 use Rattle.ebpf_asm.proofs.Round.{register_again, immediate_again, wide_again}
@@ -234,8 +234,9 @@ listed_faultless : (before : List Line) (instructions : List Instruction) → sl
 listed_faultless before [] h = refl
 listed_faultless before (instruction ∷ instructions) h =
     let line = line_with instruction in
-    let later = listed_faultless (before ++ line ∷ []) instructions (omega (arith, h, slot_count-push before line)) in
-    ap (λ c. told_first (length before + 1) (cond c (Some TooLong) None) (first_fault (before ++ line ∷ []) (map line_with instructions))) (le-ltb 4096 (slot_count before + slots_in line) (omega (arith, h))) ∙ later
+    let both = slot_count-cons line (map line_with instructions) in
+    let later = listed_faultless (before ++ line ∷ []) instructions (omega (arith, h, both, slot_count-push before line)) in
+    ap (λ c. told_first (length before + 1) (cond c (Some TooLong) None) (first_fault (before ++ line ∷ []) (map line_with instructions))) (le-ltb 4096 (slot_count before + slots_in line) (omega (arith, h, both))) ∙ later
 
 bytes_again : (labels : LabelMap) (number slot : ℕ) (instructions : List Instruction) → bytes_of_lines labels number slot (map line_with instructions) ≡ Ok (flat_map spelling instructions)
 bytes_again labels number slot [] = refl
@@ -243,7 +244,8 @@ bytes_again labels number slot (instruction ∷ instructions) = ap (before_later
 
 slots_counted : (instructions : List Instruction) → slot_count (map line_with instructions) ≡ length (slots_of instructions)
 slots_counted [] = refl
-slots_counted (instruction ∷ instructions) = omega (arith, slots_counted instructions, counted_more instruction instructions)
+slots_counted (instruction ∷ instructions) =
+    omega (arith, slots_counted instructions, counted_more instruction instructions, slot_count-cons (line_with instruction) (map line_with instructions))
 
 lines_assemble : (instructions : List Instruction) → AllByRecursion Fits instructions → length (slots_of instructions) ≤ 4096 → assembled (flat_map line_text instructions) ≡ Ok (flat_map spelling instructions)
 lines_assemble instructions fits most =

@@ -1,5 +1,6 @@
 -- The assembly of a text (profile): labels, faults and bytes.
 use Rattle.std.specs.Prelude.{ℕ, ℤ, pos, ◌-ℤ◌, ◌+◌, nat_lt, if◌then◌else◌, Bool, List, [], ◌∷◌, ◌++◌, length, take, map, Option, Some, None, is_some, option_and_then, Result, Ok, Err}
+use Rattle.std.specs.List.{sum_by}
 use Rattle.std.specs.Map.{lookup}
 use Rattle.std.specs.Str.{bytes_eq}
 use Rattle.std.specs.Str.Lines.{lines}
@@ -18,8 +19,7 @@ use Rattle.ebpf_asm.specs.Line.{Line, line_of, slots_in, slots_of_instruction}
 
 -- the slots that lines take
 abbrev pub slot_count : List Line → ℕ
-slot_count [] = 0
-slot_count (line ∷ rest) = slots_in line + slot_count rest
+slot_count lines = sum_by slots_in lines
 
 -- the slot of the line at an index: as many as the lines before it take
 abbrev pub slot_of_line : List Line → ℕ → ℕ
