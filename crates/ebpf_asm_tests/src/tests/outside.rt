@@ -5,8 +5,8 @@ use std::alloc::Global;
 use std::test::Fail;
 
 /// Lines with an instruction each, as it is listed, its bytes, and what `llvm-objdump -d` has in its place. The first three
-/// are `filter.c`, `projection.c` and `aggregate.c` of `examples/`, which `compiled_filters` runs; the others are of this table
-/// alone.
+/// were made of `filter.c`, `projection.c` and `aggregate.c` of `examples/`, which `compiled_filters` runs; the others are of
+/// this table alone.
 const PROGRAMS: &[(&str, &str)] = &[
     (
         "filter",
