@@ -39,7 +39,7 @@ pub(crate) enum Opcode {
     Run,
     /// C1h: loads a program into a slot.
     Load,
-    /// C2h: reads the scratch bytes that a slot's program left in its last run that ended.
+    /// C2h: reads the scratch bytes that the last successful run of a slot's program left.
     Result,
 }
 
@@ -207,7 +207,7 @@ pub enum Command {
     Run(RunCommand),
     /// Puts a program into a slot (profile).
     Load(LoadCommand),
-    /// Gives the scratch bytes that a slot's program left in its last run that ended (profile).
+    /// Gives the scratch bytes that the last successful run of a slot's program left (profile).
     Result(ProgramSlot),
 }
 

@@ -13,7 +13,7 @@ use verifier::Verified;
 pub struct LoadedProgram {
     /// The accepted program, ready to run.
     pub prepared: Prepared<Verified<Intervals>>,
-    /// The scratch bytes that the last of its runs to end left, zeros before one ended.
+    /// The scratch bytes that its last successful run left, zeros before one did.
     pub result: [u8; SCRATCH_BYTES],
 }
 
