@@ -23,7 +23,7 @@ uncut byte text e =
 
 -- where it is cut, it has one, and the two parts stand before and behind the first
 parted : (byte : ℕ) (text front rest : List ℕ) → cut_at byte text ≡ Some (front, rest)
-    → (ltb (position_or_len (is_at byte) text) (length text) ≡ true) × ((before_first (is_at byte) text, after_first (is_at byte) text) ≡ (front, rest))
+    → (ltb (position_or_len (is_at byte) text) (length text) ≡ true) × (◌≡◌ {A = List ℕ × List ℕ} (before_first (is_at byte) text, after_first (is_at byte) text) (front, rest))
 parted byte text front rest e =
     cond_some (ltb (position_or_len (is_at byte) text) (length text)) (before_first (is_at byte) text, after_first (is_at byte) text) (front, rest) e
 
