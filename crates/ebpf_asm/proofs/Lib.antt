@@ -7,6 +7,7 @@ mod Round
 mod RoundOperands
 mod RoundLines
 mod RoundProgram
+mod Columns
 mod SlotFronts
 mod SlotListings
 mod EachLine

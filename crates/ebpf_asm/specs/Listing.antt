@@ -1,7 +1,7 @@
 -- The listing of a program: the text of each of its instructions on a line (profile).
-use Rattle.std.specs.Prelude.{ℕ, ℤ, pos, int_lt, ◌-◌, ◌+◌, ◌^◌, if◌then◌else◌, false, List, [], ◌∷◌, ◌++◌, length, replicate, Option, Some, None, codes}
+use Rattle.std.specs.Prelude.{ℕ, ℤ, pos, int_lt, ◌-◌, ◌+◌, if◌then◌else◌, false, List, [], ◌∷◌, ◌++◌, length, replicate, Option, Some, None, codes}
 use Rattle.std.specs.List.{flat_map}
-use Rattle.std.specs.Fmt.{decimal, signed_decimal, digits, padded_integral, format_spec}
+use Rattle.std.specs.Fmt.{decimal, signed_decimal, digits}
 use Rattle.instruction_set.specs.declared.instruction.Instruction.{Instruction}
 use Rattle.instruction_set.specs.declared.instruction.Instruction.TheVariants.{LoadImmediate, Load, LoadSigned, StoreImmediate, StoreRegister, Arithmetic, Negate, MoveSigned, SwapBytes, Jump, JumpLong, Branch, Call, Exit}
 use Rattle.instruction_set.specs.declared.instruction.Source.{Source}
@@ -87,9 +87,9 @@ line_text instruction = text_of_instruction instruction ++ codes "\n"
 abbrev pub listing : List (Option Instruction) → List ℕ
 listing slots = flat_map line_text (instructions_of slots)
 
--- a slot as `{slot:4}` writes it, a decimal number to the right of four columns, and two spaces
+-- a slot to the right of four columns, and two spaces
 abbrev pub slot_text : ℕ → List ℕ
-slot_text slot = padded_integral (format_spec 32 0 0 4 (2 ^ 64 - 1)) false [] (decimal slot) ++ codes "  "
+slot_text slot = replicate (4 - length (decimal slot)) 32 ++ decimal slot ++ codes "  "
 
 -- the line of an instruction, behind its slot
 abbrev pub line_with_slot : ℕ → Instruction → List ℕ
