@@ -12,7 +12,7 @@ use program_meaning::{AreaOffset, Cause};
 fn clear_registers(registers: &mut [u64; REGISTERS])
     ensures { registers.new ≡ replicate CLEARED_REGISTERS 0 ++ drop CLEARED_REGISTERS registers.old }
 {
-    registers[..CLEARED_REGISTERS].copy_from_slice(&[0; CLEARED_REGISTERS]);
+    registers[..CLEARED_REGISTERS].fill(0);
 }
 
 impl Machine<'_> {
