@@ -1,6 +1,6 @@
 #!/bin/sh
 # Decoding and listing a program, and assembling its listing, against LLVM's tools on the same bytes, and on as many lines of
-# their own text. Prints two ratios, LLVM's time by ours, each with the best of ROUNDS rounds. Whole commands are timed, with
+# their own text. Prints two ratios, LLVM's time by ours, each with the least of ROUNDS rounds. Whole commands are timed, with
 # their start.
 set -eu
 cd "$(dirname "$0")/.."

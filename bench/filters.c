@@ -1,7 +1,7 @@
 // Times DPDK's interpreter on a program, over a block in one buffer with a context and scratch: a prologue points R2 and R3
 // into it. Emit is an external function that copies its bytes.
 //
-// filters PROGRAM BLOCK ROUNDS REPEATS    prints R0, the bytes of the group and its frames, and the best time of a run in
+// filters PROGRAM BLOCK ROUNDS REPEATS    prints R0, the bytes of the group and its frames, and the least time of a run in
 //                                         picoseconds; or refused
 #include "programs.h"
 
@@ -48,7 +48,7 @@ int main(int argc, char **argv) {
     puts("refused");
     return 1;
   }
-  uint64_t r0 = rte_bpf_exec(bpf, memory), best = -1;
+  uint64_t r0 = rte_bpf_exec(bpf, memory), least = -1;
   printf("%lu %u %u\n", r0, used, frames);
   for (int round = 0; round < rounds; round++) {
     uint64_t start = now();
@@ -58,9 +58,9 @@ int main(int argc, char **argv) {
       r0 += rte_bpf_exec(bpf, memory);
     }
     uint64_t spent = now() - start;
-    if (spent < best) best = spent;
+    if (spent < least) least = spent;
   }
-  if (rounds && repeats) printf("%lu ps\n", best * 1000 / repeats);
+  if (rounds && repeats) printf("%lu ps\n", least * 1000 / repeats);
   fprintf(stderr, "%lu\n", r0); // so that no run is left out
   return 0;
 }

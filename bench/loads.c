@@ -1,7 +1,7 @@
 // Writes programs to load, and times DPDK's load of them, which verifies and compiles.
 //
 // loads write FOLDER               writes NAME.bin of each program for our verifier
-// loads time NAME ROUNDS REPEATS   prints the number of instructions and DPDK's best time of a load
+// loads time NAME ROUNDS REPEATS   prints the number of instructions and DPDK's least time of a load
 //                                  in nanoseconds
 //
 // Both get the same instructions. Only the register that has the block's address at entry differs:
@@ -71,14 +71,14 @@ int main(int argc, char **argv) {
   for (int i = 0; i < count; i++) {
     if (strcmp(argv[2], programs[i].name)) continue;
     make(i, 1);
-    uint64_t best = -1;
+    uint64_t least = -1;
     for (int round = 0; round < rounds; round++) {
       uint64_t start = now();
       for (int j = 0; j < repeats; j++) load();
       uint64_t spent = now() - start;
-      if (spent < best) best = spent;
+      if (spent < least) least = spent;
     }
-    printf("accepted %u\n%lu ns\n", length, best / repeats);
+    printf("accepted %u\n%lu ns\n", length, least / repeats);
     return 0;
   }
   return 2;

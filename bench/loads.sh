@@ -1,6 +1,6 @@
 #!/bin/sh
 # Times a load, decoding, verifying and making superinstructions, against DPDK's (Debian's libdpdk-dev) of the same
-# instructions, which verifies and compiles, and prints the nanoseconds of both, the best of several rounds and launches, with their
+# instructions, which verifies and compiles, and prints the nanoseconds of both, the least of several rounds and launches, with their
 # ratio.
 set -eu
 here=$(cd "$(dirname "$0")" && pwd)

@@ -2,7 +2,7 @@
 //
 // machine write FOLDER          writes straight.bin, branchy.bin and block.bin for our machine
 // machine time NAME STEPS ROUNDS REPEATS
-//                               prints R0 and the steps, and DPDK's best time of an instruction in picoseconds
+//                               prints R0 and the steps, and DPDK's least time of an instruction in picoseconds
 //
 // Another number of words ends it with status 2, and a program that DPDK doesn't load with status 1.
 //
@@ -46,7 +46,7 @@ int main(int argc, char **argv) {
     return 0;
   }
   if (argc != 6) return 2;
-  uint64_t steps = strtoull(argv[3], 0, 10), best = -1;
+  uint64_t steps = strtoull(argv[3], 0, 10), least = -1;
   int rounds = atoi(argv[4]), repeats = atoi(argv[5]);
   make(argv[2], 1);
   struct rte_bpf_prm prm = {.ins = code, .nb_ins = length, .prog_arg = {.type = RTE_BPF_ARG_PTR, .size = sizeof block}};
@@ -57,8 +57,8 @@ int main(int argc, char **argv) {
     uint64_t start = now();
     for (int i = 0; i < repeats; i++) r0 = rte_bpf_exec(bpf, block);
     uint64_t spent = now() - start;
-    if (spent < best) best = spent;
+    if (spent < least) least = spent;
   }
-  printf("%lu %lu\n%lu ps\n", r0, steps, best * 1000 / (steps * repeats));
+  printf("%lu %lu\n%lu ps\n", r0, steps, least * 1000 / (steps * repeats));
   return 0;
 }

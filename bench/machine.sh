@@ -1,7 +1,7 @@
 #!/bin/sh
 # Times the machine, with every check and as it runs prepared programs, over their superinstructions, against DPDK's
 # interpreter (Debian's libdpdk-dev) on the same instructions over a block of 4096 bytes, and prints the
-# picoseconds an instruction, the best of several rounds and launches, with their ratios to DPDK's.
+# picoseconds an instruction, the least of several rounds and launches, with their ratios to DPDK's.
 set -eu
 here=$(cd "$(dirname "$0")" && pwd)
 program=machine

@@ -2,7 +2,7 @@
 //
 // runs write FOLDER      writes filter.bin for our machine
 // runs time BLOCKS ROUNDS REPEATS
-//                        prints how many of so many blocks match, and DPDK's best time of a block in nanoseconds
+//                        prints how many of so many blocks match, and DPDK's least time of a block in nanoseconds
 //
 // Both get the same instructions, but that the block's address is in R2 for our machine and in R1 for
 // DPDK's, and that a block that matches is emitted in part by ours and only counted by DPDK's.
@@ -44,7 +44,7 @@ int main(int argc, char **argv) {
   uint8_t *blocks = malloc((size_t)BLOCK * count);
   if (!blocks) return 1;
   for (int i = 0; i < count; i++) memset(blocks + (size_t)i * BLOCK, i % 251, BLOCK);
-  uint64_t best = -1, matches = 0;
+  uint64_t least = -1, matches = 0;
   int rounds = atoi(argv[3]), repeats = atoi(argv[4]);
   filter(0);
   struct rte_bpf_prm prm = {.ins = code, .nb_ins = length, .prog_arg = {.type = RTE_BPF_ARG_PTR, .size = BLOCK}};
@@ -57,8 +57,8 @@ int main(int argc, char **argv) {
       for (int i = 0; i < count; i++) matches += rte_bpf_exec(bpf, blocks + (size_t)i * BLOCK);
     }
     uint64_t spent = now() - start;
-    if (spent < best) best = spent;
+    if (spent < least) least = spent;
   }
-  printf("%lu matches\n%lu ns\n", matches, best / count / repeats);
+  printf("%lu matches\n%lu ns\n", matches, least / count / repeats);
   return 0;
 }

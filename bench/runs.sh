@@ -5,7 +5,7 @@
 # 64, which stay in a cache. Then the rate of Appends beside plain copies of the same bytes, the
 # time to admit and to refuse runs of one and of 4096 blocks, on a large image and on a small one, and `exec` of a
 # command file of 64 MiB beside `xxd`, which turns its data to bytes, and as many bytes to text. Each
-# is the best of several rounds.
+# is the least of several rounds.
 set -eu
 here=$(cd "$(dirname "$0")" && pwd)
 program=runs

@@ -1,6 +1,6 @@
 -- An instruction that passes every check of a verifier has no cause to be stuck, in a state that meets
 -- the facts.
-use Rattle.std.proofs.Common.{ℕ, ℤ, pos, ◌≡◌, ◌+◌, ◌^◌, ◌<◌, ◌≤◌, Bool, true, false, not, ◌&&◌, ◌||◌, List, [], ◌∷◌, length, find, Option, Some, None, is_some, is_none, FitsSigned, lit<, refl, sym, arith}
+use Rattle.std.proofs.Common.{ℕ, ℤ, pos, ◌≡◌, ◌+◌, ◌^◌, ◌<◌, ◌≤◌, Bool, true, false, not, ◌&&◌, List, [], ◌∷◌, length, find, Option, Some, None, is_some, is_none, FitsSigned, lit<, refl, sym, arith}
 use Rattle.std.proofs.lemmas.Bool.{and_parts, and_from, and_right, cond_both, eqb-false, le-leb, le-ltb, leb-true, ltb-false, ne_eqb, or_from, or_parts}
 use Rattle.std.proofs.lemmas.Int.{ints}
 use Rattle.std.specs.Int.{w16}

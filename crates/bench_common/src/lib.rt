@@ -22,7 +22,7 @@ pub struct Timed {
     pub block: Vec<u8>,
     /// The size that a block of its length has.
     pub size: BlockSize,
-    /// The rounds, of which the best counts.
+    /// The rounds, of which the least time counts.
     pub rounds: u32,
     /// How often a round does it.
     pub repeats: u32,

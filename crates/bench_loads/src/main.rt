@@ -1,5 +1,5 @@
 //! Loads a program, that is decodes and verifies it for the block's length and makes its superinstructions. Prints the number
-//! of instructions and, after some rounds, the best time of a load in nanoseconds.
+//! of instructions and, after some rounds, the least time of a load in nanoseconds.
 //!
 //! bench_loads PROGRAM BLOCK ROUNDS REPEATS
 #![tactic(auto)]
@@ -40,12 +40,12 @@ fn main(rt: HostRuntime) -> io::Result<()> {
     };
     let verified = load(rt.alloc(), &asked.program, sizes)?;
     println!(rt; "accepted {}", verified.program().instruction_count())?;
-    let mut best = u128::MAX;
+    let mut least = u128::MAX;
     for _ in 0..asked.rounds {
-        best = best.min(round(&rt, rt.alloc(), &asked.program, asked.size, asked.repeats)?);
+        least = least.min(round(&rt, rt.alloc(), &asked.program, asked.size, asked.repeats)?);
     }
     if asked.rounds > 0 && asked.repeats > 0 {
-        println!(rt; "{} ns", best / u128::from(asked.repeats))?;
+        println!(rt; "{} ns", least / u128::from(asked.repeats))?;
     }
     Ok(())
 }

@@ -1,5 +1,5 @@
 //! Loads a program and runs it over a block. Prints R0, the number of steps, the length of the group and its frames, and,
-//! after some rounds, the best time of a run in picoseconds.
+//! after some rounds, the least time of a run in picoseconds.
 //!
 //! bench_programs PROGRAM BLOCK ROUNDS REPEATS FORM, which is `checked` or `prepared`
 #![tactic(auto)]
@@ -64,9 +64,9 @@ fn main(rt: HostRuntime) -> io::Result<()> {
         "{} {} {} {}",
         exit.r0, exit.steps, exit.group_length, exit.frames
     )?;
-    let mut best = u128::MAX;
+    let mut least = u128::MAX;
     for _ in 0..asked.rounds {
-        best = best.min(round(
+        least = least.min(round(
             &rt,
             &program,
             form,
@@ -79,7 +79,7 @@ fn main(rt: HostRuntime) -> io::Result<()> {
     if asked.rounds > 0 && asked.repeats > 0 {
         println!(rt;
             "{} ps",
-            best.saturating_mul(1000) / u128::from(asked.repeats)
+            least.saturating_mul(1000) / u128::from(asked.repeats)
         )?;
     }
     Ok(())

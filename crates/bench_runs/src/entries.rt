@@ -70,7 +70,7 @@ fn send(lowest: u64, action: Action, none: Vec<u8>) -> Event {
 ///
 /// # Errors
 ///
-/// The program is longer than a command moves.
+/// The program is longer than a command moves, or there is no slot 0.
 pub fn load(limit: u32, program: Vec<u8>) -> io::Result<Event> {
     if program.len() > MOST_TRANSFER {
         return Err(io::Error::other("the program is longer than a command moves"));

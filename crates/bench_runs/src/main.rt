@@ -2,7 +2,7 @@
 //! admitted and refused.
 //!
 //! bench_runs FILTER          runs the filter over the source blocks, and prints what its completion tells
-//! bench_runs FILTER ROUNDS   prints the best times of so many rounds
+//! bench_runs FILTER ROUNDS   prints the least times of so many rounds
 #![tactic(auto)]
 
 ghost use Rattle.std.specs.Prelude.{◌≤◌, length};
@@ -14,7 +14,6 @@ use bench_common::{number, percent, told};
 use nvme_entry::Completion;
 use runner::Device;
 use std::alloc::Global;
-use std::rt::{Env, Files};
 use std::{env, fs, io};
 use work::{
     BLOCK, CACHED, SOURCE, TRANSFER_BLOCKS, ZONE_SIZE, admission, appends, cached_turns, copies,
@@ -27,8 +26,8 @@ fn main(rt: HostRuntime) -> io::Result<()> {
     args.next();
     let filter = fs::read(&rt, &args.next().ok_or(io::Error::other("no filter"))?)?;
     let mut data = vec![in rt.alloc(); 0; MOST_TRANSFER]?;
-    let mut small = device(rt.alloc(), 2 * u32::from(CACHED), &filter, &mut data)?;
-    let mut large = device(rt.alloc(), ZONE_SIZE, &filter, &mut data)?;
+    let mut small = device(rt.alloc(), CACHED, &filter, &mut data)?;
+    let mut large = device(rt.alloc(), SOURCE, &filter, &mut data)?;
     match args.next() {
         Some(rounds) => {
             let rounds = number(rt.alloc(), &rounds)?;
@@ -48,8 +47,8 @@ fn main(rt: HostRuntime) -> io::Result<()> {
     }
 }
 
-/// A device of three zones of this size, with the filter in slot 0 and half of zone 0 written.
-fn device(alloc: Global, zone_size: u32, filter: &[u8], data: &mut [u8]) -> io::Result<Device>
+/// A device of three zones, of twice as many blocks as are written of zone 0, with the filter in slot 0.
+fn device(alloc: Global, written: u16, filter: &[u8], data: &mut [u8]) -> io::Result<Device>
     requires { MOST_TRANSFER ≤ length data.old }
     ensures { MOST_TRANSFER ≤ length data.new }
 {
@@ -57,18 +56,18 @@ fn device(alloc: Global, zone_size: u32, filter: &[u8], data: &mut [u8]) -> io::
         open_limit: 3,
         active_limit: 3,
     };
+    let zone_size = 2 * u32::from(written);
     let geometry = match Geometry::new(BLOCK, 3, zone_size, zone_size, limits) {
         Ok(geometry) => geometry,
         Err(fault) => return Err(told(alloc, fault)),
     };
     let mut device = Device::new(alloc, Image::empty(alloc, geometry)?);
-    let blocks = u16::try_from(zone_size / 2).unwrap_or(SOURCE);
-    fill(alloc, &mut device, blocks, data)?;
+    fill(alloc, &mut device, written, data)?;
     load_filter(&mut device, Vec::from_slice(alloc, filter)?, data)?;
     Ok(device)
 }
 
-/// Prints the best times of a turn and of a Read, over many blocks, and of a turn over few.
+/// Prints the least times of a turn and of a Read, over many blocks, and of a turn over few.
 fn compare_turns(
     rt: &HostRuntime,
     device: &mut Device,
@@ -95,7 +94,7 @@ fn compare_turns(
     Ok(())
 }
 
-/// Prints the best times of Appends beside copies of the same bytes.
+/// Prints the least times of Appends beside copies of the same bytes.
 fn compare_appends(
     rt: &HostRuntime,
     device: &mut Device,
@@ -125,7 +124,7 @@ fn compare_appends(
     Ok(())
 }
 
-/// Prints the best times of admitting runs of two lengths on two images.
+/// Prints the least times of admitting runs of two lengths on two images.
 fn compare_admissions(
     rt: &HostRuntime,
     small: &mut Device,
@@ -149,7 +148,7 @@ fn compare_admissions(
     Ok(())
 }
 
-/// Prints the best times of refusing runs of two lengths on two images.
+/// Prints the least times of refusing runs of two lengths on two images.
 fn compare_refusals(
     rt: &HostRuntime,
     small: &mut Device,

@@ -38,7 +38,7 @@ const LIMIT: u32 = 66;
 #[derive(Clone, Copy)]
 pub struct WholeRun {
     /// The nanoseconds of its admission.
-    pub admission: u128,
+    admission: u128,
     /// The nanoseconds of all its turns.
     pub turns: u128,
     /// The bytes of its completion (NVMe Base 2.0, 3.3.3.2).
@@ -93,7 +93,7 @@ pub fn fill(alloc: Global, device: &mut Device, blocks: u16, data: &mut [u8]) ->
 ///
 /// # Errors
 ///
-/// It is longer than a command moves, or refused.
+/// It is longer than a command moves, there is no slot 0, or it is refused.
 pub fn load_filter(device: &mut Device, filter: Vec<u8>, data: &mut [u8]) -> io::Result<()>
     requires { MOST_TRANSFER ≤ length data.old }
     ensures { MOST_TRANSFER ≤ length data.new }
@@ -141,7 +141,7 @@ fn repeat(device: &mut Device, event: &Event, times: u32, data: &mut [u8]) -> (b
 ///
 /// # Errors
 ///
-/// A command is refused, the run doesn't end with its last block, or the clock fails.
+/// No command has so many blocks, one is refused, the run doesn't end with its last block, or the clock fails.
 pub fn whole_run(
     rt: &impl Clock,
     alloc: Global,
@@ -224,7 +224,7 @@ fn refused_runs(alloc: Global, first: u64, blocks: u16, to: u64) -> io::Result<V
 ///
 /// # Errors
 ///
-/// A Run is admitted, the clock fails, or memory is wanting.
+/// No command has so many blocks, a Run is admitted, the clock fails, or memory is wanting.
 pub fn refusal(
     rt: &impl Clock,
     alloc: Global,

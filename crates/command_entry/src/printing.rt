@@ -22,9 +22,9 @@ const CID: &str = "cid";
 #[derive(Clone, Copy)]
 pub(crate) struct Identifiers {
     /// The submission queue.
-    pub(crate) queue: u16,
+    queue: u16,
     /// The command identifier.
-    pub(crate) cid: u16,
+    cid: u16,
 }
 
 impl Identifiers {

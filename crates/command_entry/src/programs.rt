@@ -71,7 +71,7 @@ pub(crate) fn run_command<'a>(alloc: Global) -> Result<Command<'a>, AllocError> 
 /// How `result` stands on the command line.
 pub(crate) fn result_command<'a>(alloc: Global) -> Result<Command<'a>, AllocError> {
     let command = Command::new(alloc, RESULT)
-        .about("Gives the scratch bytes that the last run of a slot's program left")
+        .about("Gives the scratch bytes that the last successful run of a slot's program left")
         .after_help("Example:\n\n  zscli entry result --slot 0");
     let command = and_argument(Ok(command), slot_option(alloc));
     and_identifiers(alloc, command)

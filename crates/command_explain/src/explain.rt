@@ -23,8 +23,9 @@ const FILE: &str = "FILE";
 const COMMANDS: &str = "commands";
 
 const LONG_ABOUT: &str = "\
-Says in words what each line that `exec` printed tells: of a completion the queue, the command identifier, \
-the status by its name with a sentence, and what the command gave; and what came of a turn or a fault.
+Says in words what each line that `exec` printed tells: of a completion the queue, the command identifier and \
+what the command gave, or where it was refused the status by its name with a sentence; and what came of a turn or \
+a fault.
 
 A completion does not name its command, and what its dwords 0 and 1 are depends on that: of an append they are \
 an LBA, of a run its records and its blocks. So without --commands both are said. With it each completion is \

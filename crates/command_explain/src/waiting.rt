@@ -11,7 +11,7 @@ use std::collections::VecDeque;
 
 /// An entry and the queue that it was submitted to.
 #[derive(Clone, Copy)]
-pub(crate) struct Submission {
+struct Submission {
     queue: u16,
     entry: [u8; 64],
 }

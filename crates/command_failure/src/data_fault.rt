@@ -26,7 +26,7 @@ pub enum DataFault {
 
 impl DataFault {
     /// The fault's number (profile).
-    pub fn number(self) -> u8
+    pub(crate) fn number(self) -> u8
         ensures { result ≡ data_number self }
     {
         match self {

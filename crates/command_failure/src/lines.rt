@@ -24,7 +24,7 @@ impl Failure<'_> {
     /// # Errors
     ///
     /// Those of the stream.
-    pub fn print<W: Write>(&self, out: &mut W) -> io::Result<()>
+    pub(crate) fn print<W: Write>(&self, out: &mut W) -> io::Result<()>
         ensures { OnOk result (IsPrinted (failure_text self.now) (W.contents out.old) (W.contents out.new)) }
     {
         match self {

@@ -51,7 +51,7 @@ IsNotInRange matches option least most (NotInRange told word low high) =
     (told ≡ option) × (word.now ≡ value_of matches option.now) × (low ≡ least) × (high ≡ most)
 IsNotInRange matches option least most _ = ⊥
 
--- the word of an option spells no number from the least to the most
+-- the failure tells an option whose word spells no number from the least to the most
 abbrev pub SpellsNone : ArgMatches → Bor (List ℕ) → ℕ → ℕ → Failure → Type 0
 SpellsNone matches option least most failure =
     IsNotInRange matches option least most failure × IfSome (number_of matches option.now) (λ number. (number < least) ⊎ (most < number))

@@ -15,10 +15,10 @@ use thiserror::Error;
 /// Why a file wasn't read or written.
 #[derive(Clone, Copy, Debug, PartialEq, Eq, Error)]
 pub enum FileFault {
-    /// It can't be opened, or reading or writing it failed.
+    /// A call of the system for it failed.
     #[error("the file fails{}", .0.words())]
     Failed(FileCause),
-    /// No memory for what it holds.
+    /// Memory is wanting.
     #[error("no memory")]
     Memory,
 }

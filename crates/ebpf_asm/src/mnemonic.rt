@@ -28,7 +28,7 @@ pub enum Mnemonic {
 }
 
 /// Each mnemonic.
-pub const MNEMONICS: [Mnemonic; 86] = [
+const MNEMONICS: [Mnemonic; 86] = [
     Mnemonic::Arithmetic(Width::Bits64, Operation::Add),
     Mnemonic::Arithmetic(Width::Bits64, Operation::Subtract),
     Mnemonic::Arithmetic(Width::Bits64, Operation::Multiply),

@@ -12,7 +12,7 @@ use thiserror::Error;
 pub struct AssemblyRefusal {
     /// The line's number, and what is wrong with it.
     pub fault: Fault,
-    /// The line, without the blanks at its ends.
+    /// An excerpt of the line, without the blanks at its ends.
     pub text: Excerpt,
 }
 

@@ -4,7 +4,7 @@ use ebpf_asm::{AssembleFault, AssemblyRefusal, Fault, FaultKind, assemble, disas
 use ebpf_decode::decode;
 use std::alloc::Global;
 use std::process::Abort;
-use std::test::*;
+use std::test::Fail;
 use test_inputs::{programs, slots};
 
 /// Lines of arithmetic and byte swaps, with the bytes of each in its comment (RFC 9669, 4.1 and 4.2). This table and the
@@ -222,10 +222,7 @@ fn the_first_fault_is_told(rt: HostRuntime) -> Result<(), Fail> {
 
 #[test]
 fn more_than_4096_slots_are_refused(rt: HostRuntime) -> Result<(), Fail> {
-    let mut text = String::new(rt.alloc());
-    for _ in 0..4095 {
-        text.push_str("exit\n")?;
-    }
+    let mut text = "exit\n".repeat(rt.alloc(), 4095)?;
     text.push_str("lddw r1, 1\n")?;
     assert_eq!(rt;
         fault_of(rt.alloc(), text.as_str())?,

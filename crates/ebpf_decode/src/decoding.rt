@@ -230,7 +230,7 @@ fn instruction(opcode: Opcode, fields: &Fields, next: Option<Fields>) -> Option<
         }
         Opcode::Negate(width) => Some(Instruction::Negate { width, dst }),
         Opcode::SwapBytes(swap) => {
-            let size = SwapSize::with_bits(fields.immediate)?;
+            let size = SwapSize::from_bits(fields.immediate)?;
             Some(Instruction::SwapBytes { swap, size, dst })
         }
         Opcode::Load(_)
@@ -252,10 +252,7 @@ fn read(fields: &Fields, next: Option<Fields>) -> Result<Instruction, FaultKind>
     if let Some(kind) = first_fault(opcode, fields, next) {
         return Err(kind);
     }
-    match instruction(opcode, fields, next) {
-        Some(found) => Ok(found),
-        None => Err(FaultKind::Value),
-    }
+    instruction(opcode, fields, next).ok_or(FaultKind::Value)
 }
 
 /// The fields of a slot, where the bytes have it.

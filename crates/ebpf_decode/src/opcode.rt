@@ -148,8 +148,8 @@ fn load(opcode: u8) -> Option<Opcode>
     ensures { result ≡ load_opcode opcode }
 {
     match opcode / 32 {
-        MEM => Some(Opcode::Load(Size::with_code(opcode / 8 % 4)?)),
-        MEMSX => Some(Opcode::LoadSigned(SignedSize::with_code(opcode / 8 % 4)?)),
+        MEM => Some(Opcode::Load(Size::from_code(opcode / 8 % 4)?)),
+        MEMSX => Some(Opcode::LoadSigned(SignedSize::from_code(opcode / 8 % 4)?)),
         _ => None,
     }
 }
@@ -158,7 +158,7 @@ fn store_immediate(opcode: u8) -> Option<Opcode>
     ensures { result ≡ store_immediate_opcode opcode }
 {
     match opcode / 32 {
-        MEM => Some(Opcode::StoreImmediate(Size::with_code(opcode / 8 % 4)?)),
+        MEM => Some(Opcode::StoreImmediate(Size::from_code(opcode / 8 % 4)?)),
         _ => None,
     }
 }
@@ -167,7 +167,7 @@ fn store_register(opcode: u8) -> Option<Opcode>
     ensures { result ≡ store_register_opcode opcode }
 {
     if opcode / 32 == MEM {
-        return Some(Opcode::StoreRegister(Size::with_code(opcode / 8 % 4)?));
+        return Some(Opcode::StoreRegister(Size::from_code(opcode / 8 % 4)?));
     }
     match opcode {
         0xc3 | 0xdb => Some(Opcode::LeftOut(LeftOut::Atomic)),
@@ -181,12 +181,12 @@ fn arithmetic(width: Width, opcode: u8) -> Option<Opcode>
     if opcode == 16 * NEG + width.arithmetic_class() {
         return Some(Opcode::Negate(width));
     }
-    if let Some(swap) = Swap::with_opcode(opcode) {
+    if let Some(swap) = Swap::from_opcode(opcode) {
         return Some(Opcode::SwapBytes(swap));
     }
     Some(Opcode::Arithmetic(
         width,
-        Operation::with_code(opcode / 16)?,
+        Operation::from_code(opcode / 16)?,
         operand_of(opcode),
     ))
 }
@@ -214,5 +214,5 @@ fn jump_long(opcode: u8) -> Option<Opcode>
 fn branch(width: Width, opcode: u8) -> Option<Opcode>
     ensures { result ≡ branch_opcode width opcode }
 {
-    Some(Opcode::Branch(width, Relation::with_code(opcode / 16)?, operand_of(opcode)))
+    Some(Opcode::Branch(width, Relation::from_code(opcode / 16)?, operand_of(opcode)))
 }

@@ -173,24 +173,20 @@ fn check_first(
     Ok(())
 }
 
-fn register(number: u8) -> Result<Register, Fail> {
-    Ok(Register::new(number).ok_or("a register")?)
-}
-
 #[test]
 fn instructions_of_arithmetic(rt: HostRuntime) -> Result<(), Fail> {
     let add = Instruction::Arithmetic {
         width: Width::Bits64,
         operation: Operation::Add,
-        dst: register(1)?,
+        dst: Register::R1,
         source: Source::Immediate(-1),
     };
     check_first(&rt, &[0x0701_0000_ffff_ffff, EXIT], &add)?;
     let divide = Instruction::Arithmetic {
         width: Width::Bits64,
         operation: Operation::SignedDivide,
-        dst: register(1)?,
-        source: Source::Register(register(10)?),
+        dst: Register::R1,
+        source: Source::Register(Register::FRAME_POINTER),
     };
     check_first(&rt, &[0x3fa1_0100_0000_0000, EXIT], &divide)
 }
@@ -198,7 +194,7 @@ fn instructions_of_arithmetic(rt: HostRuntime) -> Result<(), Fail> {
 #[test]
 fn instructions_of_other_kinds(rt: HostRuntime) -> Result<(), Fail> {
     let wide = Instruction::LoadImmediate {
-        dst: register(1)?,
+        dst: Register::R1,
         value: 0x8000_0000_ffff_ffff,
     };
     check_first(&rt, &[0x1801_0000_ffff_ffff, 0x0000_0000_0000_0080], &wide)?;
@@ -206,8 +202,8 @@ fn instructions_of_other_kinds(rt: HostRuntime) -> Result<(), Fail> {
     check_first(&rt, &[0x0500_ffff_0000_0000, EXIT], &backward)?;
     let store = Instruction::StoreRegister {
         size: Size::DoubleWord,
-        dst: register(10)?,
-        src: register(1)?,
+        dst: Register::FRAME_POINTER,
+        src: Register::R1,
         offset: -8,
     };
     check_first(&rt, &[0x7b1a_f8ff_0000_0000, EXIT], &store)

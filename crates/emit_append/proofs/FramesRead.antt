@@ -50,7 +50,7 @@ unfolding frames_at
 block-zeros at [] none = refl
 block-zeros at (x ∷ xs) none = step-zeros (length xs) at (x ∷ xs) none
 
-pub block-short : (at : ℕ) (rest : List ℕ) → 0 < frame_length rest → length rest < 2 + frame_length rest → output_block_at at rest ≡ Err at
+block-short : (at : ℕ) (rest : List ℕ) → 0 < frame_length rest → length rest < 2 + frame_length rest → output_block_at at rest ≡ Err at
 block-short at [] some short = absurd (omega arith)
 block-short at (x ∷ xs) some short = step-short (length xs) at (x ∷ xs) some short
 

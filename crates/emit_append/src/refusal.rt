@@ -9,7 +9,7 @@ use thiserror::Error;
 /// The lowest byte of output blocks that is refused, counted from 0, and what stands there.
 #[derive(Clone, Copy, Debug, PartialEq, Eq, Error)]
 pub enum FrameRefusal {
-    /// Behind the last whole block stand so many bytes, `left`, of which the first is byte `at`.
+    /// Behind the last whole block, of `block` bytes, stand so many bytes, `left`, of which the first is byte `at`.
     #[error("byte {at}: {left} of the {block} bytes of a block; whole blocks are expected")]
     Part { at: usize, left: usize, block: u32 },
     /// Byte `at`, which begins neither a frame nor zeros, and what it is.

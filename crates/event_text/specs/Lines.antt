@@ -32,6 +32,6 @@ reply_line given = line_text given.reply given.bytes
 abbrev pub printed_by : {W : Type 0} → (W → Option (List ℕ)) → Lines W → ℕ × Printed
 printed_by contents lines = (lines.out.ghost_name, record { refusals = lines.refusals; bytes = contents lines.out.now })
 
--- the same writer took the lines of these replies, in order, and nothing else
+-- the same writer; where it refused none, the lines of these replies were printed, in order, and nothing else
 abbrev pub Took : ℕ × Printed → ℕ × Printed → List ReplyWithData → Type 0
 Took old new replies = (new.0 ≡ old.0) × Prints reply_line old.1 new.1 replies

@@ -55,7 +55,7 @@ enum EventFault {
 ///
 /// # Errors
 ///
-/// The lowest line that isn't of the form, or want of memory for that line or one before it.
+/// The lowest line that isn't of the form, or want of memory before one was found.
 #[tactic(auto, using(crate::proofs::FileLemmas::event_read, crate::proofs::FileLemmas::nothing_read, crate::proofs::FileLemmas::line_refused, crate::proofs::FileLemmas::all_read, crate::proofs::FileLemmas::none_read))]
 pub fn parse(alloc: Global, file: &[u8]) -> Result<Vec<Event>, ParseFault>
     ensures { Gives refused_line (λ events. map told_of events.items) result (events_in file.now) }

@@ -48,7 +48,7 @@ pub struct ToldReply {
 ///
 /// # Errors
 ///
-/// The lowest line that isn't the line of a reply, or want of memory for that line or one before it.
+/// The lowest line that isn't the line of a reply, or want of memory before one was found.
 #[tactic(auto, using(crate::proofs::ReplyLemmas::reply_read, crate::proofs::ReplyLemmas::replies_read, crate::proofs::ReplyLemmas::one_more_whole))]
 pub fn replies(alloc: Global, file: &[u8]) -> Result<Vec<ToldReply>, RepliesFault>
     ensures spelled { IfOk result (λ told. lines file.now ≡ map told_text told.items) }

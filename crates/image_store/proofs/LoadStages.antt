@@ -35,7 +35,7 @@ header_no_stream (Ok h) front e = tt
 header_no_stream (Err first) front e = no_stream first (header_text_fault front first (sym e))
 
 row_fits : (capacity : ℕ) (row : List ℕ) (z : CountedZone) → 1 ≤ capacity → TellsZone capacity row z → (z.capacity ≡ capacity) × IsZone z.state z.written capacity
-row_fits capacity row z some tells = (sym tells.most, subst (IsZone z.state z.written) (sym tells.most) (subst (λ (c : ℕ). 1 ≤ c) tells.most some, tells.fits))
+row_fits capacity row z some tells = (sym tells.same_capacity, subst (IsZone z.state z.written) (sym tells.same_capacity) (subst (λ (c : ℕ). 1 ≤ c) tells.same_capacity some, tells.fits))
 
 -- the zones of rows, as many as were wanted
 pub record HaveFit (capacity n : ℕ) (zs : List CountedZone) : Type 0 where

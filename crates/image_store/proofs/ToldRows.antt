@@ -49,7 +49,7 @@ state_right zone capacity row (Some state) z zeros is e =
     let written = field row 4 4 in
     let made : CountedZone = record { state = state; written = written; capacity = capacity } in
     let p = chosen (fits_state state written capacity) made z (ZoneRow zone (Blocks state written capacity)) e in
-    subst (TellsZone capacity row) p.1 (record { zeros = zeros; state = is; written = refl; most = refl; fits = p.0 })
+    subst (TellsZone capacity row) p.1 (record { zeros = zeros; state = is; written = refl; same_capacity = refl; fits = p.0 })
 
 row_right_if : (zone capacity : ℕ) (row : List ℕ) (test : Bool) (z : CountedZone) → are_zeros (take 3 (drop 1 row)) ≡ test
     → cond test (zone_told zone (get_or row 0 0) (state_of (get_or row 0 0)) (field row 4 4) capacity) (Err (ZoneRow zone Reserved)) ≡ Ok z → TellsZone capacity row z

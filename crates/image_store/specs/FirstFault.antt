@@ -56,7 +56,7 @@ pub record TellsZone (capacity : ℕ) (row : List ℕ) (z : CountedZone) : Type 
   pub zeros : are_zeros (take 3 (drop 1 row)) ≡ true
   pub state : state_of (get_or row 0 0) ≡ Some z.state
   pub written : field row 4 4 ≡ z.written
-  pub most : capacity ≡ z.capacity
+  pub same_capacity : capacity ≡ z.capacity
   pub fits : fits_state z.state z.written z.capacity ≡ true
 
 -- what can be wrong with a row:
@@ -67,9 +67,9 @@ IsRowFault capacity row row_faults.Reserved = are_zeros (take 3 (drop 1 row)) �
 IsRowFault capacity row (row_faults.State code) =
     (are_zeros (take 3 (drop 1 row)) ≡ true) × (get_or row 0 0 ≡ code) × (state_of code ≡ None)
 -- a state has, but a zone of it can't have so many written blocks
-IsRowFault capacity row (row_faults.Blocks state written most) =
+IsRowFault capacity row (row_faults.Blocks state written told) =
     (are_zeros (take 3 (drop 1 row)) ≡ true) × (state_of (get_or row 0 0) ≡ Some state)
-    × (field row 4 4 ≡ written) × (capacity ≡ most) × (fits_state state written most ≡ false)
+    × (field row 4 4 ≡ written) × (capacity ≡ told) × (fits_state state written told ≡ false)
 
 -- a text whose header has no fault, with all its rows, of which the first tell these zones
 pub record TellsZones (version : Version) (bytes : List ℕ) (zones : List CountedZone) : Type 0 where

@@ -1,4 +1,4 @@
-//! The work on the fields of an image, over slices: its methods only call these.
+//! What changes the fields of an image, over slices: the methods that change an image only call these.
 
 ghost use Rattle.std.specs.Prelude.{◌≡◌, ◌≤◌, ◌<◌, ◌+◌, ◌*◌, length, get_or, set, take, drop, Ok};
 ghost use Rattle.std.specs.List.{concat};

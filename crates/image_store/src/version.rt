@@ -25,7 +25,7 @@ const VERSION_1_MOST_ZONES: u32 = 1024;
 
 impl Version {
     /// The version whose texts begin as these bytes do; `None` where those of no version do.
-    pub fn of(bytes: &[u8]) -> Option<Version>
+    pub(crate) fn of(bytes: &[u8]) -> Option<Version>
         ensures { result ≡ version_in bytes.now }
     {
         if bytes.starts_with(&Version::One.magic()) {
@@ -55,7 +55,7 @@ impl Version {
     }
 
     /// Can a block have this many bytes?
-    pub fn has_block(self, bytes: u32) -> bool
+    pub(crate) fn has_block(self, bytes: u32) -> bool
         ensures { result ≡ has_block self bytes }
     {
         match self {
@@ -65,7 +65,7 @@ impl Version {
     }
 
     /// How many zones there can be.
-    pub fn most_zones(self) -> u32
+    pub(crate) fn most_zones(self) -> u32
         ensures { result ≡ (numbers_of_version self).most_zones }
     {
         match self {
@@ -75,7 +75,7 @@ impl Version {
     }
 
     /// The first byte of a header from which on all are zero.
-    pub fn zeros_from(self) -> usize
+    pub(crate) fn zeros_from(self) -> usize
         ensures value { result ≡ (numbers_of_version self).zeros_from }
         ensures inside { result ≤ HEADER_BYTES }
     {

@@ -9,7 +9,7 @@ use crate::operation::{
     Operation, Relation, SignExtension, SignedSize, Size, Swap, SwapSize, Width,
 };
 
-/// The class of the loads of the wide instruction: the low three bits of an opcode (RFC 9669, 3.3).
+/// The class of the wide instruction and of packet loads: the low three bits of an opcode (RFC 9669, 3.3).
 pub const LD: u8 = 0;
 
 /// The class of loads into a register (RFC 9669, 3.3).
@@ -93,7 +93,7 @@ impl Size {
     }
 
     /// The size with this code, or `None` for any other (RFC 9669, 5).
-    pub fn with_code(code: u8) -> Option<Size>
+    pub fn from_code(code: u8) -> Option<Size>
         ensures { result ≡ size_with code }
     {
         match code {
@@ -120,7 +120,7 @@ impl SignedSize {
     }
 
     /// The size of a sign-extending load with this code, or `None` for any other (RFC 9669, 5.2).
-    pub fn with_code(code: u8) -> Option<SignedSize>
+    pub fn from_code(code: u8) -> Option<SignedSize>
         ensures { result ≡ signed_size_with code }
     {
         match code {
@@ -155,7 +155,7 @@ impl Operation {
     }
 
     /// The operation of offset 0 with this code, or `None` if there is none (RFC 9669, 4.1).
-    pub fn with_code(code: u8) -> Option<Operation>
+    pub fn from_code(code: u8) -> Option<Operation>
         ensures { result ≡ operation_with code }
     {
         match code {
@@ -180,7 +180,7 @@ impl Operation {
         ensures { result ≡ variant_with self offset }
     {
         match offset {
-            0 => Operation::with_code(self.code()),
+            0 => Operation::from_code(self.code()),
             1 => match self {
                 Operation::Divide | Operation::SignedDivide => Some(Operation::SignedDivide),
                 Operation::Modulo | Operation::SignedModulo => Some(Operation::SignedModulo),
@@ -268,7 +268,7 @@ impl Swap {
     }
 
     /// The byte swap with this opcode, or `None` for any other (RFC 9669, 4.2).
-    pub fn with_opcode(opcode: u8) -> Option<Swap>
+    pub fn from_opcode(opcode: u8) -> Option<Swap>
         ensures { result ≡ swap_with opcode }
     {
         match opcode {
@@ -293,7 +293,7 @@ impl SwapSize {
     }
 
     /// The size that keeps this many bits, or `None` if no byte swap has it (RFC 9669, 4.2).
-    pub fn with_bits(bits: i32) -> Option<SwapSize>
+    pub fn from_bits(bits: i32) -> Option<SwapSize>
         ensures { result ≡ swap_size_with bits }
     {
         match bits {
@@ -327,7 +327,7 @@ impl Relation {
     }
 
     /// The relation with this code, or `None` for any other (RFC 9669, 4.3).
-    pub fn with_code(code: u8) -> Option<Relation>
+    pub fn from_code(code: u8) -> Option<Relation>
         ensures { result ≡ relation_with code }
     {
         match code {

@@ -1,6 +1,6 @@
 //! The registers R0 to R10.
 
-ghost use Rattle.std.specs.Prelude.{◌≡◌, ◌<◌, ◌↔◌, IsSome, IfSome};
+ghost use Rattle.std.specs.Prelude.{◌≡◌, ◌<◌};
 
 use program_interface::REGISTERS;
 use std::marker::Model;
@@ -40,18 +40,6 @@ impl Register {
 
     /// R10, the frame pointer, which programs only read (BPF ABI 1.0, Registers and calling convention).
     pub const FRAME_POINTER: Register = Register { number: 10 };
-
-    /// The register with this number, or `None` for a number over 10.
-    pub fn new(number: u8) -> Option<Register>
-        ensures found { IsSome result ↔ (number < REGISTERS) }
-        ensures value { IfSome result (λ r. r ≡ number) }
-    {
-        if usize::from(number) < REGISTERS {
-            Some(Register { number })
-        } else {
-            None
-        }
-    }
 
     /// The register with this number.
     pub fn from_number(number: u8) -> Register

@@ -13,7 +13,7 @@ use word_domain::{Bounds, Offsets};
 pub enum Fact {
     /// The words between bounds.
     Words(Bounds),
-    /// The words whose distance from the area's address is between bounds.
+    /// The words whose distance from the area's address, in bytes, is between bounds.
     Pointer { area: Area, low: i32, high: i32 },
 }
 
@@ -37,7 +37,7 @@ pub fn is_single(bounds: Bounds) -> bool
     bounds.low == bounds.high
 }
 
-/// The pointer with these bounds, or every word where they would pass the farthest.
+/// The pointer with these bounds, or every word where one of them is more than 2^20 bytes from the area's address.
 pub fn pointer_between(area: Area, low: i128, high: i128) -> Fact
     requires { low ≤ℤ high }
     ensures value { result ≡ pointer_to area low high }

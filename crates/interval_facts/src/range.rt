@@ -11,7 +11,7 @@ use instruction_set::{Operation, Width};
 use word_domain::Bounds;
 
 /// The greatest number of a width.
-pub fn greatest(width: Width) -> u64
+fn greatest(width: Width) -> u64
     ensures { result + 1 ≡ number_count width }
 {
     match width {

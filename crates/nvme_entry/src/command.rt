@@ -121,7 +121,7 @@ impl BlockCount {
     }
 
     /// The number as a zero-based field spells it: one less.
-    pub fn zero_based(self) -> u16
+    pub(crate) fn zero_based(self) -> u16
         ensures { result + 1 ≡ self }
     {
         (self.blocks - 1) as u16
@@ -182,7 +182,7 @@ impl DwordCount {
     }
 
     /// The number as a zero-based field spells it: one less.
-    pub fn zero_based(self) -> u32
+    pub(crate) fn zero_based(self) -> u32
         ensures { dwords_of result ≡ Some self }
     {
         self.dwords - 1

@@ -46,7 +46,7 @@ impl ZoneFilter {
     }
 
     /// The filter with this code; `None` for a code that isn't supported.
-    pub fn from_code(code: u8) -> Option<ZoneFilter>
+    pub(crate) fn from_code(code: u8) -> Option<ZoneFilter>
         ensures { result ≡ filter_of code }
     {
         match code {
@@ -63,7 +63,7 @@ impl ZoneFilter {
     }
 
     /// The filter's code.
-    pub fn code(self) -> u8
+    pub(crate) fn code(self) -> u8
         ensures { filter_of result ≡ Some self }
     {
         match self {

@@ -1,5 +1,6 @@
 -- Numbers that are bytes, and lists of them.
 use Rattle.std.specs.Prelude.{ℕ, zero, suc, ◌<◌, ◌+◌, ◌-◌, List, [], ◌∷◌, ◌++◌, length, take, drop, replicate, slice_index}
+use Rattle.std.specs.List.{splice}
 use Rattle.byteorder.specs.Endian.{little_number}
 
 -- each of these numbers is below 256
@@ -12,7 +13,7 @@ field bytes at count = little_number count (drop at bytes)
 
 -- bytes with others put in their place from one on
 abbrev pub spliced : ℕ → List ℕ → List ℕ → List ℕ
-spliced at new bytes = take at bytes ++ (new ++ drop (at + length new) bytes)
+spliced at new bytes = splice bytes at (at + length new) new
 
 -- bytes with zeros behind them, up to a length
 abbrev pub padded : ℕ → List ℕ → List ℕ

@@ -86,7 +86,7 @@ module _ (block : ℕ) where
   pub bytes_count : (blocks : List (List ℕ)) → 1 ≤ block → AreBlocks block blocks → block_count block (concat blocks) ≡ length blocks
   bytes_count blocks some h = count_of (length blocks) block (concat blocks) some (bytes_long blocks h)
 
-  pub bytes_cut : (blocks : List (List ℕ)) → 1 ≤ block → AreBlocks block blocks → as_blocks block (concat blocks) ≡ blocks
+  bytes_cut : (blocks : List (List ℕ)) → 1 ≤ block → AreBlocks block blocks → as_blocks block (concat blocks) ≡ blocks
   bytes_cut blocks some h =
       ap (λ (n : ℕ). pieces block n (concat blocks)) (bytes_count blocks some h) ∙ blocks_are_cut_again block blocks (whole_at block blocks h)
 

@@ -99,7 +99,7 @@ module _ {D : Type 0} (operations : Operations D) (starved : Bool) (sub : Submis
         ]
       ]
 
-  pub changes_slots : (asked : Result Command Status) → decoded sub.entry ≡ asked → ChangesSlots (submitted operations starved sub s asked)
+  changes_slots : (asked : Result Command Status) → decoded sub.entry ≡ asked → ChangesSlots (submitted operations starved sub s asked)
   changes_slots (Err status) is = inl refl
   changes_slots (Ok (commands.Standard c)) is = inl refl
   changes_slots (Ok (commands.Load load)) is = load_changes load is

@@ -38,7 +38,7 @@ pub record IsScratch (scratch : List ℕ) : Type 0 where
   pub long : length scratch ≡ 1024
   pub are : AreBytes scratch
 
-pub no_scratch_is : IsScratch no_scratch
+no_scratch_is : IsScratch no_scratch
 no_scratch_is = record {
   long = length-replicate {A = ℕ} 1024 0;
   are = by_place no_scratch (all_same FitsByte 1024 0 (lit< tt));
@@ -62,7 +62,7 @@ module _ (task : Task) (ready : IsReady task) where
       start_is_state bytes (context task index) scratch (rw block.whole ready.small) refl is.long
       block.are (by_place (context task index) (context_are task index)) is.are
 
-  pub one_done : (index : ℕ) (scratch bytes : List ℕ) → IsScratch scratch → IsBlock task.sizes.block bytes → IsDone task (block_run task index scratch bytes)
+  one_done : (index : ℕ) (scratch bytes : List ℕ) → IsScratch scratch → IsBlock task.sizes.block bytes → IsDone task (block_run task index scratch bytes)
   one_done index scratch bytes is block =
       let limit = task.sizes.limit in
       let told = context task index in

@@ -46,7 +46,7 @@ module _ {D : Type 0} (operations : Operations D) (never : AcceptedNeverTraps op
       omega (arith, gone, is)
 
   -- a turn of an active run leaves fewer turns
-  pub found_less : (s : State) (run : ℕ) (at : Option Place) → Fine s → place_at s run ≡ at → is_some at ≡ true
+  found_less : (s : State) (run : ℕ) (at : Option Place) → Fine s → place_at s run ≡ at → is_some at ≡ true
       → turns_left (turned s run).state.places + 1 ≤ turns_left s.places
   found_less s run None h here some = cc
   found_less s run (Some place) h here some =

@@ -23,7 +23,7 @@ module _ {D : Type 0} (operations : Operations D) where
   one_reply_each [] s = refl
   one_reply_each (o ∷ os) s = ap suc (one_reply_each os (next o s))
 
-  pub replies_to-append : (first later : List Occurrence) (s : State)
+  replies_to-append : (first later : List Occurrence) (s : State)
       → replies_to operations (first ++ later) s
       ≡ replies_to operations first s ++ replies_to operations later (state_after operations first s)
   replies_to-append [] later s = refl
@@ -41,11 +41,11 @@ module _ {D : Type 0} (operations : Operations D) where
 
   -- ---- turns as events
 
-  pub turns_state : (runs : List ℕ) (s : State) → state_after_turns runs s ≡ state_after operations (turn_events runs) s
+  turns_state : (runs : List ℕ) (s : State) → state_after_turns runs s ≡ state_after operations (turn_events runs) s
   turns_state [] s = refl
   turns_state (run ∷ runs) s = turns_state runs (turned s run).state
 
-  pub turns_replies : (runs : List ℕ) (s : State) → replies_to_turns runs s ≡ replies_to operations (turn_events runs) s
+  turns_replies : (runs : List ℕ) (s : State) → replies_to_turns runs s ≡ replies_to operations (turn_events runs) s
   turns_replies [] s = refl
   turns_replies (run ∷ runs) s =
       ap (λ (replies : List ReplyWithData). (turned s run).reply ∷ replies) (turns_replies runs (turned s run).state)

@@ -28,13 +28,13 @@ use Rattle.pushdown.proofs.Changes.{after_event}
 pub same_program : (slot : Option Loaded) → SameProgram slot slot
 same_program slot = record { loaded = refl; program = refl; limit = refl }
 
-pub keeping_same : (slot : Option Loaded) (bytes : Option (List ℕ)) → SameProgram slot (keeping slot bytes)
+keeping_same : (slot : Option Loaded) (bytes : Option (List ℕ)) → SameProgram slot (keeping slot bytes)
 keeping_same (Some loaded) (Some bytes) = record { loaded = refl; program = refl; limit = refl }
 keeping_same (Some loaded) None = same_program (Some loaded)
 keeping_same None bytes = same_program None
 
 -- where a slot gets the same program again, each slot has the same
-pub set_program : (slots : List (Option Loaded)) (i j : ℕ) (new : Option Loaded) → SameProgram (get_or slots i None) new
+set_program : (slots : List (Option Loaded)) (i j : ℕ) (new : Option Loaded) → SameProgram (get_or slots i None) new
     → SameProgram (get_or slots j None) (get_or (set slots i new) j None)
 set_program [] i j new same = same_program None
 set_program (x ∷ xs) zero zero new same = same

@@ -21,7 +21,7 @@ use Rattle.pushdown.proofs.Changes.{after_event, after_turn}
 pub free_within : (places : List (Option Place)) (free : ℕ) → position is_none places ≡ Some free → free < length places
 free_within places free at = (position-Some is_none places free None at).0
 
-pub other_than : (places : List (Option Place)) (free run : ℕ) (place : Place) → position is_none places ≡ Some free
+other_than : (places : List (Option Place)) (free run : ℕ) (place : Place) → position is_none places ≡ Some free
     → get_or places run None ≡ Some place → run ≢ free
 other_than places free run place at is same =
     let none = (position-Some is_none places free None at).1 in

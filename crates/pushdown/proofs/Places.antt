@@ -69,7 +69,7 @@ left_older places run place later ending at = record {
 -- ---- a run that is admitted
 
 -- the destination of an admitted run is no other run's
-pub admitted_free : (sub : Submission) (s : State) (command : RunCommand) → why_not_run sub s command ≡ None
+admitted_free : (sub : Submission) (s : State) (command : RunCommand) → why_not_run sub s command ≡ None
     → is_destination (holds_at s) (destination_zone s.namespace command) ≡ false
 admitted_free sub s command none =
     let holds = holds_at s in
@@ -88,7 +88,7 @@ module _ (places : List (Option Place)) (run : ℕ) (new : Place) (h : AreApart 
       subst (λ (z : ℕ). list_any (names z) (map destination_of places) ≡ true) to (held_at places k q at) in
       cc
 
-  pub placed_apart : AreApart (set places run (Some new))
+  placed_apart : AreApart (set places run (Some new))
   placed_apart = record {
     apart = λ j k p q at_j at_k same. elim (set_known places run j (Some new) p at_j) [
       | inl first ↦ elim (set_known places run k (Some new) q at_k) [

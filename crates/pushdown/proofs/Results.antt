@@ -52,7 +52,7 @@ module _ {D : Type 0} (operations : Operations D) where
     turn = λ run place turn later own at first. (left_program s place turn.ending slot).loaded ∙ is;
   })
 
-  pub events_leave_some : (events : List Occurrence) (s : State) (slot : ℕ) → is_some (loaded_at s slot) ≡ true
+  events_leave_some : (events : List Occurrence) (s : State) (slot : ℕ) → is_some (loaded_at s slot) ≡ true
       → is_some (loaded_at (state_after operations events s) slot) ≡ true
   events_leave_some [] s slot is = is
   events_leave_some (o ∷ os) s slot is =
@@ -121,7 +121,7 @@ module _ {D : Type 0} (operations : Operations D) (slot : ℕ) where
       (λ p turn later at is. left_by s run p turn later turn.ending at refl) ends
   event_leaves s starved (event.Fault zone state) ends loads = refl
 
-  pub events_leave : (events : List Occurrence) (s : State) → NoEventReplaces operations slot events s
+  events_leave : (events : List Occurrence) (s : State) → NoEventReplaces operations slot events s
       → loaded_at (state_after operations events s) slot ≡ loaded_at s slot
   events_leave [] s none = refl
   events_leave (o ∷ os) s none =
@@ -141,7 +141,7 @@ module _ {D : Type 0} (operations : Operations D) (s : State) (slot : ℕ) (byte
   given (event.Turn run) starved is = absurd is
   given (event.Fault zone state) starved is = absurd is
 
-  pub result_given : ResultGives operations s slot bytes
+  result_given : ResultGives operations s slot bytes
   result_given o submits = given o.event o.starved submits
 
 -- ---- a run

@@ -36,7 +36,7 @@ use Rattle.image_store.specs.Namespace.{ZonedNamespace, IsNamespace, zone_at}
 use Rattle.image_store.proofs.Proved.{block_most}
 use Rattle.zns_commands.specs.Left as kept
 use Rattle.zns_commands.specs.Laws.{IsSpelled, NamespaceEvent, after}
-use Rattle.zns_commands.proofs.Proved.{held_destinations_are_left, events_keep_namespaces, shapes_are_kept}
+use Rattle.zns_commands.proofs.Proved.{held_destinations_are_left, events_keep_namespaces_sound, shapes_are_kept}
 use Rattle.accepted_programs.proofs.Proved.{none_known, set_known}
 use Rattle.pushdown.specs.Admission.{Loaded, admission_checks, source_blocks, task_of}
 use Rattle.pushdown.specs.EventReplies.{Submission}
@@ -78,7 +78,7 @@ few_source ns command =
 
 -- ---- groups
 
-pub groups_fit : (task : Task) (block_runs : List BlockRun) → AllByRecursion (IsDone task) block_runs
+groups_fit : (task : Task) (block_runs : List BlockRun) → AllByRecursion (IsDone task) block_runs
     → AllByRecursion (λ group. length group ≤ task.sizes.limit) (groups_of block_runs)
 groups_fit task [] h = tt
 groups_fit task (run ∷ block_runs) h = (h.0.exits.group, groups_fit task block_runs h.1)
@@ -120,7 +120,7 @@ module _ {D : Type 0} (operations : Operations D) (never : AcceptedNeverTraps op
     pub apart : AreApart s.places
     pub rooms : Rooms s
 
-  pub new_fine : (ns : ZonedNamespace) → IsNamespace ns → ns.block ≡ block → IsFine (new_state ns)
+  new_fine : (ns : ZonedNamespace) → IsNamespace ns → ns.block ≡ block → IsFine (new_state ns)
   new_fine ns is size = record {
     is = is;
     size = size;
@@ -137,7 +137,7 @@ module _ {D : Type 0} (operations : Operations D) (never : AcceptedNeverTraps op
   step_fine s step h same is_spelled =
       let kept_shape = shapes_are_kept step s.namespace in
       record {
-        is = events_keep_namespaces (step ∷ []) s.namespace h.is (All-cons IsSpelled step [] is_spelled (All-nil IsSpelled));
+        is = events_keep_namespaces_sound (step ∷ []) s.namespace h.is (All-cons IsSpelled step [] is_spelled (All-nil IsSpelled));
         size = ap (λ (x : Shape). x.block) kept_shape ∙ h.size;
         slots = h.slots;
         places = h.places;
@@ -238,7 +238,7 @@ module _ {D : Type 0} (operations : Operations D) (never : AcceptedNeverTraps op
     }
 
     -- no more blocks are appended than were asked for
-    pub few_blocks : length (appended_by (outcome task source)) ≤ need command.blocks task.sizes
+    few_blocks : length (appended_by (outcome task source)) ≤ need command.blocks task.sizes
     few_blocks =
         let groups = groups_of block_runs in
         let whole = outcome_is_packed task source all_exit in
@@ -294,7 +294,7 @@ module _ {D : Type 0} (operations : Operations D) (never : AcceptedNeverTraps op
       all_set SlotIsFine s.slots place.slot (keeping slot ending.result) h.slots
       (kept_fine slot ending.result (all_at SlotIsFine s.slots place.slot None h.slots tt))
 
-  pub left_fine : (place : Place) (turn : Turn) (later : List Turn) (ending : Option Ending) → turn.ending ≡ ending → AppendWhole (turn ∷ later)
+  left_fine : (place : Place) (turn : Turn) (later : List Turn) (ending : Option Ending) → turn.ending ≡ ending → AppendWhole (turn ∷ later)
       → PlaceIsFine (place_left place later ending)
   left_fine place turn later (Some ending) is are = tt
   left_fine place turn [] None is are = absurd (subst Succeeds is are.ends)
@@ -323,7 +323,7 @@ module _ {D : Type 0} (operations : Operations D) (never : AcceptedNeverTraps op
 
   -- ---- events
 
-  pub event_fine : (s : State) (starved : Bool) (e : Event) → IsFine s → CarriesBytes e → IsFine (happens operations s starved e).state
+  event_fine : (s : State) (starved : Bool) (e : Event) → IsFine s → CarriesBytes e → IsFine (happens operations s starved e).state
   event_fine s starved e h has = after_event operations IsFine s starved e (record {
     same = h;
     step = λ step same is. step_fine s step h same (is has);

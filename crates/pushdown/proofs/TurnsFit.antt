@@ -64,12 +64,12 @@ module _ (ns : ZonedNamespace) (z : ℕ) (b : List ℕ) (bs : List (List ℕ)) (
   more_added : IsNamespace ns → AreBlocks ns.block more → added ns z more ≡ appended ns z (concat more)
   more_added sound new = added_bytes ns z more (λ e. cc) (omega (arith, block_some sound.shape)) new
 
-  pub more_sound : IsNamespace ns → AreBlocks ns.block more → IsNamespace (added ns z more)
+  more_sound : IsNamespace ns → AreBlocks ns.block more → IsNamespace (added ns z more)
   more_sound sound new =
       subst IsNamespace (sym (more_added sound new))
       (added_blocks_keep_namespaces_sound ns z (concat more) sound (more_takes sound new) (bytes_are ns.block more new))
 
-  pub more_appended : IsNamespace ns → AreBlocks ns.block more → length more ≤ 2 → IsAppended ns z more
+  more_appended : IsNamespace ns → AreBlocks ns.block more → length more ≤ 2 → IsAppended ns z more
   more_appended sound new few =
       let takes = more_takes sound new in
       let product : length more * ns.block ≤ 2 * ns.block = mul-le-mul_right ns.block few in

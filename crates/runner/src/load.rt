@@ -79,14 +79,14 @@ fn check_load(
     let Some(sizes) = RunSizes::new(namespace.geometry().block(), command.limit) else {
         return Err(Status::INVALID_FIELD_IN_COMMAND);
     };
-    if is_used(runs, command.slot) {
+    if in_use(runs, command.slot) {
         return Err(Status::PROGRAM_IN_USE);
     }
     Ok(sizes)
 }
 
 /// Does an active run use the program of a slot?
-fn is_used(runs: &[Option<ActiveRun>; RUNS], slot: ProgramSlot) -> bool
+fn in_use(runs: &[Option<ActiveRun>; RUNS], slot: ProgramSlot) -> bool
     ensures { result ≡ list_any (uses_slot slot) runs.now }
 {
     runs.iter().any(|run| uses(run, slot))

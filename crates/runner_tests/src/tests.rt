@@ -3,7 +3,7 @@
 ghost use Rattle.std.proofs.Common.{◌∙◌, ap, append_assoc, rules};
 ghost use Rattle.std.specs.Prelude.{◌≡◌, ◌≤◌, ◌++◌, length, map};
 
-use runner::{Device, Event, NotTaken, Out, Reply};
+use runner::{Event, NotTaken, Out, Reply};
 use scenes::{ALL_EMPTY, FOUR_ZONES, check_steps, check_zones, device_of};
 use std::alloc::Global;
 use std::process::Abort;

@@ -90,8 +90,8 @@ struct Fork<D> {
     taken: Option<(D, D)>,
 }
 
-/// Gives facts along both edges of a compare. Where the target was given some already, these are joined into those in
-/// place, before the slot behind takes their box; else the target takes a box of its own.
+/// Gives facts along both edges of a compare. Where the target isn't the slot behind and was given some already, these are
+/// joined into those in place, before the slot behind takes their box; else the target takes a box of its own.
 fn give_both<D: Domain>(
     alloc: Global,
     rows: &mut [Row<D>],

@@ -50,11 +50,11 @@ action_fits a Offline w c h = (h.0, refl)
 action_fits a s w c h = h
 
 -- the same of each zone is the same of all of them
-pub each_fits : (b c : ℕ) (zones : List ZoneBlocks) → ((z : ℕ) → z < length zones → FitsIn b c (get_or zones z no_zone))
+each_fits : (b c : ℕ) (zones : List ZoneBlocks) → ((z : ℕ) → z < length zones → FitsIn b c (get_or zones z no_zone))
     → (z i : ℕ) → i < length (get_or zones z no_zone).blocks → length (get_or (get_or zones z no_zone).blocks i []) ≡ b
 each_fits b c zones all z i h = (all z (blocks_lie_in_zones zones z i h)).whole i h
 
-pub each_bytes : (b c : ℕ) (zones : List ZoneBlocks) → ((z : ℕ) → z < length zones → FitsIn b c (get_or zones z no_zone))
+each_bytes : (b c : ℕ) (zones : List ZoneBlocks) → ((z : ℕ) → z < length zones → FitsIn b c (get_or zones z no_zone))
     → (z i : ℕ) → AreBytes (get_or (get_or zones z no_zone).blocks i [])
 each_bytes b c [] all z i = no_bytes
 each_bytes b c (zone ∷ zones) all zero i = (all 0 (omega arith)).bytes i

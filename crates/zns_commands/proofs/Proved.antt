@@ -1,6 +1,6 @@
 -- Laws of this crate, proved, and lemmas: what the proofs of other crates cite of it.
 use Rattle.zns_commands.specs.Left.{HeldDestinationsAreLeft, ShapesAreKept, HeldSourcesKeepBlocks}
-use Rattle.zns_commands.specs.Laws.{AddedBlocksKeepNamespacesSound, EmptyIsNamespace, EventsKeepNamespaces, RefusedCommandsChangeNothing}
+use Rattle.zns_commands.specs.Laws.{AddedBlocksKeepNamespacesSound, EmptyIsNamespace, EventsKeepNamespacesSound, RefusedCommandsChangeNothing}
 pub use Rattle.zns_commands.proofs.FittingZones.{no_bytes}
 use Rattle.zns_commands.proofs.HeldSources as held_sources
 use Rattle.zns_commands.proofs.HeldZones as held_zones
@@ -13,8 +13,8 @@ use Rattle.zns_commands.proofs.Refusals as refusals
 use Rattle.zns_commands.proofs.SoundEvents as sound_events
 pub use Rattle.zns_commands.proofs.WrittenZones.{count_of}
 
-pub events_keep_namespaces : EventsKeepNamespaces
-events_keep_namespaces = sound_events.events_keep_namespaces
+pub events_keep_namespaces_sound : EventsKeepNamespacesSound
+events_keep_namespaces_sound = sound_events.events_keep_namespaces_sound
 
 pub empty_is_namespace : EmptyIsNamespace
 empty_is_namespace = sound_events.empty_is_namespace

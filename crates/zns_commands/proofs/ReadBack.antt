@@ -94,7 +94,7 @@ lying_is_read m z w blocks input h holds =
     ∙ ap (success_effect m 0) h.bytes))))))
 
 -- they lie there as long as the zone isn't cleared
-pub lie_on : (ns m : ZonedNamespace) (z w blocks : ℕ) (input : List ℕ) → BlocksLieAt ns z w blocks input → KeepsZone ns m z → BlocksLieAt m z w blocks input
+lie_on : (ns m : ZonedNamespace) (z w blocks : ℕ) (input : List ℕ) → BlocksLieAt ns z w blocks input → KeepsZone ns m z → BlocksLieAt m z w blocks input
 lie_on ns m z w blocks input lie keeps =
     let grows = keeps.blocks in
     record {

@@ -25,7 +25,7 @@ use Rattle.zns_commands.specs.Meaning.{checks_of, effect_of}
 use Rattle.zns_commands.specs.Resources.{closing_of, gives_way}
 use Rattle.zns_commands.specs.Send.{send_checks, send_effect, all_fit, room_of}
 use Rattle.zns_commands.specs.Write.{with_written}
-use Rattle.zns_commands.specs.Laws.{NamespaceEvent, Commanded, Faulted, after, IsSpelled, EventsKeepNamespaces, EmptyIsNamespace}
+use Rattle.zns_commands.specs.Laws.{NamespaceEvent, Commanded, Faulted, after, IsSpelled, EventsKeepNamespacesSound, EmptyIsNamespace}
 use Rattle.zns_commands.proofs.FittingZones.{FitsIn, namespace_of_zones, no_bytes}
 use Rattle.zns_commands.proofs.WrittenZones.{written_sound}
 use Rattle.zns_commands.proofs.MovedZones.{moved_sound, fault_sound}
@@ -65,10 +65,10 @@ event_sound (Commanded holds command input) ns sound spelled =
     after_command IsNamespace ns holds command input sound (effect_sound ns holds command input sound spelled)
 event_sound (Faulted holds z fault) ns sound spelled = fault_sound ns holds z fault sound
 
-pub events_keep_namespaces : EventsKeepNamespaces
-events_keep_namespaces [] ns sound some = sound
-events_keep_namespaces (event ∷ events) ns sound some =
-    events_keep_namespaces events (after event ns) (event_sound event ns sound (some 0 event (omega arith)))
+pub events_keep_namespaces_sound : EventsKeepNamespacesSound
+events_keep_namespaces_sound [] ns sound some = sound
+events_keep_namespaces_sound (event ∷ events) ns sound some =
+    events_keep_namespaces_sound events (after event ns) (event_sound event ns sound (some 0 event (omega arith)))
     (λ k other in_list. some (suc k) other (omega arith))
 
 empty_counts : (test : ZoneState → Bool) (c n : ℕ) → test Empty ≡ false

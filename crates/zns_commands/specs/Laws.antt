@@ -52,8 +52,8 @@ IsSpelled (Faulted holds zone fault) = Unit {0}
 
 -- a namespace stays one, its open and active zones within the limits, whatever commands that entries can spell, and
 -- whatever faults, come (ZNS 1.1, 2.1.1)
-abbrev pub EventsKeepNamespaces : Type 0
-EventsKeepNamespaces = (events : List NamespaceEvent) (ns : ZonedNamespace) → IsNamespace ns → All IsSpelled events → IsNamespace (after_events events ns)
+abbrev pub EventsKeepNamespacesSound : Type 0
+EventsKeepNamespacesSound = (events : List NamespaceEvent) (ns : ZonedNamespace) → IsNamespace ns → All IsSpelled events → IsNamespace (after_events events ns)
 
 -- and so it does where blocks of bytes are put into an open zone that has room for them,
 abbrev pub AddedBlocksKeepNamespacesSound : Type 0

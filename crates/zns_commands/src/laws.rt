@@ -4,13 +4,13 @@
 ghost use Rattle.zns_commands.specs.Held.{HeldCommandsAreRefused};
 ghost use Rattle.zns_commands.specs.Left.{HeldDestinationsAreLeft, HeldSourcesKeepBlocks, OtherZonesAreLeft, ShapesAreKept};
 ghost use Rattle.zns_commands.specs.SelectAll.{SelectAllIsEachAlone, SelectAllIsRefusedByHoldsAndLimits, TakenZonesMove};
-ghost use Rattle.zns_commands.specs.Laws.{AddedBlocksAreAppended, AddedBlocksKeepNamespacesSound, AppendedBlocksReadBack, ConsecutiveBlocksAreAPart, EachBlockIsRead, EmptyIsNamespace, EventsKeepNamespaces, JustOneCase, RefusedCommandsChangeNothing, ReportsEveryZone, ReportsWhatMatches, WrittenBlocksReadBack};
+ghost use Rattle.zns_commands.specs.Laws.{AddedBlocksAreAppended, AddedBlocksKeepNamespacesSound, AppendedBlocksReadBack, ConsecutiveBlocksAreAPart, EachBlockIsRead, EmptyIsNamespace, EventsKeepNamespacesSound, JustOneCase, RefusedCommandsChangeNothing, ReportsEveryZone, ReportsWhatMatches, WrittenBlocksReadBack};
 
 /// A namespace stays one, whatever commands that entries can spell, and whatever faults, come: its open and
 /// active zones are within the limits, each zone's state fits its written blocks, and each block is whole. One of
 /// which nothing is written is one.
 pub fn events_keep_namespaces_sound()
-    ensures kept { EventsKeepNamespaces }
+    ensures kept { EventsKeepNamespacesSound }
     ensures start { EmptyIsNamespace }
 {}
 

@@ -24,13 +24,13 @@ use zone_state::{Action, ZoneState};
 /// An action on one zone that isn't refused: the zone, the state that it comes into, and the zone
 /// that gives way to it.
 #[derive(Clone, Copy, Debug)]
-pub struct ZonePlan {
+struct ZonePlan {
     /// The zone's number.
-    pub zone: u32,
+    zone: u32,
     /// The state that it comes into.
-    pub to: ZoneState,
+    to: ZoneState,
     /// The number of the zone that is closed before, for the open resource that it has.
-    pub closing: Option<u32>,
+    closing: Option<u32>,
 }
 
 /// The checks of an action on one zone.

@@ -50,7 +50,7 @@ pub fn check_data(image: &Image, blocks: BlockCount, input: &[u8]) -> Result<(),
 /// [`room_for`].
 ///
 /// [`Zone::check_write`]: zone_state::Zone::check_write
-pub fn check_write(
+fn check_write(
     image: &Image,
     holds: &Holds,
     zone: u32,
@@ -91,7 +91,7 @@ pub fn check_at_write_pointer(
     check_write(image, holds, zone, at, blocks)
 }
 
-/// Writes the data at the write pointer of the zone of a plan.
+/// Closes the zone that gives way, and writes the data at the write pointer of the zone of a plan.
 pub fn put(image: &mut Image, plan: WritePlan, blocks: BlockCount, input: &[u8])
     requires can { (at : ℕ) × CanWrite image.old at blocks plan }
     requires whole { IsWhole image.old blocks input.now }

@@ -9,7 +9,7 @@ use Rattle.zone_state.specs.declared.action.Action.TheVariants as action
 
 -- is the zone the one with this number, if there is a number?
 abbrev pub names : ℕ → Option ℕ → Bool
-names zone gives = option_eq (λ a b. a == b) gives (Some zone)
+names zone held = option_eq (λ a b. a == b) held (Some zone)
 
 -- does a run read from this zone?
 abbrev pub is_source : Holds → ℕ → Bool

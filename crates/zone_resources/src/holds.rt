@@ -34,7 +34,7 @@ impl Holds {
     }
 
     /// Does a run read from this zone?
-    pub fn is_source(&self, zone: u32) -> bool
+    pub(crate) fn is_source(&self, zone: u32) -> bool
         ensures { result ≡ is_source self.now zone }
     {
         self.sources.iter().any(|held| *held == Some(zone))

@@ -43,7 +43,7 @@ fn statuses_have_sentences(rt: HostRuntime) -> Result<(), Fail> {
 }
 
 #[test]
-fn statuses_have_the_standards_numbers_and_a_name(rt: HostRuntime) -> Result<(), Fail> {
+fn statuses_have_their_numbers_and_a_name(rt: HostRuntime) -> Result<(), Fail> {
     let statuses = [
         (Status::SUCCESS, 0x0, 0x00),
         (Status::INVALID_COMMAND_OPCODE, 0x0, 0x01),

@@ -39,7 +39,7 @@ pub fn command<'a, F: Files, O: Write>(
     }
 }
 
-/// Prints the help that was asked for, or says what is wrong with the words.
+/// Prints the help that was asked for; of wrong words it gives the failure.
 fn print_help<'a, O: Write>(error: clap::Error, out: &mut O) -> Result<(), Failure<'a>> {
     if error.kind() == ErrorKind::DisplayHelp {
         return printed(write!(out, "{error}"));

@@ -18,7 +18,7 @@ pub record AreAskedFor (matches : ArgMatches) (block : ℕ) (sizes : Sizes) : Ty
   pub same : sizes.block ≡ block
   pub limit : IsLimit matches block (first_value (found_of matches) (codes "emit")) sizes.limit
 
--- the word of `--emit` is no number, or one of more bytes than a block has
+-- the failure tells `--emit`, whose word is no number, or one of more bytes than a block has
 pub record SpellsNoLimit (matches : ArgMatches) (block : ℕ) (failure : Failure) : Type 0 where
   pub option : Bor (List ℕ)
   pub named : option.now ≡ codes "emit"

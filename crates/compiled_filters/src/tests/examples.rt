@@ -183,7 +183,7 @@ impl Trial {
     {
         // a block that isn't written reads as zeros
         let unwritten = [0; BLOCK];
-        let output = bytes_or(&self.output, &unwritten);
+        let output = bytes_or(self.output.as_slice(), &unwritten);
         let reading = read(
             self.alloc,
             u16::try_from(self.appended()?.saturating_sub(1))?,
@@ -198,7 +198,7 @@ impl Trial {
         );
         assert!(rt; data.starts_with(output), "{name}");
         let unused = [0; SCRATCH_BYTES];
-        let scratch = bytes_or(&self.scratch, &unused);
+        let scratch = bytes_or(self.scratch.as_slice(), &unused);
         expect(
             rt,
             name,
@@ -243,12 +243,8 @@ fn expect(
 }
 
 /// Bytes, or zeros where there are none.
-fn bytes_or<'a>(bytes: &'a Vec<u8>, zeros: &'a [u8]) -> &'a [u8] {
-    if bytes.is_empty() {
-        zeros
-    } else {
-        bytes.as_slice()
-    }
+fn bytes_or<'a>(bytes: &'a [u8], zeros: &'a [u8]) -> &'a [u8] {
+    if bytes.is_empty() { zeros } else { bytes }
 }
 
 /// Adds zeros up to a multiple of a size.

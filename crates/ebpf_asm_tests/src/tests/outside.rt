@@ -229,7 +229,7 @@ exit ; 9500000000000000 ; exit\n\
 ",
     ),
     (
-        "seven_with_jumps",
+        "first_byte_with_jumps",
         "\
 ldxb r1, [r2+0] ; 7121000000000000 ; r1 = *(u8 *)(r2 + 0)\n\
 jeq r1, 1, +1 ; 1501010001000000 ; if r1 == 1 goto +1 <.text+0x18>\n\

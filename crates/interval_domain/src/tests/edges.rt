@@ -29,7 +29,7 @@ fn some_edges_do_not_exist(rt: HostRuntime) {
 }
 
 #[test]
-fn signed_compares_tell_nothing(rt: HostRuntime) {
+fn signed_compares_and_tests_of_bits_tell_nothing(rt: HostRuntime) {
     assert_eq!(rt;
         byte(Relation::SignedGreater, 99, true),
         Some(between(0, 255))

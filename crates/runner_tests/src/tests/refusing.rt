@@ -7,7 +7,7 @@ use super::steps::Expected::{Done, DoneWith, FaultTaken, Idle, Pending, Refused}
 use super::steps::{Case, Step};
 use super::{DESTINATION_OPENED, EMITTING, Kept, SOURCE_APPENDED, check_kept, events_of, room};
 use nvme_entry::Status;
-use runner::{Device, Event, Out, Reply};
+use runner::{Device, Event, Out};
 use std::alloc::Global;
 use std::process::Abort;
 use std::test::Fail;

@@ -169,10 +169,7 @@ impl Step {
 
 /// So many blocks.
 fn count(blocks: u32) -> Result<BlockCount, Fail> {
-    let Some(blocks) = BlockCount::new(blocks) else {
-        return Err(Fail::from("no command has so many blocks"));
-    };
-    Ok(blocks)
+    Ok(BlockCount::new(blocks).ok_or("no command has so many blocks")?)
 }
 
 /// The blocks of so many bytes.
@@ -181,10 +178,7 @@ fn blocks_of(bytes: usize) -> Result<BlockCount, Fail> {
 }
 
 fn slot_of(number: u8) -> Result<ProgramSlot, Fail> {
-    let Some(slot) = ProgramSlot::new(u32::from(number)) else {
-        return Err(Fail::from("no slot"));
-    };
-    Ok(slot)
+    Ok(ProgramSlot::new(u32::from(number)).ok_or("no slot")?)
 }
 
 fn send(lba: u64, action: Action, select_all: bool) -> StandardCommand {

@@ -129,7 +129,7 @@ cpl 1 00000000000000000000010005000000
     ),
 ];
 
-/// Files that no command can move.
+/// Files with data: none, too many bytes, no whole blocks, one that isn't there, and the most that a command moves.
 const FILES: &[Act] = &[
     Act::Put("none", &[]),
     Act::Put("short", &[(b"a", 511)]),
@@ -177,7 +177,7 @@ const FILES: &[Act] = &[
     ),
 ];
 
-/// Numbers out of their fields, and words that are wanting.
+/// Numbers out of their fields, words that are wanting, and help.
 const WORDS: &[Act] = &[
     Act::Fails(
         "zscli entry read --lba 0 --blocks 0",
@@ -263,11 +263,11 @@ const SCENES: &[Scene] = &[
         acts: WORK,
     },
     Scene {
-        name: "files that are refused",
+        name: "files with data",
         acts: FILES,
     },
     Scene {
-        name: "words that are refused",
+        name: "words that are refused, and help",
         acts: WORDS,
     },
 ];

@@ -8,7 +8,6 @@ use std::alloc::{AllocError, Global};
 use std::io::{self, Write};
 use std::process::Abort;
 use std::str;
-use std::test::Fail;
 use test_inputs::slots::bytes_of;
 
 /// Bytes: parts, each repeated so many times.

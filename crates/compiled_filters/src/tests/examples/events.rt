@@ -101,10 +101,7 @@ pub(super) fn result(alloc: Global) -> Result<Event, Fail> {
 }
 
 fn first_slot() -> Result<ProgramSlot, Fail> {
-    let Some(slot) = ProgramSlot::new(0) else {
-        return Err(Fail::from("no slot"));
-    };
-    Ok(slot)
+    Ok(ProgramSlot::new(0).ok_or("no slot")?)
 }
 
 /// The completion of a command that is done, with its Dwords 0 and 1 and so many bytes of data.
