@@ -252,7 +252,10 @@ fn read(fields: &Fields, next: Option<Fields>) -> Result<Instruction, FaultKind>
     if let Some(kind) = first_fault(opcode, fields, next) {
         return Err(kind);
     }
-    instruction(opcode, fields, next).ok_or(FaultKind::Value)
+    match instruction(opcode, fields, next) {
+        Some(found) => Ok(found),
+        None => Err(FaultKind::Value),
+    }
 }
 
 /// The fields of a slot, where the bytes have it.

@@ -1,4 +1,4 @@
-use Rattle.std.proofs.Common.{rules, sym}
+use Rattle.std.proofs.Common.{rules}
 use Rattle.std.specs.Fmt.{decimal}
 use Rattle.ebpf_asm.proofs.Columns.{in_columns}
 use Rattle.ebpf_asm.proofs.listing.push_slot.Goals as goal
