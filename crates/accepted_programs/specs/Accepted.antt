@@ -94,7 +94,7 @@ module _ {D : Type 0} (operations : Operations D) where
   passes_limit limit facts = nat_lt limit (facts.emitted + FRAME_LENGTH_BYTES + greatest_length operations facts)
 
   module _ (program : List (Option Instruction)) (sizes : Sizes) where
-    -- the reasons, each for itself
+    -- does the check of this reason fail? Each for itself
     abbrev pub fails : ℕ → Facts D → Instruction → Reason → Bool
     fails slot facts i JumpBack = goes_back (distance_of i)
     fails slot facts i JumpOutside = leads_nowhere program slot (distance_of i)

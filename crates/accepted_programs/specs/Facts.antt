@@ -72,7 +72,7 @@ module _ {D : Type 0} (operations : Operations D) where
   compared_fact width facts (Register r) = fact facts r
   compared_fact width facts (Immediate z) = operations.constant (low_bits width (immediate_word z))
 
-  -- an immediate has no fact to change
+  -- the facts with another about the source of a compare; an immediate has none to change
   abbrev pub with_source : Facts D → Source → D → Facts D
   with_source facts (Register r) d = with_fact facts r d
   with_source facts (Immediate z) d = facts
@@ -193,8 +193,8 @@ module _ {D : Type 0} (operations : Operations D) where
     facts_at_target (Branch width relation dst source distance) facts = along true width relation dst source facts
     facts_at_target _ facts = None
 
-    -- what the instruction at one slot, with the facts there, gives to another: along the edge that isn't
-    -- taken, then along the taken one
+    -- what a slot was given so far, with what the instruction at another slot, with the facts there, gives to it: along the
+    -- edge that isn't taken, then along the taken one
     abbrev pub gives : Option Instruction → ℕ → Option (Facts D) → ℕ → Option (Facts D) → Option (Facts D)
     gives (Some i) slot (Some facts) other sofar =
         merge

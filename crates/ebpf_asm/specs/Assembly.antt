@@ -98,12 +98,13 @@ abbrev pub resolved : LabelMap → ℕ → Instruction → Option (List ℕ) →
 resolved labels slot instruction None = Ok instruction
 resolved labels slot instruction (Some name) = jump_to instruction slot (labels name)
 
--- the bytes of a line's instruction, before the bytes of the later lines
+-- the bytes of an instruction whose jump is resolved, before those of the later lines, or the fault of its jump, on the line of
+-- this number
 abbrev pub before_later : ℕ → Result Instruction FaultKind → Result (List ℕ) Fault → Result (List ℕ) Fault
 before_later number (Err kind) later = Err (record { line = number; kind = kind })
 before_later number (Ok instruction) later = with_front (spelling instruction) later
 
--- the bytes of a line's instruction in front of those of later lines
+-- the bytes of a line's instruction, its jump resolved, before those of the later lines; a line that has none adds nothing
 abbrev pub bytes_in_front : LabelMap → ℕ → ℕ → Result (Option Instruction) FaultKind → Option (List ℕ) → Result (List ℕ) Fault → Result (List ℕ) Fault
 bytes_in_front labels number slot (Ok (Some instruction)) target later = before_later number (resolved labels slot instruction target) later
 bytes_in_front labels number slot (Ok None) target later = later

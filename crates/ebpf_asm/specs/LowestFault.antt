@@ -32,7 +32,7 @@ pub record IsLowest (fault_at : ℕ → Option FaultKind) (fault : Fault) : Type
 abbrev pub HaveNone : (ℕ → Option FaultKind) → Type 0
 HaveNone fault_at = (k : ℕ) → fault_at k ≡ None
 
--- The fault of a jump is told only where no line has a fault by itself.
+-- the fault is that of the lowest line that has one by itself, or where none has, of the lowest that jumps amiss
 abbrev pub IsLowestFault : List Line → Fault → Type 0
 IsLowestFault lines fault =
     IsLowest (own_fault lines) fault ⊎ (HaveNone (own_fault lines) × IsLowest (jump_fault lines) fault)

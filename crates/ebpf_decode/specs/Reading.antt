@@ -78,7 +78,7 @@ abbrev pub has_more : Option Fields → Bool
 has_more None = false
 has_more (Some f) = not (f.opcode == 0) || not (f.dst == 0) || not (f.src == 0) || not (int_eq f.offset (pos 0))
 
--- the checks of an instruction whose opcode is known, in order
+-- the checks of an instruction whose opcode is known, in order, but for that of its fields' values
 abbrev pub checks : Opcode → Fields → Option Fields → List (Option FaultKind)
 checks opcode f next =
     demand (not (is_left_out opcode f)) kinds.NotInProfile
@@ -87,7 +87,7 @@ checks opcode f next =
     ∷ demand (not (has_unused (uses opcode) f || (is_load_immediate opcode && has_more next))) kinds.UnusedField
     ∷ []
 
--- the first fault of an instruction whose opcode is known
+-- the first fault of an instruction whose opcode is known, but for values that its fields can't have
 abbrev pub first_fault : Opcode → Fields → Option Fields → Option FaultKind
 first_fault opcode f next = first_failed (checks opcode f next)
 

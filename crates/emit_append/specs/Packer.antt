@@ -10,7 +10,7 @@ pub record PackerState : Type 0 where
   pub block : ℕ
   pub pending : List ℕ
 
--- so many bytes at the front of an array are pending
+-- a packer's blocks have a size that a block may have, no more bytes are pending than one has, and its array has room for the largest
 pub record IsPacker (block pending : ℕ) (bytes : List ℕ) : Type 0 where
   pub size : IsBlockSize block
   pub fits : pending ≤ block

@@ -52,7 +52,7 @@ abbrev pub state_named : List ℕ → Option FaultState
 state_named word =
     if bytes_eq word (fault_word ReadOnly) then Some ReadOnly else (if bytes_eq word (fault_word Offline) then Some Offline else None)
 
--- a zone, and the state that its fault leads to
+-- the fault of a zone, where the zone and the state that it leads to are each read
 abbrev pub fault_told : Option ℕ → Option FaultState → Option ToldEvent
 fault_told (Some zone) (Some state) = Some (Faulted zone state)
 fault_told _ _ = None

@@ -21,7 +21,7 @@ use Rattle.image_store.specs.Reading.{are_zeros, namespace_in, rows_end, shape_i
 use Rattle.image_store.specs.Text.{written_blocks}
 use Rattle.image_store.specs.Version.{HasText, has_block, numbers_of_version}
 
--- a text as long as a header, which begins with the magic of a version
+-- a text at least as long as a header, which begins with the magic of a version
 pub record HasMagic (version : Version) (bytes : List ℕ) : Type 0 where
   pub whole : HEADER_BYTES ≤ length bytes
   pub magic : take 8 bytes ≡ (numbers_of_version version).magic

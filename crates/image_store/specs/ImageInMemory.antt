@@ -27,7 +27,8 @@ namespace_of s zones bytes = namespace_with s (zones_of s.block s.capacity zones
 abbrev pub no_counted_zone : CountedZone
 no_counted_zone = record { state = Offline; written = 0; capacity = 0 }
 
--- a room for each zone, and each zone's state allows its written blocks
+-- the shape is one that is accepted, it has so many zones, each of its capacity, with a room for each, and each zone's state
+-- allows its written blocks
 pub record IsFlat (s : Shape) (zones : List CountedZone) (bytes : List ℕ) : Type 0 where
   pub shape : IsShape s
   pub count : length zones ≡ s.zones

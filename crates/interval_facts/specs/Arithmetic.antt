@@ -111,7 +111,7 @@ are_known (Negate width) d s = is_known d
 are_known (MoveSigned extension) d s = is_known s
 are_known (SwapBytes swap size) d s = is_known d
 
--- where not all operands are single
+-- the fact of the destination where not all operands are single
 abbrev pub estimated : Arithmetic → Fact → Fact → Fact
 estimated (Binary width operation) d s = combined_of width operation d s
 estimated (Negate width) d s = Words (top width)

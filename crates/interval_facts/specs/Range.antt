@@ -20,7 +20,7 @@ top w = range 0 (number_count w - 1)
 abbrev pub half : Width → ℕ
 half w = number_count w / 2
 
--- a sum that may wrap, but then does for all operands
+-- a sum that may wrap, but then does for all operands, or any number
 abbrev pub sum : Width → Bounds → Bounds → Bounds
 sum w d s =
     if nat_lt (d.high + s.high) (number_count w) then range (d.low + s.low) (d.high + s.high) else
@@ -39,21 +39,21 @@ abbrev pub product : Width → Bounds → Bounds → Bounds
 product w d s =
     if nat_lt (d.high * s.high) (number_count w) then range (d.low * s.low) (d.high * s.high) else top w
 
--- a division by zero gives 0
+-- a quotient, where a division by zero gives 0
 abbrev pub quotient : Bounds → Bounds → Bounds
 quotient d s =
     if s.high == 0 then single 0 else
     if nat_le 1 s.low then range (d.low / s.high) (d.high / s.low) else
     range 0 d.high
 
--- a modulo by zero leaves the destination
+-- a remainder, where a modulo by zero leaves the destination
 abbrev pub remainder : Bounds → Bounds → Bounds
 remainder d s =
     if nat_le 1 s.low && nat_lt d.high s.low then d else
     if nat_le 1 s.low then range 0 (min d.high (s.high - 1)) else
     range 0 d.high
 
--- bounds where both operands have no sign
+-- these bounds where both operands have no sign, or any number
 abbrev pub if_unsigned : Width → Bounds → Bounds → Bounds → Bounds
 if_unsigned w d s bounds = if nat_lt d.high (half w) && nat_lt s.high (half w) then bounds else top w
 

@@ -117,8 +117,8 @@ RefusedLeavesState operations =
     ((run : ℕ) × (h.reply ≡ without_data (reply.Pending run))) ⊎ IsAnswered s (submission_of queue entry input.items) h
 
 module _ {D : Type 0} (operations : Operations D) where
-  -- a Load succeeds: its slot gets the program that its data is decoded to, which no reason refuses, with no
-  -- scratch bytes kept, and all else is as it was
+  -- a Load succeeds: its slot gets the program that its data is decoded to, which no reason refuses, with zeros
+  -- as its result, and all else is as it was
   pub record IsLoaded (s : State) (sub : Submission) (load : LoadCommand) (h : Happening) : Type 0 where
     pub asked : decoded sub.entry ≡ Ok (commands.Load load)
     pub program : List (Option Instruction)
@@ -224,6 +224,12 @@ module _ {D : Type 0} (operations : Operations D) where
 abbrev pub StatesAreSound : {D : Type 0} → Operations D → Type 0
 StatesAreSound operations = (s : State) → IsReached operations s → IsSoundState operations s
 
+-- in each state that events leave, a turn of an active run leaves fewer turns
+abbrev pub TurnsLeaveFewer : {D : Type 0} → Operations D → Type 0
+TurnsLeaveFewer operations =
+    (s : State) (run : ℕ) → IsReached operations s → is_some (place_at s run) ≡ true
+    → turns_left (turned s run).state.places + 1 ≤ turns_left s.places
+
 -- in each state that events leave, turns of the lowest active run come to an end
 abbrev pub DrainingEnds : {D : Type 0} → Operations D → Type 0
 DrainingEnds operations = (s : State) → IsReached operations s → (runs : List ℕ) × Drains s runs
@@ -251,12 +257,6 @@ RoomStays =
     (ns : ZonedNamespace) (z : ℕ) (blocks : List (List ℕ)) (ending : Option Ending) (later : List Turn)
     → RoomIn ns.capacity (zone_at ns z) (record { blocks = blocks; ending = ending } ∷ later)
     → RoomIn ns.capacity (zone_at (added ns z blocks) z) later
-
--- in each state that events leave, a turn of an active run leaves fewer turns
-abbrev pub TurnsLeaveFewer : {D : Type 0} → Operations D → Type 0
-TurnsLeaveFewer operations =
-    (s : State) (run : ℕ) → IsReached operations s → is_some (place_at s run) ≡ true
-    → turns_left (turned s run).state.places + 1 ≤ turns_left s.places
 
 -- ---- in a user's words
 

@@ -69,7 +69,7 @@ module _ {D : Type 0} (operations : Operations D) where
   BlocksAreRead s lba [] = Unit {0}
   BlocksAreRead s lba (block ∷ blocks) = ReadsGive s lba 1 block × BlocksAreRead s (lba + 1) blocks
 
-  -- after none of the events is the zone Empty or Offline, so that nothing of what was written is left
+  -- after none of the events is the zone Empty or Offline: in these states nothing of what was written is left
   abbrev pub NoEventClears : ℕ → List Occurrence → State → Type 0
   NoEventClears z [] s = Unit {0}
   NoEventClears z (o ∷ os) s =

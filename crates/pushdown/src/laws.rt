@@ -130,7 +130,7 @@ pub fn refused_leaves_state<D: Domain>()
 {}
 
 /// An entry leaves the slots as they were, unless it is a Load that succeeds: it changes its own slot and nothing
-/// else, to the program that its data is decoded to, which no reason refuses, with no scratch bytes kept.
+/// else, to the program that its data is decoded to, which no reason refuses, with zeros as its result.
 pub fn only_loads_change_slots<D: Domain>()
     ensures { OnlyLoadsChangeSlots D.operations }
 {}

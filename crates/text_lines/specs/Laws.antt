@@ -8,7 +8,7 @@ use Rattle.text_lines.specs.Cut.{cut_at, is_blank_byte, parts_at, trimmed}
 abbrev pub UncutIsOnePart : Type 0
 UncutIsOnePart = (byte : ℕ) (text : List ℕ) → cut_at byte text ≡ None → parts_at byte text ≡ text ∷ []
 
--- else its first part stands before the first such byte
+-- else its first part stands before the first such byte, and the others are the parts of what stands behind that
 abbrev pub CutIsAfterFirstPart : Type 0
 CutIsAfterFirstPart =
     (byte : ℕ) (text front rest : List ℕ) → cut_at byte text ≡ Some (front, rest) → parts_at byte text ≡ front ∷ parts_at byte rest
@@ -21,7 +21,8 @@ HasFirst parts = (first : List ℕ) × (rest : List (List ℕ)) × (parts ≡ fi
 abbrev pub SomePartIsThere : Type 0
 SomePartIsThere = (byte : ℕ) (text : List ℕ) → HasFirst (parts_at byte text)
 
--- the first line of a text is what stands before its first newline, but for a carriage return at its end
+-- the first line of a text is what stands before its first newline, but for a carriage return at its end, and the others are
+-- the lines of what stands behind that
 abbrev pub LinesAreCut : Type 0
 LinesAreCut =
     (text line behind : List ℕ) → cut_at 10 text ≡ Some (line, behind) → lines text ≡ strip_carriage_return line ∷ lines behind

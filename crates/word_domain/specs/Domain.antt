@@ -55,7 +55,8 @@ pub record Belongs {D : Type 0} (IsFact : D → Type 0) (contains : D → ℕ �
   pub word : w < 2 ^ 64
   pub within : contains d w
 
--- the bytes of an access: the offset is an instruction's, and the size a number of 64 bits
+-- the bytes of an access: the block beside it has one of its sizes, the offset is an instruction's, and the size a number of
+-- 64 bits
 pub record IsAccess (block : ℕ) (offset : ℤ) (size : ℕ) : Type 0 where
   pub beside : IsBlockSize block
   pub near : FitsSigned w16 offset

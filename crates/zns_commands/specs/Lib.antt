@@ -4,10 +4,10 @@ pub mod Effect
 pub mod Resources
 pub mod Transfer
 pub mod Read
-pub mod Receive
-pub mod Send
 pub mod Write
 pub mod Append
+pub mod Receive
+pub mod Send
 pub mod Meaning
 pub mod Fault
 pub mod Held

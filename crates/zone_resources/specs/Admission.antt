@@ -68,12 +68,12 @@ ClosesTheLowest =
     ((number : ℕ) → ¬ IsClosable holds zones number)
     (λ lowest. IsClosable holds zones lowest × ((number : ℕ) → number < lowest → ¬ IsClosable holds zones number))
 
--- the zones, once the one that gives way, if one has to, is closed
+-- the zones, once the one of this number, where it was found, is closed
 abbrev pub closed_in : List CountedZone → ℕ → Option CountedZone → List CountedZone
 closed_in zones number None = zones
 closed_in zones number (Some zone) = slice_set zones number (in_state Closed zone)
 
--- the same, where the one that gives way is told by its number
+-- the zones, once the one that gives way, if one has to, is closed
 abbrev pub after_closing : Option ℕ → List CountedZone → List CountedZone
 after_closing None zones = zones
 after_closing (Some number) zones = closed_in zones number (slice_get zones number)

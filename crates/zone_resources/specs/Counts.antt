@@ -25,7 +25,7 @@ counts_of zones = record { opened = open_count zones; active = active_count zone
 abbrev pub one_if : Bool → ℕ
 one_if counted = if counted then 1 else 0
 
--- these are the counts of some zones, and one of the zones is of the state
+-- these are the counts of fewer than 2 ^ 64 zones, and one of the zones is of the state
 pub record CountsOne (counts : Counts) (state : ZoneState) : Type 0 where
   pub zones : List CountedZone
   pub number : ℕ
@@ -43,6 +43,6 @@ MovesOne old new from to =
     → old ≡ counts_of zones → slice_get zones number ≡ Some was → was.state ≡ from → is.state ≡ to
     → new ≡ counts_of (slice_set zones number is)
 
--- each open zone is active, and each active zone is a zone
+-- no more zones are open than active, and no more are active than there are
 abbrev pub CountsAreFew : Type 0
 CountsAreFew = (zones : List CountedZone) → (open_count zones ≤ active_count zones) × (active_count zones ≤ length zones)
