@@ -1,4 +1,4 @@
-/* Which records match, in place of the records: emits a block's address and a bit for each of its records whose level
+/* Which records match, in place of the records: emits a block's LBA and a bit for each of its records whose level
    is at least the argument's, where there is one. All 8 whole, with their lengths, would be more than a block.
 
    Record:   64 bytes, 8 in a block: a level (u32) at byte 12

@@ -13,7 +13,7 @@ two_lines (Ok done) old between new None first whole is begins goes_on = tt
 two_lines (Ok done) old between new (Some text) first whole is begins goes_on =
     subst (λ (t : List ℕ). Appends old new t) (is text) (Appends-trans old between new first (text ++ 10 ∷ []) begins goes_on)
 
--- a text that has the words between another and the line for programs, where that is known
+-- a text that has the words between another and the line for scripts, where that is known
 pub around : {T E : Type 0} (result : Result T E) (front words : List ℕ) (behind old new : Option (List ℕ)) (whole : List ℕ → List ℕ)
     → ((text : List ℕ) → whole text ≡ front ++ words ++ (10 ∷ text ++ 10 ∷ [])) → OnOk result (IfSome behind (λ text. Appends old new (whole text)))
     → OnOk result (IfSome behind (λ text. GrowsAround front (10 ∷ text ++ 10 ∷ []) old new))

@@ -30,7 +30,7 @@ pub data Text : Type 0 where
 abbrev pub line : List ℕ → Text
 line text = Said (text ++ 10 ∷ [])
 
--- a sentence of which the fault's own words stand behind this front, and then a line for programs
+-- a sentence of which the fault's own words stand behind this front, and then a line for scripts
 abbrev pub sentence : List ℕ → List ℕ → Text
 sentence front behind = Around front (10 ∷ behind ++ 10 ∷ [])
 
@@ -51,11 +51,11 @@ unwritten_text path cause = line (codes "cannot write " ++ path ++ cause_words c
 abbrev pub line_front : List ℕ → ℕ → List ℕ
 line_front path number = path ++ codes ", line " ++ decimal number ++ codes ": "
 
--- the line for programs
+-- the line for scripts
 abbrev pub line_behind : ℕ → List ℕ
 line_behind number = codes "line " ++ decimal number ++ codes " refused"
 
--- a line of a file, why it is refused, and the line for programs
+-- a line of a file, why it is refused, and the line for scripts
 abbrev pub at_line : List ℕ → ℕ → List ℕ → List ℕ
 at_line path number words = line_front path number ++ words ++ 10 ∷ line_behind number ++ 10 ∷ []
 

@@ -18,7 +18,7 @@ use std::alloc::AllocError;
 use std::io::{self, ErrorKind, Write};
 
 /// Why a command ended. Its text is the last on standard error: of input that is refused a sentence, and behind it a
-/// line for programs.
+/// line for scripts.
 #[derive(Debug, Drop)]
 pub enum Failure<'a> {
     /// The words of the command line are no command's.

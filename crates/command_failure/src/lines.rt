@@ -190,7 +190,7 @@ fn print_data<W: Write>(out: &mut W, path: &str, fault: DataFault) -> io::Result
     )
 }
 
-/// Prints a sentence, in which the words of a fault stand behind a file's name and a mark, and a line for programs.
+/// Prints a sentence, in which the words of a fault stand behind a file's name and a mark, and a line for scripts.
 fn print_refusal<W: Write, D: Display + Drop, B: Display + Drop>(
     out: &mut W,
     path: &str,
@@ -204,7 +204,7 @@ fn print_refusal<W: Write, D: Display + Drop, B: Display + Drop>(
     print_sentence(out, path, mark, words.as_str(), behind)
 }
 
-/// Prints a sentence and a line for programs.
+/// Prints a sentence and a line for scripts.
 fn print_sentence<W: Write, B: Display + Drop>(
     out: &mut W,
     path: &str,
@@ -218,7 +218,7 @@ fn print_sentence<W: Write, B: Display + Drop>(
     print_line(out, behind)
 }
 
-/// Prints a sentence on a line of a file, and a line for programs.
+/// Prints a sentence on a line of a file, and a line for scripts.
 fn print_at_line<W: Write>(out: &mut W, path: &str, number: usize, words: &str) -> io::Result<()>
     ensures { OnOk result (Appends (W.contents out.old) (W.contents out.new) (at_line path.now number words.now)) }
 {

@@ -1,3 +1,5 @@
+//! Texts and the bytes of programs, both ways, and the faults of texts.
+
 mod outside;
 
 use ebpf_asm::{AssembleFault, AssemblyRefusal, Fault, FaultKind, assemble, disassemble};

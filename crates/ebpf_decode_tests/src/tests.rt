@@ -1,3 +1,5 @@
+//! The bytes of programs and instructions, both ways, and the faults of bytes.
+
 use ebpf_decode::{DecodeFault, Fault, FaultKind, decode, encode, push_instruction};
 use instruction_set::{Instruction, Operation, Register, Size, Source, Width};
 use std::alloc::Global;

@@ -9,7 +9,7 @@ use Rattle.image_store.specs.ImageInMemory.{zones_of, zone_seen, no_counted_zone
 use Rattle.program_interface.specs.Bytes.{spliced}
 use Rattle.image_store.specs.Geometry.{Shape}
 use Rattle.image_store.specs.steps.LoadStages.{spliced_in}
-use Rattle.image_store.specs.Namespace.{ZoneBlocks}
+use Rattle.image_store.specs.Namespace.{ZoneWithBlocks}
 use Rattle.program_interface.specs.Readings.{◌>>=◌}
 use Rattle.image_store.specs.Reading.{bytes_in, blocks_in}
 use Rattle.image_store.proofs.ReadingCalls.{bind_ok, ok_is}
@@ -18,10 +18,10 @@ use Rattle.image_store.proofs.ImageFields.{within, room_end}
 use Rattle.image_store.proofs.BlocksOfBytes.{blocks-same, drop-next, take-spliced, drop-spliced}
 
 abbrev pub Zones : Type 0
-Zones = List ZoneBlocks × List ℕ
+Zones = List ZoneWithBlocks × List ℕ
 
 -- the zones that were read before, and those that are still read
-abbrev pub with_zones : List ZoneBlocks → Result Zones LoadFault → Result Zones LoadFault
+abbrev pub with_zones : List ZoneWithBlocks → Result Zones LoadFault → Result Zones LoadFault
 with_zones front read = read >>= λ x. Ok (front ++ x.0, x.1)
 
 -- zones depend on the bytes of their rooms alone
@@ -33,8 +33,8 @@ zones-same b c (z ∷ zs) xs ys within e =
     let first = agree_before (c * b) (suc (length zs) * (c * b)) xs ys (omega (arith, more)) e in
     let later = agree_behind (c * b) (length zs * (c * b)) (suc (length zs) * (c * b)) xs ys more e in
     let low : z.written * b ≤ c * b = mul-le-mul_right b (within 0 (omega arith)) in
-    ap (λ (bs : List (List ℕ)). let seen : ZoneBlocks = record { state = z.state; blocks = bs } in seen ∷ zones_of b c zs (drop (c * b) xs)) (blocks-same b z.written (c * b) xs ys low first)
-    ∙ ap (λ (rest : List ZoneBlocks). zone_seen b z ys ∷ rest) (zones-same b c zs (drop (c * b) xs) (drop (c * b) ys) (λ k h. within (suc k) (omega arith)) later)
+    ap (λ (bs : List (List ℕ)). let seen : ZoneWithBlocks = record { state = z.state; blocks = bs } in seen ∷ zones_of b c zs (drop (c * b) xs)) (blocks-same b z.written (c * b) xs ys low first)
+    ∙ ap (λ (rest : List ZoneWithBlocks). zone_seen b z ys ∷ rest) (zones-same b c zs (drop (c * b) xs) (drop (c * b) ys) (λ k h. within (suc k) (omega arith)) later)
 
 -- one zone more
 zones-more : (b c : ℕ) (zs : List CountedZone) (xs : List ℕ) (i : ℕ) → i < length zs
@@ -44,7 +44,7 @@ zones-more b c (z ∷ zs) xs zero h =
     let start : 0 ≡ zero * (c * b) = omega arith in
     ap (λ (m : ℕ). zone_seen b z (drop m xs) ∷ []) start
 zones-more b c (z ∷ zs) xs (suc i) h =
-    ap (λ (rest : List ZoneBlocks). zone_seen b z xs ∷ rest) (zones-more b c zs (drop (c * b) xs) i (omega arith))
+    ap (λ (rest : List ZoneWithBlocks). zone_seen b z xs ∷ rest) (zones-more b c zs (drop (c * b) xs) i (omega arith))
     ∙ ap (λ (ys : List ℕ). zone_seen b z xs ∷ (zones_of b c (take i zs) (drop (c * b) xs) ++ zone_seen b (get_or zs i no_counted_zone) ys ∷ []))
     (drop-next (c * b) i xs)
 
@@ -68,9 +68,9 @@ filled s zs xs i new flat inside size =
     let whole : take (z.written * s.block) new ≡ new = take_all (z.written * s.block) new (omega arith) in
     let here = blocks-same s.block z.written (z.written * s.block) (new ++ drop (at + length new) xs) new (omega arith) (front ∙ sym whole) in
     zones-more s.block s.capacity zs (spliced at new xs) i inside
-    ∙ (ap (λ (first : List ZoneBlocks). first ++ zone_seen s.block z (drop at (spliced at new xs)) ∷ []) (zones-same s.block s.capacity (take i zs) (spliced at new xs) xs fit before)
+    ∙ (ap (λ (first : List ZoneWithBlocks). first ++ zone_seen s.block z (drop at (spliced at new xs)) ∷ []) (zones-same s.block s.capacity (take i zs) (spliced at new xs) xs fit before)
     ∙ (ap (λ (ys : List ℕ). zones_of s.block s.capacity (take i zs) xs ++ zone_seen s.block z ys ∷ []) (drop-spliced at new xs in_list)
-    ∙ ap (λ (bs : List (List ℕ)). let seen : ZoneBlocks = record { state = z.state; blocks = bs } in zones_of s.block s.capacity (take i zs) xs ++ seen ∷ []) here))
+    ∙ ap (λ (bs : List (List ℕ)). let seen : ZoneWithBlocks = record { state = z.state; blocks = bs } in zones_of s.block s.capacity (take i zs) xs ++ seen ∷ []) here))
 
 -- the blocks of a zone lie within its room
 pub room_holds : (s : Shape) (zs : List CountedZone) (xs : List ℕ) (i : ℕ) → IsFlat s zs xs → i < length zs
@@ -83,13 +83,13 @@ room_holds s zs xs i flat inside =
 abbrev pub put_in : ℕ → List ℕ → Split → Result Split LoadFault
 put_in at xs part = Ok (spliced at part.0 xs, part.1)
 
-rest_of : (s : Shape) (zs : List CountedZone) (i : ℕ) (rest : List ℕ) (front : List ZoneBlocks) → i < length zs
+rest_of : (s : Shape) (zs : List CountedZone) (i : ℕ) (rest : List ℕ) (front : List ZoneWithBlocks) → i < length zs
     → with_zones front (blocks_in s.block (drop i zs) rest)
     ≡ with_zones front (bytes_in ((get_or zs i no_counted_zone).written * s.block) rest >>= λ part. blocks_in s.block (drop (i + 1) zs) part.1 >>= λ more. Ok (zone_seen s.block (get_or zs i no_counted_zone) part.0 ∷ more.0, more.1))
 rest_of s zs i rest front inside = ap (λ (left : List CountedZone). with_zones front (blocks_in s.block left rest)) (drop_more zs i no_counted_zone inside)
 
-regroup : (front : List ZoneBlocks) (zone : ZoneBlocks) (read : Result Zones LoadFault) → with_zones front (read >>= λ more. Ok (zone ∷ more.0, more.1)) ≡ with_zones (front ++ zone ∷ []) read
-regroup front zone (Ok more) = ap (λ (all : List ZoneBlocks). let r : Result Zones LoadFault = Ok (all, more.1) in r) (sym (append_assoc front (zone ∷ []) more.0))
+regroup : (front : List ZoneWithBlocks) (zone : ZoneWithBlocks) (read : Result Zones LoadFault) → with_zones front (read >>= λ more. Ok (zone ∷ more.0, more.1)) ≡ with_zones (front ++ zone ∷ []) read
+regroup front zone (Ok more) = ap (λ (all : List ZoneWithBlocks). let r : Result Zones LoadFault = Ok (all, more.1) in r) (sym (append_assoc front (zone ∷ []) more.0))
 regroup front zone (Err fault) = refl
 
 -- one zone's blocks were read
@@ -113,7 +113,7 @@ goes_on s zs xs ys rest after i total flat inside e so_far =
     ∙ (ap (λ (r : Result Split LoadFault). with_zones front (r >>= λ part. blocks_in s.block (drop (i + 1) zs) part.1 >>= λ more. Ok (zone_seen s.block z part.0 ∷ more.0, more.1))) got.1
     ∙ regroup front (zone_seen s.block z got.0.0) (blocks_in s.block (drop (i + 1) zs) got.0.1)) in
     ap (λ (left : Split). with_zones (zones_of s.block s.capacity (take (i + 1) zs) left.0) (blocks_in s.block (drop (i + 1) zs) left.1)) (sym same)
-    ∙ (ap (λ (seen : List ZoneBlocks). with_zones seen (blocks_in s.block (drop (i + 1) zs) got.0.1)) zones
+    ∙ (ap (λ (seen : List ZoneWithBlocks). with_zones seen (blocks_in s.block (drop (i + 1) zs) got.0.1)) zones
     ∙ (sym step ∙ so_far))
 
 -- other bytes of the same number have room too

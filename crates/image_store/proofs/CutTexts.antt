@@ -13,7 +13,7 @@ use Rattle.image_store.specs.declared.header.Header.{Header}
 use Rattle.image_store.specs.declared.version.Version.{Version}
 use Rattle.image_store.specs.Geometry.{Shape}
 use Rattle.image_store.specs.Laws.{CutTextsAreTruncated, LongerTextsAreTrailing}
-use Rattle.image_store.specs.Namespace.{ZoneBlocks, ZonedNamespace, no_zone, counted, counted_zones, shape, IsNamespace, namespace_with}
+use Rattle.image_store.specs.Namespace.{ZoneWithBlocks, ZonedNamespace, no_zone, counted, counted_zones, shape, IsNamespace, namespace_with}
 use Rattle.program_interface.specs.Readings.{◌>>=◌}
 use Rattle.image_store.specs.Reading.{bytes_in, header_told, zones_in, blocks_in, end_in, namespace_in}
 use Rattle.image_store.specs.Text.{header, written_blocks, zone_rows, blocks_text, text_of}
@@ -30,7 +30,7 @@ end_trailing [] some = absurd (some refl)
 end_trailing (x ∷ more) some =
     ap (λ (test : Bool). let r : Result Unit LoadFault = cond test (Ok tt) (Err fault.Trailing) in r) (eqb-suc-zero (length more))
 
-past_trailing : (s : Shape) (zones : List ZoneBlocks) (more : List ℕ) → more ≢ [] → after_blocks s zones more ≡ Err fault.Trailing
+past_trailing : (s : Shape) (zones : List ZoneWithBlocks) (more : List ℕ) → more ≢ [] → after_blocks s zones more ≡ Err fault.Trailing
 past_trailing s zones more some =
     ap (λ (r : Result Unit LoadFault). r >>= λ end. let all : Result ZonedNamespace LoadFault = Ok (namespace_with s zones) in all) (end_trailing more some)
 
@@ -61,20 +61,20 @@ cut_within k xs ys n size short =
     let all : n ≤ length (xs ++ ys) = omega (arith, length-append xs ys) in
     bytes_short k (take n (xs ++ ys)) (omega (arith, length-take-le n (xs ++ ys) all))
 
-blocks_cut : (b c : ℕ) (zones : List ZoneBlocks) (n : ℕ) → ((z i : ℕ) → i < length (get_or zones z no_zone).blocks → length (get_or (get_or zones z no_zone).blocks i []) ≡ b)
+blocks_cut : (b c : ℕ) (zones : List ZoneWithBlocks) (n : ℕ) → ((z i : ℕ) → i < length (get_or zones z no_zone).blocks → length (get_or (get_or zones z no_zone).blocks i []) ≡ b)
     → n < length (blocks_text zones) → blocks_in b (map (counted c) zones) (take n (blocks_text zones)) ≡ Err fault.Truncated
 blocks_cut b c [] n whole h = absurd (omega arith)
 blocks_cut b c (zone ∷ zones) n whole h =
     let front = concat zone.blocks in
     let rest = blocks_text zones in
     let size = blocks_have_bytes b zone.blocks (whole 0) in
-    let read : Result Split LoadFault → Result (List ZoneBlocks × List ℕ) LoadFault =
+    let read : Result Split LoadFault → Result (List ZoneWithBlocks × List ℕ) LoadFault =
     λ r. r >>= λ first. blocks_in b (map (counted c) zones) first.1 >>= λ more. Ok (zone_seen b (counted c zone) first.0 ∷ more.0, more.1) in
     elim (leb_tells (length front) n) [
       | inl there ↦
           ap (blocks_in b (map (counted c) (zone ∷ zones))) (cut_behind front rest n there.1)
           ∙ (ap read (bytes_whole (length zone.blocks * b) front (take (n - length front) rest) size)
-          ∙ ap (λ (r : Result (List ZoneBlocks × List ℕ) LoadFault). r >>= λ more. Ok (zone_seen b (counted c zone) front ∷ more.0, more.1))
+          ∙ ap (λ (r : Result (List ZoneWithBlocks × List ℕ) LoadFault). r >>= λ more. Ok (zone_seen b (counted c zone) front ∷ more.0, more.1))
           (blocks_cut b c zones (n - length front) (λ z i. whole (suc z) i) (omega (arith, length-append front rest, there.1))))
       | inr short ↦ ap read (cut_within (length zone.blocks * b) front rest n size (omega (arith, short.1, size)))
     ]
@@ -97,7 +97,7 @@ past_cut_rows version ns sound has n h =
           let left = n - length front in
           ap (λ (xs : List ℕ). namespace_in (header version s total ++ xs)) (cut_behind front last n there.1)
           ∙ (front_read version ns (take left last) sound has
-          ∙ ap (λ (r : Result (List ZoneBlocks × List ℕ) LoadFault). r >>= λ blocks. after_blocks s blocks.0 blocks.1)
+          ∙ ap (λ (r : Result (List ZoneWithBlocks × List ℕ) LoadFault). r >>= λ blocks. after_blocks s blocks.0 blocks.1)
           (blocks_cut ns.block ns.capacity ns.zones left sound.whole (omega (arith, length-append front last, there.1))))
       | inr short ↦
           past_header (header version s total ++ cut) cut (told_of version ns) (header_read version s total cut sound.shape has (total_small ns sound))

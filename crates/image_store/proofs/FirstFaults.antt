@@ -16,7 +16,7 @@ use Rattle.program_interface.specs.Readings.{◌>>=◌}
 use Rattle.image_store.specs.FirstFault.{FaultIsFirst, HasRows, IsFirstFault, IsRowFault, TellsAllZones, TellsTotal, TellsZone, TellsZones, blocks_end, row_at}
 use Rattle.image_store.specs.Geometry.{Shape}
 use Rattle.image_store.specs.ImageInMemory.{no_counted_zone, zone_seen}
-use Rattle.image_store.specs.Namespace.{ZoneBlocks, ZonedNamespace, namespace_with}
+use Rattle.image_store.specs.Namespace.{ZoneWithBlocks, ZonedNamespace, namespace_with}
 use Rattle.image_store.specs.Reading.{rows_end, shape_in, total_told, bytes_in, header_told, zones_in, total_kept, limits_kept, blocks_in, end_in}
 use Rattle.image_store.specs.Text.{written_blocks}
 use Rattle.image_store.proofs.FaultPlaces.{blocks_short, short_rows, short_text, whole_rows, whole_text}
@@ -31,8 +31,8 @@ use Rattle.image_store.proofs.ToldRows.{Tell, are_told}
 -- ---- blocks
 
 -- blocks that are all there
-blocks_there : (block : ℕ) (zs : List CountedZone) (bytes : List ℕ) (got : List ZoneBlocks × List ℕ) → blocks_in block zs bytes ≡ Ok got → length bytes ≡ written_blocks zs * block + length got.1
-blocks_there block [] bytes got e = let same : length bytes ≡ length got.1 = ap (λ (g : List ZoneBlocks × List ℕ). length g.1) (ok_is ([], bytes) got e) in omega (arith, same)
+blocks_there : (block : ℕ) (zs : List CountedZone) (bytes : List ℕ) (got : List ZoneWithBlocks × List ℕ) → blocks_in block zs bytes ≡ Ok got → length bytes ≡ written_blocks zs * block + length got.1
+blocks_there block [] bytes got e = let same : length bytes ≡ length got.1 = ap (λ (g : List ZoneWithBlocks × List ℕ). length g.1) (ok_is ([], bytes) got e) in omega (arith, same)
 blocks_there block (z ∷ zs) bytes got e =
     let n = z.written * block in
     let sum : written_blocks (z ∷ zs) * block ≡ n + written_blocks zs * block = ap (λ (count : ℕ). count * block) (sum_by-cons (λ (zone : CountedZone). zone.written) z zs) ∙ add-mul z.written (written_blocks zs) block in
@@ -42,7 +42,7 @@ blocks_there block (z ∷ zs) bytes got e =
     let b = bind_ok (blocks_in block zs a.0.1) (λ rest. Ok (zone_seen block z a.0.0 ∷ rest.0, rest.1)) got a.2 in
     let later = blocks_there block zs a.0.1 b.0 b.1 in
     let size : length (drop n bytes) ≡ length a.0.1 = ap (λ (f : Split). length f.1) p.1 in
-    let end : length b.0.1 ≡ length got.1 = ap (λ (g : List ZoneBlocks × List ℕ). length g.1) (ok_is (zone_seen block z a.0.0 ∷ b.0.0, b.0.1) got b.2) in
+    let end : length b.0.1 ≡ length got.1 = ap (λ (g : List ZoneWithBlocks × List ℕ). length g.1) (ok_is (zone_seen block z a.0.0 ∷ b.0.0, b.0.1) got b.2) in
     omega (arith, sum, whole, later, size, end, length-drop n bytes)
 
 -- ---- behind the header

@@ -13,7 +13,7 @@ use Rattle.image_store.specs.ImageInMemory.{zones_of, zone_seen, no_counted_zone
 use Rattle.image_store.specs.steps.EmptyZone.{empty_counted_zone}
 use Rattle.program_interface.specs.Bytes.{pieces, spliced}
 use Rattle.image_store.specs.Geometry.{Shape}
-use Rattle.image_store.specs.Namespace.{ZoneBlocks, ZonedNamespace, zone_at, counted, grown, appended, namespace_with, all_empty, shape}
+use Rattle.image_store.specs.Namespace.{ZoneWithBlocks, ZonedNamespace, zone_at, counted, grown, appended, namespace_with, all_empty, shape}
 use Rattle.image_store.proofs.BlocksOfBytes.{blocks_are_counted, bytes-middle}
 use Rattle.image_store.proofs.Shapes.{resized}
 use Rattle.image_store.proofs.ZonesInMemory.{HasRoom, length-zones, zone-at, zones-append, write_end}
@@ -71,8 +71,8 @@ write_fits s zs xs z new flat inside whole allowed =
 
 grown_seen : (b c : ℕ) (r : CountedZone) (xs new : List ℕ) → r.capacity ≡ c → grown c (zone_seen b r xs) (as_blocks b new) ≡ record { state = (after_write r (block_count b new)).state; blocks = pieces b r.written xs ++ as_blocks b new }
 grown_seen b c r xs new same =
-    ap (λ (z : CountedZone). let seen : ZoneBlocks = record { state = (after_write z (length (as_blocks b new))).state; blocks = pieces b r.written xs ++ as_blocks b new } in seen) (counted_seen b c r xs same)
-    ∙ ap (λ (n : ℕ). let seen : ZoneBlocks = record { state = (after_write r n).state; blocks = pieces b r.written xs ++ as_blocks b new } in seen) (blocks_are_counted b (block_count b new) new)
+    ap (λ (z : CountedZone). let seen : ZoneWithBlocks = record { state = (after_write z (length (as_blocks b new))).state; blocks = pieces b r.written xs ++ as_blocks b new } in seen) (counted_seen b c r xs same)
+    ∙ ap (λ (n : ℕ). let seen : ZoneWithBlocks = record { state = (after_write r n).state; blocks = pieces b r.written xs ++ as_blocks b new } in seen) (blocks_are_counted b (block_count b new) new)
 
 -- writing into the room and counting the blocks appends them to the zone
 pub append_seen : (s : Shape) (zs : List CountedZone) (xs : List ℕ) (z : ℕ) (new : List ℕ) → IsFlat s zs xs → z < length zs
@@ -84,7 +84,7 @@ append_seen s zs xs z new flat inside whole allowed =
     let n = block_count s.block new in
     let long : length zs * (s.capacity * s.block) ≤ length xs = rw (flat.count, flat.room) (omega arith) in
     let zones = zones-append s.block s.capacity zs xs z n (after_write r n) new inside long (λ y in_list. within s zs xs y flat in_list) (has_room s zs xs z new flat inside whole allowed) refl in
-    let seen = ap (λ (zone : ZoneBlocks). grown s.capacity zone (as_blocks s.block new)) (zone-at s.block s.capacity zs xs z inside)
+    let seen = ap (λ (zone : ZoneWithBlocks). grown s.capacity zone (as_blocks s.block new)) (zone-at s.block s.capacity zs xs z inside)
     ∙ grown_seen s.block s.capacity r (drop (z * (s.capacity * s.block)) xs) new (flat.capacities z inside) in
     ap (namespace_with s)
     (zones ∙ ap (set (zones_of s.block s.capacity zs xs) z) (sym seen))
@@ -107,8 +107,8 @@ allowed_seen s zs xs z new ns seen flat inside h =
 empty_zones : (b c n : ℕ) (r : CountedZone) (xs : List ℕ) → r.written ≡ 0 → zones_of b c (replicate n r) xs ≡ replicate n (record { state = r.state; blocks = [] })
 empty_zones b c zero r xs none = refl
 empty_zones b c (suc n) r xs none =
-    ap (λ (k : ℕ). let seen : ZoneBlocks = record { state = r.state; blocks = pieces b k xs } in seen ∷ zones_of b c (replicate n r) (drop (c * b) xs)) none
-    ∙ ap (λ (rest : List ZoneBlocks). let seen : ZoneBlocks = record { state = r.state; blocks = [] } in seen ∷ rest) (empty_zones b c n r (drop (c * b) xs) none)
+    ap (λ (k : ℕ). let seen : ZoneWithBlocks = record { state = r.state; blocks = pieces b k xs } in seen ∷ zones_of b c (replicate n r) (drop (c * b) xs)) none
+    ∙ ap (λ (rest : List ZoneWithBlocks). let seen : ZoneWithBlocks = record { state = r.state; blocks = [] } in seen ∷ rest) (empty_zones b c n r (drop (c * b) xs) none)
 
 -- zones of which nothing is written, over any bytes
 pub empty_seen : (s : Shape) (xs : List ℕ) → namespace_of s (replicate s.zones (empty_counted_zone s.capacity)) xs ≡ all_empty s
@@ -139,13 +139,13 @@ pub part_seen : (s : Shape) (zs : List CountedZone) (xs : List ℕ) (z first cou
 part_seen s zs xs z first count inside written =
     ap (take (count * s.block)) (sym (drop-drop (first * s.block) (z * (s.capacity * s.block)) xs))
     ∙ (sym (bytes-middle s.block first count (get_or zs z no_counted_zone).written (drop (z * (s.capacity * s.block)) xs) written)
-    ∙ ap (λ (zone : ZoneBlocks). concat (take count (drop first zone.blocks))) (sym (zone-at s.block s.capacity zs xs z inside)))
+    ∙ ap (λ (zone : ZoneWithBlocks). concat (take count (drop first zone.blocks))) (sym (zone-at s.block s.capacity zs xs z inside)))
 
 -- the same of the blocks that the namespace's zone has
 pub written_seen : (s : Shape) (zs : List CountedZone) (xs : List ℕ) (z most : ℕ) (ns : ZonedNamespace) → namespace_of s zs xs ≡ ns → z < length zs → most ≤ length (zone_at ns z).blocks → most ≤ (get_or zs z no_counted_zone).written
 written_seen s zs xs z most ns seen inside h =
     let same = ap (λ (m : ZonedNamespace). length (zone_at m z).blocks) seen in
-    let count = ap (λ (zone : ZoneBlocks). length zone.blocks) (zone-at s.block s.capacity zs xs z inside) in
+    let count = ap (λ (zone : ZoneWithBlocks). length zone.blocks) (zone-at s.block s.capacity zs xs z inside) in
     omega (arith, blocks_are_counted s.block (get_or zs z no_counted_zone).written (drop (z * (s.capacity * s.block)) xs))
 
 pub shape_seen : (s : Shape) (zs : List CountedZone) (xs : List ℕ) (ns : ZonedNamespace) → namespace_of s zs xs ≡ ns → IsFlat s zs xs → s ≡ shape ns

@@ -10,7 +10,7 @@ use Rattle.image_store.specs.ImageInMemory.{no_counted_zone}
 use Rattle.image_store.specs.Geometry.{Shape, IsShape}
 use Rattle.image_store.specs.Loading.{LoadFails, LoadGives}
 use Rattle.image_store.specs.steps.LoadStages.{NoStreamFails, AreZones}
-use Rattle.image_store.specs.Namespace.{ZoneBlocks, ZonedNamespace, namespace_with}
+use Rattle.image_store.specs.Namespace.{ZoneWithBlocks, ZonedNamespace, namespace_with}
 use Rattle.program_interface.specs.Readings.{◌>>=◌}
 use Rattle.image_store.specs.Reading.{bytes_in, header_told, header_in, zones_in, zone_rows_in, total_kept, limits_kept, blocks_in, end_in, namespace_in}
 use Rattle.image_store.proofs.ReadingCalls.{fails_then}
@@ -68,7 +68,7 @@ zones_few s zs fit =
     omega (arith, flat.count, flat.shape.zones_most)
 
 -- what is still to be read, after each part
-abbrev pub after_blocks : Shape → List ZoneBlocks → List ℕ → Result ZonedNamespace LoadFault
+abbrev pub after_blocks : Shape → List ZoneWithBlocks → List ℕ → Result ZonedNamespace LoadFault
 after_blocks s zones bytes = end_in bytes >>= λ end. Ok (namespace_with s zones)
 
 abbrev pub after_limits : Shape → List CountedZone → List ℕ → Result ZonedNamespace LoadFault
@@ -96,10 +96,10 @@ past_total h zs bytes e = ap (λ (r : Result (Unit {0}) LoadFault). r >>= λ sam
 pub past_limits : (s : Shape) (zs : List CountedZone) (bytes : List ℕ) → limits_kept s.limits zs ≡ Ok tt → after_total s zs bytes ≡ after_limits s zs bytes
 past_limits s zs bytes e = ap (λ (r : Result Unit LoadFault). r >>= λ kept. after_limits s zs bytes) e
 
-pub past_blocks : (s : Shape) (zs : List CountedZone) (bytes rest : List ℕ) (zones : List ZoneBlocks) → blocks_in s.block zs bytes ≡ Ok (zones, rest) → after_limits s zs bytes ≡ after_blocks s zones rest
-past_blocks s zs bytes rest zones e = ap (λ (r : Result (List ZoneBlocks × List ℕ) LoadFault). r >>= λ blocks. after_blocks s blocks.0 blocks.1) e
+pub past_blocks : (s : Shape) (zs : List CountedZone) (bytes rest : List ℕ) (zones : List ZoneWithBlocks) → blocks_in s.block zs bytes ≡ Ok (zones, rest) → after_limits s zs bytes ≡ after_blocks s zones rest
+past_blocks s zs bytes rest zones e = ap (λ (r : Result (List ZoneWithBlocks × List ℕ) LoadFault). r >>= λ blocks. after_blocks s blocks.0 blocks.1) e
 
-pub past_end : (s : Shape) (zones : List ZoneBlocks) (bytes : List ℕ) → end_in bytes ≡ Ok tt → after_blocks s zones bytes ≡ Ok (namespace_with s zones)
+pub past_end : (s : Shape) (zones : List ZoneWithBlocks) (bytes : List ℕ) → end_in bytes ≡ Ok tt → after_blocks s zones bytes ≡ Ok (namespace_with s zones)
 past_end s zones bytes e = ap (λ (r : Result Unit LoadFault). r >>= λ end. let all : Result ZonedNamespace LoadFault = Ok (namespace_with s zones) in all) e
 
 pub header_accepted : (all rest : List ℕ) (h : Header) → header_in all ≡ Ok (h, rest) → IsOk (header_in all)

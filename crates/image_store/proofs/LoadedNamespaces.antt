@@ -12,7 +12,7 @@ use Rattle.program_interface.specs.Bytes.{AreBytes, pieces}
 use Rattle.image_store.specs.ImageInMemory.{no_counted_zone, zone_seen}
 use Rattle.image_store.specs.Geometry.{Shape, IsShape}
 use Rattle.image_store.specs.Laws.{LoadedTextsAreNamespaces}
-use Rattle.image_store.specs.Namespace.{ZoneBlocks, no_zone, counted, IsNamespace, namespace_with}
+use Rattle.image_store.specs.Namespace.{ZoneWithBlocks, no_zone, counted, IsNamespace, namespace_with}
 use Rattle.program_interface.specs.Readings.{◌>>=◌}
 use Rattle.image_store.specs.Reading.{bytes_in, limits_kept, blocks_in}
 use Rattle.image_store.proofs.ReadingCalls.{bind_ok, ok_is, chosen}
@@ -26,26 +26,26 @@ use Rattle.image_store.proofs.Shapes.{resized}
 use Rattle.image_store.proofs.SoundImages.{blocks_are_whole}
 
 -- zones of whole blocks
-record AreWhole (block : ℕ) (zones : List ZoneBlocks) : Type 0 where
+record AreWhole (block : ℕ) (zones : List ZoneWithBlocks) : Type 0 where
   pub whole : (z i : ℕ) → i < length (get_or zones z no_zone).blocks → length (get_or (get_or zones z no_zone).blocks i []) ≡ block
   pub bytes : (z i : ℕ) → AreBytes (get_or (get_or zones z no_zone).blocks i [])
 
 -- one more zone
-first_whole : (b : ℕ) (zone : ZoneBlocks) (zones : List ZoneBlocks)
+first_whole : (b : ℕ) (zone : ZoneWithBlocks) (zones : List ZoneWithBlocks)
     → ((i : ℕ) → i < length zone.blocks → length (get_or zone.blocks i []) ≡ b) → AreWhole b zones
     → (z i : ℕ) → i < length (get_or (zone ∷ zones) z no_zone).blocks → length (get_or (get_or (zone ∷ zones) z no_zone).blocks i []) ≡ b
 first_whole b zone zones whole more zero i h = whole i h
 first_whole b zone zones whole more (suc z) i h = more.whole z i h
 
-first_bytes : (b : ℕ) (zone : ZoneBlocks) (zones : List ZoneBlocks)
+first_bytes : (b : ℕ) (zone : ZoneWithBlocks) (zones : List ZoneWithBlocks)
     → ((i : ℕ) → AreBytes (get_or zone.blocks i [])) → AreWhole b zones
     → (z i : ℕ) → AreBytes (get_or (get_or (zone ∷ zones) z no_zone).blocks i [])
 first_bytes b zone zones bytes more zero i = bytes i
 first_bytes b zone zones bytes more (suc z) i = more.bytes z i
 
-blocks_whole : (b : ℕ) (zs : List CountedZone) (xs : List ℕ) (got : List ZoneBlocks × List ℕ) → AreBytes xs → blocks_in b zs xs ≡ Ok got → AreWhole b got.0
+blocks_whole : (b : ℕ) (zs : List CountedZone) (xs : List ℕ) (got : List ZoneWithBlocks × List ℕ) → AreBytes xs → blocks_in b zs xs ≡ Ok got → AreWhole b got.0
 blocks_whole b [] xs got fit e =
-    subst (λ (x : List ZoneBlocks × List ℕ). AreWhole b x.0) (ok_is ([], xs) got e)
+    subst (λ (x : List ZoneWithBlocks × List ℕ). AreWhole b x.0) (ok_is ([], xs) got e)
     (record { whole = λ z i h. absurd (omega arith); bytes = λ z i k. omega arith })
 blocks_whole b (z ∷ zs) xs got fit e =
     let a = bind_ok (bytes_in (z.written * b) xs) (λ front. blocks_in b zs front.1 >>= λ rest. Ok (zone_seen b z front.0 ∷ rest.0, rest.1)) got e in
@@ -54,7 +54,7 @@ blocks_whole b (z ∷ zs) xs got fit e =
     let all = subst AreBytes (sym (bytes_parts (z.written * b) xs a.0 a.1)) fit in
     let more = blocks_whole b zs a.0.1 c.0 (rest_fit a.0.0 a.0.1 all) c.1 in
     let first = zone_seen b z a.0.0 in
-    subst (λ (x : List ZoneBlocks × List ℕ). AreWhole b x.0) (ok_is (first ∷ c.0.0, c.0.1) got c.2) (record {
+    subst (λ (x : List ZoneWithBlocks × List ℕ). AreWhole b x.0) (ok_is (first ∷ c.0.0, c.0.1) got c.2) (record {
       whole = first_whole b first c.0.0 (λ i (h : i < length (pieces b z.written a.0.0)). blocks_are_whole b z.written i a.0.0 (omega (arith, blocks_are_counted b z.written a.0.0)) (omega arith)) more;
       bytes = first_bytes b first c.0.0 (blocks_are_bytes b z.written a.0.0 (front_fit a.0.0 a.0.1 all)) more;
     })
@@ -66,7 +66,7 @@ kept_within limits zs done e =
     record { opened = leb-true (open_count zs) limits.open_limit p.0; active = leb-true (active_count zs) limits.active_limit p.1 }
 
 -- the zones, whose rows are read
-zone_allowed : (c : ℕ) (zs : List CountedZone) (zones : List ZoneBlocks) → map (counted c) zones ≡ zs
+zone_allowed : (c : ℕ) (zs : List CountedZone) (zones : List ZoneWithBlocks) → map (counted c) zones ≡ zs
     → ((k : ℕ) → k < length zs → IsZone (get_or zs k no_counted_zone).state (get_or zs k no_counted_zone).written c)
     → (z : ℕ) → z < length zones → IsZone (get_or zones z no_zone).state (length (get_or zones z no_zone).blocks) c
 zone_allowed c zs zones same each z h =
@@ -75,7 +75,7 @@ zone_allowed c zs zones same each z h =
     subst (λ (r : CountedZone). IsZone r.state r.written c) read (each z there)
 
 -- the parts of a text make a namespace
-parts_are : (s : Shape) (zs : List CountedZone) (zones : List ZoneBlocks) → IsShape s → HaveFit s.capacity s.zones zs → IsWithin zs s.limits → map (counted s.capacity) zones ≡ zs → AreWhole s.block zones
+parts_are : (s : Shape) (zs : List CountedZone) (zones : List ZoneWithBlocks) → IsShape s → HaveFit s.capacity s.zones zs → IsWithin zs s.limits → map (counted s.capacity) zones ≡ zs → AreWhole s.block zones
     → IsNamespace (namespace_with s zones)
 parts_are s zs zones known fit within same whole = record {
   shape = subst (λ (n : ℕ). IsShape (resized s n)) (size_read s zs zones fit.count same) known;

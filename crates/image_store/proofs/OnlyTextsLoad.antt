@@ -18,7 +18,7 @@ use Rattle.image_store.specs.declared.version.Version.{Version}
 use Rattle.image_store.specs.declared.version.Version.TheVariants.{One, Two}
 use Rattle.image_store.specs.Geometry.{Shape, IsShape}
 use Rattle.image_store.specs.Laws.{OnlyTextsLoad}
-use Rattle.image_store.specs.Namespace.{ZoneBlocks, ZonedNamespace, counted, shape, namespace_with}
+use Rattle.image_store.specs.Namespace.{ZoneWithBlocks, ZonedNamespace, counted, shape, namespace_with}
 use Rattle.program_interface.specs.Readings.{◌>>=◌}
 use Rattle.image_store.specs.Reading.{total_told, header_told, header_in, total_kept, zone_in, zones_in, zone_rows_in, limits_kept, blocks_in, end_in, namespace_in, bytes_in}
 use Rattle.image_store.specs.Text.{header, written_blocks, zone_row, zone_rows, blocks_text, text_of}
@@ -114,11 +114,11 @@ zones_only zone capacity (suc n) xs zs size fit e =
     (ap (λ (front : List ℕ). front ++ zone_rows b.0) first ∙ (ap (λ (rest : List ℕ). take 8 xs ++ rest) more ∙ parts))
 
 -- blocks that are read are spelled so
-pub record AreWritten (capacity : ℕ) (zs : List CountedZone) (xs : List ℕ) (got : List ZoneBlocks × List ℕ) : Type 0 where
+pub record AreWritten (capacity : ℕ) (zs : List CountedZone) (xs : List ℕ) (got : List ZoneWithBlocks × List ℕ) : Type 0 where
   pub spelled : blocks_text got.0 ++ got.1 ≡ xs
   pub counted : map (counted capacity) got.0 ≡ zs
 
-pub blocks_only : (b capacity : ℕ) (zs : List CountedZone) (xs : List ℕ) (got : List ZoneBlocks × List ℕ) → ((k : ℕ) → k < length zs → (get_or zs k no_counted_zone).capacity ≡ capacity)
+pub blocks_only : (b capacity : ℕ) (zs : List CountedZone) (xs : List ℕ) (got : List ZoneWithBlocks × List ℕ) → ((k : ℕ) → k < length zs → (get_or zs k no_counted_zone).capacity ≡ capacity)
     → blocks_in b zs xs ≡ Ok got → AreWritten capacity zs xs got
 blocks_only b capacity [] xs got same e =
     subst (AreWritten capacity [] xs) (ok_is ([], xs) got e) (record { spelled = refl; counted = refl })
@@ -153,7 +153,7 @@ rows_only s bytes got known fit e =
     })
 
 -- header, rows and blocks, one behind another
-joined : (front : List ℕ) (zs : List CountedZone) (zones : List ZoneBlocks) (bytes rest later last : List ℕ) → front ++ rest ≡ bytes → zone_rows zs ++ later ≡ rest → blocks_text zones ++ last ≡ later → last ≡ []
+joined : (front : List ℕ) (zs : List CountedZone) (zones : List ZoneWithBlocks) (bytes rest later last : List ℕ) → front ++ rest ≡ bytes → zone_rows zs ++ later ≡ rest → blocks_text zones ++ last ≡ later → last ≡ []
     → bytes ≡ front ++ (zone_rows zs ++ blocks_text zones)
 joined front zs zones bytes rest later last start rows blocks ended =
     let written : later ≡ blocks_text zones = sym blocks ∙ (ap (λ (xs : List ℕ). blocks_text zones ++ xs) ended ∙ append-nil (blocks_text zones)) in
@@ -162,11 +162,11 @@ joined front zs zones bytes rest later last start rows blocks ended =
     ∙ ap (λ (xs : List ℕ). front ++ (zone_rows zs ++ xs)) written)
 
 -- there are as many zones as the shape says
-pub size_read : (s : Shape) (zs : List CountedZone) (zones : List ZoneBlocks) → length zs ≡ s.zones → map (counted s.capacity) zones ≡ zs → s.zones ≡ length zones
+pub size_read : (s : Shape) (zs : List CountedZone) (zones : List ZoneWithBlocks) → length zs ≡ s.zones → map (counted s.capacity) zones ≡ zs → s.zones ≡ length zones
 size_read s zs zones count same = sym (sym (length-map zones (counted s.capacity)) ∙ (ap length same ∙ count))
 
 -- the text of the namespace that is read
-text_with : (version : Version) (s : Shape) (zs : List CountedZone) (zones : List ZoneBlocks) → s.zones ≡ length zones → map (counted s.capacity) zones ≡ zs
+text_with : (version : Version) (s : Shape) (zs : List CountedZone) (zones : List ZoneWithBlocks) → s.zones ≡ length zones → map (counted s.capacity) zones ≡ zs
     → header version s (written_blocks zs) ++ (zone_rows zs ++ blocks_text zones) ≡ text_of version (namespace_with s zones)
 text_with version s zs zones size same =
     let all = map (counted s.capacity) zones in
@@ -184,7 +184,7 @@ pub record TextParts (bytes : List ℕ) (ns : ZonedNamespace) : Type 0 where
   pub counted : (done : Unit {0}) × (total_kept told.total zones ≡ Ok done)
   pub limited : (done : Unit {0}) × (limits_kept told.geometry.limits zones ≡ Ok done)
   pub later_fit : AreBytes later
-  pub blocks : List ZoneBlocks
+  pub blocks : List ZoneWithBlocks
   pub last : List ℕ
   pub blocks_read : blocks_in told.geometry.block zones later ≡ Ok (blocks, last)
   pub written : AreWritten told.geometry.capacity zones later (blocks, last)

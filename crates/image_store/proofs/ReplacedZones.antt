@@ -14,7 +14,7 @@ use Rattle.image_store.specs.Blocks.{block_count}
 use Rattle.image_store.specs.ImageInMemory.{zone_seen, no_counted_zone, namespace_of, IsFlat}
 use Rattle.program_interface.specs.Bytes.{pieces, spliced}
 use Rattle.image_store.specs.Geometry.{Shape}
-use Rattle.image_store.specs.Namespace.{ZoneBlocks, ZonedNamespace, zone_at, with_zone, arrived, with_state, namespace_with}
+use Rattle.image_store.specs.Namespace.{ZoneWithBlocks, ZonedNamespace, zone_at, with_zone, arrived, with_state, namespace_with}
 use Rattle.image_store.proofs.BlocksOfBytes.{blocks_are_counted}
 use Rattle.image_store.proofs.ZonesInMemory.{zone-at, zones-set}
 use Rattle.image_store.proofs.ImageFields.{write_fits}
@@ -36,9 +36,9 @@ pub state_set : (s : Shape) (zs : List CountedZone) (xs : List ℕ) (z : ℕ) (t
 state_set s zs xs z to inside =
     let written = (get_or zs z no_counted_zone).written in
     zone_set s zs xs z (record { state = to; written = kept to written; capacity = s.capacity })
-    ∙ ap (λ (blocks : List (List ℕ)). let zone : ZoneBlocks = record { state = to; blocks = blocks } in with_zone (namespace_of s zs xs) z zone)
+    ∙ ap (λ (blocks : List (List ℕ)). let zone : ZoneWithBlocks = record { state = to; blocks = blocks } in with_zone (namespace_of s zs xs) z zone)
     (kept_seen (is_cleared to) s.block written (drop (z * (s.capacity * s.block)) xs))
-    ∙ ap (λ (zone : ZoneBlocks). with_zone (namespace_of s zs xs) z (arrived to zone))
+    ∙ ap (λ (zone : ZoneWithBlocks). with_zone (namespace_of s zs xs) z (arrived to zone))
     (sym (zone-at s.block s.capacity zs xs z inside))
 
 -- a state after a write allows the blocks that are then written
@@ -93,7 +93,7 @@ flat_append s zs xs z new flat inside some whole allowed =
 pub fits_seen : (s : Shape) (zs : List CountedZone) (xs : List ℕ) (z : ℕ) (ns : ZonedNamespace) (to : ZoneState) → namespace_of s zs xs ≡ ns → z < length zs
     → IsZone to (kept to (length (zone_at ns z).blocks)) ns.capacity → IsZone to (kept to (get_or zs z no_counted_zone).written) s.capacity
 fits_seen s zs xs z ns to seen inside h =
-    let count = ap (λ (zone : ZoneBlocks). length zone.blocks) (zone-at s.block s.capacity zs xs z inside)
+    let count = ap (λ (zone : ZoneWithBlocks). length zone.blocks) (zone-at s.block s.capacity zs xs z inside)
     ∙ blocks_are_counted s.block (get_or zs z no_counted_zone).written (drop (z * (s.capacity * s.block)) xs) in
     subst (λ (n : ℕ). IsZone to (kept to n) s.capacity) count
     (subst (λ (m : ZonedNamespace). IsZone to (kept to (length (zone_at m z).blocks)) m.capacity) (sym seen) h)

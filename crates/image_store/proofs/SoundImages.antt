@@ -8,7 +8,7 @@ use Rattle.zone_resources.specs.declared.counts.Counts.{Counts}
 use Rattle.program_interface.specs.Bytes.{pieces}
 use Rattle.image_store.specs.ImageInMemory.{no_counted_zone, namespace_of, IsFlat, IsImage}
 use Rattle.image_store.specs.Geometry.{Shape, IsShape}
-use Rattle.image_store.specs.Namespace.{ZoneBlocks, ZonedNamespace, no_zone, zone_at, IsNamespace}
+use Rattle.image_store.specs.Namespace.{ZoneWithBlocks, ZonedNamespace, no_zone, zone_at, IsNamespace}
 use Rattle.image_store.proofs.BlocksAreBytes.{zones_are_bytes}
 use Rattle.image_store.proofs.KeptLimits.{within_seen}
 use Rattle.image_store.proofs.BlocksOfBytes.{blocks_are_counted, drop-next}
@@ -31,12 +31,12 @@ blocks_are_whole b n i xs h long =
     ap length (blocks_are_parts b n i xs h) ∙ omega (arith, suc-mul i b, length-take b (drop (i * b) xs), length-drop (i * b) xs)
 
 -- what has a property that `no_zone` lacks is one of the zones,
-pub is_one_of : (P : ZoneBlocks → Type 0) → (P no_zone → ⊥) → (zones : List ZoneBlocks) (z : ℕ) → P (get_or zones z no_zone) → z < length zones
+pub is_one_of : (P : ZoneWithBlocks → Type 0) → (P no_zone → ⊥) → (zones : List ZoneWithBlocks) (z : ℕ) → P (get_or zones z no_zone) → z < length zones
 is_one_of P none zones z holds =
     ⊎_elim (λ inside. inside) (λ past. absurd (none (subst P (get_or_past zones z no_zone past) holds))) (cases_lt z (length zones))
 
 -- and so is what has blocks
-pub blocks_lie_in_zones : (zones : List ZoneBlocks) (z i : ℕ) → i < length (get_or zones z no_zone).blocks → z < length zones
+pub blocks_lie_in_zones : (zones : List ZoneWithBlocks) (z i : ℕ) → i < length (get_or zones z no_zone).blocks → z < length zones
 blocks_lie_in_zones zones z i h = is_one_of (λ zone. i < length zone.blocks) (λ some. omega arith) zones z h
 
 zone_block_whole : (s : Shape) (zs : List CountedZone) (xs : List ℕ) (z i : ℕ) → IsFlat s zs xs → z < length zs → i < (get_or zs z no_counted_zone).written
@@ -46,7 +46,7 @@ zone_block_whole s zs xs z i flat inside written =
     let start = z * (s.capacity * s.block) in
     let end = room_end s zs xs z flat inside in
     let product : n * s.block ≤ s.capacity * s.block = mul-le-mul_right s.block (within s zs xs z flat inside) in
-    ap (λ (zone : ZoneBlocks). length (get_or zone.blocks i [])) (zone-at s.block s.capacity zs xs z inside)
+    ap (λ (zone : ZoneWithBlocks). length (get_or zone.blocks i [])) (zone-at s.block s.capacity zs xs z inside)
     ∙ blocks_are_whole s.block n i (drop start xs) written (omega (arith, length-drop start xs))
 
 pub image_sound : (s : Shape) (zs : List CountedZone) (counts : Counts) (xs : List ℕ) → IsImage s zs counts xs → IsNamespace (namespace_of s zs xs)
@@ -57,12 +57,12 @@ image_sound s zs counts xs image =
       fits = λ z h.
           let r = get_or zs z no_counted_zone in
           let inside : z < length zs = omega (arith, length-zones s.block s.capacity zs xs) in
-          subst (λ (zone : ZoneBlocks). IsZone zone.state (length zone.blocks) s.capacity) (sym (zone-at s.block s.capacity zs xs z inside))
+          subst (λ (zone : ZoneWithBlocks). IsZone zone.state (length zone.blocks) s.capacity) (sym (zone-at s.block s.capacity zs xs z inside))
           (subst (λ (n : ℕ). IsZone r.state n s.capacity) (sym (blocks_are_counted s.block r.written (drop (z * (s.capacity * s.block)) xs))) (flat.fits z inside));
       whole = λ z i h.
           let there : z < length (namespace_of s zs xs).zones = blocks_lie_in_zones (namespace_of s zs xs).zones z i h in
           let inside : z < length zs = omega (arith, length-zones s.block s.capacity zs xs) in
-          let count = ap (λ (zone : ZoneBlocks). length zone.blocks) (zone-at s.block s.capacity zs xs z inside) in
+          let count = ap (λ (zone : ZoneWithBlocks). length zone.blocks) (zone-at s.block s.capacity zs xs z inside) in
           let written : i < (get_or zs z no_counted_zone).written = omega (arith, blocks_are_counted s.block (get_or zs z no_counted_zone).written (drop (z * (s.capacity * s.block)) xs)) in
           zone_block_whole s zs xs z i flat inside written;
       within = within_seen s zs xs flat image.within;

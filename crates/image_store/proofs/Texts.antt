@@ -6,7 +6,7 @@ use Rattle.zone_state.specs.Zone.{CountedZone}
 use Rattle.image_store.specs.declared.version.Version.TheVariants.{Two}
 use Rattle.image_store.specs.ImageInMemory.{namespace_of, zones_of, no_counted_zone, IsFlat}
 use Rattle.image_store.specs.Geometry.{Shape}
-use Rattle.image_store.specs.Namespace.{ZoneBlocks, no_zone, zone_at, shape}
+use Rattle.image_store.specs.Namespace.{ZoneWithBlocks, no_zone, zone_at, shape}
 use Rattle.image_store.specs.Streams.{IsBegun}
 use Rattle.image_store.specs.Text.{header, written_blocks, zone_rows, blocks_text, text}
 use Rattle.image_store.proofs.BlocksOfBytes.{blocks_are_counted}
@@ -43,7 +43,7 @@ blocks_step s zs xs i w z piece inside read same given =
     let there : i < length zones = omega (arith, length-zones s.block s.capacity zs xs) in
     let known : z ≡ get_or zs i no_counted_zone = read ∙ get_or_default zs i z no_counted_zone inside in
     let count : w ≡ (get_or zs i no_counted_zone).written = same ∙ ap (λ (x : CountedZone). x.written) known in
-    let seen = ap (λ (zone : ZoneBlocks). length zone.blocks) (zone-at s.block s.capacity zs xs i inside)
+    let seen = ap (λ (zone : ZoneWithBlocks). length zone.blocks) (zone-at s.block s.capacity zs xs i inside)
     ∙ blocks_are_counted s.block (get_or zs i no_counted_zone).written (drop (i * (s.capacity * s.block)) xs) in
     let whole : take w blocks ≡ blocks = take_all w blocks (omega arith) in
     let all : concat blocks ≡ piece = ap concat (sym whole) ∙ sym given in

@@ -26,7 +26,7 @@ use Rattle.image_store.specs.declared.version.Version.{Version}
 use Rattle.image_store.specs.declared.version.Version.TheVariants.{One, Two}
 use Rattle.image_store.specs.Geometry.{Shape}
 use Rattle.image_store.specs.Laws.{EachVersionLoads, LastVersionHasAll, SavedTextsLoad}
-use Rattle.image_store.specs.Namespace.{ZoneBlocks, ZonedNamespace, no_zone, counted, counted_zones, shape, IsNamespace}
+use Rattle.image_store.specs.Namespace.{ZoneWithBlocks, ZonedNamespace, no_zone, counted, counted_zones, shape, IsNamespace}
 use Rattle.program_interface.specs.Readings.{◌>>=◌}
 use Rattle.image_store.specs.Reading.{zone_told, zone_in, zones_in, zone_rows_in, total_kept, limits_kept, blocks_in, namespace_in}
 use Rattle.image_store.specs.Text.{header, written_blocks, zone_row, zone_rows, blocks_text}
@@ -82,7 +82,7 @@ blocks_are_cut_again b blocks whole =
     ap (pieces b (length blocks)) (concat_is blocks ∙ sym (append-nil (flat_map (λ (x : List ℕ). x) blocks)))
     ∙ (pieces-flat_map (λ (x : List ℕ). x) b blocks [] (All-from_get_or (λ (x : List ℕ). length x ≡ b) blocks [] whole) ∙ map-id blocks)
 
-pub blocks_read : (b c : ℕ) (zones : List ZoneBlocks) (rest : List ℕ) → ((z i : ℕ) → i < length (get_or zones z no_zone).blocks → length (get_or (get_or zones z no_zone).blocks i []) ≡ b)
+pub blocks_read : (b c : ℕ) (zones : List ZoneWithBlocks) (rest : List ℕ) → ((z i : ℕ) → i < length (get_or zones z no_zone).blocks → length (get_or (get_or zones z no_zone).blocks i []) ≡ b)
     → blocks_in b (map (counted c) zones) (blocks_text zones ++ rest) ≡ Ok (zones, rest)
 blocks_read b c [] rest whole = refl
 blocks_read b c (zone ∷ zones) rest whole =
@@ -90,8 +90,8 @@ blocks_read b c (zone ∷ zones) rest whole =
     let parts = append_assoc (concat zone.blocks) (blocks_text zones) rest in
     ap (blocks_in b (map (counted c) (zone ∷ zones))) parts
     ∙ (ap (λ (r : Result Split LoadFault). r >>= λ front. blocks_in b (map (counted c) zones) front.1 >>= λ more. Ok (zone_seen b (counted c zone) front.0 ∷ more.0, more.1)) (bytes_whole (length zone.blocks * b) (concat zone.blocks) (blocks_text zones ++ rest) size)
-    ∙ (ap (λ (r : Result (List ZoneBlocks × List ℕ) LoadFault). r >>= λ more. Ok (zone_seen b (counted c zone) (concat zone.blocks) ∷ more.0, more.1)) (blocks_read b c zones rest (λ z i h. whole (suc z) i h))
-    ∙ ap (λ (bs : List (List ℕ)). let seen : ZoneBlocks = record { state = zone.state; blocks = bs } in let r : Result (List ZoneBlocks × List ℕ) LoadFault = Ok (seen ∷ zones, rest) in r) (blocks_are_cut_again b zone.blocks (whole 0))))
+    ∙ (ap (λ (r : Result (List ZoneWithBlocks × List ℕ) LoadFault). r >>= λ more. Ok (zone_seen b (counted c zone) (concat zone.blocks) ∷ more.0, more.1)) (blocks_read b c zones rest (λ z i h. whole (suc z) i h))
+    ∙ ap (λ (bs : List (List ℕ)). let seen : ZoneWithBlocks = record { state = zone.state; blocks = bs } in let r : Result (List ZoneWithBlocks × List ℕ) LoadFault = Ok (seen ∷ zones, rest) in r) (blocks_are_cut_again b zone.blocks (whole 0))))
 
 pub can_spell : (ns : ZonedNamespace) → IsNamespace ns → (k : ℕ) → k < length (counted_zones ns) → CanSpell ns.capacity (get_or (counted_zones ns) k no_counted_zone)
 can_spell ns sound k h =

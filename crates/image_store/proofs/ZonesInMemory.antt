@@ -5,7 +5,7 @@ use Rattle.std.proofs.Math.Nat.{suc-mul, mul-le-mul_right, add-mul}
 use Rattle.zone_state.specs.Zone.{CountedZone}
 use Rattle.image_store.specs.ImageInMemory.{zones_of, zone_seen, no_counted_zone}
 use Rattle.program_interface.specs.Bytes.{pieces, spliced}
-use Rattle.image_store.specs.Namespace.{ZoneBlocks, no_zone}
+use Rattle.image_store.specs.Namespace.{ZoneWithBlocks, no_zone}
 use Rattle.image_store.proofs.BlocksOfBytes.{blocks-same, blocks-add, drop-next, take-spliced, drop-spliced, drop-spliced-past, drop-spliced-later}
 
 pub length-zones : (b c : ℕ) (zs : List CountedZone) (xs : List ℕ) → length (zones_of b c zs xs) ≡ length zs
@@ -29,7 +29,7 @@ zones-set b c (y ∷ zs) xs zero r =
     let start : 0 ≡ zero * (c * b) = omega arith in
     ap (λ (m : ℕ). zone_seen b r (drop m xs) ∷ zones_of b c zs (drop (c * b) xs)) start
 zones-set b c (y ∷ zs) xs (suc z) r =
-    ap (λ (rest : List ZoneBlocks). zone_seen b y xs ∷ rest) (zones-set b c zs (drop (c * b) xs) z r)
+    ap (λ (rest : List ZoneWithBlocks). zone_seen b y xs ∷ rest) (zones-set b c zs (drop (c * b) xs) z r)
     ∙ ap (λ (ys : List ℕ). zone_seen b y xs ∷ set (zones_of b c zs (drop (c * b) xs)) z (zone_seen b r ys)) (drop-next (c * b) z xs)
 
 -- blocks put behind those that a room has
@@ -67,9 +67,9 @@ zones-append b c (y ∷ zs) xs zero n r new h long within room grown =
     let rest = drop-spliced-past (c * b) (y.written * b) new xs reach (omega arith) in
     ap (λ (m : ℕ). zones_of b c (r ∷ zs) (spliced m new xs)) start
     ∙ (ap (λ (m : ℕ). let bs : List (List ℕ) = pieces b m (spliced (y.written * b) new xs) in record { state = r.state; blocks = bs } ∷ zones_of b c zs (drop (c * b) (spliced (y.written * b) new xs))) grown
-    ∙ (ap (λ (bs : List (List ℕ)). let seen : ZoneBlocks = record { state = r.state; blocks = bs } in seen ∷ zones_of b c zs (drop (c * b) (spliced (y.written * b) new xs))) (blocks-grown b y.written n new xs room.size (omega arith))
-    ∙ (ap (λ (ys : List ℕ). let seen : ZoneBlocks = record { state = r.state; blocks = pieces b y.written xs ++ pieces b n new } in seen ∷ zones_of b c zs ys) rest
-    ∙ ap (λ (m : ℕ). let seen : ZoneBlocks = record { state = r.state; blocks = pieces b y.written (drop m xs) ++ pieces b n new } in seen ∷ zones_of b c zs (drop (c * b) xs)) none)))
+    ∙ (ap (λ (bs : List (List ℕ)). let seen : ZoneWithBlocks = record { state = r.state; blocks = bs } in seen ∷ zones_of b c zs (drop (c * b) (spliced (y.written * b) new xs))) (blocks-grown b y.written n new xs room.size (omega arith))
+    ∙ (ap (λ (ys : List ℕ). let seen : ZoneWithBlocks = record { state = r.state; blocks = pieces b y.written xs ++ pieces b n new } in seen ∷ zones_of b c zs ys) rest
+    ∙ ap (λ (m : ℕ). let seen : ZoneWithBlocks = record { state = r.state; blocks = pieces b y.written (drop m xs) ++ pieces b n new } in seen ∷ zones_of b c zs (drop (c * b) xs)) none)))
 zones-append b c (y ∷ zs) xs (suc z) n r new h long within room grown =
     let at = z * (c * b) + (get_or zs z no_counted_zone).written * b in
     let place : suc z * (c * b) + (get_or zs z no_counted_zone).written * b ≡ c * b + at = omega (arith, suc-mul z (c * b)) in
@@ -84,7 +84,7 @@ zones-append b c (y ∷ zs) xs (suc z) n r new h long within room grown =
     let next = zones-append b c zs (drop (c * b) xs) z n r new inside fewer (λ k in_list. within (suc k) (omega arith)) room grown in
     let base = drop-next (c * b) z xs in
     ap (λ (m : ℕ). zones_of b c (y ∷ set zs z r) (spliced m new xs)) place
-    ∙ (ap (λ (bs : List (List ℕ)). let seen : ZoneBlocks = record { state = y.state; blocks = bs } in seen ∷ zones_of b c (set zs z r) (drop (c * b) (spliced (c * b + at) new xs))) first
+    ∙ (ap (λ (bs : List (List ℕ)). let seen : ZoneWithBlocks = record { state = y.state; blocks = bs } in seen ∷ zones_of b c (set zs z r) (drop (c * b) (spliced (c * b + at) new xs))) first
     ∙ (ap (λ (ys : List ℕ). zone_seen b y xs ∷ zones_of b c (set zs z r) ys) later
-    ∙ (ap (λ (rest : List ZoneBlocks). zone_seen b y xs ∷ rest) next
-    ∙ ap (λ (ys : List ℕ). let seen : ZoneBlocks = record { state = r.state; blocks = pieces b (get_or zs z no_counted_zone).written ys ++ pieces b n new } in zone_seen b y xs ∷ set (zones_of b c zs (drop (c * b) xs)) z seen) base)))
+    ∙ (ap (λ (rest : List ZoneWithBlocks). zone_seen b y xs ∷ rest) next
+    ∙ ap (λ (ys : List ℕ). let seen : ZoneWithBlocks = record { state = r.state; blocks = pieces b (get_or zs z no_counted_zone).written ys ++ pieces b n new } in zone_seen b y xs ∷ set (zones_of b c zs (drop (c * b) xs)) z seen) base)))

@@ -28,7 +28,7 @@ pub record HasMagic (version : Version) (bytes : List ℕ) : Type 0 where
 
 -- what can be wrong with a header of a version that tells a shape:
 abbrev pub IsHeaderFault : Version → List ℕ → Shape → HeaderFault → Type 0
--- its numbers are none of a geometry, and this is the first test that they fail;
+-- its numbers are those of no shape, and this is the first test that they fail;
 IsHeaderFault version header s (header_faults.Numbers refusal) = FailsFirst (shape_checks s) refusal
 -- they are those of one, but no block of the version has so many bytes;
 IsHeaderFault version header s (header_faults.VersionBlock told block) =

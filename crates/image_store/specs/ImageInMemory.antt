@@ -7,14 +7,14 @@ use Rattle.zone_resources.specs.declared.counts.Counts.{Counts}
 use Rattle.zone_state.specs.Zone.{CountedZone, IsZone}
 use Rattle.program_interface.specs.Bytes.{AreBytes, pieces}
 use Rattle.image_store.specs.Geometry.{Shape, IsShape}
-use Rattle.image_store.specs.Namespace.{ZoneBlocks, ZonedNamespace, namespace_with}
+use Rattle.image_store.specs.Namespace.{ZoneWithBlocks, ZonedNamespace, namespace_with}
 
 -- a counted zone with its blocks, which stand at the front of these bytes
-abbrev pub zone_seen : ℕ → CountedZone → List ℕ → ZoneBlocks
+abbrev pub zone_seen : ℕ → CountedZone → List ℕ → ZoneWithBlocks
 zone_seen block z bytes = record { state = z.state; blocks = pieces block z.written bytes }
 
 -- the zones whose rooms these bytes are, each of so many blocks of this many bytes
-abbrev pub zones_of : ℕ → ℕ → List CountedZone → List ℕ → List ZoneBlocks
+abbrev pub zones_of : ℕ → ℕ → List CountedZone → List ℕ → List ZoneWithBlocks
 zones_of block capacity [] bytes = []
 zones_of block capacity (z ∷ zs) bytes =
     zone_seen block z bytes ∷ zones_of block capacity zs (drop (capacity * block) bytes)

@@ -11,7 +11,7 @@ use Rattle.image_store.specs.Blocks.{as_blocks}
 use Rattle.image_store.specs.Geometry.{Shape, IsShape, zone_block_at}
 
 -- a zone: its state, and its written blocks from its lowest logical block on (ZNS 1.1, 2.1.1)
-pub record ZoneBlocks : Type 0 where
+pub record ZoneWithBlocks : Type 0 where
   pub state : ZoneState
   pub blocks : List (List ℕ)
 
@@ -22,22 +22,22 @@ pub record ZonedNamespace : Type 0 where
   pub size : ℕ
   pub capacity : ℕ
   pub limits : Limits
-  pub zones : List ZoneBlocks
+  pub zones : List ZoneWithBlocks
 
 -- what stands for a zone that the namespace does not have
-abbrev pub no_zone : ZoneBlocks
+abbrev pub no_zone : ZoneWithBlocks
 no_zone = record { state = Offline; blocks = [] }
 
 -- the zone with this number
-abbrev pub zone_at : ZonedNamespace → ℕ → ZoneBlocks
+abbrev pub zone_at : ZonedNamespace → ℕ → ZoneWithBlocks
 zone_at ns z = get_or ns.zones z no_zone
 
 -- the namespace with another zone in this place
-abbrev pub with_zone : ZonedNamespace → ℕ → ZoneBlocks → ZonedNamespace
+abbrev pub with_zone : ZonedNamespace → ℕ → ZoneWithBlocks → ZonedNamespace
 with_zone ns z zone = record ns { zones = set ns.zones z zone }
 
 -- a zone whose blocks are only counted
-abbrev pub counted : ℕ → ZoneBlocks → CountedZone
+abbrev pub counted : ℕ → ZoneWithBlocks → CountedZone
 counted capacity zone = record { state = zone.state; written = length zone.blocks; capacity = capacity }
 
 -- all zones so counted
@@ -49,7 +49,7 @@ abbrev pub IsWithinLimits : ZonedNamespace → Type 0
 IsWithinLimits ns = IsWithin (counted_zones ns) ns.limits
 
 -- a zone with more blocks written at its write pointer
-abbrev pub grown : ℕ → ZoneBlocks → List (List ℕ) → ZoneBlocks
+abbrev pub grown : ℕ → ZoneWithBlocks → List (List ℕ) → ZoneWithBlocks
 grown capacity zone more = record {
   state = (after_write (counted capacity zone) (length more)).state;
   blocks = zone.blocks ++ more;
@@ -64,7 +64,7 @@ abbrev pub appended : ZonedNamespace → ℕ → List ℕ → ZonedNamespace
 appended ns z bytes = grown_at ns z (as_blocks ns.block bytes)
 
 -- a zone that comes into a state, with the blocks that it keeps there
-abbrev pub arrived : ZoneState → ZoneBlocks → ZoneBlocks
+abbrev pub arrived : ZoneState → ZoneWithBlocks → ZoneWithBlocks
 arrived to zone = record { state = to; blocks = if is_cleared to then [] else zone.blocks }
 
 -- the namespace with a zone come into a state
@@ -72,7 +72,7 @@ abbrev pub with_state : ZonedNamespace → ℕ → ZoneState → ZonedNamespace
 with_state ns z to = with_zone ns z (arrived to (zone_at ns z))
 
 -- the namespace of a shape that has these zones
-abbrev pub namespace_with : Shape → List ZoneBlocks → ZonedNamespace
+abbrev pub namespace_with : Shape → List ZoneWithBlocks → ZonedNamespace
 namespace_with s zones = record { block = s.block; size = s.size; capacity = s.capacity; limits = s.limits; zones = zones }
 
 -- a namespace of which nothing is written

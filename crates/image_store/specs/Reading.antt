@@ -24,7 +24,7 @@ use Rattle.image_store.specs.declared.version.Version.TheVariants.{One, Two}
 use Rattle.image_store.specs.declared.zone_row.TheConstants.{ZONE_ROW_BYTES}
 use Rattle.image_store.specs.Geometry.{Shape, shape_of, tested}
 use Rattle.image_store.specs.declared.geometry.GeometryRefusal.{GeometryRefusal}
-use Rattle.image_store.specs.Namespace.{ZoneBlocks, ZonedNamespace, namespace_with}
+use Rattle.image_store.specs.Namespace.{ZoneWithBlocks, ZonedNamespace, namespace_with}
 use Rattle.image_store.specs.Text.{written_blocks}
 use Rattle.image_store.specs.Version.{numbers_of_version, has_block}
 
@@ -148,7 +148,7 @@ limits_kept limits zs =
     else Err (fault.Limits (open_count zs) (active_count zs) limits)
 
 -- the zones with their blocks, which lie one zone's behind another's
-abbrev pub blocks_in : ℕ → List CountedZone → List ℕ → Result (List ZoneBlocks × List ℕ) LoadFault
+abbrev pub blocks_in : ℕ → List CountedZone → List ℕ → Result (List ZoneWithBlocks × List ℕ) LoadFault
 blocks_in block [] bytes = Ok ([], bytes)
 blocks_in block (z ∷ zs) bytes =
     bytes_in (z.written * block) bytes

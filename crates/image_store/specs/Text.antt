@@ -7,7 +7,7 @@ use Rattle.zone_state.specs.Zone.{CountedZone}
 use Rattle.image_store.specs.declared.version.Version.{Version}
 use Rattle.image_store.specs.declared.version.Version.TheVariants.{One, Two}
 use Rattle.image_store.specs.Geometry.{Shape}
-use Rattle.image_store.specs.Namespace.{ZoneBlocks, ZonedNamespace, counted_zones, shape}
+use Rattle.image_store.specs.Namespace.{ZoneWithBlocks, ZonedNamespace, counted_zones, shape}
 use Rattle.image_store.specs.Version.{numbers_of_version}
 
 -- the numbers of a shape, in their order
@@ -36,7 +36,7 @@ abbrev pub zone_rows : List CountedZone → List ℕ
 zone_rows zones = flat_map zone_row zones
 
 -- the written blocks of zones, one zone's behind another's
-abbrev pub blocks_text : List ZoneBlocks → List ℕ
+abbrev pub blocks_text : List ZoneWithBlocks → List ℕ
 blocks_text zones = flat_map (λ zone. concat zone.blocks) zones
 
 -- the header, the row of each zone, and the written blocks of each zone

@@ -45,7 +45,7 @@ pub fn fault_is_first()
     ensures { FaultIsFirst }
 {}
 
-/// The tests of a geometry accept each shape that there is, and no other.
+/// The tests of a namespace's numbers pass each shape that there is, and no other.
 pub fn shapes_are_tested()
     ensures { ShapesAreTested }
 {}

@@ -6,7 +6,7 @@ use Rattle.program_interface.specs.Bytes.{field}
 use Rattle.program_interface.specs.declared.area.TheConstants.{CONTEXT_BYTES}
 use Rattle.program_interface.specs.declared.context.Context.{Context}
 
--- the block's logical address in eight bytes; its index in the run, the run's number of blocks, a
+-- the block's LBA in eight bytes; its index in the run, the run's number of blocks, a
 -- block's size and the run's argument in four each; and eight zeros
 abbrev pub context_bytes : Context → List ℕ
 context_bytes c =
@@ -22,7 +22,7 @@ pub record AreContextFields (c : Context) : Type 0 where
   pub block : c.block < 2 ^ 32
   pub argument : c.argument < 2 ^ 32
 
--- what a program reads in its context, the lowest byte of each number first: the block's logical address in
+-- what a program reads in its context, the lowest byte of each number first: the block's LBA in
 -- bytes 0 to 7, its index in bytes 8 to 11, the run's number of blocks in bytes 12 to 15, a block's size in bytes
 -- 16 to 19, the run's argument in bytes 20 to 23, and zeros behind them
 pub record TellContext (bytes : List ℕ) (c : Context) : Type 0 where

@@ -10,7 +10,7 @@ use byteorder::{ByteOrder, LittleEndian};
 /// What a program is told of the block that it runs on (profile).
 #[derive(Clone, Copy, Debug, PartialEq, Eq)]
 pub struct Context {
-    /// The block's logical address.
+    /// The block's LBA.
     pub lba: u64,
     /// How many blocks of the run come before it.
     pub index: u32,

@@ -3,7 +3,7 @@
 ghost use Rattle.program_interface.specs.Context.{ContextsTell};
 ghost use Rattle.program_interface.specs.FirstCheck.{FirstFailedIsFirst, NoFaultWhereNoneFails};
 
-/// A program reads in the bytes of its context the block's logical address, its index, the run's number of
+/// A program reads in the bytes of its context the block's LBA, its index, the run's number of
 /// blocks, a block's size and the run's argument, each at its place.
 pub fn contexts_tell()
     ensures { ContextsTell }

@@ -12,7 +12,7 @@ use Rattle.emit_append.proofs.Proved.{AllBytes, FitsByte, by_place, by_recursion
 use Rattle.program_interface.specs.Bytes.{AreBytes, pieces}
 use Rattle.image_store.specs.Blocks.{as_blocks, block_count}
 use Rattle.image_store.specs.Geometry.{Shape}
-use Rattle.image_store.specs.Namespace.{ZoneBlocks, ZonedNamespace, appended, grown, no_zone, shape, with_zone, zone_at}
+use Rattle.image_store.specs.Namespace.{ZoneWithBlocks, ZonedNamespace, appended, grown, no_zone, shape, with_zone, zone_at}
 use Rattle.zns_commands.specs.Left.{Grows}
 use Rattle.image_store.proofs.Proved.{blocks_are_cut_again, blocks_have_bytes, is_one_of}
 use Rattle.zns_commands.proofs.Proved.{grows_by_none, replaced_grows, with_zone_shape, count_of}
@@ -21,7 +21,7 @@ use Rattle.pushdown.specs.Happenings.{added}
 use Rattle.pushdown.proofs.Bytes.{AreBlocks, whole_at}
 
 -- a zone that isn't Offline is one of the namespace
-pub inside : (zones : List ZoneBlocks) (z : ℕ) → (get_or zones z no_zone).state ≢ Offline → z < length zones
+pub inside : (zones : List ZoneWithBlocks) (z : ℕ) → (get_or zones z no_zone).state ≢ Offline → z < length zones
 inside zones z is = is_one_of (λ zone. zone.state ≢ Offline) (λ on. on refl) zones z is
 
 pub open_on : (s : ZoneState) → is_open s ≡ true → s ≢ Offline
@@ -45,8 +45,8 @@ is_added ns z (b ∷ bs) on =
     let zone = grown ns.capacity (zone_at ns z) (b ∷ bs) in
     let here : zone_at (added ns z (b ∷ bs)) z ≡ zone = get_or-set_same ns.zones z zone no_zone (inside ns.zones z on) in
     record {
-      blocks_is = ap (λ (x : ZoneBlocks). x.blocks) here;
-      on = subst (λ (x : ZoneBlocks). x.state ≢ Offline) (sym here)
+      blocks_is = ap (λ (x : ZoneWithBlocks). x.blocks) here;
+      on = subst (λ (x : ZoneWithBlocks). x.state ≢ Offline) (sym here)
           (grown_on (nat_eq (length (zone_at ns z).blocks + length (b ∷ bs)) ns.capacity) (zone_at ns z).state);
     }
 

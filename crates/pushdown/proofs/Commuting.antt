@@ -3,7 +3,7 @@ use Rattle.std.proofs.Common.{◌≡◌, ◌≢◌, ℕ, false, List, [], ◌∷
 use Rattle.std.specs.Prelude.{is_some}
 use Rattle.std.proofs.lemmas.Bool.Decides.{eqb_tells}
 use Rattle.std.proofs.lemmas.List.{set_comm, set-get_or}
-use Rattle.image_store.specs.Namespace.{ZoneBlocks, ZonedNamespace, grown, no_zone}
+use Rattle.image_store.specs.Namespace.{ZoneWithBlocks, ZonedNamespace, grown, no_zone}
 use Rattle.pushdown.specs.Admission.{Loaded, SameProgram}
 use Rattle.pushdown.specs.Draining.{state_after_turns}
 use Rattle.pushdown.specs.Happenings.{added, keeping, place_left, slots_left, take_turn, turn_state, turned, turned_at}
@@ -32,7 +32,7 @@ added_both : (ns : ZonedNamespace) (a b : ℕ) (first second : List (List ℕ)) 
 added_both ns a b [] second differs = refl
 added_both ns a b (x ∷ xs) [] differs = refl
 added_both ns a b (x ∷ xs) (y ∷ ys) differs =
-    ap (λ (zones : List ZoneBlocks). record ns { zones = zones })
+    ap (λ (zones : List ZoneWithBlocks). record ns { zones = zones })
     (changed_both ns.zones a b (λ zone. grown ns.capacity zone (x ∷ xs)) (λ zone. grown ns.capacity zone (y ∷ ys)) no_zone differs)
 
 -- ---- results for two slots, of which both are one only where it has no program

@@ -7,7 +7,7 @@ use Rattle.nvme_entry.specs.Entry.{decoded}
 use Rattle.instruction_set.specs.declared.instruction.Instruction.{Instruction}
 use Rattle.program_meaning.specs.BlockRun.{block_run_of}
 use Rattle.word_domain.specs.Domain.{Operations}
-use Rattle.image_store.specs.Namespace.{ZoneBlocks, ZonedNamespace, zone_at}
+use Rattle.image_store.specs.Namespace.{ZoneWithBlocks, ZonedNamespace, zone_at}
 use Rattle.pushdown.specs.EventReplies.{Happening, submission_of}
 use Rattle.device_events.specs.Replies.{ReplyWithData, without_data}
 use Rattle.pushdown.specs.Draining.{replies_to_turns, state_after_turns}
@@ -29,7 +29,7 @@ abbrev pub pending : ℕ → ReplyWithData
 pending run = without_data (Pending run)
 
 -- a zone in a state, with these blocks
-abbrev pub zone_of : ZoneState → List (List ℕ) → ZoneBlocks
+abbrev pub zone_of : ZoneState → List (List ℕ) → ZoneWithBlocks
 zone_of state blocks = record { state = state; blocks = blocks }
 
 -- a device with one program in slot 0

@@ -3,7 +3,7 @@ use Rattle.std.proofs.Common.{ℕ, List, [], ◌∷◌, ◌++◌, replicate, Opt
 use Rattle.ebpf_decode.specs.Reading.{decoded_program}
 use Rattle.ebpf_decode.specs.declared.fault.Fault.{Fault}
 use Rattle.instruction_set.specs.declared.instruction.Instruction.{Instruction}
-use Rattle.image_store.specs.Namespace.{ZoneBlocks, ZonedNamespace}
+use Rattle.image_store.specs.Namespace.{ZoneWithBlocks, ZonedNamespace}
 use Rattle.pushdown.specs.Admission.{Loaded}
 use Rattle.pushdown.specs.BlockRuns.{no_scratch}
 
@@ -105,15 +105,15 @@ slots_with program limit = Some (record { program = program; limit = limit; resu
 -- ---- namespaces
 
 -- four zones of 8 blocks, of which 6 can be written; two may be open, and three active
-abbrev pub four_zones : List ZoneBlocks → ZonedNamespace
+abbrev pub four_zones : List ZoneWithBlocks → ZonedNamespace
 four_zones zones = record { block = 512; size = 8; capacity = 6; limits = record { open_limit = 2; active_limit = 3 }; zones = zones }
 
 -- two zones of 64 blocks
-abbrev pub two_zones : List ZoneBlocks → ZonedNamespace
+abbrev pub two_zones : List ZoneWithBlocks → ZonedNamespace
 two_zones zones = record { block = 512; size = 64; capacity = 64; limits = record { open_limit = 2; active_limit = 2 }; zones = zones }
 
 -- twelve zones of 8 blocks, of which ten may be open
-abbrev pub twelve_zones : List ZoneBlocks → ZonedNamespace
+abbrev pub twelve_zones : List ZoneWithBlocks → ZonedNamespace
 twelve_zones zones = record { block = 512; size = 8; capacity = 8; limits = record { open_limit = 10; active_limit = 10 }; zones = zones }
 
 -- ---- entries

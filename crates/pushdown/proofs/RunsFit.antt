@@ -1,7 +1,7 @@
 -- What is left of each run fits into its destination.
 use Rattle.std.proofs.Common.{◌≡◌, ℕ, List, ◌∷◌, set, get_or, Option, Some, None, refl, ap, sym, subst, ◌∙◌, inl, inr}
 use Rattle.accepted_programs.proofs.Proved.{set_known}
-use Rattle.image_store.specs.Namespace.{ZoneBlocks, ZonedNamespace, zone_at}
+use Rattle.image_store.specs.Namespace.{ZoneWithBlocks, ZonedNamespace, zone_at}
 use Rattle.pushdown.specs.Laws.{RoomIn}
 use Rattle.pushdown.specs.Happenings.{added, place_left}
 use Rattle.pushdown.specs.Outcome.{Ending, Turn}
@@ -13,9 +13,9 @@ use Rattle.pushdown.proofs.TurnsFit.{room_stays}
 abbrev pub Rooms : State → Type 0
 Rooms s = (j : ℕ) (p : Place) → place_at s j ≡ Some p → RoomIn s.namespace.capacity (zone_at s.namespace p.destination) p.turns
 
-moved_room : (c c' : ℕ) (z z' : ZoneBlocks) (turns : List Turn) → c' ≡ c → z' ≡ z → RoomIn c z turns → RoomIn c' z' turns
+moved_room : (c c' : ℕ) (z z' : ZoneWithBlocks) (turns : List Turn) → c' ≡ c → z' ≡ z → RoomIn c z turns → RoomIn c' z' turns
 moved_room c c' z z' turns same_c same_z h =
-    subst (λ (n : ℕ). RoomIn n z' turns) (sym same_c) (subst (λ (x : ZoneBlocks). RoomIn c x turns) (sym same_z) h)
+    subst (λ (n : ℕ). RoomIn n z' turns) (sym same_c) (subst (λ (x : ZoneWithBlocks). RoomIn c x turns) (sym same_z) h)
 
 pub kept_rooms : (s t : State) → t.places ≡ s.places → t.namespace.capacity ≡ s.namespace.capacity
     → ((j : ℕ) (p : Place) → place_at s j ≡ Some p → zone_at t.namespace p.destination ≡ zone_at s.namespace p.destination) → Rooms s → Rooms t

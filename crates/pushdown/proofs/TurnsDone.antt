@@ -7,7 +7,7 @@ use Rattle.zone_state.specs.declared.state.ZoneState.TheVariants.{Offline}
 use Rattle.zone_resources.specs.Holds.{is_destination}
 use Rattle.zone_resources.specs.declared.holds.Holds.{Holds}
 use Rattle.word_domain.specs.Domain.{Operations}
-use Rattle.image_store.specs.Namespace.{ZoneBlocks, ZonedNamespace, zone_at}
+use Rattle.image_store.specs.Namespace.{ZoneWithBlocks, ZonedNamespace, zone_at}
 use Rattle.zns_commands.proofs.Proved.{held_destinations_are_left}
 use Rattle.zone_resources.proofs.Proved.{there}
 use Rattle.pushdown.specs.Admission.{SameProgram}
@@ -88,12 +88,12 @@ module _ {D : Type 0} (operations : Operations D) where
         (record {
           apart = event_apart operations s o.starved o.event ready.apart;
           at = foreign_event operations s o.starved o.event run here mine ready.at;
-          on = subst (λ (z : ZoneBlocks). z.state ≢ Offline) (sym zone) ready.on;
+          on = subst (λ (z : ZoneWithBlocks). z.state ≢ Offline) (sym zone) ready.on;
           goes = ready.goes;
         }) (omega (arith, own)) less in
         record {
           left = later.left;
-          appended = later.appended ∙ ap (λ (z : ZoneBlocks). z.blocks ++ appended_by (take k turns)) zone;
+          appended = later.appended ∙ ap (λ (z : ZoneWithBlocks). z.blocks ++ appended_by (take k turns)) zone;
           apart = later.apart;
           on = later.on;
         }

@@ -11,7 +11,7 @@ use Rattle.zone_state.specs.declared.state.ZoneState.{ZoneState}
 use Rattle.zone_state.specs.declared.state.ZoneState.TheVariants.{ImplicitlyOpened, ExplicitlyOpened, Full}
 use Rattle.zone_resources.specs.Holds.{no_holds}
 use Rattle.nvme_entry.specs.declared.command.TheConstants.{MOST_TRANSFER}
-use Rattle.image_store.specs.Namespace.{ZoneBlocks, ZonedNamespace, IsNamespace, appended, grown, no_zone, zone_at}
+use Rattle.image_store.specs.Namespace.{ZoneWithBlocks, ZonedNamespace, IsNamespace, appended, grown, no_zone, zone_at}
 use Rattle.image_store.proofs.Proved.{block_most, block_some}
 use Rattle.zns_commands.specs.Append.{TakesBlocks, append_checks}
 use Rattle.zns_commands.proofs.Proved.{blocks_are_the_effect, added_blocks_keep_namespaces_sound, open_is_there, taken_blocks_pass}
@@ -112,5 +112,5 @@ room_stays ns z (b ∷ bs) ending turns h =
     let zone = grown ns.capacity (zone_at ns z) (b ∷ bs) in
     let here : zone_at (added ns z (b ∷ bs)) z ≡ zone = get_or-set_same ns.zones z zone no_zone (open_is_there ns.zones z is) in
     let all = length-append (zone_at ns z).blocks (b ∷ bs) in
-    subst (λ (x : ZoneBlocks). RoomIn ns.capacity x turns) (sym here)
+    subst (λ (x : ZoneWithBlocks). RoomIn ns.capacity x turns) (sym here)
     (record { room = omega (arith, h.room, more, all); opened = more_open ns z b bs is fits })

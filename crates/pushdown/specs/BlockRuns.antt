@@ -12,7 +12,7 @@ use Rattle.program_meaning.specs.State.{at_start}
 use Rattle.program_meaning.specs.declared.end.End.{End}
 use Rattle.program_meaning.specs.declared.end.End.TheVariants as end
 
--- what a run is about: the program and the sizes that it was accepted for, the argument, the address of
+-- what a run is about: the program and the sizes that it was accepted for, the argument, the LBA of
 -- the first source block, and how many there are
 pub record Task : Type 0 where
   pub program : List (Option Instruction)

@@ -22,7 +22,7 @@ use Rattle.word_domain.specs.Domain.{Operations}
 use Rattle.accepted_programs.specs.Accepted.{refusal}
 use Rattle.emit_append.specs.Unpacking.{unpacked}
 use Rattle.emit_append.specs.Packing.{packed, pending_of, released}
-use Rattle.image_store.specs.Namespace.{ZoneBlocks, ZonedNamespace, zone_at, shape, IsNamespace}
+use Rattle.image_store.specs.Namespace.{ZoneWithBlocks, ZonedNamespace, zone_at, shape, IsNamespace}
 use Rattle.zns_commands.specs.Append.{TakesBlocks, append_checks, append_effect}
 use Rattle.zns_commands.specs.Left.{Grows}
 use Rattle.pushdown.specs.Admission.{Loaded, SameProgram, sizes_in, source_blocks, task_of}
@@ -193,7 +193,7 @@ EventsKeepForRuns operations =
 -- ---- the states that events leave
 
 -- what is left of a run fits into its destination, which is open as long as it isn't filled
-pub record RoomIn (capacity : ℕ) (zone : ZoneBlocks) (turns : List Turn) : Type 0 where
+pub record RoomIn (capacity : ℕ) (zone : ZoneWithBlocks) (turns : List Turn) : Type 0 where
   pub room : length zone.blocks + length (appended_by turns) ≤ capacity
   pub opened : (is_open zone.state ≡ true) ⊎ (length zone.blocks ≡ capacity)
 
@@ -248,7 +248,7 @@ BlocksLeaveOthers = (ns : ZonedNamespace) (z : ℕ) (blocks : List (List ℕ)) �
 -- a zone with room for turns, of which the first appends a block, is open
 abbrev pub RoomIsOpen : Type 0
 RoomIsOpen =
-    (capacity : ℕ) (zone : ZoneBlocks) (b : List ℕ) (bs : List (List ℕ)) (ending : Option Ending) (later : List Turn)
+    (capacity : ℕ) (zone : ZoneWithBlocks) (b : List ℕ) (bs : List (List ℕ)) (ending : Option Ending) (later : List Turn)
     → RoomIn capacity zone (record { blocks = b ∷ bs; ending = ending } ∷ later) → is_open zone.state ≡ true
 
 -- and when the first has appended, it has room for the later ones

@@ -9,7 +9,7 @@ use Rattle.zone_state.specs.declared.state.ZoneState.{ZoneState}
 use Rattle.zone_state.specs.declared.state.ZoneState.TheVariants.{Full}
 use Rattle.program_interface.specs.Bytes.{pieces}
 use Rattle.image_store.specs.Blocks.{as_blocks}
-use Rattle.image_store.specs.Namespace.{ZoneBlocks, ZonedNamespace, appended, grown, no_zone, with_zone, zone_at}
+use Rattle.image_store.specs.Namespace.{ZoneWithBlocks, ZonedNamespace, appended, grown, no_zone, with_zone, zone_at}
 use Rattle.zns_commands.proofs.Proved.{count_of}
 use Rattle.pushdown.specs.Happenings.{added}
 
@@ -43,8 +43,8 @@ added_both ns z b c bs cs inside room =
     ap (λ (k : ℕ). cond (nat_eq k ns.capacity) Full (written_state first.state)) size
     ∙ ap (λ (full : Bool). cond whole Full (written_state (cond full Full (written_state zone.state)))) part
     ∙ ap (cond whole Full) (written_twice zone.state) in
-    let zones_with : List ZoneBlocks → ZonedNamespace = λ zones. record { block = ns.block; size = ns.size; capacity = ns.capacity; limits = ns.limits; zones = zones } in
-    ap (λ (x : ZoneBlocks). with_zone (with_zone ns z first) z (grown ns.capacity x (c ∷ cs))) (get_or-set_same ns.zones z first no_zone inside)
+    let zones_with : List ZoneWithBlocks → ZonedNamespace = λ zones. record { block = ns.block; size = ns.size; capacity = ns.capacity; limits = ns.limits; zones = zones } in
+    ap (λ (x : ZoneWithBlocks). with_zone (with_zone ns z first) z (grown ns.capacity x (c ∷ cs))) (get_or-set_same ns.zones z first no_zone inside)
     ∙ ap zones_with (set-set ns.zones z first second)
     ∙ ap (λ (s : ZoneState). with_zone ns z (record { state = s; blocks = second.blocks })) state
     ∙ ap (λ (blocks : List (List ℕ)). with_zone ns z (record { state = (grown ns.capacity zone ((b ∷ bs) ++ (c ∷ cs))).state; blocks = blocks }))

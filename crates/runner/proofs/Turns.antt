@@ -12,7 +12,7 @@ use Rattle.emit_append.specs.Packer.{after_put, given_by_finish, given_by_put, n
 use Rattle.emit_append.specs.Packing.{packed, pending_of, released}
 use Rattle.emit_append.proofs.Proved.{one_group_releases_none, packing_goes_on}
 use Rattle.image_store.specs.Geometry.{Shape}
-use Rattle.image_store.specs.Namespace.{ZoneBlocks, ZonedNamespace, zone_at}
+use Rattle.image_store.specs.Namespace.{ZoneWithBlocks, ZonedNamespace, zone_at}
 use Rattle.image_store.specs.declared.geometry.ZoneBlock.{ZoneBlock}
 use Rattle.zns_commands.specs.Address.{zone_number}
 use Rattle.zns_commands.proofs.Proved.{open_is_there}
@@ -110,7 +110,7 @@ added_leaves_turns : (ns : ZonedNamespace) (z : ℕ) (bs : List (List ℕ)) (pro
     → zone_number ns a.command.lba ≢ z → turns_of (added ns z bs) program limit a ≡ turns_of ns program limit a
 added_leaves_turns ns z [] program limit a other = refl
 added_leaves_turns ns z (b ∷ bs) program limit a other =
-    ap (λ (zone : ZoneBlocks). rest (task_by ns program limit a.command) a.so_far (take (a.command.blocks - a.so_far.index) (drop (a.command.lba % ns.size + a.so_far.index) zone.blocks)))
+    ap (λ (zone : ZoneWithBlocks). rest (task_by ns program limit a.command) a.so_far (take (a.command.blocks - a.so_far.index) (drop (a.command.lba % ns.size + a.so_far.index) zone.blocks)))
     ((blocks_leave_others ns z (b ∷ bs)).others (zone_number ns a.command.lba) other)
 
 module _ (ns : ZonedNamespace) (z : ℕ) (ending : Option Ending) (turns : List Turn) (some : 1 ≤ ns.block) where

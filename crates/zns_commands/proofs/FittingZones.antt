@@ -14,13 +14,13 @@ use Rattle.zone_resources.specs.Admission.{HoldsNoMore, IsWithin}
 use Rattle.zone_resources.proofs.Proved.{release_keeps_limits}
 use Rattle.program_interface.specs.Bytes.{AreBytes}
 use Rattle.image_store.specs.Geometry.{IsShape}
-use Rattle.image_store.specs.Namespace.{ZoneBlocks, ZonedNamespace, no_zone, zone_at, with_zone, counted, shape, counted_zones, IsNamespace, IsWithinLimits}
+use Rattle.image_store.specs.Namespace.{ZoneWithBlocks, ZonedNamespace, no_zone, zone_at, with_zone, counted, shape, counted_zones, IsNamespace, IsWithinLimits}
 use Rattle.image_store.proofs.Proved.{blocks_lie_in_zones, each_set, resized}
 use Rattle.zns_commands.specs.Address.{counted_zone_at}
 use Rattle.zns_commands.specs.Send.{led_to}
 
 -- what holds of one zone: its state allows its blocks, and each of them is whole and of bytes
-pub record FitsIn (block capacity : ℕ) (zone : ZoneBlocks) : Type 0 where
+pub record FitsIn (block capacity : ℕ) (zone : ZoneWithBlocks) : Type 0 where
   pub state : IsZone zone.state (length zone.blocks) capacity
   pub whole : (i : ℕ) → i < length zone.blocks → length (get_or zone.blocks i []) ≡ block
   pub bytes : (i : ℕ) → AreBytes (get_or zone.blocks i [])
@@ -50,21 +50,21 @@ action_fits a Offline w c h = (h.0, refl)
 action_fits a s w c h = h
 
 -- the same of each zone is the same of all of them
-each_fits : (b c : ℕ) (zones : List ZoneBlocks) → ((z : ℕ) → z < length zones → FitsIn b c (get_or zones z no_zone))
+each_fits : (b c : ℕ) (zones : List ZoneWithBlocks) → ((z : ℕ) → z < length zones → FitsIn b c (get_or zones z no_zone))
     → (z i : ℕ) → i < length (get_or zones z no_zone).blocks → length (get_or (get_or zones z no_zone).blocks i []) ≡ b
 each_fits b c zones all z i h = (all z (blocks_lie_in_zones zones z i h)).whole i h
 
-each_bytes : (b c : ℕ) (zones : List ZoneBlocks) → ((z : ℕ) → z < length zones → FitsIn b c (get_or zones z no_zone))
+each_bytes : (b c : ℕ) (zones : List ZoneWithBlocks) → ((z : ℕ) → z < length zones → FitsIn b c (get_or zones z no_zone))
     → (z i : ℕ) → AreBytes (get_or (get_or zones z no_zone).blocks i [])
 each_bytes b c [] all z i = no_bytes
 each_bytes b c (zone ∷ zones) all zero i = (all 0 (omega arith)).bytes i
 each_bytes b c (zone ∷ zones) all (suc z) i = each_bytes b c zones (λ k inside. all (suc k) (omega arith)) z i
 
 -- a namespace with other zones, as many of them
-abbrev with_zones : ZonedNamespace → List ZoneBlocks → ZonedNamespace
+abbrev with_zones : ZonedNamespace → List ZoneWithBlocks → ZonedNamespace
 with_zones ns zones = record ns { zones = zones }
 
-pub namespace_of_zones : (ns : ZonedNamespace) (zones : List ZoneBlocks)
+pub namespace_of_zones : (ns : ZonedNamespace) (zones : List ZoneWithBlocks)
     → IsShape (shape ns) → length zones ≡ length ns.zones
     → ((z : ℕ) → z < length zones → FitsIn ns.block ns.capacity (get_or zones z no_zone))
     → IsWithinLimits (with_zones ns zones) → IsNamespace (with_zones ns zones)
@@ -77,7 +77,7 @@ namespace_of_zones ns zones known count all within = record {
 }
 
 -- a zone that fits, in the place of another, where the limits allow it
-pub set_namespace : (ns : ZonedNamespace) (z : ℕ) (zone : ZoneBlocks)
+pub set_namespace : (ns : ZonedNamespace) (z : ℕ) (zone : ZoneWithBlocks)
     → IsNamespace ns → FitsIn ns.block ns.capacity zone → IsWithinLimits (with_zone ns z zone) → IsNamespace (with_zone ns z zone)
 set_namespace ns z zone sound fits within =
     namespace_of_zones ns (set ns.zones z zone) sound.shape (length-set ns.zones z zone)
@@ -89,7 +89,7 @@ counted_zone_there ns z inside =
     let within : z < length (counted_zones ns) = omega (arith, length-map ns.zones (counted c)) in
     slice_get-get_or (counted_zones ns) z (counted c no_zone) within ∙ ap Some (get_or-map (counted c) ns.zones z no_zone (counted c no_zone) inside)
 
-pub counted_zones_with : (ns : ZonedNamespace) (z : ℕ) (zone : ZoneBlocks) → counted_zones (with_zone ns z zone) ≡ slice_set (counted_zones ns) z (counted ns.capacity zone)
+pub counted_zones_with : (ns : ZonedNamespace) (z : ℕ) (zone : ZoneWithBlocks) → counted_zones (with_zone ns z zone) ≡ slice_set (counted_zones ns) z (counted ns.capacity zone)
 counted_zones_with ns z zone = map-set (counted ns.capacity) ns.zones z zone
 
 -- an open zone holds all resources that a zone can hold
@@ -103,12 +103,12 @@ open_holds Empty s open_so = record { opened = omega arith; active = omega arith
 open_holds is s open_so = record { opened = omega arith; active = omega arith }
 
 -- one zone that comes into a state which holds no more
-pub one_within : (ns : ZonedNamespace) (z : ℕ) (zone : ZoneBlocks) → z < length ns.zones → IsWithinLimits ns
+pub one_within : (ns : ZonedNamespace) (z : ℕ) (zone : ZoneWithBlocks) → z < length ns.zones → IsWithinLimits ns
     → HoldsNoMore zone.state (zone_at ns z).state → IsWithinLimits (with_zone ns z zone)
 one_within ns z zone inside within less =
     subst (λ (zones : List CountedZone). IsWithin zones ns.limits) (sym (counted_zones_with ns z zone))
     (release_keeps_limits (counted_zones ns) ns.limits z (counted_zone_at ns z) (counted ns.capacity zone) within (counted_zone_there ns z inside) less)
 
-pub one_sound : (ns : ZonedNamespace) (z : ℕ) (zone : ZoneBlocks) → IsNamespace ns → z < length ns.zones
+pub one_sound : (ns : ZonedNamespace) (z : ℕ) (zone : ZoneWithBlocks) → IsNamespace ns → z < length ns.zones
     → FitsIn ns.block ns.capacity zone → HoldsNoMore zone.state (zone_at ns z).state → IsNamespace (with_zone ns z zone)
 one_sound ns z zone sound inside fits less = set_namespace ns z zone sound fits (one_within ns z zone inside sound.within less)

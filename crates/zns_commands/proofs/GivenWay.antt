@@ -12,7 +12,7 @@ use Rattle.zone_resources.specs.declared.admission.Wanted.{Wanted}
 use Rattle.zone_resources.specs.declared.holds.Holds.{Holds}
 use Rattle.zone_resources.proofs.Proved.{admission_keeps_limits, admitted_closable}
 use Rattle.image_store.specs.Blocks.{as_blocks}
-use Rattle.image_store.specs.Namespace.{ZoneBlocks, ZonedNamespace, no_zone, zone_at, with_zone, counted, grown, counted_zones, IsNamespace, IsWithinLimits, arrived, with_state}
+use Rattle.image_store.specs.Namespace.{ZoneWithBlocks, ZonedNamespace, no_zone, zone_at, with_zone, counted, grown, counted_zones, IsNamespace, IsWithinLimits, arrived, with_state}
 use Rattle.zns_commands.specs.Address.{counted_zone_at}
 use Rattle.zns_commands.specs.Resources.{room_by, room_for, closed}
 use Rattle.zns_commands.specs.steps.Accepted.{CanGiveWay}
@@ -21,7 +21,7 @@ use Rattle.zns_commands.proofs.ClosableZones.{closable_zone, closable_state, oth
 use Rattle.zns_commands.proofs.FittingZones.{FitsIn, action_fits, set_namespace, counted_zone_there, counted_zones_with, one_within, open_holds}
 
 -- the counted zones, once the zone that gives way is closed
-closed_with_within : (ns : ZonedNamespace) (z : ℕ) (zone : ZoneBlocks) (gives : Option ℕ) → ForSome gives (λ k. k < length ns.zones)
+closed_with_within : (ns : ZonedNamespace) (z : ℕ) (zone : ZoneWithBlocks) (gives : Option ℕ) → ForSome gives (λ k. k < length ns.zones)
     → IsWithin (slice_set (after_closing gives (counted_zones ns)) z (counted ns.capacity zone)) ns.limits
     → IsWithin (counted_zones (with_zone (closed ns gives) z zone)) (closed ns gives).limits
 closed_with_within ns z zone None inside within =
@@ -72,7 +72,7 @@ closed_namespace ns z (Some k) sound give =
     set_namespace ns k (arrived Closed (zone_at ns k)) sound
     (record { state = give.fits k refl; whole = sound.whole k; bytes = sound.bytes k }) give.limits
 
-closed_fit : (ns : ZonedNamespace) (gives : Option ℕ) (zone : ZoneBlocks) → FitsIn ns.block ns.capacity zone
+closed_fit : (ns : ZonedNamespace) (gives : Option ℕ) (zone : ZoneWithBlocks) → FitsIn ns.block ns.capacity zone
     → FitsIn (closed ns gives).block (closed ns gives).capacity zone
 closed_fit ns None zone fits = fits
 closed_fit ns (Some k) zone fits = fits
@@ -80,7 +80,7 @@ closed_fit ns (Some k) zone fits = fits
 -- room for a zone: the limits then allow it any state, or where it wants none, each that holds no more
 pub record HasRoom (ns : ZonedNamespace) (z : ℕ) (gives : Option ℕ) : Type 0 where
   pub give : CanGiveWay ns z gives
-  pub limits : (zone : ZoneBlocks)
+  pub limits : (zone : ZoneWithBlocks)
       → (wanted_of (zone_at ns z).state ≡ None → HoldsNoMore zone.state (zone_at ns z).state)
       → IsWithinLimits (with_zone (closed ns gives) z zone)
 
@@ -109,7 +109,7 @@ has_room ns holds z gives sound inside room =
     room_of_wanted ns holds z gives (wanted_of (zone_at ns z).state) sound inside refl room
 
 -- any state that fits the zone then leaves a namespace
-pub room_sound : (ns : ZonedNamespace) (z : ℕ) (gives : Option ℕ) (zone : ZoneBlocks) → IsNamespace ns → HasRoom ns z gives
+pub room_sound : (ns : ZonedNamespace) (z : ℕ) (gives : Option ℕ) (zone : ZoneWithBlocks) → IsNamespace ns → HasRoom ns z gives
     → FitsIn ns.block ns.capacity zone → (wanted_of (zone_at ns z).state ≡ None → HoldsNoMore zone.state (zone_at ns z).state)
     → IsNamespace (with_zone (closed ns gives) z zone)
 room_sound ns z gives zone sound has fits less =
@@ -125,8 +125,8 @@ pub written_is : (ns : ZonedNamespace) (z : ℕ) (gives : Option ℕ) (input : L
     → written_by ns (record { zone = z; closing = gives }) input ≡ with_zone (closed ns gives) z (grown ns.capacity (zone_at ns z) (as_blocks ns.block input))
 written_is ns z None input other = refl
 written_is ns z (Some k) input other =
-    ap (λ (zone : ZoneBlocks). with_zone (closed ns (Some k)) z (grown ns.capacity zone (as_blocks ns.block input))) (closed_zone ns z (Some k) other)
+    ap (λ (zone : ZoneWithBlocks). with_zone (closed ns (Some k)) z (grown ns.capacity zone (as_blocks ns.block input))) (closed_zone ns z (Some k) other)
 
 pub moved_is : (ns : ZonedNamespace) (z : ℕ) (gives : Option ℕ) (to : ZoneState) → gives ≢ Some z
     → with_state (closed ns gives) z to ≡ with_zone (closed ns gives) z (arrived to (zone_at ns z))
-moved_is ns z gives to other = ap (λ (zone : ZoneBlocks). with_zone (closed ns gives) z (arrived to zone)) (closed_zone ns z gives other)
+moved_is ns z gives to other = ap (λ (zone : ZoneWithBlocks). with_zone (closed ns gives) z (arrived to zone)) (closed_zone ns z gives other)

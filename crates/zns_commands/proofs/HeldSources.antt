@@ -16,7 +16,7 @@ use Rattle.zone_resources.specs.declared.holds.Holds.{Holds}
 use Rattle.program_interface.specs.Checks.{first_failed}
 use Rattle.nvme_entry.specs.declared.command.StandardCommand.{StandardCommand}
 use Rattle.nvme_entry.specs.declared.command.StandardCommand.TheVariants.{Write, Read, Send, Receive, Append}
-use Rattle.image_store.specs.Namespace.{ZoneBlocks, ZonedNamespace, zone_at, with_zone, arrived, with_state}
+use Rattle.image_store.specs.Namespace.{ZoneWithBlocks, ZonedNamespace, zone_at, with_zone, arrived, with_state}
 use Rattle.zone_state.specs.State.{is_cleared}
 use Rattle.program_interface.proofs.Proved.{passed}
 use Rattle.zns_commands.specs.Address.{zone_number}
@@ -50,7 +50,7 @@ taken_leads a Empty e is = cc
 taken_leads a Offline e is = cc
 taken_leads a from e is = refl
 
-swept_one : (a : Action) (zone : ZoneBlocks) (taken : Bool) → forgets a ≡ false → takes a zone.state ≡ taken
+swept_one : (a : Action) (zone : ZoneWithBlocks) (taken : Bool) → forgets a ≡ false → takes a zone.state ≡ taken
     → Grows zone.blocks (cond taken (arrived (led_to a zone.state) zone) zone).blocks
 swept_one a zone false e is = grows_by_none zone.blocks
 swept_one a zone true e is = arrived_grows (led_to a zone.state) zone (taken_leads a zone.state e is)
@@ -93,11 +93,11 @@ module _ (ns : ZonedNamespace) (holds : Holds) (d : ℕ) (held : is_source holds
       → first_failed (send_checks ns holds lba a true input) ≡ None → Kept (send_effect ns holds lba a true)
   all_kept lba a input false is none =
       let zone = zone_at ns d in
-      subst (λ (swept_zone : ZoneBlocks). Grows zone.blocks swept_zone.blocks) (sym (swept_at a ns.zones d)) (swept_one a zone (takes a zone.state) is refl)
+      subst (λ (swept_zone : ZoneWithBlocks). Grows zone.blocks swept_zone.blocks) (sym (swept_at a ns.zones d)) (swept_one a zone (takes a zone.state) is refl)
   all_kept lba a input true is none =
       let refused = refuses_it (is_destination holds d) (forgets a) (is_source holds d) held is in
       let same = effect_left ns d holds (Send lba a true) input (not_taken ns holds lba a input d none refused) in
-      subst (λ (zone : ZoneBlocks). Grows (zone_at ns d).blocks zone.blocks) (sym same) (grows_by_none (zone_at ns d).blocks)
+      subst (λ (zone : ZoneWithBlocks). Grows (zone_at ns d).blocks zone.blocks) (sym same) (grows_by_none (zone_at ns d).blocks)
 
   sent_kept : (lba : ℕ) (a : Action) (select_all : Bool) (input : List ℕ) → first_failed (send_checks ns holds lba a select_all input) ≡ None
       → Kept (send_effect ns holds lba a select_all)

@@ -19,7 +19,7 @@ use Rattle.program_interface.specs.Checks.{first_failed}
 use Rattle.program_interface.proofs.Proved.{demanded, passed}
 use Rattle.nvme_entry.specs.declared.command.StandardCommand.{StandardCommand}
 use Rattle.nvme_entry.specs.declared.command.StandardCommand.TheVariants.{Write, Read, Send, Receive, Append}
-use Rattle.image_store.specs.Namespace.{ZoneBlocks, ZonedNamespace, no_zone, zone_at, counted, counted_zones}
+use Rattle.image_store.specs.Namespace.{ZoneWithBlocks, ZonedNamespace, no_zone, zone_at, counted, counted_zones}
 use Rattle.zns_commands.specs.Address.{zone_number}
 use Rattle.zns_commands.specs.Append.{append_checks}
 use Rattle.zns_commands.specs.Fault.{zone_fault_refusal}
@@ -59,7 +59,7 @@ not_both false refuses_it more held e = refl
 abbrev pub held_from : Holds → ℕ → List CountedZone → Action → Bool
 held_from holds n zones a = list_any (λ p. takes a p.1.state && refuses holds a p.0) (enumerate_from n zones)
 
-not_taken_from : (holds : Holds) (a : Action) (c n at : ℕ) (zones : List ZoneBlocks) → refuses holds a (n + at) ≡ true
+not_taken_from : (holds : Holds) (a : Action) (c n at : ℕ) (zones : List ZoneWithBlocks) → refuses holds a (n + at) ≡ true
     → held_from holds n (map (counted c) zones) a ≡ false → takes a (get_or zones at no_zone).state ≡ false
 not_taken_from holds a c n at [] held none = none_offline a
 not_taken_from holds a c n zero (x ∷ xs) held none =

@@ -11,7 +11,7 @@ use Rattle.zone_resources.specs.declared.holds.Holds.{Holds}
 use Rattle.nvme_entry.specs.declared.command.StandardCommand.{StandardCommand}
 use Rattle.nvme_entry.specs.declared.command.StandardCommand.TheVariants.{Write, Read, Send, Receive, Append}
 use Rattle.image_store.specs.Blocks.{as_blocks}
-use Rattle.image_store.specs.Namespace.{ZoneBlocks, ZonedNamespace, no_zone, zone_at, with_zone, grown, shape, arrived, with_state}
+use Rattle.image_store.specs.Namespace.{ZoneWithBlocks, ZonedNamespace, no_zone, zone_at, with_zone, grown, shape, arrived, with_state}
 use Rattle.image_store.proofs.Proved.{resized}
 use Rattle.zone_state.specs.State.{is_cleared}
 use Rattle.zns_commands.specs.declared.write.WritePlan.{WritePlan}
@@ -39,7 +39,7 @@ grows_on a b c first second = record {
 }
 
 -- where a zone is replaced by one that keeps its blocks, each zone keeps its blocks
-pub replaced_grows : (zones : List ZoneBlocks) (y z : ℕ) (zone : ZoneBlocks)
+pub replaced_grows : (zones : List ZoneWithBlocks) (y z : ℕ) (zone : ZoneWithBlocks)
     → (y ≡ z → get_or (set zones y zone) z no_zone ≡ zone → Grows (get_or zones z no_zone).blocks zone.blocks)
     → Grows (get_or zones z no_zone).blocks (get_or (set zones y zone) z no_zone).blocks
 replaced_grows [] y z zone grows = grows_by_none (get_or [] z no_zone).blocks
@@ -49,7 +49,7 @@ replaced_grows (x ∷ xs) (suc y) zero zone grows = grows_by_none x.blocks
 replaced_grows (x ∷ xs) (suc y) (suc z) zone grows = replaced_grows xs y z zone (λ same is. grows (ap suc same) is)
 
 -- the same of one whose state may say that it keeps none
-set_grows : (clears : ZoneState → Bool) (zones : List ZoneBlocks) (y z : ℕ) (zone : ZoneBlocks)
+set_grows : (clears : ZoneState → Bool) (zones : List ZoneWithBlocks) (y z : ℕ) (zone : ZoneWithBlocks)
     → (clears zone.state ≡ false → Grows (get_or zones y no_zone).blocks zone.blocks)
     → clears (get_or (set zones y zone) z no_zone).state ≡ false
     → Grows (get_or zones z no_zone).blocks (get_or (set zones y zone) z no_zone).blocks
@@ -57,7 +57,7 @@ set_grows clears zones y z zone grows stays =
     replaced_grows zones y z zone
     (λ same is.
     subst (λ (n : ℕ). Grows (get_or zones n no_zone).blocks zone.blocks) same
-    (grows (subst (λ (x : ZoneBlocks). clears x.state ≡ false) is stays)))
+    (grows (subst (λ (x : ZoneWithBlocks). clears x.state ≡ false) is stays)))
 
 pub closed_grows : (ns : ZonedNamespace) (gives : Option ℕ) (z : ℕ) → Grows (zone_at ns z).blocks (zone_at (closed ns gives) z).blocks
 closed_grows ns None z = grows_by_none (zone_at ns z).blocks
@@ -74,7 +74,7 @@ written_grows ns plan input z =
     (set_grows (λ s. false) m.zones plan.zone z zone (λ stays. record { more = as_blocks m.block input; is = refl }) refl)
 
 -- a zone that comes into a state keeps its blocks there, unless it is cleared
-pub arrived_grows : (to : ZoneState) (zone : ZoneBlocks) → is_cleared to ≡ false → Grows zone.blocks (arrived to zone).blocks
+pub arrived_grows : (to : ZoneState) (zone : ZoneWithBlocks) → is_cleared to ≡ false → Grows zone.blocks (arrived to zone).blocks
 arrived_grows Empty zone stays = cc
 arrived_grows Offline zone stays = cc
 arrived_grows to zone stays = grows_by_none zone.blocks
@@ -89,7 +89,7 @@ moved_grows ns gives y z to stays =
     (closed_grows ns gives z)
     (set_grows is_cleared m.zones y z zone (arrived_grows to (zone_at m y)) stays)
 
-taken_grows : (taken : Bool) (to : ZoneState) (zone : ZoneBlocks)
+taken_grows : (taken : Bool) (to : ZoneState) (zone : ZoneWithBlocks)
     → is_cleared (cond taken (arrived to zone) zone).state ≡ false → Grows zone.blocks (cond taken (arrived to zone) zone).blocks
 taken_grows true to zone stays = arrived_grows to zone stays
 taken_grows false to zone stays = grows_by_none zone.blocks
@@ -99,7 +99,7 @@ send_grows : (ns : ZonedNamespace) (holds : Holds) (lba : ℕ) (a : Action) (sel
     → Grows (zone_at ns z).blocks (zone_at (send_effect ns holds lba a select_all) z).blocks
 send_grows ns holds lba a true z stays =
     let zone = zone_at ns z in
-    subst (λ (swept_zone : ZoneBlocks). is_cleared swept_zone.state ≡ false → Grows zone.blocks swept_zone.blocks) (sym (swept_at a ns.zones z))
+    subst (λ (swept_zone : ZoneWithBlocks). is_cleared swept_zone.state ≡ false → Grows zone.blocks swept_zone.blocks) (sym (swept_at a ns.zones z))
     (taken_grows (takes a zone.state) (led_to a zone.state) zone) stays
 send_grows ns holds lba a false z stays =
     let plan = zone_plan ns holds lba a in moved_grows ns plan.closing plan.zone z plan.to stays
@@ -127,7 +127,7 @@ event_grows (Commanded holds command input) ns z =
 event_grows (Faulted holds y fault) ns z = faulted_grows (zone_fault_refusal ns holds y fault) ns y z fault
 
 -- another zone in a zone's place leaves the shape
-pub with_zone_shape : (ns : ZonedNamespace) (z : ℕ) (zone : ZoneBlocks) → shape (with_zone ns z zone) ≡ shape ns
+pub with_zone_shape : (ns : ZonedNamespace) (z : ℕ) (zone : ZoneWithBlocks) → shape (with_zone ns z zone) ≡ shape ns
 with_zone_shape ns z zone = ap (resized (shape ns)) (length-set ns.zones z zone)
 
 closed_shape : (ns : ZonedNamespace) (gives : Option ℕ) → shape (closed ns gives) ≡ shape ns

@@ -12,7 +12,7 @@ use Rattle.zone_state.specs.declared.zone.FaultRefused.{FaultRefused}
 use Rattle.zone_resources.specs.Admission.{wanted_of, HoldsNoMore}
 use Rattle.zone_resources.specs.declared.holds.Holds.{Holds}
 use Rattle.zone_resources.proofs.Proved.{idle_holds_no_more}
-use Rattle.image_store.specs.Namespace.{ZoneBlocks, ZonedNamespace, zone_at, IsNamespace, arrived, with_state}
+use Rattle.image_store.specs.Namespace.{ZoneWithBlocks, ZonedNamespace, zone_at, IsNamespace, arrived, with_state}
 use Rattle.image_store.proofs.Proved.{written_is_within}
 use Rattle.zns_commands.specs.Fault.{zone_fault_refusal, faulted_by, faulted}
 use Rattle.zns_commands.specs.Resources.{room_by, closed}
@@ -22,7 +22,7 @@ use Rattle.zns_commands.proofs.GivenWay.{has_room, room_sound, moved_is}
 use Rattle.zns_commands.proofs.PassedChecks.{taken_fault}
 
 -- a zone that comes into a state
-pub arrived_fits : (b c : ℕ) (to : ZoneState) (zone : ZoneBlocks)
+pub arrived_fits : (b c : ℕ) (to : ZoneState) (zone : ZoneWithBlocks)
     → FitsIn b c zone → IsZone to (kept to (length zone.blocks)) c → FitsIn b c (arrived to zone)
 arrived_fits b c Empty zone fits is = record { state = is; whole = λ i h. absurd (omega arith); bytes = λ i. no_bytes }
 arrived_fits b c Offline zone fits is = record { state = is; whole = λ i h. absurd (omega arith); bytes = λ i. no_bytes }

@@ -17,7 +17,7 @@ use Rattle.zone_resources.specs.Holds.{no_holds}
 use Rattle.zone_resources.specs.declared.admission.Wanted.{Wanted}
 use Rattle.zone_resources.specs.declared.holds.Holds.{Holds}
 use Rattle.image_store.specs.Blocks.{as_blocks, block_count}
-use Rattle.image_store.specs.Namespace.{ZoneBlocks, ZonedNamespace, no_zone, zone_at, grown, appended, IsNamespace, IsWithinLimits}
+use Rattle.image_store.specs.Namespace.{ZoneWithBlocks, ZonedNamespace, no_zone, zone_at, grown, appended, IsNamespace, IsWithinLimits}
 use Rattle.image_store.proofs.Proved.{is_one_of}
 use Rattle.nvme_entry.specs.declared.command.TheConstants.{MOST_TRANSFER}
 use Rattle.zns_commands.specs.Address.{counted_zone_at, zone_number}
@@ -38,7 +38,7 @@ open_wants_none Closed is = cc
 open_wants_none s is = refl
 
 -- an open zone is one of the zones
-pub open_is_there : (zones : List ZoneBlocks) (z : ℕ) → is_open (get_or zones z no_zone).state ≡ true → z < length zones
+pub open_is_there : (zones : List ZoneWithBlocks) (z : ℕ) → is_open (get_or zones z no_zone).state ≡ true → z < length zones
 open_is_there zones z is = is_one_of (λ zone. is_open zone.state ≡ true) (λ off. cc) zones z is
 
 -- no zone gives way to an open one

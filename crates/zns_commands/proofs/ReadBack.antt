@@ -19,7 +19,7 @@ use Rattle.program_interface.proofs.Proved.{met, no_fault_where_none_fails}
 use Rattle.zone_state.proofs.Proved.{is_allowed}
 use Rattle.image_store.specs.Blocks.{as_blocks, block_count}
 use Rattle.image_store.specs.Geometry.{Shape}
-use Rattle.image_store.specs.Namespace.{ZoneBlocks, ZonedNamespace, no_zone, zone_at, arrived, grown, IsNamespace}
+use Rattle.image_store.specs.Namespace.{ZoneWithBlocks, ZonedNamespace, no_zone, zone_at, arrived, grown, IsNamespace}
 use Rattle.image_store.proofs.Proved.{block_some, blocks_keep_bytes}
 use Rattle.zns_commands.specs.Address.{counted_zone_at, zone_number, block_total, write_pointer}
 use Rattle.zns_commands.specs.Effect.{Effect, success_effect, concluded}
@@ -141,12 +141,12 @@ written_lie ns holds z blocks input sound writes =
       front = zone.blocks;
       more = more;
       behind = [];
-      there = ap (λ (x : ZoneBlocks). x.blocks) seen ∙ ap (λ (all : List (List ℕ)). zone.blocks ++ all) (sym (append-nil more));
+      there = ap (λ (x : ZoneWithBlocks). x.blocks) seen ∙ ap (λ (all : List (List ℕ)). zone.blocks ++ all) (sym (append-nil more));
       start = refl;
       count = bring.count;
       bytes = whole_bytes ns.block blocks input wide writes.size;
       readable =
-          subst (λ (x : ZoneBlocks). read_refusal x.state ≡ None) (sym seen)
+          subst (λ (x : ZoneWithBlocks). read_refusal x.state ≡ None) (sym seen)
           (readable (nat_eq (length zone.blocks + length more) ns.capacity) zone.state);
       inside = subst (λ (s : Shape). z < s.zones) (sym form) writes.inside;
       room = subst (λ (s : Shape). length zone.blocks + blocks ≤ s.size) (sym form) reach;

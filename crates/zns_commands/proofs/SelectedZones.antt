@@ -15,7 +15,7 @@ use Rattle.zone_state.specs.declared.status.TheConstants.Status.{SUCCESS, INVALI
 use Rattle.zone_resources.specs.Counts.{open_count, one_if}
 use Rattle.zone_resources.specs.Holds.{refuses}
 use Rattle.zone_resources.specs.declared.holds.Holds.{Holds}
-use Rattle.image_store.specs.Namespace.{ZoneBlocks, ZonedNamespace, no_zone, zone_at, arrived, counted, counted_zones, with_state, IsNamespace}
+use Rattle.image_store.specs.Namespace.{ZoneWithBlocks, ZonedNamespace, no_zone, zone_at, arrived, counted, counted_zones, with_state, IsNamespace}
 use Rattle.zns_commands.specs.Address.{block_total, counted_zone_at}
 use Rattle.zns_commands.specs.Effect.{Effect, concluded, success_effect}
 use Rattle.zns_commands.specs.Laws.{Commanded}
@@ -119,7 +119,7 @@ held_where taken true none is = refl
 held_where taken false none is =
     let not_taken : taken ≡ false = none refl in absurd cc
 
-moved_by : (taken : Bool) (moves : Result ZoneState Status) (zone : ZoneBlocks) (to : ZoneState) → taken ≡ true → moves ≡ Ok to
+moved_by : (taken : Bool) (moves : Result ZoneState Status) (zone : ZoneWithBlocks) (to : ZoneState) → taken ≡ true → moves ≡ Ok to
     → cond taken (arrived (result_unwrap_or moves zone.state) zone) zone ≡ arrived to zone
 moved_by taken moves zone to is leads = rw (is, leads) refl
 
@@ -164,7 +164,7 @@ none_of_two : (taken refused more : Bool) → (taken ≡ true → refused ≡ fa
 none_of_two true refused more free none = rw (free refl, none) refl
 none_of_two false refused more free none = none
 
-none_held_from : (holds : Holds) (a : Action) (c n : ℕ) (zones : List ZoneBlocks)
+none_held_from : (holds : Holds) (a : Action) (c n : ℕ) (zones : List ZoneWithBlocks)
     → ((z : ℕ) → z < length zones → takes a (get_or zones z no_zone).state ≡ true → refuses holds a (n + z) ≡ false)
     → held_from holds n (map (counted c) zones) a ≡ false
 none_held_from holds a c n [] free = refl

@@ -18,7 +18,7 @@ use Rattle.program_interface.specs.Checks.{first_failed}
 use Rattle.program_interface.proofs.Proved.{demanded, passed}
 use Rattle.program_interface.specs.Bytes.{AreBytes}
 use Rattle.image_store.specs.Geometry.{IsShape}
-use Rattle.image_store.specs.Namespace.{ZoneBlocks, ZonedNamespace, no_zone, zone_at, counted, IsNamespace, all_empty}
+use Rattle.image_store.specs.Namespace.{ZoneWithBlocks, ZonedNamespace, no_zone, zone_at, counted, IsNamespace, all_empty}
 use Rattle.image_store.proofs.Proved.{resized}
 use Rattle.zns_commands.specs.Address.{zone_number, block_total}
 use Rattle.zns_commands.specs.Meaning.{checks_of, effect_of}
@@ -74,14 +74,14 @@ events_keep_namespaces_sound (event ∷ events) ns sound some =
 empty_counts : (test : ZoneState → Bool) (c n : ℕ) → test Empty ≡ false
     → count_in test (map (counted c) (replicate n (record { state = Empty; blocks = [] }))) ≡ 0
 empty_counts test c n none =
-    let empty : ZoneBlocks = record { state = Empty; blocks = [] } in
+    let empty : ZoneWithBlocks = record { state = Empty; blocks = [] } in
     ap (count_in test) (map-replicate (counted c) n empty)
     ∙ sum_by-replicate (λ (z : CountedZone). one_if (test z.state)) n (counted c empty)
     ∙ rw none (omega arith)
 
 pub empty_is_namespace : EmptyIsNamespace
 empty_is_namespace s known =
-    let empty : ZoneBlocks = record { state = Empty; blocks = [] } in
+    let empty : ZoneWithBlocks = record { state = Empty; blocks = [] } in
     let count : length (replicate s.zones empty) ≡ s.zones = length-replicate s.zones empty in
     namespace_of_zones (all_empty s) (replicate s.zones empty)
     (subst (λ (n : ℕ). IsShape (resized s n)) (sym count) known)

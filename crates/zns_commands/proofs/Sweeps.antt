@@ -2,7 +2,7 @@
 use Rattle.zone_state.specs.declared.action.Action.{Action}
 use Rattle.zone_state.specs.declared.action.Action.TheVariants as action
 use Rattle.zone_state.specs.declared.state.ZoneState.TheVariants.{Offline}
-use Rattle.image_store.specs.Namespace.{ZoneBlocks, ZonedNamespace, no_zone, zone_at, with_zone, arrived}
+use Rattle.image_store.specs.Namespace.{ZoneWithBlocks, ZonedNamespace, no_zone, zone_at, with_zone, arrived}
 use Rattle.zns_commands.specs.Send.{led_to, swept, takes}
 use Rattle.std.proofs.Common.{◌≡◌, ℕ, zero, suc, ◌+◌, ◌<◌, false, List, [], ◌∷◌, ◌++◌, append-nil, length, get_or, take, drop, map, refl, ap, sym, ◌∙◌, arith, length-append, length-take, length-drop}
 use Rattle.std.proofs.lemmas.Bool.{cond-false}
@@ -36,7 +36,7 @@ sweep_step ns action z inside =
     let zones = mapped f z ns.zones in
     let zone = get_or zones z no_zone in
     let there : z < length zones = omega (arith, inside, length-mapped f z ns.zones) in
-    ap (λ (done : List ZoneBlocks). let m : ZonedNamespace = record ns { zones = done } in m)
+    ap (λ (done : List ZoneWithBlocks). let m : ZonedNamespace = record ns { zones = done } in m)
     (map_over_more f ns.zones zones z zone inside refl (get_or_default zones z no_zone zone there))
 
 -- Select All takes no Offline zone
@@ -48,7 +48,7 @@ none_offline action.Reset = refl
 none_offline action.Offline = refl
 
 -- each zone is swept, and where there is none there is none afterwards
-pub swept_at : (a : Action) (zones : List ZoneBlocks) (z : ℕ) → get_or (map (swept a) zones) z no_zone ≡ swept a (get_or zones z no_zone)
+pub swept_at : (a : Action) (zones : List ZoneWithBlocks) (z : ℕ) → get_or (map (swept a) zones) z no_zone ≡ swept a (get_or zones z no_zone)
 swept_at a [] z = sym (cond-false (takes a Offline) (arrived (led_to a Offline) no_zone) no_zone (none_offline a))
 swept_at a (x ∷ xs) zero = refl
 swept_at a (x ∷ xs) (suc z) = swept_at a xs z

@@ -11,7 +11,7 @@ use Rattle.zone_state.specs.declared.state.ZoneState.{ZoneState}
 use Rattle.zone_state.specs.declared.state.ZoneState.TheVariants.{Empty, ImplicitlyOpened, ExplicitlyOpened, Closed, ReadOnly, Full, Offline}
 use Rattle.zone_resources.specs.Admission.{IsWithin}
 use Rattle.zone_resources.specs.Counts.{count_in, open_count, one_if}
-use Rattle.image_store.specs.Namespace.{ZoneBlocks, ZonedNamespace, no_zone, zone_at, counted, counted_zones, IsNamespace, IsWithinLimits, arrived}
+use Rattle.image_store.specs.Namespace.{ZoneWithBlocks, ZonedNamespace, no_zone, zone_at, counted, counted_zones, IsNamespace, IsWithinLimits, arrived}
 use Rattle.zns_commands.specs.Send.{all_effect, all_fit, led_to, takes, taken_among, swept}
 use Rattle.zns_commands.proofs.FittingZones.{FitsIn, action_fits, zone_fits, namespace_of_zones}
 use Rattle.zns_commands.proofs.Sweeps.{mapped, mapped-all, swept_below}
@@ -21,19 +21,19 @@ use Rattle.zns_commands.proofs.MovedZones.{arrived_fits}
 abbrev after_sweep : Action → ZoneState → ZoneState
 after_sweep a s = cond (takes a s) (led_to a s) s
 
-swept_by : (taken : Bool) (to : ZoneState) (zone : ZoneBlocks) → (cond taken (arrived to zone) zone).state ≡ cond taken to zone.state
+swept_by : (taken : Bool) (to : ZoneState) (zone : ZoneWithBlocks) → (cond taken (arrived to zone) zone).state ≡ cond taken to zone.state
 swept_by true to zone = refl
 swept_by false to zone = refl
 
-swept_state : (a : Action) (zone : ZoneBlocks) → (swept a zone).state ≡ after_sweep a zone.state
+swept_state : (a : Action) (zone : ZoneWithBlocks) → (swept a zone).state ≡ after_sweep a zone.state
 swept_state a zone = swept_by (takes a zone.state) (led_to a zone.state) zone
 
-swept_fits_by : (b c : ℕ) (taken : Bool) (to : ZoneState) (zone : ZoneBlocks)
+swept_fits_by : (b c : ℕ) (taken : Bool) (to : ZoneState) (zone : ZoneWithBlocks)
     → FitsIn b c zone → IsZone to (kept to (length zone.blocks)) c → FitsIn b c (cond taken (arrived to zone) zone)
 swept_fits_by b c true to zone fits is = arrived_fits b c to zone fits is
 swept_fits_by b c false to zone fits is = fits
 
-swept_fits : (b c : ℕ) (a : Action) (zone : ZoneBlocks) → FitsIn b c zone → FitsIn b c (swept a zone)
+swept_fits : (b c : ℕ) (a : Action) (zone : ZoneWithBlocks) → FitsIn b c zone → FitsIn b c (swept a zone)
 swept_fits b c a zone fits =
     swept_fits_by b c (takes a zone.state) (led_to a zone.state) zone fits
     (action_fits a zone.state (length zone.blocks) c fits.state)
@@ -57,8 +57,8 @@ sweep_holds action.Offline Empty = record { opened = omega arith; active = omega
 sweep_holds a s = record { opened = omega arith; active = omega arith }
 
 -- where each of the first zones adds to a count no more than it did, but for some, the count grows by no more than these
-count_mapped : (test more : ZoneState → Bool) (c : ℕ) (f : ZoneBlocks → ZoneBlocks) (n : ℕ) (zones : List ZoneBlocks)
-    → ((zone : ZoneBlocks) → one_if (test (f zone).state) ≤ one_if (test zone.state) + one_if (more zone.state))
+count_mapped : (test more : ZoneState → Bool) (c : ℕ) (f : ZoneWithBlocks → ZoneWithBlocks) (n : ℕ) (zones : List ZoneWithBlocks)
+    → ((zone : ZoneWithBlocks) → one_if (test (f zone).state) ≤ one_if (test zone.state) + one_if (more zone.state))
     → count_in test (map (counted c) (mapped f n zones)) ≤ count_in test (map (counted c) zones) + count_in more (map (counted c) zones)
 count_mapped test more c f zero [] each = omega arith
 count_mapped test more c f (suc n) [] each = omega arith
@@ -96,7 +96,7 @@ opened_one Full = refl
 opened_one Offline = refl
 
 -- once all zones are swept, those are open that were and those that it takes
-pub opened_count : (c : ℕ) (zones : List ZoneBlocks)
+pub opened_count : (c : ℕ) (zones : List ZoneWithBlocks)
     → open_count (map (counted c) (map (swept action.Open) zones))
     ≡ open_count (map (counted c) zones) + taken_among (map (counted c) zones) action.Open
 opened_count c [] = refl
@@ -125,7 +125,7 @@ swept_below_within ns a n within fit =
 
 swept_within : (ns : ZonedNamespace) (a : Action) → IsWithinLimits ns → all_fit ns a ≡ true → IsWithinLimits (all_effect ns a)
 swept_within ns a within fit =
-    subst (λ (zones : List ZoneBlocks). IsWithin (map (counted ns.capacity) zones) ns.limits)
+    subst (λ (zones : List ZoneWithBlocks). IsWithin (map (counted ns.capacity) zones) ns.limits)
     (mapped-all (swept a) (length ns.zones) ns.zones refl) (swept_below_within ns a (length ns.zones) within fit)
 
 pub all_sound : (ns : ZonedNamespace) (a : Action) → IsNamespace ns → all_fit ns a ≡ true → IsNamespace (all_effect ns a)

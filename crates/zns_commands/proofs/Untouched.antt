@@ -11,7 +11,7 @@ use Rattle.zone_resources.specs.declared.holds.Holds.{Holds}
 use Rattle.nvme_entry.specs.declared.command.StandardCommand.{StandardCommand}
 use Rattle.nvme_entry.specs.declared.command.StandardCommand.TheVariants.{Write, Read, Send, Receive, Append}
 use Rattle.image_store.specs.Blocks.{as_blocks}
-use Rattle.image_store.specs.Namespace.{ZoneBlocks, ZonedNamespace, no_zone, zone_at, with_zone, grown, arrived, with_state}
+use Rattle.image_store.specs.Namespace.{ZoneWithBlocks, ZonedNamespace, no_zone, zone_at, with_zone, grown, arrived, with_state}
 use Rattle.zns_commands.specs.Address.{zone_number}
 use Rattle.zns_commands.specs.Fault.{zone_fault_refusal, faulted_by}
 use Rattle.zns_commands.specs.Left.{is_either, touches, OtherZonesAreLeft}
@@ -34,7 +34,7 @@ module _ (ns : ZonedNamespace) (d : ℕ) where
       closed_zone ns d gives
       (λ (is : gives ≡ Some d). let named : nat_eq d d ≡ false = subst (λ (one : Option ℕ). names d one ≡ false) is other in eqb-false d d named refl)
 
-  set_left : (m : ZonedNamespace) (z : ℕ) (zone : ZoneBlocks) → nat_eq z d ≡ false → Left m → Left (with_zone m z zone)
+  set_left : (m : ZonedNamespace) (z : ℕ) (zone : ZoneWithBlocks) → nat_eq z d ≡ false → Left m → Left (with_zone m z zone)
   set_left m z zone other left = get_or-set_other m.zones z d zone no_zone (λ (same : d ≡ z). eqb-false z d other (sym same)) ∙ left
 
   written_left : (plan : WritePlan) (input : List ℕ) → is_either plan.zone plan.closing d ≡ false → Left (written_by ns plan input)

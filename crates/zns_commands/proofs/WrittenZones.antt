@@ -11,7 +11,7 @@ use Rattle.zone_resources.specs.Admission.{wanted_of, HoldsNoMore}
 use Rattle.zone_resources.specs.declared.holds.Holds.{Holds}
 use Rattle.program_interface.specs.Bytes.{AreBytes}
 use Rattle.image_store.specs.Blocks.{as_blocks, block_count}
-use Rattle.image_store.specs.Namespace.{ZoneBlocks, ZonedNamespace, zone_at, counted, grown, IsNamespace, IsWithinLimits}
+use Rattle.image_store.specs.Namespace.{ZoneWithBlocks, ZonedNamespace, zone_at, counted, grown, IsNamespace, IsWithinLimits}
 use Rattle.image_store.proofs.Proved.{block_some, blocks_are_bytes, blocks_are_counted, blocks_are_whole, writes_keep_zones}
 use Rattle.zns_commands.specs.Address.{counted_zone_at}
 use Rattle.zns_commands.specs.Resources.{room_for}
@@ -48,7 +48,7 @@ brings block blocks input some size =
     let count = blocks_are_counted block n input in
     record { count = count ∙ is; whole = λ i h. blocks_are_whole block n i input (omega arith) long }
 
-grown_fits : (b c : ℕ) (zone : ZoneBlocks) (more : List (List ℕ)) (n : ℕ)
+grown_fits : (b c : ℕ) (zone : ZoneWithBlocks) (more : List (List ℕ)) (n : ℕ)
     → FitsIn b c zone → 1 ≤ n → Brings b n more → ((i : ℕ) → AreBytes (get_or more i [])) → write_check (counted c zone) (length zone.blocks) n ≡ Ok tt
     → FitsIn b c (grown c zone more)
 grown_fits b c zone more n fits some bring are allowed =

@@ -15,7 +15,7 @@ use Rattle.zone_resources.specs.Counts.{count_in, open_count}
 use Rattle.zone_resources.specs.Holds.{refuses}
 use Rattle.zone_resources.specs.declared.holds.Holds.{Holds}
 use Rattle.program_interface.specs.Checks.{demand}
-use Rattle.image_store.specs.Namespace.{ZoneBlocks, ZonedNamespace, zone_at, counted_zones, arrived, with_state}
+use Rattle.image_store.specs.Namespace.{ZoneWithBlocks, ZonedNamespace, zone_at, counted_zones, arrived, with_state}
 use Rattle.zns_commands.specs.Address.{zone_number, lowest_checks}
 use Rattle.zns_commands.specs.Resources.{room_for, closing_of, closed}
 use Rattle.zns_commands.specs.Transfer.{transfer_checks}
@@ -83,7 +83,7 @@ all_checks ns holds action =
     ∷ []
 
 -- a zone, once Select All has gone over it
-abbrev pub swept : Action → ZoneBlocks → ZoneBlocks
+abbrev pub swept : Action → ZoneWithBlocks → ZoneWithBlocks
 swept action zone = if takes action zone.state then arrived (led_to action zone.state) zone else zone
 
 -- the namespace once each zone that Select All takes has moved

@@ -69,7 +69,7 @@ fn give(output: &mut [u8], bytes: &[u8], zeros: usize)
     clear_front(&mut output[bytes.len()..], zeros);
 }
 
-/// Gives the blocks from this one on, and answers how many bytes they are.
+/// Gives the blocks from this one on, and says how many bytes they are.
 fn give_blocks(image: &Image, from: ZoneBlock, blocks: BlockCount, output: &mut [u8]) -> usize
     requires inside { from.zone < length image.now.zones }
     requires room { blocks * image.now.block ≤ length output.old }

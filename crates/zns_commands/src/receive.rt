@@ -35,7 +35,7 @@ fn put_report(output: &mut [u8], bytes: usize, zones: &Report)
     zones.write(&mut output[..bytes]);
 }
 
-/// Gives the report of the zones from one on, and answers how many bytes it is.
+/// Gives the report of the zones from one on, and says how many bytes it is.
 fn give_report(
     image: &Image,
     first: u32,

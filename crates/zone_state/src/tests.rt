@@ -1,4 +1,4 @@
-//! Statuses and states by their numbers and names, and a zone that is managed, filled and broken.
+//! Statuses and states by their numbers and names, and a zone that is managed, filled and has faults.
 
 use super::*;
 use std::test::Fail;
@@ -135,7 +135,7 @@ fn a_zone_is_filled(rt: HostRuntime) -> Result<(), Fail> {
 }
 
 #[test]
-fn a_zone_breaks(rt: HostRuntime) -> Result<(), Fail> {
+fn a_zone_has_faults(rt: HostRuntime) -> Result<(), Fail> {
     let mut zone = Zone::new(ZoneState::ImplicitlyOpened, 2, 6).ok_or("an open zone")?;
     assert_eq!(rt; zone.fault(FaultState::ReadOnly), Ok(()));
     assert_eq!(rt; zone.written(), 2);

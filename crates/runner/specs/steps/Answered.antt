@@ -66,7 +66,7 @@ Starts command queue cid input old new run =
     → let sub = submission_of queue entry input in
     starting sub old command ≡ record { reply = without_data (reply.Pending run); state = new }
 
--- no run is started, for this reason
+-- no run is started, with this status
 abbrev pub Refuses : RunCommand → List ℕ → State → Status → Type 0
 Refuses command input s status =
     (queue : ℕ) (entry : List ℕ)

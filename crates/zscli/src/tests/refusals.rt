@@ -1,4 +1,4 @@
-//! What the user is told of input that is refused: a sentence, and behind it a line for programs.
+//! What the user is told of input that is refused: a sentence, and behind it a line for scripts.
 
 mod images;
 mod lines;
