@@ -45,7 +45,7 @@ UpgradedStandsForTheSame =
 abbrev pub upgraded : List ℕ → Result (List ℕ) LoadFault
 upgraded bytes = namespace_in bytes >>= λ ns. Ok (text ns)
 
--- to do that twice is to do it once
+-- to do that twice is to do it once; this follows from `UpgradedStandsForTheSame`
 abbrev pub UpgradingTwiceIsOnce : Type 0
 UpgradingTwiceIsOnce = (bytes new : List ℕ) → AreBytes bytes → upgraded bytes ≡ Ok new → upgraded new ≡ Ok new
 
