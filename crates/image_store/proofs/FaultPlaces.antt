@@ -79,15 +79,16 @@ whole_header bytes there =
     ap (λ (test : Bool). let r : Result Split LoadFault = cond test (Ok (take 64 bytes, drop 64 bytes)) (Err Truncated) in r >>= λ front. header_told front.0 >>= λ h. Ok (h, front.1))
     (le-leb 64 (length bytes) there)
 
-bind_pair : (r : Result Header LoadFault) (rest : List ℕ) → (r >>= (λ h. let all : Result (Header × List ℕ) LoadFault = Ok (h, rest) in all) >>= λ got. after_header got.0 got.1) ≡ (r >>= λ h. after_header h rest)
-bind_pair (Ok h) rest = refl
-bind_pair (Err first) rest = refl
+bind_pair : {X Y : Type 0} (r : Result X LoadFault) (rest : List ℕ) (next : X → List ℕ → Result Y LoadFault)
+    → (r >>= (λ x. let all : Result (X × List ℕ) LoadFault = Ok (x, rest) in all) >>= λ got. next got.0 got.1) ≡ (r >>= λ x. next x rest)
+bind_pair (Ok x) rest next = refl
+bind_pair (Err first) rest next = refl
 
 pub whole_text : (bytes : List ℕ) → 64 ≤ length bytes → namespace_in bytes ≡ (header_told (take 64 bytes) >>= λ h. after_header h (drop 64 bytes))
 unfolding namespace_in
 whole_text bytes there =
     ap (λ (r : Result (Header × List ℕ) LoadFault). r >>= λ got. after_header got.0 got.1) (whole_header bytes there)
-    ∙ bind_pair (header_told (take 64 bytes)) (drop 64 bytes)
+    ∙ bind_pair (header_told (take 64 bytes)) (drop 64 bytes) after_header
 
 header_fault_is_told : (bytes : List ℕ) (fault : LoadFault) → 64 ≤ length bytes → header_told (take 64 bytes) ≡ Err fault → namespace_in bytes ≡ Err fault
 header_fault_is_told bytes fault there e = whole_text bytes there ∙ ap (λ (r : Result Header LoadFault). r >>= λ h. after_header h (drop 64 bytes)) e
@@ -143,12 +144,7 @@ whole_rows h rest there =
     ap (λ (test : Bool). let r : Result Split LoadFault = cond test (Ok (take n rest, drop n rest)) (Err Truncated) in
     r >>= (λ front. zones_in 0 s.capacity s.zones front.0 >>= λ zs. let all : Result (List CountedZone × List ℕ) LoadFault = Ok (zs, front.1) in all) >>= λ rows. after_rows h rows.0 rows.1)
     (le-leb n (length rest) there)
-    ∙ pair (zones_in 0 s.capacity s.zones (take n rest)) (drop n rest)
-  where
-    pair : (r : Result (List CountedZone) LoadFault) (behind : List ℕ)
-        → (r >>= (λ zs. let all : Result (List CountedZone × List ℕ) LoadFault = Ok (zs, behind) in all) >>= λ rows. after_rows h rows.0 rows.1) ≡ (r >>= λ zs. after_rows h zs behind)
-    pair (Ok zs) behind = refl
-    pair (Err first) behind = refl
+    ∙ bind_pair (zones_in 0 s.capacity s.zones (take n rest)) (drop n rest) (after_rows h)
 
 pub short_rows : (h : Header) (rest : List ℕ) → length rest < h.geometry.zones * 8 → after_header h rest ≡ Err Truncated
 short_rows h rest short =

@@ -121,23 +121,25 @@ both_signed w d s x y hd hs unsigned =
     let source = ltb-true s.high (half w) both.1 in
     (signed_is w x (omega arith), signed_is w y (omega arith))
 
+-- a rule for numbers without a sign serves signed ones
+if_unsigned_law : (w : Width) (d s b : Bounds) (x y n : ℕ) → IsInBounds d x → IsInBounds s y → n < number_count w
+    → (signed w x ≡ pos x → signed w y ≡ pos y → IsInBounds b n) → IsInBounds (if_unsigned w d s b) n
+if_unsigned_law w d s b x y n hd hs fits law =
+    either (nat_lt d.high (half w) && nat_lt s.high (half w)) _ _ n
+    (λ unsigned. let are = both_signed w d s x y hd hs unsigned in law are.0 are.1)
+    (λ _. top_law w n fits)
+
 signed_quotient_law : (w : Width) (d s : Bounds) (x y : ℕ) → IsInBounds d x → IsInBounds s y → x < number_count w → y < number_count w
     → IsInBounds (if_unsigned w d s (quotient d s)) (result_of w SignedDivide x y)
 signed_quotient_law w d s x y hd hs fx fy =
-    either (nat_lt d.high (half w) && nat_lt s.high (half w)) _ _ (result_of w SignedDivide x y)
-    (λ unsigned.
-    let are = both_signed w d s x y hd hs unsigned in
-    rw (are.0, are.1) (quotient_law d s x y hd hs))
-    (λ _. top_law w (result_of w SignedDivide x y) (operations_keep_width w SignedDivide x y fx fy))
+    if_unsigned_law w d s (quotient d s) x y (result_of w SignedDivide x y) hd hs (operations_keep_width w SignedDivide x y fx fy)
+    (λ dst source. rw (dst, source) (quotient_law d s x y hd hs))
 
 signed_remainder_law : (w : Width) (d s : Bounds) (x y : ℕ) → IsInBounds d x → IsInBounds s y → x < number_count w → y < number_count w
     → IsInBounds (if_unsigned w d s (remainder d s)) (result_of w SignedModulo x y)
 signed_remainder_law w d s x y hd hs fx fy =
-    either (nat_lt d.high (half w) && nat_lt s.high (half w)) _ _ (result_of w SignedModulo x y)
-    (λ unsigned.
-    let are = both_signed w d s x y hd hs unsigned in
-    rw (are.0, are.1) (remainder_law d s x y hd hs))
-    (λ _. top_law w (result_of w SignedModulo x y) (operations_keep_width w SignedModulo x y fx fy))
+    if_unsigned_law w d s (remainder d s) x y (result_of w SignedModulo x y) hd hs (operations_keep_width w SignedModulo x y fx fy)
+    (λ dst source. rw (dst, source) (remainder_law d s x y hd hs))
 
 conjunction_law : (d s : Bounds) (x y : ℕ) → IsInBounds d x → IsInBounds s y → IsInBounds (conjunction d s) (bit_and x y)
 conjunction_law d s x y hd hs =
@@ -151,14 +153,7 @@ known s y hs one = let e = eqb-true s.low s.high one in omega arith
 
 shifted_left_by_law : (w : Width) (c : ℕ) (d : Bounds) (x : ℕ) → IsInBounds d x
     → IsInBounds (shifted_left_by w c d) ((x * 2 ^ c) % number_count w)
-shifted_left_by_law w c d x hd =
-    either (nat_lt (d.high * 2 ^ c) (number_count w)) _ _ ((x * 2 ^ c) % number_count w)
-    (λ fits.
-    let below = ltb-true (d.high * 2 ^ c) (number_count w) fits in
-    let most = mul-le x (2 ^ c) d.high (2 ^ c) hd.1 (omega arith) in
-    let least = mul-le d.low (2 ^ c) x (2 ^ c) hd.0 (omega arith) in
-    rw (mod-eq_of_lt {n = x * 2 ^ c} {m = number_count w} (omega (arith, most))) (least, most))
-    (λ _. wrapped_law w (x * 2 ^ c))
+shifted_left_by_law w c d x hd = product_law w d (single (2 ^ c)) x (2 ^ c) hd (omega arith, omega arith)
 
 shifted_left_law : (w : Width) (d s : Bounds) (x y : ℕ) → IsInBounds d x → IsInBounds s y
     → IsInBounds (shifted_left w d s) (result_of w LeftShift x y)

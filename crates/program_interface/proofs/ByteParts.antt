@@ -1,5 +1,5 @@
 -- Parts of bytes are bytes, and so are what is put together of them and the bytes of a number.
-use Rattle.std.proofs.Common.{◌≡◌, ℕ, ◌+◌, ◌/◌, ◌^◌, ◌<◌, ◌≤◌, zero, suc, List, [], ◌∷◌, ◌++◌, length, take, drop, sym, subst, arith, lit<, length-append, length-drop, mod-lt}
+use Rattle.std.proofs.Common.{◌≡◌, ℕ, ◌+◌, ◌/◌, ◌^◌, ◌<◌, ◌≤◌, zero, suc, List, [], ◌∷◌, ◌++◌, length, get_or, take, drop, sym, subst, arith, lit<, length-append, length-drop, mod-lt}
 use Rattle.std.specs.Int.{bytes_low_first}
 use Rattle.std.proofs.lemmas.List.{take-append-drop, get_or-drop, length-take}
 use Rattle.program_interface.specs.Bytes.{AreBytes, spliced}
@@ -19,10 +19,15 @@ bytes_from n xs fit i = subst (λ (b : ℕ). b < 256) (sym (get_or-drop n xs i 0
 pub bytes_to : (n : ℕ) (xs : List ℕ) → AreBytes xs → AreBytes (take n xs)
 bytes_to n xs fit = front_fit (take n xs) (drop n xs) (subst AreBytes (sym (take-append-drop n xs)) fit)
 
+-- what holds at each place of two lists holds at each place of both
+pub each_behind : {X : Type 0} (P : X → Type 0) (d : X) (xs ys : List X) → ((k : ℕ) → P (get_or xs k d)) → ((k : ℕ) → P (get_or ys k d))
+    → (k : ℕ) → P (get_or (xs ++ ys) k d)
+each_behind P d [] ys front back k = back k
+each_behind P d (x ∷ xs) ys front back zero = front 0
+each_behind P d (x ∷ xs) ys front back (suc k) = each_behind P d xs ys (λ j. front (suc j)) back k
+
 pub both_fit : (xs ys : List ℕ) → AreBytes xs → AreBytes ys → AreBytes (xs ++ ys)
-both_fit [] ys front back i = back i
-both_fit (x ∷ xs) ys front back zero = front 0
-both_fit (x ∷ xs) ys front back (suc i) = both_fit xs ys (λ k. front (suc k)) back i
+both_fit = each_behind (λ byte. byte < 256) 0
 
 pub spliced_fit : (at : ℕ) (new xs : List ℕ) → AreBytes new → AreBytes xs → AreBytes (spliced at new xs)
 spliced_fit at new xs brought fit =

@@ -1,7 +1,7 @@
 -- What the proofs of other crates cite of this one: laws, and lemmas.
 use Rattle.program_interface.specs.FirstCheck.{FirstFailedIsFirst, NoFaultWhereNoneFails}
 pub use Rattle.program_interface.proofs.AllOf.{all_append, all_at, all_drop, all_from, all_same, all_set, all_take}
-pub use Rattle.program_interface.proofs.ByteParts.{both_fit, bytes_from, bytes_to, front_fit, length-spliced, low_first, rest_fit, spliced_fit}
+pub use Rattle.program_interface.proofs.ByteParts.{both_fit, bytes_from, bytes_to, each_behind, front_fit, length-spliced, low_first, rest_fit, spliced_fit}
 use Rattle.program_interface.proofs.FirstChecks as checks
 pub use Rattle.program_interface.proofs.FirstChecks.{demanded, guarded, joined, met, none_failed, passed, value_given}
 pub use Rattle.program_interface.proofs.FirstPassed.{AreNumbered, all_fail, found_passes, least_found, less_fails}

@@ -22,7 +22,7 @@ use Rattle.device_events.specs.declared.event.Event.{Event}
 use Rattle.device_events.specs.declared.event.Event.TheVariants as event
 use Rattle.pushdown.proofs.Added.{added_leaves, is_added}
 use Rattle.pushdown.proofs.Changes.{after_event}
-use Rattle.pushdown.proofs.OthersEvents.{foreign_event, not_own, turn_takes_first, turned_is}
+use Rattle.pushdown.proofs.OthersEvents.{foreign_event, not_own, turn_takes_first, turned_is, turned_leaves}
 use Rattle.pushdown.proofs.KeptForRuns.{left_program}
 use Rattle.pushdown.proofs.Places.{AreApart, event_apart, held_at}
 
@@ -202,9 +202,7 @@ next_is s now run place turns k stands less =
           ∙ get_or-set_same now.places run (place_left here later turn.ending) None (there now.places run here stands.left)
           ∙ same_place place (drop k turns) later turn.ending;
       then_slots = ap (λ (h : Happening). h.state.slots) took ∙ slots_of now place (drop k turns) turn.ending;
-      other_runs = λ other differs.
-          ap (λ (h : Happening). place_at h.state other) took
-          ∙ get_or-set_other now.places run other (place_left here later turn.ending) None differs;
+      other_runs = turned_leaves now run;
       other_slots = λ slot differs. ap (λ (h : Happening). loaded_at h.state slot) took ∙ left_other now here turn.ending slot differs;
       program_left = subst (λ (h : Happening). SameProgram (loaded_at now place.slot) (loaded_at h.state place.slot)) (sym took)
           (left_program now here turn.ending place.slot);

@@ -1,5 +1,5 @@
 -- That a write keeps a namespace sound.
-use Rattle.std.proofs.Common.{◌≡◌, ℕ, zero, suc, ◌+◌, ◌*◌, ◌/◌, ◌<◌, ◌≤◌, Bool, true, false, cond, List, [], ◌∷◌, ◌++◌, length, get_or, Option, None, Ok, ap, sym, subst, ◌∙◌, arith, length-append}
+use Rattle.std.proofs.Common.{◌≡◌, ℕ, ◌+◌, ◌*◌, ◌/◌, ◌<◌, ◌≤◌, Bool, true, false, cond, List, [], ◌∷◌, ◌++◌, length, get_or, Option, None, Ok, ap, sym, subst, ◌∙◌, arith, length-append}
 use Rattle.std.specs.Prelude.{nat_eq}
 use Rattle.std.proofs.Math.Nat.{mul-div_cancel}
 use Rattle.std.proofs.lemmas.List.Elements.{All-append, All-from_get_or}
@@ -10,6 +10,7 @@ use Rattle.zone_state.proofs.Proved.{is_allowed}
 use Rattle.zone_resources.specs.Admission.{wanted_of, HoldsNoMore}
 use Rattle.zone_resources.specs.declared.holds.Holds.{Holds}
 use Rattle.program_interface.specs.Bytes.{AreBytes}
+use Rattle.program_interface.proofs.Proved.{each_behind}
 use Rattle.image_store.specs.Blocks.{as_blocks, block_count}
 use Rattle.image_store.specs.Namespace.{ZoneWithBlocks, ZonedNamespace, zone_at, counted, grown, IsNamespace, IsWithinLimits}
 use Rattle.image_store.proofs.Proved.{block_some, blocks_are_bytes, blocks_are_counted, blocks_are_whole, writes_keep_zones}
@@ -24,12 +25,6 @@ each_append : (P : List ℕ → Type 0) (xs ys : List (List ℕ))
     → ((i : ℕ) → i < length xs → P (get_or xs i [])) → ((i : ℕ) → i < length ys → P (get_or ys i []))
     → (i : ℕ) → i < length (xs ++ ys) → P (get_or (xs ++ ys) i [])
 each_append P xs ys front back i h = All-append P xs ys (All-from_get_or P xs [] front) (All-from_get_or P ys [] back) i [] h
-
-bytes_append : (xs ys : List (List ℕ)) → ((i : ℕ) → AreBytes (get_or xs i [])) → ((i : ℕ) → AreBytes (get_or ys i []))
-    → (i : ℕ) → AreBytes (get_or (xs ++ ys) i [])
-bytes_append [] ys front back i = back i
-bytes_append (x ∷ xs) ys front back zero = front 0
-bytes_append (x ∷ xs) ys front back (suc i) = bytes_append xs ys (λ k. front (suc k)) back i
 
 -- so many blocks are counted as so many
 pub count_of : (n block : ℕ) (bytes : List ℕ) → 1 ≤ block → length bytes ≡ n * block → block_count block bytes ≡ n
@@ -59,7 +54,7 @@ grown_fits b c zone more n fits some bring are allowed =
           (subst (λ (k : ℕ). IsZone (after_write (counted c zone) k).state (length zone.blocks + n) c) (sym bring.count)
           (writes_keep_zones (counted c zone) n some allowed));
       whole = each_append (λ block. length block ≡ b) zone.blocks more fits.whole bring.whole;
-      bytes = bytes_append zone.blocks more fits.bytes are;
+      bytes = each_behind AreBytes [] zone.blocks more fits.bytes are;
     }
 
 -- a write opens no zone that wants nothing
