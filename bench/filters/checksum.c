@@ -1,5 +1,5 @@
 /* The Internet checksum of the block's first 256 bytes, beside the one that its bytes 510 and 511 hold: emits the
-   block's address where they differ. */
+   block's LBA where they differ. */
 #include "pifnjarl.h"
 
 long checksum(const struct context *context, const u8 *block)

@@ -1,4 +1,4 @@
--- What a verifier tells of a program beside what it gives.
+-- What `judge` gives: that a program is accepted, or its refusal, and what is known beside that.
 use Rattle.std.specs.Prelude.{◌≡◌, List, Option, Some, None}
 use Rattle.instruction_set.specs.declared.instruction.Instruction.{Instruction}
 use Rattle.program_interface.specs.RunSizes.{Sizes}

@@ -206,7 +206,7 @@ fn computed<D: Domain>(instruction: &Instruction, facts: &Facts<D>) -> Option<(R
     Some((dst, D::alu(arithmetic, first, second)))
 }
 
-/// Changes the facts to those at the slot behind an instruction that doesn't jump; false where the program ends.
+/// Changes the facts to those at the slot behind an instruction that doesn't jump; false for EXIT, which leads to no slot.
 pub(crate) fn step<D: Domain>(
     instruction: &Instruction,
     block: BlockSize,

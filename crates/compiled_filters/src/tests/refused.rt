@@ -14,7 +14,7 @@ struct Filter {
     /// The most bytes that it may emit for a block.
     emit: u32,
     program: &'static str,
-    /// The slot that fails first, and the number of the first reason.
+    /// The lowest slot that fails, and the number of its least reason.
     refusal: (usize, u8),
 }
 

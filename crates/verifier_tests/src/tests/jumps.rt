@@ -9,7 +9,7 @@ use test_inputs::programs::RETURNING;
 
 /// Jumps.
 const JUMPS: &[Case] = &[
-    // EXIT alone ends the run.
+    // EXIT alone ends the block run.
     Text("exit", 0, Accepted(1)),
     // One word into R0.
     Text(RETURNING, 0, Accepted(2)),

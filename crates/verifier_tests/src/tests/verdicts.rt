@@ -23,7 +23,7 @@ pub(super) enum Case {
 pub(super) enum Verdict {
     /// It is accepted, and has so many instructions.
     Accepted(usize),
-    /// It is refused: the slot that fails first, and the number of the first reason.
+    /// It is refused: the lowest slot that fails, and the number of its least reason.
     Refused(usize, u8),
 }
 
