@@ -19,7 +19,7 @@ use Rattle.runner.specs.declared.device.Stopped.{Stopped}
 use Rattle.event_text.specs.CommandFile.{events_in, told_of}
 use Rattle.event_text.specs.Lines.{Took, reply_line}
 use Rattle.command_files.specs.Made.{Made, then_made}
-use Rattle.command_exec.specs.Saved.{AreInFiles, Executes, ExecutesFirst, HasBegun, HasPrinted, InEvents, InTurns, SavesAll, SavesFirst}
+use Rattle.command_exec.specs.Executed.{AreInFiles, Executes, ExecutesFirst, HasBegun, HasPrinted, InEvents, InTurns, SavesAll, SavesFirst}
 
 pub on_err : {T E fact : Type 0} (result : Result T E) → fact → OnErr result fact
 on_err (Ok value) holds = tt
@@ -80,26 +80,26 @@ module _ (events : List Event) (old between new : State) (before then after : �
   same_writer (Ok done) drained stopped = drained.replies.0 ∙ served.replies.0
   same_writer (Err error) drained stopped = stopped.replies.0 ∙ served.replies.0
 
--- a device began with an image; its writer held so much before the lines were printed, and so much it holds now
-pub prints_all : (events : List Event) (image : ZonedNamespace) (old left : State) (held before holds after : Option (List ℕ))
-    → old ≡ new_state image → held ≡ before → holds ≡ after → HasServedAndDrained intervals events old left (HasPrinted held holds)
-    → HasServedAndDrained intervals events (new_state image) left (HasPrinted before after)
-prints_all events image old left held before holds after begins first last did =
+-- a device began with a namespace; its writer held so much before the lines were printed, and so much it holds now
+pub prints_all : (events : List Event) (namespace : ZonedNamespace) (old left : State) (held before holds after : Option (List ℕ))
+    → old ≡ new_state namespace → held ≡ before → holds ≡ after → HasServedAndDrained intervals events old left (HasPrinted held holds)
+    → HasServedAndDrained intervals events (new_state namespace) left (HasPrinted before after)
+prints_all events namespace old left held before holds after begins first last did =
     subst (λ (s : State). HasServedAndDrained intervals events s left (HasPrinted before after)) begins
     (subst (λ (bytes : Option (List ℕ)). HasServedAndDrained intervals events old left (HasPrinted bytes after)) first
     (subst (λ (bytes : Option (List ℕ)). HasServedAndDrained intervals events old left (HasPrinted held bytes)) last did))
 
--- the image is saved that a device shows
-module _ (writes : Type 0) (events : List Event) (image shown : ZonedNamespace) (path : List ℕ) (before after : Option (List Made)) (left : State)
+-- the namespace is saved that a device shows
+module _ (writes : Type 0) (events : List Event) (namespace shown : ZonedNamespace) (path : List ℕ) (before after : Option (List Made)) (left : State)
     (made : writes → after ≡ then_made before path (text shown)) (shows : shown ≡ left.namespace) where
   meant : writes → after ≡ then_made before path (text left.namespace)
   meant write = subst (λ (ns : ZonedNamespace). after ≡ then_made before path (text ns)) shows (made write)
 
-  pub saves_all : (printed printed_after : Option (List ℕ)) → HasServedAndDrained intervals events (new_state image) left (HasPrinted printed printed_after)
-      → SavesAll writes events image path before after printed printed_after
+  pub saves_all : (printed printed_after : Option (List ℕ)) → HasServedAndDrained intervals events (new_state namespace) left (HasPrinted printed printed_after)
+      → SavesAll writes events namespace path before after printed printed_after
   saves_all printed printed_after did = record { left = left; served_and_drained = did; made = meant }
 
-  pub saves_first : (old : State) → old ≡ new_state image → HasBegun events old left → SavesFirst writes events image path before after
+  pub saves_first : (old : State) → old ≡ new_state namespace → HasBegun events old left → SavesFirst writes events namespace path before after
   saves_first old begins begun = record {
     left = left;
     begun = subst (λ (s : State). HasBegun events s left) begins begun;
@@ -108,12 +108,12 @@ module _ (writes : Type 0) (events : List Event) (image shown : ZonedNamespace) 
 
 -- an image was loaded, and then a command file was read, of the files that the command line names; the contents of files
 -- stayed the same, and no file was made
-module _ (reads writes : Type 0) (contents then : List ℕ → Option (List ℕ)) (path named commands named_commands file slice : List ℕ) (image : ZonedNamespace) (events : List Event)
+module _ (reads writes : Type 0) (contents then : List ℕ → Option (List ℕ)) (path named commands named_commands file slice : List ℕ) (namespace : ZonedNamespace) (events : List Event)
     (before loaded after : Option (List Made)) (same : then ≡ contents) (is_named : path ≡ named) (are_named : commands ≡ named_commands) (kept : loaded ≡ before)
     (file_is : IfSome (then commands) (λ bytes. file ≡ bytes)) (slice_is : slice ≡ file) (events_are : events_in slice ≡ Ok (map told_of events)) where
-  in_both : (reads → IfSome (contents path) (λ bytes. namespace_in bytes ≡ Ok image)) → AreInFiles reads contents named named_commands image events
-  in_both image_is = record {
-    image_is = λ read. subst (λ (p : List ℕ). IfSome (contents p) (λ bytes. namespace_in bytes ≡ Ok image)) is_named (image_is read);
+  in_both : (reads → IfSome (contents path) (λ bytes. namespace_in bytes ≡ Ok namespace)) → AreInFiles reads contents named named_commands namespace events
+  in_both namespace_is = record {
+    namespace_is = λ read. subst (λ (p : List ℕ). IfSome (contents p) (λ bytes. namespace_in bytes ≡ Ok namespace)) is_named (namespace_is read);
     events_are = IfSome_then (contents named_commands)
         (subst (λ (c : List ℕ). IfSome (contents c) (λ bytes. file ≡ bytes)) are_named
         (subst (λ (c : List ℕ → Option (List ℕ)). IfSome (c commands) (λ bytes. file ≡ bytes)) same file_is))
@@ -122,26 +122,26 @@ module _ (reads writes : Type 0) (contents then : List ℕ → Option (List ℕ)
 
   -- what `run` does of them is what the command does of the files
   pub executes : {T E : Type 0} (given : List Event) (printed printed_after : Option (List ℕ)) (result : Result T E)
-      → (reads → IfSome (contents path) (λ bytes. namespace_in bytes ≡ Ok image))
-      → OnOk result (SavesAll writes given image path loaded after printed printed_after) → given ≡ events
+      → (reads → IfSome (contents path) (λ bytes. namespace_in bytes ≡ Ok namespace))
+      → OnOk result (SavesAll writes given namespace path loaded after printed printed_after) → given ≡ events
       → OnOk result (Executes reads writes contents named named_commands before after printed printed_after)
-  executes given printed printed_after (Err error) image_is saves are = tt
-  executes given printed printed_after (Ok done) image_is saves are = record {
-    image = image;
+  executes given printed printed_after (Err error) namespace_is saves are = tt
+  executes given printed printed_after (Ok done) namespace_is saves are = record {
+    namespace = namespace;
     events = events;
-    in_files = in_both image_is;
-    saves = subst (λ (p : List ℕ). SavesAll writes events image p before after printed printed_after) is_named
-        (subst (λ (made : Option (List Made)). SavesAll writes events image path made after printed printed_after) kept
-        (subst (λ (list : List Event). SavesAll writes list image path loaded after printed printed_after) are saves));
+    in_files = in_both namespace_is;
+    saves = subst (λ (p : List ℕ). SavesAll writes events namespace p before after printed printed_after) is_named
+        (subst (λ (made : Option (List Made)). SavesAll writes events namespace path made after printed printed_after) kept
+        (subst (λ (list : List Event). SavesAll writes list namespace path loaded after printed printed_after) are saves));
   }
 
-  pub executes_first : (given : List Event) → (reads → IfSome (contents path) (λ bytes. namespace_in bytes ≡ Ok image))
-      → SavesFirst writes given image path loaded after → given ≡ events → ExecutesFirst reads writes contents named named_commands before after
-  executes_first given image_is saves are = record {
-    image = image;
+  pub executes_first : (given : List Event) → (reads → IfSome (contents path) (λ bytes. namespace_in bytes ≡ Ok namespace))
+      → SavesFirst writes given namespace path loaded after → given ≡ events → ExecutesFirst reads writes contents named named_commands before after
+  executes_first given namespace_is saves are = record {
+    namespace = namespace;
     events = events;
-    in_files = in_both image_is;
-    saves = subst (λ (p : List ℕ). SavesFirst writes events image p before after) is_named
-        (subst (λ (made : Option (List Made)). SavesFirst writes events image path made after) kept
-        (subst (λ (list : List Event). SavesFirst writes list image path loaded after) are saves));
+    in_files = in_both namespace_is;
+    saves = subst (λ (p : List ℕ). SavesFirst writes events namespace p before after) is_named
+        (subst (λ (made : Option (List Made)). SavesFirst writes events namespace path made after) kept
+        (subst (λ (list : List Event). SavesFirst writes list namespace path loaded after) are saves));
   }

@@ -5,7 +5,7 @@ ghost use Rattle.interval_domain.specs.Intervals.{intervals};
 ghost use Rattle.pushdown.specs.JoinedEvents.{HasServedAndDrained};
 ghost use Rattle.command_files.specs.Arguments.{value_of};
 ghost use Rattle.command_files.specs.Made.{KeepsOthers, MakesOne};
-ghost use Rattle.command_exec.specs.Saved.{Executes, ExecutesFirst, HasBegun, HasPrinted, SavesAll, SavesFirst};
+ghost use Rattle.command_exec.specs.Executed.{Executes, ExecutesFirst, HasBegun, HasPrinted, SavesAll, SavesFirst};
 
 use clap::{Arg, ArgMatches, Command};
 use command_failure::Failure;

@@ -1,4 +1,4 @@
--- What `exec` saves, and what it prints.
+-- What `exec` does, prints and saves.
 use Rattle.std.specs.Prelude.{◌≡◌, ℕ, List, map, flat_map, Option, Ok, IfSome}
 use Rattle.std.specs.Io.KnownBytes.{Appends}
 use Rattle.image_store.specs.Namespace.{ZonedNamespace}
@@ -30,36 +30,36 @@ pub data HasBegun (events : List Event) (old new : State) : Type 0 where
   InTurns : (between : State) (done : ℕ) (served : HasServed intervals events old between Untold)
       (stopped : HasStoppedDraining between new Untold done) → HasBegun events old new
 
--- the events are done on an image, and the turns behind them, the line of each reply is printed, and the file is made
--- anew of the image that is left, where what is written of it is told
-pub record SavesAll (writes : Type 0) (events : List Event) (image : ZonedNamespace) (path : List ℕ) (before after : Option (List Made)) (printed printed_after : Option (List ℕ)) : Type 0 where
+-- the events are done on a namespace, and the turns behind them, the line of each reply is printed, and the file is made
+-- anew of the namespace that is left, where what is written of it is told
+pub record SavesAll (writes : Type 0) (events : List Event) (namespace : ZonedNamespace) (path : List ℕ) (before after : Option (List Made)) (printed printed_after : Option (List ℕ)) : Type 0 where
   pub left : State
-  pub served_and_drained : HasServedAndDrained intervals events (new_state image) left (HasPrinted printed printed_after)
+  pub served_and_drained : HasServedAndDrained intervals events (new_state namespace) left (HasPrinted printed printed_after)
   pub made : writes → after ≡ then_made before path (text left.namespace)
 
--- the file is made anew of the image that the first of these leave, where that is told. How many is not said: standard
+-- the file is made anew of the namespace that the first of these leave, where that is told. How many is not said: standard
 -- output doesn't tell what it took
-pub record SavesFirst (writes : Type 0) (events : List Event) (image : ZonedNamespace) (path : List ℕ) (before after : Option (List Made)) : Type 0 where
+pub record SavesFirst (writes : Type 0) (events : List Event) (namespace : ZonedNamespace) (path : List ℕ) (before after : Option (List Made)) : Type 0 where
   pub left : State
-  pub begun : HasBegun events (new_state image) left
+  pub begun : HasBegun events (new_state namespace) left
   pub made : writes → after ≡ then_made before path (text left.namespace)
 
--- the image file holds an image, where its bytes and what is read of it are told, and the command file some events, where
--- its bytes are
-pub record AreInFiles (reads : Type 0) (contents : List ℕ → Option (List ℕ)) (path commands : List ℕ) (image : ZonedNamespace) (events : List Event) : Type 0 where
-  pub image_is : reads → IfSome (contents path) (λ bytes. namespace_in bytes ≡ Ok image)
+-- the image file's bytes stand for a namespace, where these and what is read of them are told, and the command file's for
+-- some events, where these are told
+pub record AreInFiles (reads : Type 0) (contents : List ℕ → Option (List ℕ)) (path commands : List ℕ) (namespace : ZonedNamespace) (events : List Event) : Type 0 where
+  pub namespace_is : reads → IfSome (contents path) (λ bytes. namespace_in bytes ≡ Ok namespace)
   pub events_are : IfSome (contents commands) (λ bytes. events_in bytes ≡ Ok (map told_of events))
 
--- the events that the command file holds are done on the image that the image file holds
+-- the events of the command file are done on the namespace of the image file
 pub record Executes (reads writes : Type 0) (contents : List ℕ → Option (List ℕ)) (path commands : List ℕ) (before after : Option (List Made)) (printed printed_after : Option (List ℕ)) : Type 0 where
-  pub image : ZonedNamespace
+  pub namespace : ZonedNamespace
   pub events : List Event
-  pub in_files : AreInFiles reads contents path commands image events
-  pub saves : SavesAll writes events image path before after printed printed_after
+  pub in_files : AreInFiles reads contents path commands namespace events
+  pub saves : SavesAll writes events namespace path before after printed printed_after
 
 -- the first of them are
 pub record ExecutesFirst (reads writes : Type 0) (contents : List ℕ → Option (List ℕ)) (path commands : List ℕ) (before after : Option (List Made)) : Type 0 where
-  pub image : ZonedNamespace
+  pub namespace : ZonedNamespace
   pub events : List Event
-  pub in_files : AreInFiles reads contents path commands image events
-  pub saves : SavesFirst writes events image path before after
+  pub in_files : AreInFiles reads contents path commands namespace events
+  pub saves : SavesFirst writes events namespace path before after
