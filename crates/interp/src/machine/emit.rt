@@ -21,7 +21,7 @@ impl Machine<'_> {
     ghost use Rattle.program_meaning.specs.Memory.{bytes_from};
     ghost use Rattle.program_interface.specs.Area.{length_of};
     ghost use Rattle.interp.specs.Machine.{state_at, memory_of, group_length, Extends};
-    ghost use Rattle.interp.specs.StepEnds.{emit_hindrance};
+    ghost use Rattle.interp.specs.StepEnds.{emit_cause};
     ghost use Rattle.program_interface.specs.Readings.{unless_fault};
 
     /// Adds the frame that R1 and R2 tell to the group and clears R0 to R5, unless a cause hinders it; then nothing changes.
@@ -35,7 +35,7 @@ impl Machine<'_> {
         requires limit { limit < 2 ^ 16 }
         requires room { limit ≤ length group.old }
         requires used { group_length self.old ≤ length group.old }
-        ensures answer { (slot : ℕ) → result ≡ unless_fault (emit_hindrance limit (state_at self.old slot group.old)) (Ok tt) }
+        ensures answer { (slot : ℕ) → result ≡ unless_fault (emit_cause limit (state_at self.old slot group.old)) (Ok tt) }
         ensures state { (slot : ℕ) → state_at self.new slot group.new ≡ (if is_ok result then emitted (state_at self.old slot group.old) else state_at self.old slot group.old) }
         ensures extends { Extends self.old self.new group.old group.new }
     {
