@@ -1,4 +1,4 @@
--- What is known at a slot is met by the runs that come there, and a program that is accepted over a sound domain never traps.
+-- What is known at a slot is met by the block runs that come there, and a program that is accepted over a sound domain never traps.
 use Rattle.std.specs.Prelude.{ℕ, zero, suc, ◌≡◌, ◌+◌, ◌<◌, ◌≤◌, true, List, length, drop, count_by, is_some, Option, Some, None}
 use Rattle.std.proofs.Common.{arith, inl, inr, ◌⊎◌, lit<, refl, ap, subst, ◌∙◌}
 use Rattle.std.proofs.lemmas.Bool.{cases_lt, cond_both}
@@ -44,7 +44,7 @@ decided_ends s i None e exits = rw exits refl
 decided_ends s i (Some cause) e exits = cc
 
 module _ {D : Type 0} (contains : D → ℕ → Type 0) (operations : Operations D) where
-  -- what holds of each state of a run
+  -- what holds of each state of a block run
   record Stands (program : List (Option Instruction)) (sizes : Sizes) (s : State) : Type 0 where
     is : IsState s
     block_long : length s.memory.block ≡ sizes.block
@@ -93,7 +93,7 @@ module _ {D : Type 0} {IsFact : D → Type 0} {contains : D → ℕ → Type 0} 
       holds : Holds to
       forward : s.slot < to.slot
 
-    -- a step ends the run, or leads on
+    -- a step ends the block run, or leads on
     abbrev EndsOrLeads : State → Type 0
     EndsOrLeads s = (step_at program sizes.limit s (instruction_at program s.slot) ≡ Some (Ends (register s 0) s)) ⊎ Leads s
 
@@ -131,7 +131,7 @@ module _ {D : Type 0} {IsFact : D → Type 0} {contains : D → ℕ → Type 0} 
       steps : EndsOrLeads s
       steps = passed_at (instruction_at program s.slot) (facts_at operations sizes.block program s.slot) refl refl holds.here holds.known
 
-    -- ---- a run
+    -- ---- a block run
     abbrev run : ℕ → ℕ → State → BlockRun
     run fuel n s = block_run_of program sizes.limit fuel n s
 
@@ -146,7 +146,7 @@ module _ {D : Type 0} {IsFact : D → Type 0} {contains : D → ℕ → Type 0} 
     unfolding block_run_of
     led fuel n s to goes = ap (continued n s (λ t. block_run_of program sizes.limit fuel (n + 1) t)) goes
 
-    -- a state that a run comes to by slots that are passed
+    -- a state that a block run comes to by slots that are passed
     comes : (fuel n : ℕ) (s : State) → Holds s → ((k : ℕ) → k < fuel → IsPassedAt (run k n s).state.slot)
         → Holds (run fuel n s).state
     comes zero n s holds passed = rw (runs_by_step_end program sizes.limit n s).0 holds
@@ -170,11 +170,11 @@ module _ {D : Type 0} {IsFact : D → Type 0} {contains : D → ℕ → Type 0} 
       group = omega arith;
     }
 
-    -- a bound on the group, wherever a run is
+    -- a bound on the group, wherever a block run is
     abbrev Bounds : ℕ → Type 0
     Bounds bound = (s : State) → Holds s → length s.group ≤ bound
 
-    -- ---- a run of a program that is accepted
+    -- ---- a block run of a program that is accepted
     module _ (accepted : refusal operations program sizes ≡ None) (bound : ℕ) (bounds : Bounds bound) where
       exits : (most fuel n : ℕ) (s : State) → Holds s → count_by is_some (drop s.slot program) ≤ fuel → n + fuel ≤ most
           → Exits most bound (run fuel n s)

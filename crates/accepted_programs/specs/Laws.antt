@@ -49,7 +49,7 @@ abbrev pub state_after_steps : List (Option Instruction) → ℕ → ℕ → Sta
 state_after_steps program limit steps start = (block_run_of program limit steps 0 start).state
 
 -- over every block of the length, every context and every scratch, each state of a block run meets what is known at its slot,
--- where each slot that the run was at before is passed; whether its own is passed doesn't matter
+-- where each slot that the block run was at before is passed; whether its own is passed doesn't matter
 abbrev pub FactsAreMet : {D : Type 0} → (D → ℕ → Type 0) → Operations D → Type 0
 FactsAreMet contains operations = (program : List (Option Instruction)) → IsProgram program → (sizes : Sizes) → AreSizes sizes
     → (bytes context scratch : List ℕ) → length bytes ≡ sizes.block → IsState (at_start bytes context scratch) → (steps : ℕ)

@@ -5,7 +5,7 @@ mod Passes
 mod Names
 mod Round
 mod RoundOperands
-mod RoundLines
+mod PlainTexts
 mod RoundProgram
 mod Columns
 mod SlotFronts

@@ -11,7 +11,7 @@ use Rattle.instruction_set.specs.declared.operation.Relation.TheVariants.{Equal,
 use Rattle.ebpf_asm.specs.declared.mnemonic.Mnemonic.{Mnemonic}
 use Rattle.ebpf_asm.specs.declared.mnemonic.Mnemonic.TheVariants.{LoadImmediate, Load, LoadSigned, StoreImmediate, StoreRegister, Arithmetic, Negate, MoveSigned, SwapBytes, Jump, JumpLong, Branch, Call, Exit}
 use Rattle.ebpf_asm.specs.Mnemonic.{mnemonic_text, mnemonic_named}
-use Rattle.ebpf_asm.proofs.RoundLines.{IsPlain}
+use Rattle.ebpf_asm.proofs.PlainTexts.{IsPlain}
 
 names : (mnemonic : Mnemonic) → (mnemonic_named (mnemonic_text mnemonic) ≡ Some mnemonic) × IsPlain (mnemonic_text mnemonic)
 names (Arithmetic widths.Bits64 Add) = (refl, refl)

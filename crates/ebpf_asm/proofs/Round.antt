@@ -1,4 +1,4 @@
--- What is listed is read again.
+-- Registers and numbers that are listed are read again.
 use Rattle.std.proofs.Common.{◌≡◌, ℕ, ℤ, pos, negsuc, neg_ℤ, zero, suc, ◌+◌, ◌-◌, ◌<◌, ◌^◌, false, ◌&&◌, cond, ltb, eqb, List, [], ◌∷◌, ◌++◌, length, get_or, drop, replicate, Ok, Err, refl, ap, ◌∙◌, arith}
 use lib.Signed.{mag}
 use Rattle.std.specs.Prelude.{FitsSigned}

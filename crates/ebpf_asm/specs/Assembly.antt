@@ -120,11 +120,11 @@ bytes_of_lines labels number slot (line ∷ rest) =
 abbrev pub lines_of : List ℕ → List Line
 lines_of text = map line_of (lines text)
 
--- the bytes of the instructions of lines, or the first fault
+-- the bytes of the instructions of lines, or the fault that is told
 abbrev pub assembled_lines : List Line → Result (List ℕ) Fault
 assembled_lines all = unless_fault (first_fault [] all) (bytes_of_lines (label_map all) 1 0 all)
 
--- what a text gives: the bytes of its instructions, or the first fault
+-- what a text gives: the bytes of its instructions, or the fault that is told
 abbrev pub assembled : List ℕ → Result (List ℕ) Fault
 assembled text = assembled_lines (lines_of text)
 

@@ -1,4 +1,4 @@
-//! Assembly text of eBPF programs (RFC 9669, 3), both ways.
+//! Assembly text of eBPF programs (profile), both ways.
 #![tactic(auto)]
 
 mod assembly;

@@ -215,7 +215,7 @@ fn the_first_and_the_last_kind_have_their_numbers(rt: HostRuntime) {
 }
 
 #[test]
-fn the_first_fault_is_told(rt: HostRuntime) -> Result<(), Fail> {
+fn the_fault_is_told(rt: HostRuntime) -> Result<(), Fail> {
     for (text, line, kind) in REFUSED {
         assert_eq!(rt; fault_of(rt.alloc(), text)?, (*line, *kind), "{text}");
     }

@@ -1,4 +1,4 @@
--- What is read from slots is spelled by them.
+-- What is read from slots is spelled by them, and what spells a program is read as it.
 use Rattle.std.proofs.Common.{◌≡◌, ℕ, suc, ◌+◌, ◌*◌, ◌/◌, ◌%◌, ◌^◌, ◌≤◌, Bool, true, false, cond, eqb, leb, option_map, List, [], ◌∷◌, ◌++◌, length, Option, Some, None, Result, Ok, Err, refl, sym, ap, ◌∙◌, arith}
 use Rattle.std.specs.Prelude.{IsSome, option_to_list}
 use Rattle.std.specs.Result.{result_map_both}

@@ -117,7 +117,7 @@ load_or_store (StoreImmediate size) f = Some (instructions.StoreImmediate size f
 load_or_store (StoreRegister size) f = Some (instructions.StoreRegister size f.dst f.src f.offset)
 load_or_store _ f = None
 
--- jumps, calls and the exit (RFC 9669, 4.3)
+-- jumps, calls and EXIT (RFC 9669, 4.3)
 abbrev pub jump : Opcode → Fields → Option Instruction
 jump Jump f = Some (instructions.Jump f.offset)
 jump JumpLong f = Some (instructions.JumpLong f.immediate)

@@ -180,7 +180,7 @@ fn load_or_store(opcode: Opcode, fields: &Fields) -> Option<Instruction>
     }
 }
 
-/// A jump, a call or the exit (RFC 9669, 4.3), if the opcode names one.
+/// A jump, a call or EXIT (RFC 9669, 4.3), if the opcode names one.
 fn jump(opcode: Opcode, fields: &Fields) -> Option<Instruction>
     requires dst { fields.now.dst < REGISTERS }
     requires src { fields.now.src < REGISTERS }

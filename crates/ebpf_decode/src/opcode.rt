@@ -20,7 +20,7 @@ const JUMP_LONG_OPCODE: u8 = 16 * JA + JMP32;
 /// The opcode of a call (RFC 9669, 4.3.1).
 const CALL_OPCODE: u8 = 16 * CALL + JMP;
 
-/// The opcode of the end (RFC 9669, 4.3).
+/// The opcode of EXIT (RFC 9669, 4.3).
 const EXIT_OPCODE: u8 = 16 * EXIT + JMP;
 
 /// Where the second operand is: the source bit of an opcode (RFC 9669, 4).

@@ -67,7 +67,7 @@ fn show_instruction<W: fmt::Write>(
     match kind {
         FaultKind::Opcode if opcode == CALL_BY_REGISTER => write!(
             f,
-            ": a call by register, which is left out here"
+            ": a call by register, which RFC 9669 does not have"
         ),
         FaultKind::NotInProfile => write!(f, ": {}, which is left out here", left_out(opcode)),
         FaultKind::Register => write!(f, ", registers {dst} and {src}: {kind}"),

@@ -24,7 +24,7 @@ pub const STX: u8 = 3;
 /// The class of 32-bit arithmetic (RFC 9669, 3.3).
 pub const ALU: u8 = 4;
 
-/// The class of 64-bit jumps, with calls and the end (RFC 9669, 3.3).
+/// The class of 64-bit jumps, with calls and EXIT (RFC 9669, 3.3).
 pub const JMP: u8 = 5;
 
 /// The class of 32-bit jumps (RFC 9669, 3.3).
@@ -51,7 +51,7 @@ pub const JA: u8 = 0x0;
 /// The code of a call (RFC 9669, 4.3.1).
 pub const CALL: u8 = 0x8;
 
-/// The code of the end (RFC 9669, 4.3).
+/// The code of EXIT (RFC 9669, 4.3).
 pub const EXIT: u8 = 0x9;
 
 impl Width {

@@ -101,7 +101,7 @@ pub enum Instruction {
     Call {
         helper: i32,
     },
-    /// The end of the program (RFC 9669, 4.3).
+    /// EXIT: the end of the block run (RFC 9669, 4.3).
     Exit,
 }
 

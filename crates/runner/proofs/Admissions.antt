@@ -21,7 +21,7 @@ use Rattle.pushdown.specs.State.{loaded_at}
 use Rattle.runner.specs.steps.Admitting.{AreZonesOf}
 use Rattle.runner.specs.DeviceState.{loaded_slot, device_state}
 use Rattle.runner.specs.steps.ActiveRuns.{held_by}
-use Rattle.runner.specs.Ready.{IsReady}
+use Rattle.runner.specs.steps.Ready.{IsReady}
 use Rattle.runner.specs.declared.active_run.ActiveRun.{ActiveRun}
 use Rattle.runner.specs.declared.loaded_program.LoadedProgram.{LoadedProgram}
 use Rattle.runner.proofs.Holding.{holds_are}

@@ -21,7 +21,7 @@ use Rattle.zone_resources.proofs.Proved.{runs_name_zones}
 use Rattle.runner.specs.steps.Answered.{answered}
 use Rattle.runner.specs.DeviceState.{loaded_slot, device_state}
 use Rattle.runner.specs.steps.ActiveRuns.{held_by, source_held}
-use Rattle.runner.specs.Ready.{IsReady}
+use Rattle.runner.specs.steps.Ready.{IsReady}
 use Rattle.runner.specs.declared.active_run.ActiveRun.{ActiveRun}
 use Rattle.runner.specs.declared.loaded_program.LoadedProgram.{LoadedProgram}
 use Rattle.runner.proofs.Holding.{holds_are}

@@ -29,7 +29,7 @@ use Rattle.device_events.specs.declared.reply.Reply.TheVariants as reply
 use Rattle.pushdown.proofs.Proved.{events_keep_for_runs, turned_is}
 use Rattle.runner.specs.steps.Answered.{complete_reply}
 use Rattle.runner.specs.DeviceState.{active_of, loaded_slot, loaded_of, running, device_state}
-use Rattle.runner.specs.Ready.{FitsNamespace, IsForBlocks, IsReady, IsRunning}
+use Rattle.runner.specs.steps.Ready.{FitsNamespace, IsForBlocks, IsReady, IsRunning}
 use Rattle.pushdown.specs.Reached.{IsReached}
 use Rattle.runner.specs.steps.Turning.{FitsAt, FitsIn, FitsOn, TurnGoesOn, HasEnded, IsTurned, Keeps, SlotTurned}
 use Rattle.runner.specs.declared.active_run.ActiveRun.{ActiveRun}

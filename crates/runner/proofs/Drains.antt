@@ -16,7 +16,7 @@ use Rattle.pushdown.specs.State.{State}
 use Rattle.pushdown.specs.View.{seen, to_come}
 use Rattle.pushdown.proofs.Proved.{rest_is_few, turns_leave_fewer}
 use Rattle.runner.specs.DeviceState.{active_of, loaded_slot, device_state}
-use Rattle.runner.specs.Ready.{FitsNamespace}
+use Rattle.runner.specs.steps.Ready.{FitsNamespace}
 use Rattle.pushdown.specs.Reached.{IsReached}
 use Rattle.runner.specs.declared.active_run.ActiveRun.{ActiveRun}
 use Rattle.runner.specs.declared.loaded_program.LoadedProgram.{LoadedProgram}

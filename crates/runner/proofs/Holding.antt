@@ -7,7 +7,7 @@ use Rattle.pushdown.specs.State.{Place, destination_of, holds_at, source_of}
 use Rattle.pushdown.specs.View.{seen}
 use Rattle.runner.specs.DeviceState.{loaded_slot, running, device_state}
 use Rattle.runner.specs.steps.ActiveRuns.{destination_held, held_by, source_held}
-use Rattle.runner.specs.Ready.{FitsNamespace, IsReady}
+use Rattle.runner.specs.steps.Ready.{FitsNamespace, IsReady}
 use Rattle.runner.specs.declared.active_run.ActiveRun.{ActiveRun}
 use Rattle.runner.specs.declared.loaded_program.LoadedProgram.{LoadedProgram}
 

@@ -25,7 +25,7 @@ use Rattle.pushdown.proofs.Proved.{not_loaded, same_program}
 use Rattle.runner.specs.steps.Answered.{HasLoaded}
 use Rattle.runner.specs.DeviceState.{active_of, loaded_slot, device_state}
 use Rattle.runner.specs.steps.Loading.{IsLoadable, IsNotAccepted, uses_slot}
-use Rattle.runner.specs.Ready.{IsForBlocks, IsReady}
+use Rattle.runner.specs.steps.Ready.{IsForBlocks, IsReady}
 use Rattle.runner.specs.declared.active_run.ActiveRun.{ActiveRun}
 use Rattle.runner.specs.declared.loaded_program.LoadedProgram.{LoadedProgram}
 use Rattle.runner.proofs.Staying.{Stays, keeps_source, placed_at, places_stay}

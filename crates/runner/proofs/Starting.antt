@@ -21,7 +21,7 @@ use Rattle.runner.specs.steps.Admitting.{IsAdmission}
 use Rattle.runner.specs.steps.Answered.{Refuses, Starts}
 use Rattle.runner.specs.DeviceState.{active_of, loaded_slot, running, device_state}
 use Rattle.runner.specs.steps.ActiveRuns.{held_by, new_active}
-use Rattle.runner.specs.Ready.{IsReady, IsRunning}
+use Rattle.runner.specs.steps.Ready.{IsReady, IsRunning}
 use Rattle.runner.specs.declared.active_run.ActiveRun.{ActiveRun}
 use Rattle.runner.specs.declared.admission.Admitted.{Admitted}
 use Rattle.runner.specs.declared.loaded_program.LoadedProgram.{LoadedProgram}

@@ -11,7 +11,7 @@ use Rattle.pushdown.specs.State.{Place, place_at}
 use Rattle.pushdown.specs.View.{KeepsSource, place_of, seen}
 use Rattle.pushdown.proofs.Proved.{seen_stays}
 use Rattle.runner.specs.DeviceState.{active_of, loaded_slot, running, device_state}
-use Rattle.runner.specs.Ready.{FitsNamespace}
+use Rattle.runner.specs.steps.Ready.{FitsNamespace}
 use Rattle.runner.specs.declared.active_run.ActiveRun.{ActiveRun}
 use Rattle.runner.specs.declared.loaded_program.LoadedProgram.{LoadedProgram}
 

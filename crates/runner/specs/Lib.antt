@@ -1,4 +1,3 @@
 pub mod DeviceState
-pub mod Ready
 pub mod Laws
 pub mod steps

@@ -1,4 +1,5 @@
--- What private functions hand on to each other; no public contract speaks of it.
+-- What private functions hand on to each other, and what holds of a device's own fields; no public contract speaks of it.
+pub mod Ready
 pub mod Admitting
 pub mod Answered
 pub mod Loading

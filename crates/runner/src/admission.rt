@@ -8,7 +8,7 @@ ghost use Rattle.runner.specs.steps.Admitting.{AreZonesOf, IsAdmission};
 ghost use Rattle.runner.specs.steps.Answered.{Refuses, Starts};
 ghost use Rattle.runner.specs.DeviceState.{loaded_slot, device_state};
 ghost use Rattle.runner.specs.steps.ActiveRuns.{held_by};
-ghost use Rattle.runner.specs.Ready.{AreWritten, IsReady};
+ghost use Rattle.runner.specs.steps.Ready.{AreWritten, IsReady};
 
 use crate::active_run::ActiveRun;
 use crate::loaded_program::LoadedProgram;

@@ -48,7 +48,7 @@ pub struct Device {
 impl Model for Device {
     ghost use Rattle.pushdown.specs.State.{State};
     ghost use Rattle.runner.specs.DeviceState.{device_state};
-    ghost use Rattle.runner.specs.Ready.{IsDevice};
+    ghost use Rattle.runner.specs.steps.Ready.{IsDevice};
 
     ghost Value = { State };
 

@@ -8,7 +8,7 @@ ghost use Rattle.pushdown.specs.Happenings.{load_checks};
 ghost use Rattle.runner.specs.steps.Answered.{HasLoaded};
 ghost use Rattle.runner.specs.DeviceState.{device_state};
 ghost use Rattle.runner.specs.steps.Loading.{uses_slot, refused_program, IsAccepted, IsLoadable, IsNotAccepted};
-ghost use Rattle.runner.specs.Ready.{IsReady};
+ghost use Rattle.runner.specs.steps.Ready.{IsReady};
 ghost use Rattle.verifier.specs.Verified.{program_of, sizes_of};
 
 use crate::active_run::ActiveRun;

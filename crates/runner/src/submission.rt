@@ -7,7 +7,7 @@ ghost use Rattle.nvme_entry.specs.declared.command.Command.TheVariants as comman
 ghost use Rattle.device_events.specs.Replies.{data_length, without_data};
 ghost use Rattle.runner.specs.steps.Answered.{HasExecuted, HasSubmitted, as_submission, complete_reply};
 ghost use Rattle.runner.specs.DeviceState.{device_state};
-ghost use Rattle.runner.specs.Ready.{IsReady};
+ghost use Rattle.runner.specs.steps.Ready.{IsReady};
 
 use crate::active_run::ActiveRun;
 use crate::admission::start;

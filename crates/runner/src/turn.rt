@@ -10,7 +10,7 @@ ghost use Rattle.pushdown.specs.BlockRuns.{scratch_after};
 ghost use Rattle.pushdown.specs.Happenings.{added};
 ghost use Rattle.runner.specs.DeviceState.{active_of, device_state};
 ghost use Rattle.runner.specs.steps.Ran.{HasRun};
-ghost use Rattle.runner.specs.Ready.{FitsNamespace, IsReady};
+ghost use Rattle.runner.specs.steps.Ready.{FitsNamespace, IsReady};
 ghost use Rattle.pushdown.specs.Reached.{IsReached};
 ghost use Rattle.runner.specs.steps.Turning.{FitsAt, FitsIn, FitsOn, HasRoom, IsTaking, IsTurned, Keeps, PlaceTurned, SlotTurned, Turned, next_block, next_block_run, with_packer, with_scratch};
 

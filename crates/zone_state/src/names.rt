@@ -1,4 +1,4 @@
-//! What states, actions and statuses are called, for people to read.
+//! What states, faults, actions and statuses are called, for people to read.
 
 ghost use Rattle.std.specs.Prelude.{◌≡◌};
 ghost use Rattle.zone_state.specs.Words.{action_word, fault_word, state_word};

@@ -17,7 +17,7 @@ use Rattle.pushdown.specs.State.{State, holds_at}
 use Rattle.device_events.specs.declared.reply.Reply.{Reply}
 use Rattle.device_events.specs.declared.reply.Reply.TheVariants as reply
 use Rattle.runner.specs.DeviceState.{device_state}
-use Rattle.runner.specs.Ready.{IsReady}
+use Rattle.runner.specs.steps.Ready.{IsReady}
 use Rattle.runner.specs.declared.active_run.ActiveRun.{ActiveRun}
 use Rattle.runner.specs.declared.loaded_program.LoadedProgram.{LoadedProgram}
 use Rattle.runner.specs.declared.submission.Submission.{Submission as GivenSubmission}

@@ -16,7 +16,7 @@ use Rattle.pushdown.specs.State.{State}
 use Rattle.pushdown.specs.View.{Active, turns_of}
 use Rattle.device_events.specs.declared.reply.Reply.{Reply}
 use Rattle.runner.specs.DeviceState.{active_of, device_state}
-use Rattle.runner.specs.Ready.{FitsNamespace, IsForBlocks, IsReady}
+use Rattle.runner.specs.steps.Ready.{FitsNamespace, IsForBlocks, IsReady}
 use Rattle.runner.specs.declared.active_run.ActiveRun.{ActiveRun}
 use Rattle.runner.specs.declared.loaded_program.LoadedProgram.{LoadedProgram}
 

@@ -85,14 +85,14 @@ const TOLD: &[Case] = &[
     (Step::RunOf(2, (5, 0xabcd), 1, 2, 8), Pending(0)),
     (Step::Turns(0, 1), Pending(0)),
     (Step::Turns(0, 1), DoneWith(2, 2, 1)),
-    // The address, the index and the number of blocks, the size of a block, and the argument.
+    // The LBA, the index and the number of blocks, the size of a block, and the argument.
     (
         Step::Read(
             3,
             8,
             1,
-            "200001000000000000000000000002000000 00020000cdab00000000000000000000 \
-             200002000000000000000100000002000000 00020000cdab00000000000000000000 00*444",
+            "2000 0100000000000000 00000000 02000000 00020000 cdab0000 00*8 \
+             2000 0200000000000000 01000000 02000000 00020000 cdab0000 00*8 00*444",
         ),
         Done(3),
     ),

@@ -27,7 +27,7 @@ const PROGRAMS: &[Act] = &[
     Act::Put("p", &[(b"\x8d\0\0\0\0\0\0\0", 1)]),
     Act::Refuses(
         "zscli disasm p",
-        "p, slot 0: opcode 8dh: a call by register, which is left out here\nprogram refused 0 23\n",
+        "p, slot 0: opcode 8dh: a call by register, which RFC 9669 does not have\nprogram refused 0 23\n",
     ),
     Act::Put("p", &[(b"\xbf\x1b\0\0\0\0\0\0", 1)]),
     Act::Refuses(

@@ -1,4 +1,4 @@
--- The lines of a listing are read again.
+-- The texts that lines of a listing are made of: of plain bytes, and cut again where they were joined.
 use Rattle.std.proofs.Common.{◌≡◌, ℕ, ℤ, pos, negsuc, zero, suc, ◌+◌, ◌-◌, ◌<◌, ◌≤◌, ◌^◌, Bool, true, false, not, ◌&&◌, ◌||◌, cond, ltb, eqb, List, [], ◌∷◌, ◌++◌, length, drop, take, map, replicate, Some, None, refl, sym, ap, ◌∙◌, subst, append_assoc, arith}
 use lib.Signed.{mag}
 use Rattle.std.specs.List.{AllByRecursion, list_all, before_first, after_first, position_or_len}
