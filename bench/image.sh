@@ -1,6 +1,6 @@
 #!/bin/sh
 # Loading and saving an image of 256 MiB beside copies of it, all between files in memory, and
-# formatting the largest geometry beside one fill of its room, by a C program in memory and by head
+# formatting the largest image beside one fill of its room, by a C program in memory and by head
 # into a file in memory. Prints five ratios, each of the least of ROUNDS rounds.
 set -eu
 cd "$(dirname "$0")/.."

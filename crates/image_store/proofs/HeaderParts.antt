@@ -28,7 +28,7 @@ begins bytes version = starts_with (λ a b. a == b) bytes (numbers_of_version ve
 pub version_begins : (bytes : List ℕ) (version : Version) → version_in bytes ≡ Some version → begins bytes version ≡ true
 version_begins bytes version e = found_passes (begins bytes) (One ∷ Two ∷ []) version e
 
--- numbers that pass the tests of a geometry are those of its shape
+-- numbers that pass the tests are those of their shape
 pub record ArePassed (told s : Shape) : Type 0 where
   pub same : told ≡ s
   pub known : IsShape told

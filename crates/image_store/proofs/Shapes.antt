@@ -1,4 +1,4 @@
--- The tests of a geometry, and what holds of each that is accepted.
+-- The tests of a namespace's numbers, and what holds of each shape that passes them.
 use Rattle.std.proofs.Common.{◌≡◌, ℕ, ◌*◌, ◌≤◌, true, Ok, refl, arith, lit≤}
 use Rattle.std.proofs.lemmas.Bool.{le-leb, leb-true, and_parts}
 use Rattle.std.proofs.lemmas.Bool.Decides.{nat_tests}
@@ -41,7 +41,7 @@ zone_room_is_bounded {s} known =
 in_range_true : (n most : ℕ) → 1 ≤ n → n ≤ most → is_in_range 1 most n ≡ true
 in_range_true n most low high = rw (le-leb 1 n low, le-leb n most high) refl
 
--- a shape passes the tests of a geometry
+-- a shape passes the tests
 pub shape_passes : (s : Shape) → IsShape s → tested s ≡ Ok s
 shape_passes s known =
     let zones = in_range_true s.zones MOST_ZONES known.zones_some known.zones_most in

@@ -77,7 +77,7 @@ FaultsAreByPrefix =
     → length bytes ≤ length other → take (fault_end bytes first) other ≡ take (fault_end bytes first) bytes
     → namespace_in other ≡ Err first
 
--- the tests of a geometry accept each shape that there is, and no other
+-- the tests of a namespace's numbers pass each shape that there is, and no other
 abbrev pub ShapesAreTested : Type 0
 ShapesAreTested = (s : Shape) → IsShape s ↔ (tested s ≡ Ok s)
 

@@ -83,7 +83,7 @@ all_empty s = namespace_with s (replicate s.zones (record { state = Empty; block
 abbrev pub shape : ZonedNamespace → Shape
 shape ns = record { block = ns.block; zones = length ns.zones; size = ns.size; capacity = ns.capacity; limits = ns.limits }
 
--- a written block, by its address
+-- a written block, by its LBA
 abbrev pub block_at : ZonedNamespace → ℕ → List ℕ
 block_at ns lba = let at = zone_block_at ns.size lba in get_or (zone_at ns at.zone).blocks at.offset []
 

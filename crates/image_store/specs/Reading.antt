@@ -50,11 +50,11 @@ shape_in bytes = shape_told (take HEADER_BYTES bytes)
 abbrev pub rows_end : List ℕ → ℕ
 rows_end bytes = HEADER_BYTES + (shape_in bytes).zones * ZONE_ROW_BYTES
 
--- the fault of a header whose numbers are none of a geometry
+-- the fault of a header whose numbers are those of no shape
 abbrev pub numbers_fault : GeometryRefusal → LoadFault
 numbers_fault refusal = fault.Header (header_fault.Numbers refusal)
 
--- what the tests of a geometry give, of the numbers of a header
+-- what the tests of a namespace's numbers give, of those of a header
 abbrev pub numbers_tested : Result Shape GeometryRefusal → Result Shape LoadFault
 numbers_tested = result_map_both (λ s. s) numbers_fault
 

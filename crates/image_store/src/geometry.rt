@@ -195,7 +195,7 @@ impl Geometry {
         u64::from(self.zones) * u64::from(self.size)
     }
 
-    /// A logical block as a block of its zone, or `None` for an address past the namespace's end.
+    /// A logical block as a block of its zone, or `None` for an LBA past the namespace's end.
     pub fn zone_block(self, lba: u64) -> Option<ZoneBlock>
         ensures value { result ≡ zone_block_of self lba }
         ensures inside { IfSome result (λ block. block.zone < self.zones) }

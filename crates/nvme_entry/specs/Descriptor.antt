@@ -15,11 +15,11 @@ has_write_pointer Full = false
 has_write_pointer Offline = false
 has_write_pointer _ = true
 
--- the write pointer of a zone with this lowest address; all bits are set where it has none (profile)
+-- the write pointer of a zone with this lowest LBA; all bits are set where it has none (profile)
 abbrev pub pointer_told : CountedZone → ℕ → ℕ
 pointer_told zone lowest = if has_write_pointer zone.state then lowest + zone.written else 0xFFFF_FFFF_FFFF_FFFF
 
--- what is told of a zone with this lowest address
+-- what is told of a zone with this lowest LBA
 abbrev pub described : CountedZone → ℕ → ZoneDescriptor
 described zone lowest = record { state = zone.state; capacity = zone.capacity; lowest = lowest; write_pointer = pointer_told zone lowest }
 
@@ -28,7 +28,7 @@ described zone lowest = record { state = zone.state; capacity = zone.capacity; l
 abbrev pub type_and_state : ZoneState → ℕ
 type_and_state state = 0x02 + code_of state * 2 ^ 12
 
--- the 64 bytes of a descriptor: behind the first 8 the zone's capacity, its lowest address and its write pointer, in 8 bytes
+-- the 64 bytes of a descriptor: behind the first 8 the zone's capacity, its lowest LBA and its write pointer, in 8 bytes
 -- each; those from 32 on are reserved
 abbrev pub descriptor_bytes : ZoneDescriptor → List ℕ
 descriptor_bytes d = flat_map (little_bytes 8) (type_and_state d.state ∷ d.capacity ∷ d.lowest ∷ d.write_pointer ∷ 0 ∷ 0 ∷ 0 ∷ 0 ∷ [])

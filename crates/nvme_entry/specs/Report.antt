@@ -11,11 +11,11 @@ use Rattle.nvme_entry.specs.declared.descriptor.TheConstants.{DESCRIPTOR_BYTES}
 use Rattle.nvme_entry.specs.declared.filter.ZoneFilter.{ZoneFilter}
 use Rattle.nvme_entry.specs.declared.report.TheConstants.{REPORT_HEADER_BYTES}
 
--- the Zone Descriptor of a zone with this lowest address, of 64 bytes
+-- the Zone Descriptor of a zone with this lowest LBA, of 64 bytes
 unfoldable pub descriptor : CountedZone → ℕ → List ℕ
 descriptor zone lowest = descriptor_bytes (described zone lowest)
 
--- the descriptor of a zone with its number, where each zone has so many addresses
+-- the descriptor of a zone with its number, where each zone has so many blocks
 abbrev pub descriptor_at : ℕ → ℕ × CountedZone → List ℕ
 descriptor_at size zone = descriptor zone.1 (zone.0 * size)
 

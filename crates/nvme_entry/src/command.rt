@@ -229,7 +229,7 @@ pub enum StandardCommand {
         /// How many are read.
         blocks: BlockCount,
     },
-    /// Takes an action on the zone whose lowest address is `lba`, or on all zones that Select All
+    /// Takes an action on the zone whose lowest LBA is `lba`, or on all zones that Select All
     /// takes (ZNS 1.1, 3.4.3).
     Send {
         /// The lowest block of the zone; ignored with Select All.
@@ -251,7 +251,7 @@ pub enum StandardCommand {
         /// Are only the zones told whose descriptors are given?
         partial: bool,
     },
-    /// Writes blocks at the write pointer of the zone whose lowest address is `lba`
+    /// Writes blocks at the write pointer of the zone whose lowest LBA is `lba`
     /// (ZNS 1.1, 3.4.1).
     Append {
         /// The lowest block of the zone.

@@ -77,7 +77,7 @@ impl ZoneDescriptor {
     }
 }
 
-/// The write pointer of a zone with this lowest address, where it has one.
+/// The write pointer of a zone with this lowest LBA, where it has one.
 fn write_pointer(zone: Zone, lowest: u64) -> u64
     requires { lowest + 2 ^ 32 ≤ 2 ^ 64 }
     ensures { result ≡ pointer_told zone lowest }

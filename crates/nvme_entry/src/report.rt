@@ -113,15 +113,15 @@ fn list(zones: &[Zone], first: u32, size: u32, filter: ZoneFilter, output: &mut 
             continue;
         }
         found += 1;
-        let lowest = lowest_address(u64::from(first) + index as u64, size);
+        let lowest = lowest_lba(u64::from(first) + index as u64, size);
         at = put_descriptor(output, at, *zone, lowest);
     }
     output[at..].fill(0);
     found
 }
 
-/// The lowest address of the zone with this number.
-fn lowest_address(number: u64, size: u32) -> u64
+/// The lowest LBA of the zone with this number.
+fn lowest_lba(number: u64, size: u32) -> u64
     requires { number < 2 ^ 32 }
     ensures value { result ≡ number * size }
     ensures room { result + 2 ^ 32 ≤ 2 ^ 64 }
