@@ -1,7 +1,7 @@
 -- What is saved of an image that was loaded.
 use Rattle.std.proofs.Common.{◌≡◌, ℕ, List, Result, Ok, ap, subst}
 use Rattle.image_store.specs.declared.fault.LoadFault.{LoadFault}
-use Rattle.image_store.specs.Laws.{UpgradedStandsForTheSame, UpgradingTwiceIsOnce}
+use Rattle.image_store.specs.Laws.{UpgradedStandsForTheSame, UpgradingTwiceIsOnce, upgraded}
 use Rattle.image_store.specs.Namespace.{ZonedNamespace}
 use Rattle.program_interface.specs.Readings.{◌>>=◌}
 use Rattle.image_store.specs.Reading.{namespace_in}
@@ -18,6 +18,6 @@ twice_is_once bytes new fit e =
     let a = bind_ok (namespace_in bytes) (λ ns. Ok (text ns)) new e in
     let same = ok_is (text a.0) new a.2 in
     let again : namespace_in (text a.0) ≡ Ok a.0 = upgraded_is_same bytes a.0 fit a.1 in
-    let saved : (namespace_in (text a.0) >>= λ ns. let r : Result (List ℕ) LoadFault = Ok (text ns) in r) ≡ Ok (text a.0) =
+    let saved : upgraded (text a.0) ≡ Ok (text a.0) =
     ap (λ (r : Result ZonedNamespace LoadFault). r >>= λ ns. let r : Result (List ℕ) LoadFault = Ok (text ns) in r) again in
-    subst (λ (xs : List ℕ). (namespace_in xs >>= λ ns. let r : Result (List ℕ) LoadFault = Ok (text ns) in r) ≡ Ok xs) same saved
+    subst (λ (xs : List ℕ). upgraded xs ≡ Ok xs) same saved
