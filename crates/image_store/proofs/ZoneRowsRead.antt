@@ -8,20 +8,23 @@ use Rattle.program_interface.specs.Readings.{◌>>=◌, with_front}
 use Rattle.program_interface.proofs.Proved.{with_front-more}
 use Rattle.image_store.specs.Reading.{zone_in, zones_in}
 
+-- what the rows from one on tell, by what that row tells
+next_row : (front : List CountedZone) (capacity count i : ℕ) (bytes : List ℕ) (row : Result CountedZone LoadFault) → i < count → zone_in i capacity (take 8 bytes) ≡ row
+    → with_front front (zones_in i capacity (count - i) bytes) ≡ with_front front (row >>= λ first. zones_in (i + 1) capacity (count - (i + 1)) (drop 8 bytes) >>= λ zs. Ok (first ∷ zs))
+next_row front capacity count i bytes row lt h =
+    let k : count - i ≡ suc (count - (i + 1)) = omega arith in
+    ap (λ (n : ℕ). with_front front (zones_in i capacity n bytes)) k
+    ∙ ap (λ r. with_front front (r >>= λ first. zones_in (i + 1) capacity (count - (i + 1)) (drop 8 bytes) >>= λ zs. Ok (first ∷ zs))) h
+
 pub goes_on : (front : List CountedZone) (capacity count i : ℕ) (bytes : List ℕ) (z : CountedZone) (total : Result (List CountedZone) LoadFault) → i < count → zone_in i capacity (take 8 bytes) ≡ Ok z
     → with_front front (zones_in i capacity (count - i) bytes) ≡ total → with_front (front ++ z ∷ []) (zones_in (i + 1) capacity (count - (i + 1)) (drop 8 bytes)) ≡ total
 goes_on front capacity count i bytes z total lt h so_far =
-    let k : count - i ≡ suc (count - (i + 1)) = omega arith in
     sym (with_front-more front (z ∷ []) (zones_in (i + 1) capacity (count - (i + 1)) (drop 8 bytes)))
-    ∙ (sym (ap (λ (n : ℕ). with_front front (zones_in i capacity n bytes)) k ∙ ap (λ r. with_front front (r >>= λ first. zones_in (i + 1) capacity (count - (i + 1)) (drop 8 bytes) >>= λ zs. Ok (first ∷ zs))) h)
-    ∙ so_far)
+    ∙ (sym (next_row front capacity count i bytes (Ok z) lt h) ∙ so_far)
 
 pub stops : (front : List CountedZone) (capacity count i : ℕ) (bytes : List ℕ) (fault : LoadFault) (total : Result (List CountedZone) LoadFault) → i < count → zone_in i capacity (take 8 bytes) ≡ Err fault
     → with_front front (zones_in i capacity (count - i) bytes) ≡ total → total ≡ Err fault
-stops front capacity count i bytes fault total lt h so_far =
-    let k : count - i ≡ suc (count - (i + 1)) = omega arith in
-    sym so_far
-    ∙ (ap (λ (n : ℕ). with_front front (zones_in i capacity n bytes)) k ∙ ap (λ r. with_front front (r >>= λ first. zones_in (i + 1) capacity (count - (i + 1)) (drop 8 bytes) >>= λ zs. Ok (first ∷ zs))) h)
+stops front capacity count i bytes fault total lt h so_far = sym so_far ∙ next_row front capacity count i bytes (Err fault) lt h
 
 -- a fault that reading gives is one of a call that may want memory
 pub fails_free : {Y : Type 0} (fault : LoadFault) (reading : Result Y LoadFault) → reading ≡ Err fault → LoadFails (Unit {0}) fault reading
