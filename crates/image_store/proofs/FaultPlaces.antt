@@ -39,12 +39,16 @@ use Rattle.image_store.proofs.RowFaults.{IsFirstBad, first_bad}
 abbrev IsOfEnd : LoadFault → Type 0
 IsOfEnd fault = fault ≢ Truncated → fault ≢ Trailing → ⊥
 
+-- the bytes of the blocks of one zone more
+pub blocks_more : (block : ℕ) (z : CountedZone) (zs : List CountedZone) → written_blocks (z ∷ zs) * block ≡ z.written * block + written_blocks zs * block
+blocks_more block z zs = ap (λ (count : ℕ). count * block) (sum_by-cons (λ (zone : CountedZone). zone.written) z zs) ∙ add-mul z.written (written_blocks zs) block
+
 -- blocks that aren't all there
 pub blocks_short : (block : ℕ) (zs : List CountedZone) (bytes : List ℕ) (fault : LoadFault) → blocks_in block zs bytes ≡ Err fault → (Truncated ≡ fault) × (length bytes < written_blocks zs * block)
 blocks_short block [] bytes fault e = absurd cc
 blocks_short block (z ∷ zs) bytes fault e =
     let n = z.written * block in
-    let sum : written_blocks (z ∷ zs) * block ≡ n + written_blocks zs * block = ap (λ (count : ℕ). count * block) (sum_by-cons (λ (zone : CountedZone). zone.written) z zs) ∙ add-mul z.written (written_blocks zs) block in
+    let sum : written_blocks (z ∷ zs) * block ≡ n + written_blocks zs * block = blocks_more block z zs in
     bind_fails (λ f. (Truncated ≡ f) × (length bytes < written_blocks (z ∷ zs) * block)) (bytes_in n bytes) (λ front. blocks_in block zs front.1 >>= λ rest. Ok (zone_seen block z front.0 ∷ rest.0, rest.1)) fault e
     (λ first short.
     let p = wrong (nat_le n (length bytes)) (take n bytes, drop n bytes) Truncated first short in

@@ -1,10 +1,8 @@
 -- The fault that a text is refused with is its first.
 use Rattle.std.proofs.Common.{◌≡◌, ℕ, ◌+◌, ◌*◌, ◌<◌, ◌≤◌, ◌==◌, nat_le, true, false, List, [], ◌∷◌, length, take, drop, get_or, Option, Some, None, Ok, Err, refl, ap, sym, subst, ◌∙◌, arith, inl, inr, length-drop, pos_of_ne-zero}
 use Rattle.std.specs.Prelude.{◌&&◌, IfSome}
-use Rattle.std.proofs.Math.Nat.{add-mul}
 use Rattle.std.proofs.lemmas.Bool.{eqb-false, eqb-true, leb-true, le-leb}
 use Rattle.std.proofs.lemmas.Bool.Decides.{leb_tells}
-use Rattle.std.proofs.lemmas.List.Sums.{sum_by-cons}
 use Rattle.zone_state.specs.Zone.{CountedZone}
 use Rattle.zone_resources.specs.declared.admission.Limits.{Limits as ResourceLimits}
 use Rattle.zone_resources.specs.Admission.{IsWithin}
@@ -19,7 +17,7 @@ use Rattle.image_store.specs.ImageInMemory.{no_counted_zone, zone_seen}
 use Rattle.image_store.specs.Namespace.{ZoneWithBlocks, ZonedNamespace, namespace_with}
 use Rattle.image_store.specs.Reading.{rows_end, shape_in, total_told, bytes_in, header_told, zones_in, total_kept, limits_kept, blocks_in, end_in}
 use Rattle.image_store.specs.Text.{written_blocks}
-use Rattle.image_store.proofs.FaultPlaces.{blocks_short, short_rows, short_text, whole_rows, whole_text}
+use Rattle.image_store.proofs.FaultPlaces.{blocks_more, blocks_short, short_rows, short_text, whole_rows, whole_text}
 use Rattle.image_store.proofs.FilledBuffers.{Split}
 use Rattle.image_store.proofs.LoadedNamespaces.{kept_within}
 use Rattle.image_store.proofs.LoadStages.{after_blocks, after_header, after_limits, after_rows, after_total}
@@ -35,7 +33,7 @@ blocks_there : (block : ℕ) (zs : List CountedZone) (bytes : List ℕ) (got : L
 blocks_there block [] bytes got e = let same : length bytes ≡ length got.1 = ap (λ (g : List ZoneWithBlocks × List ℕ). length g.1) (ok_is ([], bytes) got e) in omega (arith, same)
 blocks_there block (z ∷ zs) bytes got e =
     let n = z.written * block in
-    let sum : written_blocks (z ∷ zs) * block ≡ n + written_blocks zs * block = ap (λ (count : ℕ). count * block) (sum_by-cons (λ (zone : CountedZone). zone.written) z zs) ∙ add-mul z.written (written_blocks zs) block in
+    let sum : written_blocks (z ∷ zs) * block ≡ n + written_blocks zs * block = blocks_more block z zs in
     let a = bind_ok (bytes_in n bytes) (λ front. blocks_in block zs front.1 >>= λ rest. Ok (zone_seen block z front.0 ∷ rest.0, rest.1)) got e in
     let p = chosen (nat_le n (length bytes)) (take n bytes, drop n bytes) a.0 Truncated a.1 in
     let whole = leb-true n (length bytes) p.0 in
