@@ -42,6 +42,12 @@ counted_at s zs xs z flat inside =
     ap (counted s.capacity) (zone-at s.block s.capacity zs xs z inside)
     ∙ counted_seen s.block s.capacity (get_or zs z no_counted_zone) (drop (z * (s.capacity * s.block)) xs) (flat.capacities z inside)
 
+-- a zone of the namespace has as many blocks as the image counts
+pub blocks_seen : (s : Shape) (zs : List CountedZone) (xs : List ℕ) (z : ℕ) → z < length zs → length (zone_at (namespace_of s zs xs) z).blocks ≡ (get_or zs z no_counted_zone).written
+blocks_seen s zs xs z inside =
+    ap (λ (zone : ZoneWithBlocks). length zone.blocks) (zone-at s.block s.capacity zs xs z inside)
+    ∙ blocks_are_counted s.block (get_or zs z no_counted_zone).written (drop (z * (s.capacity * s.block)) xs)
+
 -- the blocks to be written have room in the zone's room
 pub has_room : (s : Shape) (zs : List CountedZone) (xs : List ℕ) (z : ℕ) (new : List ℕ) → IsFlat s zs xs → z < length zs
     → length new ≡ block_count s.block new * s.block → write_check (get_or zs z no_counted_zone) (get_or zs z no_counted_zone).written (block_count s.block new) ≡ Ok tt
@@ -145,8 +151,7 @@ part_seen s zs xs z first count inside written =
 pub written_seen : (s : Shape) (zs : List CountedZone) (xs : List ℕ) (z most : ℕ) (ns : ZonedNamespace) → namespace_of s zs xs ≡ ns → z < length zs → most ≤ length (zone_at ns z).blocks → most ≤ (get_or zs z no_counted_zone).written
 written_seen s zs xs z most ns seen inside h =
     let same = ap (λ (m : ZonedNamespace). length (zone_at m z).blocks) seen in
-    let count = ap (λ (zone : ZoneWithBlocks). length zone.blocks) (zone-at s.block s.capacity zs xs z inside) in
-    omega (arith, blocks_are_counted s.block (get_or zs z no_counted_zone).written (drop (z * (s.capacity * s.block)) xs))
+    omega (arith, blocks_seen s zs xs z inside)
 
 pub shape_seen : (s : Shape) (zs : List CountedZone) (xs : List ℕ) (ns : ZonedNamespace) → namespace_of s zs xs ≡ ns → IsFlat s zs xs → s ≡ shape ns
 shape_seen s zs xs ns seen flat =

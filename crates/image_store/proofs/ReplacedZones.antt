@@ -15,9 +15,8 @@ use Rattle.image_store.specs.ImageInMemory.{zone_seen, no_counted_zone, namespac
 use Rattle.program_interface.specs.Bytes.{pieces, spliced}
 use Rattle.image_store.specs.Geometry.{Shape}
 use Rattle.image_store.specs.Namespace.{ZoneWithBlocks, ZonedNamespace, zone_at, with_zone, arrived, with_state, namespace_with}
-use Rattle.image_store.proofs.BlocksOfBytes.{blocks_are_counted}
 use Rattle.image_store.proofs.ZonesInMemory.{zone-at, zones-set}
-use Rattle.image_store.proofs.ImageFields.{write_fits}
+use Rattle.image_store.proofs.ImageFields.{blocks_seen, write_fits}
 
 pub zone_set : (s : Shape) (zs : List CountedZone) (xs : List ℕ) (z : ℕ) (r : CountedZone)
     → namespace_of s (set zs z r) xs ≡ with_zone (namespace_of s zs xs) z (zone_seen s.block r (drop (z * (s.capacity * s.block)) xs))
@@ -93,7 +92,5 @@ flat_append s zs xs z new flat inside some whole allowed =
 pub fits_seen : (s : Shape) (zs : List CountedZone) (xs : List ℕ) (z : ℕ) (ns : ZonedNamespace) (to : ZoneState) → namespace_of s zs xs ≡ ns → z < length zs
     → IsZone to (kept to (length (zone_at ns z).blocks)) ns.capacity → IsZone to (kept to (get_or zs z no_counted_zone).written) s.capacity
 fits_seen s zs xs z ns to seen inside h =
-    let count = ap (λ (zone : ZoneWithBlocks). length zone.blocks) (zone-at s.block s.capacity zs xs z inside)
-    ∙ blocks_are_counted s.block (get_or zs z no_counted_zone).written (drop (z * (s.capacity * s.block)) xs) in
-    subst (λ (n : ℕ). IsZone to (kept to n) s.capacity) count
+    subst (λ (n : ℕ). IsZone to (kept to n) s.capacity) (blocks_seen s zs xs z inside)
     (subst (λ (m : ZonedNamespace). IsZone to (kept to (length (zone_at m z).blocks)) m.capacity) (sym seen) h)

@@ -13,7 +13,7 @@ use Rattle.image_store.proofs.BlocksAreBytes.{zones_are_bytes}
 use Rattle.image_store.proofs.KeptLimits.{within_seen}
 use Rattle.image_store.proofs.BlocksOfBytes.{blocks_are_counted, drop-next}
 use Rattle.image_store.proofs.ZonesInMemory.{length-zones, zone-at}
-use Rattle.image_store.proofs.ImageFields.{room_end, within, shape_seen}
+use Rattle.image_store.proofs.ImageFields.{blocks_seen, room_end, within, shape_seen}
 
 -- a block is the part of the bytes at its place,
 pub blocks_are_parts : (b n i : ℕ) (xs : List ℕ) → i < n → get_or (pieces b n xs) i [] ≡ take b (drop (i * b) xs)
@@ -62,8 +62,7 @@ image_sound s zs counts xs image =
       whole = λ z i h.
           let there : z < length (namespace_of s zs xs).zones = blocks_lie_in_zones (namespace_of s zs xs).zones z i h in
           let inside : z < length zs = omega (arith, length-zones s.block s.capacity zs xs) in
-          let count = ap (λ (zone : ZoneWithBlocks). length zone.blocks) (zone-at s.block s.capacity zs xs z inside) in
-          let written : i < (get_or zs z no_counted_zone).written = omega (arith, blocks_are_counted s.block (get_or zs z no_counted_zone).written (drop (z * (s.capacity * s.block)) xs)) in
+          let written : i < (get_or zs z no_counted_zone).written = omega (arith, blocks_seen s zs xs z inside) in
           zone_block_whole s zs xs z i flat inside written;
       within = within_seen s zs xs flat image.within;
       bytes = zones_are_bytes s.block s.capacity zs xs image.are_bytes;
