@@ -33,7 +33,7 @@ use Rattle.image_store.proofs.LoadStages.{HaveFit, after_header, after_rows, aft
 use Rattle.image_store.proofs.BlocksOfBytes.{blocks_keep_bytes}
 use Rattle.image_store.proofs.Shapes.{resized}
 use Rattle.image_store.proofs.SpelledParts.{zeros_spelled, header_spelled}
-use Rattle.image_store.proofs.ToldRows.{row_right}
+use Rattle.image_store.proofs.ToldRows.{row_read, row_right}
 
 -- a header that is read stands in front
 pub record IsHeaded (bytes : List ℕ) (told : Header) (rest : List ℕ) : Type 0 where
@@ -102,16 +102,14 @@ zones_only zone capacity zero xs zs size fit e =
     let same : [] ≡ zs = ok_is [] zs e in
     subst (λ (read : List CountedZone). zone_rows read ≡ xs) same (sym none)
 zones_only zone capacity (suc n) xs zs size fit e =
-    let a = bind_ok (zone_in zone capacity (take 8 xs)) (λ z. zones_in (zone + 1) capacity n (drop 8 xs) >>= λ more. Ok (z ∷ more)) zs e in
-    let b = bind_ok (zones_in (zone + 1) capacity n (drop 8 xs)) (λ more. Ok (a.0 ∷ more)) zs a.2 in
+    let r = row_read zone capacity n xs zs e in
     let parts = take-append-drop 8 xs in
     let all = subst AreBytes (sym parts) fit in
     let long : 8 ≤ length xs = omega (arith, suc-mul n 8) in
-    let first = row_only zone capacity (take 8 xs) a.0 (length-take-le 8 xs long) (front_fit (take 8 xs) (drop 8 xs) all) a.1 in
-    let more = zones_only (zone + 1) capacity n (drop 8 xs) b.0 (omega (arith, length-drop 8 xs, suc-mul n 8)) (rest_fit (take 8 xs) (drop 8 xs) all) b.1 in
-    let same : a.0 ∷ b.0 ≡ zs = ok_is (a.0 ∷ b.0) zs b.2 in
-    subst (λ (read : List CountedZone). zone_rows read ≡ xs) same
-    (ap (λ (front : List ℕ). front ++ zone_rows b.0) first ∙ (ap (λ (rest : List ℕ). take 8 xs ++ rest) more ∙ parts))
+    let first = row_only zone capacity (take 8 xs) r.first (length-take-le 8 xs long) (front_fit (take 8 xs) (drop 8 xs) all) r.told in
+    let more = zones_only (zone + 1) capacity n (drop 8 xs) r.later (omega (arith, length-drop 8 xs, suc-mul n 8)) (rest_fit (take 8 xs) (drop 8 xs) all) r.more in
+    subst (λ (read : List CountedZone). zone_rows read ≡ xs) r.are
+    (ap (λ (front : List ℕ). front ++ zone_rows r.later) first ∙ (ap (λ (rest : List ℕ). take 8 xs ++ rest) more ∙ parts))
 
 -- blocks that are read are spelled so
 pub record AreWritten (capacity : ℕ) (zs : List CountedZone) (xs : List ℕ) (got : List ZoneWithBlocks × List ℕ) : Type 0 where

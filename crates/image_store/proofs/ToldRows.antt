@@ -76,6 +76,20 @@ tell_more capacity rows z zs first later zero h = first
 tell_more capacity rows z zs first later (suc k) h =
     subst (λ (row : List ℕ). TellsZone capacity row (get_or zs k no_counted_zone)) (next_part rows k) (later k (omega arith))
 
+-- the zone of the first row, and those of the rows behind it
+pub record ReadsRow (zone capacity n : ℕ) (rows : List ℕ) (zs : List CountedZone) : Type 0 where
+  pub first : CountedZone
+  pub told : zone_in zone capacity (take 8 rows) ≡ Ok first
+  pub later : List CountedZone
+  pub more : zones_in (zone + 1) capacity n (drop 8 rows) ≡ Ok later
+  pub are : first ∷ later ≡ zs
+
+pub row_read : (zone capacity n : ℕ) (rows : List ℕ) (zs : List CountedZone) → zones_in zone capacity (suc n) rows ≡ Ok zs → ReadsRow zone capacity n rows zs
+row_read zone capacity n rows zs e =
+    let a = bind_ok (zone_in zone capacity (take 8 rows)) (λ z. zones_in (zone + 1) capacity n (drop 8 rows) >>= λ more. Ok (z ∷ more)) zs e in
+    let b = bind_ok (zones_in (zone + 1) capacity n (drop 8 rows)) (λ more. Ok (a.0 ∷ more)) zs a.2 in
+    record { first = a.0; told = a.1; later = b.0; more = b.1; are = ok_is (a.0 ∷ b.0) zs b.2 }
+
 pub record AreTold (capacity n : ℕ) (rows : List ℕ) (zs : List CountedZone) : Type 0 where
   pub count : length zs ≡ n
   pub each : Tell capacity rows zs
@@ -83,8 +97,7 @@ pub record AreTold (capacity n : ℕ) (rows : List ℕ) (zs : List CountedZone) 
 pub are_told : (zone capacity n : ℕ) (rows : List ℕ) (zs : List CountedZone) → zones_in zone capacity n rows ≡ Ok zs → AreTold capacity n rows zs
 are_told zone capacity zero rows zs e = subst (AreTold capacity 0 rows) (ok_is [] zs e) (record { count = refl; each = λ k h. absurd (omega arith) })
 are_told zone capacity (suc n) rows zs e =
-    let a = bind_ok (zone_in zone capacity (take 8 rows)) (λ z. zones_in (zone + 1) capacity n (drop 8 rows) >>= λ more. Ok (z ∷ more)) zs e in
-    let b = bind_ok (zones_in (zone + 1) capacity n (drop 8 rows)) (λ more. Ok (a.0 ∷ more)) zs a.2 in
-    let more = are_told (zone + 1) capacity n (drop 8 rows) b.0 b.1 in
-    subst (AreTold capacity (suc n) rows) (ok_is (a.0 ∷ b.0) zs b.2)
-    (record { count = ap suc more.count; each = tell_more capacity rows a.0 b.0 (row_right zone capacity (take 8 rows) a.0 a.1) more.each })
+    let r = row_read zone capacity n rows zs e in
+    let more = are_told (zone + 1) capacity n (drop 8 rows) r.later r.more in
+    subst (AreTold capacity (suc n) rows) r.are
+    (record { count = ap suc more.count; each = tell_more capacity rows r.first r.later (row_right zone capacity (take 8 rows) r.first r.told) more.each })
