@@ -24,6 +24,20 @@ Zones = List ZoneWithBlocks × List ℕ
 abbrev pub with_zones : List ZoneWithBlocks → Result Zones LoadFault → Result Zones LoadFault
 with_zones front read = read >>= λ x. Ok (front ++ x.0, x.1)
 
+-- the bytes of the first zone's blocks, and what was read behind them
+pub record ReadsZone (b : ℕ) (z : CountedZone) (zs : List CountedZone) (xs : List ℕ) (got : Zones) : Type 0 where
+  pub front : Split
+  pub first : bytes_in (z.written * b) xs ≡ Ok front
+  pub later : Zones
+  pub more : blocks_in b zs front.1 ≡ Ok later
+  pub are : (zone_seen b z front.0 ∷ later.0, later.1) ≡ got
+
+pub zone_read : (b : ℕ) (z : CountedZone) (zs : List CountedZone) (xs : List ℕ) (got : Zones) → blocks_in b (z ∷ zs) xs ≡ Ok got → ReadsZone b z zs xs got
+zone_read b z zs xs got e =
+    let a = bind_ok (bytes_in (z.written * b) xs) (λ front. blocks_in b zs front.1 >>= λ rest. Ok (zone_seen b z front.0 ∷ rest.0, rest.1)) got e in
+    let c = bind_ok (blocks_in b zs a.0.1) (λ rest. Ok (zone_seen b z a.0.0 ∷ rest.0, rest.1)) got a.2 in
+    record { front = a.0; first = a.1; later = c.0; more = c.1; are = ok_is (zone_seen b z a.0.0 ∷ c.0.0, c.0.1) got c.2 }
+
 -- zones depend on the bytes of their rooms alone
 zones-same : (b c : ℕ) (zs : List CountedZone) (xs ys : List ℕ) → ((z : ℕ) → z < length zs → (get_or zs z no_counted_zone).written ≤ c)
     → take (length zs * (c * b)) xs ≡ take (length zs * (c * b)) ys → zones_of b c zs xs ≡ zones_of b c zs ys

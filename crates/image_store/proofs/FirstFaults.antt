@@ -1,7 +1,7 @@
 -- The fault that a text is refused with is its first.
-use Rattle.std.proofs.Common.{◌≡◌, ℕ, ◌+◌, ◌*◌, ◌<◌, ◌≤◌, ◌==◌, nat_le, true, false, List, [], ◌∷◌, length, take, drop, get_or, Option, Some, None, Ok, Err, refl, ap, sym, subst, ◌∙◌, arith, inl, inr, length-drop, pos_of_ne-zero}
+use Rattle.std.proofs.Common.{◌≡◌, ℕ, ◌+◌, ◌*◌, ◌<◌, ◌≤◌, ◌==◌, nat_le, true, false, List, [], ◌∷◌, length, take, drop, get_or, Option, Some, None, Ok, Err, refl, ap, sym, subst, ◌∙◌, arith, inl, inr, length-append, length-drop, pos_of_ne-zero}
 use Rattle.std.specs.Prelude.{◌&&◌, IfSome}
-use Rattle.std.proofs.lemmas.Bool.{eqb-false, eqb-true, leb-true, le-leb}
+use Rattle.std.proofs.lemmas.Bool.{eqb-false, eqb-true, le-leb}
 use Rattle.std.proofs.lemmas.Bool.Decides.{leb_tells}
 use Rattle.zone_state.specs.Zone.{CountedZone}
 use Rattle.zone_resources.specs.declared.admission.Limits.{Limits as ResourceLimits}
@@ -10,18 +10,18 @@ use Rattle.zone_resources.specs.Counts.{open_count, active_count}
 use Rattle.image_store.specs.declared.fault.LoadFault.{LoadFault}
 use Rattle.image_store.specs.declared.fault.LoadFault.TheVariants.{Truncated, ZoneRow, Total, Limits, Trailing}
 use Rattle.image_store.specs.declared.header.Header.{Header}
-use Rattle.program_interface.specs.Readings.{◌>>=◌}
 use Rattle.image_store.specs.FirstFault.{FaultIsFirst, HasRows, IsFirstFault, IsRowFault, TellsAllZones, TellsTotal, TellsZone, TellsZones, blocks_end, row_at}
 use Rattle.image_store.specs.Geometry.{Shape}
-use Rattle.image_store.specs.ImageInMemory.{no_counted_zone, zone_seen}
+use Rattle.image_store.specs.ImageInMemory.{no_counted_zone}
 use Rattle.image_store.specs.Namespace.{ZoneWithBlocks, ZonedNamespace, namespace_with}
-use Rattle.image_store.specs.Reading.{rows_end, shape_in, total_told, bytes_in, header_told, zones_in, total_kept, limits_kept, blocks_in, end_in}
+use Rattle.image_store.specs.Reading.{rows_end, shape_in, total_told, header_told, zones_in, total_kept, limits_kept, blocks_in, end_in}
 use Rattle.image_store.specs.Text.{written_blocks}
+use Rattle.image_store.proofs.BlocksRead.{zone_read}
 use Rattle.image_store.proofs.FaultPlaces.{blocks_more, blocks_short, short_rows, short_text, whole_rows, whole_text}
-use Rattle.image_store.proofs.FilledBuffers.{Split}
+use Rattle.image_store.proofs.FilledBuffers.{bytes_parts, bytes_size}
 use Rattle.image_store.proofs.LoadedNamespaces.{kept_within}
 use Rattle.image_store.proofs.LoadStages.{after_blocks, after_header, after_limits, after_rows, after_total}
-use Rattle.image_store.proofs.ReadingCalls.{bind_fails, bind_ok, chosen, is_this, ok_is, wrong}
+use Rattle.image_store.proofs.ReadingCalls.{bind_fails, chosen, is_this, ok_is, wrong}
 use Rattle.image_store.proofs.HeaderFaults.{IsReadHeader, header_first, header_is_read}
 use Rattle.image_store.proofs.RowFaults.{first_bad, row_of_text}
 use Rattle.image_store.proofs.ToldRows.{Tell, are_told}
@@ -34,14 +34,12 @@ blocks_there block [] bytes got e = let same : length bytes ≡ length got.1 = a
 blocks_there block (z ∷ zs) bytes got e =
     let n = z.written * block in
     let sum : written_blocks (z ∷ zs) * block ≡ n + written_blocks zs * block = blocks_more block z zs in
-    let a = bind_ok (bytes_in n bytes) (λ front. blocks_in block zs front.1 >>= λ rest. Ok (zone_seen block z front.0 ∷ rest.0, rest.1)) got e in
-    let p = chosen (nat_le n (length bytes)) (take n bytes, drop n bytes) a.0 Truncated a.1 in
-    let whole = leb-true n (length bytes) p.0 in
-    let b = bind_ok (blocks_in block zs a.0.1) (λ rest. Ok (zone_seen block z a.0.0 ∷ rest.0, rest.1)) got a.2 in
-    let later = blocks_there block zs a.0.1 b.0 b.1 in
-    let size : length (drop n bytes) ≡ length a.0.1 = ap (λ (f : Split). length f.1) p.1 in
-    let end : length b.0.1 ≡ length got.1 = ap (λ (g : List ZoneWithBlocks × List ℕ). length g.1) (ok_is (zone_seen block z a.0.0 ∷ b.0.0, b.0.1) got b.2) in
-    omega (arith, sum, whole, later, size, end, length-drop n bytes)
+    let r = zone_read block z zs bytes got e in
+    let size = bytes_size n bytes r.front r.first in
+    let parts = ap length (bytes_parts n bytes r.front r.first) in
+    let later = blocks_there block zs r.front.1 r.later r.more in
+    let end : length r.later.1 ≡ length got.1 = ap (λ (g : List ZoneWithBlocks × List ℕ). length g.1) r.are in
+    omega (arith, sum, size, parts, length-append r.front.0 r.front.1, later, end)
 
 -- ---- behind the header
 

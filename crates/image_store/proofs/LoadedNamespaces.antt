@@ -13,15 +13,15 @@ use Rattle.image_store.specs.ImageInMemory.{no_counted_zone, zone_seen}
 use Rattle.image_store.specs.Geometry.{Shape, IsShape}
 use Rattle.image_store.specs.Laws.{LoadedTextsAreNamespaces}
 use Rattle.image_store.specs.Namespace.{ZoneWithBlocks, no_zone, counted, IsNamespace, namespace_with}
-use Rattle.program_interface.specs.Readings.{◌>>=◌}
-use Rattle.image_store.specs.Reading.{bytes_in, limits_kept, blocks_in}
-use Rattle.image_store.proofs.ReadingCalls.{bind_ok, ok_is, chosen}
+use Rattle.image_store.specs.Reading.{limits_kept, blocks_in}
+use Rattle.image_store.proofs.ReadingCalls.{ok_is, chosen}
 use Rattle.program_interface.proofs.Proved.{front_fit, rest_fit}
 use Rattle.image_store.proofs.BlocksAreBytes.{blocks_are_bytes}
 use Rattle.image_store.proofs.FilledBuffers.{bytes_parts, bytes_size}
 use Rattle.image_store.proofs.LoadStages.{HaveFit}
 use Rattle.image_store.proofs.OnlyTextsLoad.{size_read, text_parts}
 use Rattle.image_store.proofs.BlocksOfBytes.{blocks_are_counted}
+use Rattle.image_store.proofs.BlocksRead.{zone_read}
 use Rattle.image_store.proofs.Shapes.{resized}
 use Rattle.image_store.proofs.SoundImages.{blocks_are_whole}
 
@@ -48,15 +48,15 @@ blocks_whole b [] xs got fit e =
     subst (λ (x : List ZoneWithBlocks × List ℕ). AreWhole b x.0) (ok_is ([], xs) got e)
     (record { whole = λ z i h. absurd (omega arith); bytes = λ z i k. omega arith })
 blocks_whole b (z ∷ zs) xs got fit e =
-    let a = bind_ok (bytes_in (z.written * b) xs) (λ front. blocks_in b zs front.1 >>= λ rest. Ok (zone_seen b z front.0 ∷ rest.0, rest.1)) got e in
-    let c = bind_ok (blocks_in b zs a.0.1) (λ rest. Ok (zone_seen b z a.0.0 ∷ rest.0, rest.1)) got a.2 in
-    let size = bytes_size (z.written * b) xs a.0 a.1 in
-    let all = subst AreBytes (sym (bytes_parts (z.written * b) xs a.0 a.1)) fit in
-    let more = blocks_whole b zs a.0.1 c.0 (rest_fit a.0.0 a.0.1 all) c.1 in
-    let first = zone_seen b z a.0.0 in
-    subst (λ (x : List ZoneWithBlocks × List ℕ). AreWhole b x.0) (ok_is (first ∷ c.0.0, c.0.1) got c.2) (record {
-      whole = first_whole b first c.0.0 (λ i (h : i < length (pieces b z.written a.0.0)). blocks_are_whole b z.written i a.0.0 (omega (arith, blocks_are_counted b z.written a.0.0)) (omega arith)) more;
-      bytes = first_bytes b first c.0.0 (blocks_are_bytes b z.written a.0.0 (front_fit a.0.0 a.0.1 all)) more;
+    let r = zone_read b z zs xs got e in
+    let new = r.front.0 in
+    let size = bytes_size (z.written * b) xs r.front r.first in
+    let all = subst AreBytes (sym (bytes_parts (z.written * b) xs r.front r.first)) fit in
+    let more = blocks_whole b zs r.front.1 r.later (rest_fit new r.front.1 all) r.more in
+    let first = zone_seen b z new in
+    subst (λ (x : List ZoneWithBlocks × List ℕ). AreWhole b x.0) r.are (record {
+      whole = first_whole b first r.later.0 (λ i (h : i < length (pieces b z.written new)). blocks_are_whole b z.written i new (omega (arith, blocks_are_counted b z.written new)) (omega arith)) more;
+      bytes = first_bytes b first r.later.0 (blocks_are_bytes b z.written new (front_fit new r.front.1 all)) more;
     })
 
 pub kept_within : (limits : Limits) (zs : List CountedZone) (done : Unit {0}) → limits_kept limits zs ≡ Ok done → IsWithin zs limits

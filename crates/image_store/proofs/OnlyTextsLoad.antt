@@ -12,7 +12,7 @@ use Rattle.zone_state.proofs.Proved.{codes_are_distinct}
 use Rattle.byteorder.specs.Endian.{little_bytes, little_number}
 use Rattle.image_store.specs.declared.fault.LoadFault.TheVariants as fault
 use Rattle.program_interface.specs.Bytes.{AreBytes, pieces}
-use Rattle.image_store.specs.ImageInMemory.{no_counted_zone, zone_seen}
+use Rattle.image_store.specs.ImageInMemory.{no_counted_zone}
 use Rattle.image_store.specs.declared.header.Header.{Header}
 use Rattle.image_store.specs.declared.version.Version.{Version}
 use Rattle.image_store.specs.declared.version.Version.TheVariants.{One, Two}
@@ -31,6 +31,7 @@ use Rattle.image_store.proofs.Headers.{total_in}
 use Rattle.image_store.proofs.ImageFields.{counted_seen}
 use Rattle.image_store.proofs.LoadStages.{HaveFit, after_header, after_rows, after_total, after_limits, after_blocks, zones_fit}
 use Rattle.image_store.proofs.BlocksOfBytes.{blocks_keep_bytes}
+use Rattle.image_store.proofs.BlocksRead.{zone_read}
 use Rattle.image_store.proofs.Shapes.{resized}
 use Rattle.image_store.proofs.SpelledParts.{zeros_spelled, header_spelled}
 use Rattle.image_store.proofs.ToldRows.{row_read, row_right}
@@ -121,16 +122,16 @@ pub blocks_only : (b capacity : ℕ) (zs : List CountedZone) (xs : List ℕ) (go
 blocks_only b capacity [] xs got same e =
     subst (AreWritten capacity [] xs) (ok_is ([], xs) got e) (record { spelled = refl; counted = refl })
 blocks_only b capacity (z ∷ zs) xs got same e =
-    let a = bind_ok (bytes_in (z.written * b) xs) (λ front. blocks_in b zs front.1 >>= λ rest. Ok (zone_seen b z front.0 ∷ rest.0, rest.1)) got e in
-    let c = bind_ok (blocks_in b zs a.0.1) (λ rest. Ok (zone_seen b z a.0.0 ∷ rest.0, rest.1)) got a.2 in
-    let size = bytes_size (z.written * b) xs a.0 a.1 in
-    let front : concat (pieces b z.written a.0.0) ≡ a.0.0 = blocks_keep_bytes b z.written a.0.0 ∙ take_all (z.written * b) a.0.0 (omega arith) in
-    let rest = blocks_only b capacity zs a.0.1 c.0 (λ k h. same (suc k) (omega arith)) c.1 in
-    subst (AreWritten capacity (z ∷ zs) xs) (ok_is (zone_seen b z a.0.0 ∷ c.0.0, c.0.1) got c.2) (record {
-      spelled = append_assoc (concat (pieces b z.written a.0.0)) (blocks_text c.0.0) c.0.1
-          ∙ (ap (λ (first : List ℕ). first ++ (blocks_text c.0.0 ++ c.0.1)) front
-          ∙ (ap (λ (more : List ℕ). a.0.0 ++ more) rest.spelled ∙ bytes_parts (z.written * b) xs a.0 a.1));
-      counted = ap (λ (first : CountedZone). first ∷ map (counted capacity) c.0.0) (counted_seen b capacity z a.0.0 (same 0 (omega arith))) ∙ ap (λ (more : List CountedZone). z ∷ more) rest.counted;
+    let r = zone_read b z zs xs got e in
+    let new = r.front.0 in
+    let size = bytes_size (z.written * b) xs r.front r.first in
+    let front : concat (pieces b z.written new) ≡ new = blocks_keep_bytes b z.written new ∙ take_all (z.written * b) new (omega arith) in
+    let rest = blocks_only b capacity zs r.front.1 r.later (λ k h. same (suc k) (omega arith)) r.more in
+    subst (AreWritten capacity (z ∷ zs) xs) r.are (record {
+      spelled = append_assoc (concat (pieces b z.written new)) (blocks_text r.later.0) r.later.1
+          ∙ (ap (λ (first : List ℕ). first ++ (blocks_text r.later.0 ++ r.later.1)) front
+          ∙ (ap (λ (more : List ℕ). new ++ more) rest.spelled ∙ bytes_parts (z.written * b) xs r.front r.first));
+      counted = ap (λ (first : CountedZone). first ∷ map (counted capacity) r.later.0) (counted_seen b capacity z new (same 0 (omega arith))) ∙ ap (λ (more : List CountedZone). z ∷ more) rest.counted;
     })
 
 -- rows that are read stand in front, and there are as many zones as were told, which fit the shape
