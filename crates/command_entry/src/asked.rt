@@ -24,7 +24,7 @@ impl Asked {
         }
     }
 
-    /// A command that has no data.
+    /// A command of the standards that has no data.
     pub(crate) fn alone(alloc: Global, command: StandardCommand) -> Asked {
         Asked::standard(command, Vec::new(alloc))
     }

@@ -67,7 +67,7 @@ line_failure_text path number = sentence (line_front path number) (line_behind n
 abbrev pub reply_failure_text : List ℕ → ℕ → Text
 reply_failure_text path number = Said (at_line path number (codes "not one that `exec` prints"))
 
--- numbers that are no namespace, with the number of what is wrong first
+-- numbers that are no geometry, with the number of what is wrong first
 abbrev pub geometry_text : GeometryRefusal → Text
 geometry_text refusal = sentence [] (codes "geometry refused " ++ decimal (geometry_number refusal))
 

@@ -94,7 +94,7 @@ pub fn no_command<'a>(line: &mut Command<'a>) -> Failure<'a> {
     }
 }
 
-/// The value of a required argument. A command line without it is refused before this.
+/// The value of an argument that is required or has a default. A command line that leaves it without one is refused before this.
 pub fn required<'a>(matches: &ArgMatches<'a>, id: &str) -> &'a str
     ensures { result.now ≡ value_of matches.now id.now }
 {

@@ -1,4 +1,5 @@
-//! The files that a command names, the arguments that name them, and numbers as a user reads them.
+//! The files that a command names, how the words of a command line are read, also those that spell numbers, and numbers as a
+//! user reads them.
 #![tactic(auto)]
 
 pub mod arguments;

@@ -36,7 +36,7 @@ Writes an image: a namespace of zones of which nothing is written.
 The blocks of a zone count towards its size; of these the first, as many as its capacity, can be \
 written. At most so many zones are open at a time, and so many active.
 
-Of numbers that are no namespace, `geometry refused REASON` tells what is wrong first: 1 the block size, 2 \
+Of numbers that are no geometry, `geometry refused REASON` tells what is wrong first: 1 the block size, 2 \
 the number of zones (1 to 4096), 3 the size (1 to 16777216), 4 the capacity (1 to the size), 5 the \
 limits (1 to the active limit, and that to the number of zones), 6 all in all more than 268435456 \
 bytes. No file is written then.";

@@ -1,4 +1,4 @@
-//! What an instruction changed, on a line.
+//! What an instruction changed, or why it can't be done, on a line.
 
 use command_failure::{Failure, printed};
 use command_files::Counted;

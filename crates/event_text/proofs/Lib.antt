@@ -1,7 +1,7 @@
 mod BlankLines
+mod DigitLemmas
 mod FileLemmas
 mod JoinedFiles
-mod LineLemmas
 mod PlainLines
 mod ReplyLemmas
 mod ReplyTexts

@@ -21,7 +21,7 @@ use Rattle.pushdown.specs.Happenings.{added}
 use Rattle.pushdown.proofs.Bytes.{AreBlocks, whole_at}
 
 -- a zone that isn't Offline is one of the namespace
-pub inside : (zones : List ZoneWithBlocks) (z : ℕ) → (get_or zones z no_zone).state ≢ Offline → z < length zones
+inside : (zones : List ZoneWithBlocks) (z : ℕ) → (get_or zones z no_zone).state ≢ Offline → z < length zones
 inside zones z is = is_one_of (λ zone. zone.state ≢ Offline) (λ on. on refl) zones z is
 
 pub open_on : (s : ZoneState) → is_open s ≡ true → s ≢ Offline

@@ -46,7 +46,7 @@ module _ {D : Type 0} (operations : Operations D) (starved : Bool) (sub : Submis
   result_replied None None = unchanged NO_SUCH_PROGRAM 0 0 []
   result_replied (Some loaded) None = unchanged SUCCESS 0 0 loaded.result
 
-  pub replied : (asked : Result Command Status) → IsReplied (submitted operations starved sub s asked)
+  replied : (asked : Result Command Status) → IsReplied (submitted operations starved sub s asked)
   replied (Err status) = unchanged status 0 0 []
   replied (Ok (commands.Standard c)) =
       let done = meaning s.namespace (holds_at s) c sub.input in

@@ -85,8 +85,8 @@ module _ (task : Task) (ready : IsReady task) where
   until [] h = tt
   until (run ∷ block_runs) h = (h.0, cond_both (goes_on run.end) (until_ended block_runs) [] (AllByRecursion (IsDone task)) (λ _. until block_runs h.1) (λ _. tt))
 
-  pub runs_done : (blocks : List (List ℕ)) → AreBlocks task.sizes.block blocks → AllByRecursion (IsDone task) (block_runs_of task blocks)
-  runs_done blocks whole = until (block_runs_from task 0 no_scratch blocks) (all_done blocks 0 no_scratch no_scratch_is whole)
+  pub block_runs_done : (blocks : List (List ℕ)) → AreBlocks task.sizes.block blocks → AllByRecursion (IsDone task) (block_runs_of task blocks)
+  block_runs_done blocks whole = until (block_runs_from task 0 no_scratch blocks) (all_done blocks 0 no_scratch no_scratch_is whole)
 
 -- ---- how many block runs
 
@@ -103,17 +103,17 @@ at_most_one_each task index scratch (b ∷ bs) =
     omega (arith, less)
 
 -- no more than blocks
-pub few_runs : (task : Task) (index : ℕ) (scratch : List ℕ) (blocks : List (List ℕ))
+pub few_block_runs : (task : Task) (index : ℕ) (scratch : List ℕ) (blocks : List (List ℕ))
     → length (until_ended (block_runs_from task index scratch blocks)) ≤ length blocks
-few_runs task index scratch blocks =
+few_block_runs task index scratch blocks =
     let less = fewer (block_runs_from task index scratch blocks) in
     let most = at_most_one_each task index scratch blocks in
     omega (arith, less, most)
 
 -- and some where there are blocks
-pub some_runs : (task : Task) (blocks : List (List ℕ)) → 1 ≤ length blocks → 1 ≤ length (block_runs_of task blocks)
-some_runs task [] some = absurd (omega (arith, some))
-some_runs task (bytes ∷ blocks) some = omega arith
+pub some_block_runs : (task : Task) (blocks : List (List ℕ)) → 1 ≤ length blocks → 1 ≤ length (block_runs_of task blocks)
+some_block_runs task [] some = absurd (omega (arith, some))
+some_block_runs task (bytes ∷ blocks) some = omega arith
 
 -- ---- how many frames
 

@@ -17,7 +17,7 @@ use Rattle.pushdown.specs.Laws.{AreEmitted, OutcomeUnpacks}
 use Rattle.pushdown.specs.State.{loaded_at}
 use Rattle.pushdown.proofs.BlockRuns.{IsDone}
 use Rattle.pushdown.proofs.Outcomes.{outcome_is_packed}
-use Rattle.pushdown.proofs.States.{all_exit, groups_within, reached_fine, ready, runs_all_done}
+use Rattle.pushdown.proofs.States.{all_exit, groups_within, reached_fine, ready, block_runs_all_done}
 
 record Emits (block_runs : List BlockRun) : Type 0 where
   records : List (List (List ℕ))
@@ -47,7 +47,7 @@ outcome_unpacks operations never s reached sub command run admitted =
     let source = source_blocks s.namespace command in
     let block_runs = block_runs_of task source in
     let block = task.sizes.block in
-    let done = runs_all_done operations never reached.first.block sub s command fine none in
+    let done = block_runs_all_done operations never reached.first.block sub s command fine none in
     let given = emits task block_runs done in
     let sizes = (ready operations never reached.first.block sub s command fine none).sizes in
     let whole = (outcome_is_packed task source (all_exit operations never reached.first.block sub s command fine none)).blocks in

@@ -9,7 +9,7 @@ use Rattle.pushdown.specs.Outcome.{Turn, outcome, success, trapped}
 use Rattle.pushdown.specs.Pushdown.{no_turn}
 use Rattle.pushdown.proofs.Examples.{block_of, frame, loops, passes, sevens, sums, tells, traps, twice}
 
--- a program over so many blocks from address 0 on
+-- a program over so many blocks from LBA 0 on
 abbrev task_over : List (Option Instruction) → ℕ → ℕ → Task
 task_over program limit count = record { program = program; sizes = record { block = 512; limit = limit }; argument = 0; lba = 0; count = count }
 
@@ -65,7 +65,7 @@ pub twice_turns : outcome (task_over twice 6 2) (block_of 4 ∷ block_of 5 ∷ [
 unfolding block_run_of
 twice_turns = refl
 
--- each block run is told the address of its block, its index, how many blocks there are, a block's size and
+-- each block run is told the LBA of its block, its index, how many blocks there are, a block's size and
 -- the argument
 module _ where
   abbrev telling : Task

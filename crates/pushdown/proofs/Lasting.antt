@@ -1,4 +1,4 @@
--- What events keep of a zone that they don't clear.
+-- What events keep of a zone that they don't clear, and that they keep the shape of the namespace.
 use Rattle.std.proofs.Common.{◌≡◌, ℕ, Bool, false, List, [], ◌∷◌, refl, ◌∙◌}
 use Rattle.word_domain.specs.Domain.{Operations}
 use Rattle.image_store.specs.Namespace.{ZonedNamespace, shape, zone_at}

@@ -29,14 +29,14 @@ use Rattle.pushdown.specs.State.{Place, State, free_place, holds_at, loaded_at, 
 use Rattle.device_events.specs.declared.event.Event.TheVariants as event
 use Rattle.device_events.specs.declared.reply.Reply.TheVariants as reply
 use Rattle.pushdown.proofs.Added.{added_leaves, added_shape, open_on}
-use Rattle.pushdown.proofs.BlockRuns.{IsDone, few_frames, few_runs}
+use Rattle.pushdown.proofs.BlockRuns.{IsDone, few_frames, few_block_runs}
 use Rattle.program_interface.proofs.Proved.{all_from}
 use Rattle.pushdown.proofs.TurnsDone.{Next, Ready, Stands, next_is, stand}
 use Rattle.pushdown.proofs.OthersEvents.{free_within}
 use Rattle.pushdown.proofs.Outcomes.{outcome_is_packed}
 use Rattle.pushdown.proofs.Places.{AreApart, event_apart}
 use Rattle.pushdown.proofs.Spelled.{decoded_has}
-use Rattle.pushdown.proofs.States.{IsFine, admitted_room, all_exit, few_source, reached_fine, ready as is_ready, runs_all_done, some_run, turns_are, written}
+use Rattle.pushdown.proofs.States.{IsFine, admitted_room, all_exit, few_source, reached_fine, ready as is_ready, block_runs_all_done, some_block_run, turns_are, written}
 
 -- ---- a run that is admitted, and the events after it
 
@@ -60,7 +60,7 @@ module _ {D : Type 0} (operations : Operations D) (s : State) (queue : ℕ) (ent
   placed : IsAdmitted s sub command run → get_or (set s.places run (Some place)) run None ≡ Some place
   placed admitted = get_or-set_same s.places run (Some place) None (free_within s.places run admitted.free)
 
-  pub starts : (starved : Bool) → IsAdmitted s sub command run → StartsRun s sub command run (begun starved)
+  starts : (starved : Bool) → IsAdmitted s sub command run → StartsRun s sub command run (begun starved)
   starts starved admitted =
       let is = started starved admitted in
       record {
@@ -109,7 +109,7 @@ module _ {D : Type 0} (operations : Operations D) (s : State) (queue : ℕ) (ent
     same_blocks : blocks_at first place.destination ≡ blocks_at s place.destination
     same_blocks = ap (λ (ns : ZonedNamespace). (zone_at ns place.destination).blocks) same_namespace
 
-    pub does_its_turns : DoesItsTurns operations s queue entry input starved command run events
+    does_its_turns : DoesItsTurns operations s queue entry input starved command run events
     does_its_turns = record {
       left = stands.left;
       appended = rw same_blocks at stands.appended;
@@ -120,7 +120,7 @@ module _ {D : Type 0} (operations : Operations D) (s : State) (queue : ℕ) (ent
       then_slots = next.then_slots;
     }
 
-    pub changes_destination_alone : ChangesDestinationAlone operations s queue entry input starved command run events
+    changes_destination_alone : ChangesDestinationAlone operations s queue entry input starved command run events
     changes_destination_alone =
         let blocks = (get_or place.turns done no_turn).blocks in
         record {
@@ -158,8 +158,8 @@ module _ {D : Type 0} (operations : Operations D) (never : AcceptedNeverTraps op
       let block_runs = block_runs_of task source in
       let some : 1 ≤ command.blocks = decoded_has entry (commands.Run command) admitted.asked in
       let whole = outcome_is_packed task source (all_exit operations never block given s command fine none) in
-      let frames = few_frames task block_runs (runs_all_done operations never block given s command fine none) in
-      let few = few_runs task 0 no_scratch source in
+      let frames = few_frames task block_runs (block_runs_all_done operations never block given s command fine none) in
+      let few = few_block_runs task 0 no_scratch source in
       let asked = written operations never block given s command fine none in
       let from = zone_at ns (command.lba / ns.size) in
       let inside = blocks_lie_in_zones ns.zones (command.lba / ns.size) 0 (omega (arith, asked, some)) in
@@ -170,7 +170,7 @@ module _ {D : Type 0} (operations : Operations D) (never : AcceptedNeverTraps op
       let shape = fine.is.shape in
       let room = (admitted_room operations never block given s command fine none).room in
       record {
-        ending = whole.ending (some_run operations never block given s command fine none some);
+        ending = whole.ending (some_block_run operations never block given s command fine none some);
         frames = omega (arith, frames, product, zone_room_is_bounded shape);
         blocks = omega (arith, room, shape.capacity_most, shape.size_most);
       }
@@ -183,7 +183,7 @@ pushdown operations never s reached queue entry input starved command run after 
     let task = task_of s.namespace (loaded_at s command.slot) command in
     let block_runs = block_runs_of task (source_blocks s.namespace command) in
     let none = admitted.passed in
-    let done = runs_all_done operations never block sub s command fine none in
+    let done = block_runs_all_done operations never block sub s command fine none in
     let ends = (turns_are operations never block sub s command fine none (decoded_has entry (commands.Run command) admitted.asked)).ends in
     record {
       no_turn_traps = record { exits = all_exit operations never block sub s command fine none; ends = ends };

@@ -45,7 +45,7 @@ three : (front more behind : List (List ℕ)) → length (front ++ (more ++ behi
 three front more behind = simp length-append
 
 -- some of a zone's blocks, behind others of them
-pub blocks_read : (ns : ZonedNamespace) (z : ℕ) (front more behind : List (List ℕ)) → IsNamespace ns
+blocks_read : (ns : ZonedNamespace) (z : ℕ) (front more behind : List (List ℕ)) → IsNamespace ns
     → (zone_at ns z).blocks ≡ front ++ (more ++ behind) → 1 ≤ length more → length more * ns.block ≤ MOST_TRANSFER
     → AreRead ns (z * ns.size + length front) (length more) (concat more)
 blocks_read ns z front more behind is there some transfer =
@@ -96,7 +96,7 @@ module _ {D : Type 0} (operations : Operations D) where
   has_blocks (event.Fault zone state) c input is = absurd is
 
   -- what is read of a namespace is read of a device
-  pub reads : (s : State) (lba blocks : ℕ) (bytes : List ℕ) → AreRead s.namespace lba blocks bytes
+  reads : (s : State) (lba blocks : ℕ) (bytes : List ℕ) → AreRead s.namespace lba blocks bytes
       → ReadsGive operations s lba blocks bytes
   reads s lba blocks bytes is read submits =
       subst (λ (effect : Effect). IsCompleted read.event s effect (happens operations s read.starved read.event)) (is (holds_at s))
@@ -133,12 +133,12 @@ module _ {D : Type 0} (operations : Operations D) where
 
 -- ---- a part of a list of blocks
 
-pub record IsPart (all : List (List ℕ)) (at blocks : ℕ) : Type 0 where
-  pub there : all ≡ take at all ++ (take blocks (drop at all) ++ drop blocks (drop at all))
-  pub start : length (take at all) ≡ at
-  pub count : length (take blocks (drop at all)) ≡ blocks
+record IsPart (all : List (List ℕ)) (at blocks : ℕ) : Type 0 where
+  there : all ≡ take at all ++ (take blocks (drop at all) ++ drop blocks (drop at all))
+  start : length (take at all) ≡ at
+  count : length (take blocks (drop at all)) ≡ blocks
 
-pub is_part : (all : List (List ℕ)) (at blocks : ℕ) → at + blocks ≤ length all → IsPart all at blocks
+is_part : (all : List (List ℕ)) (at blocks : ℕ) → at + blocks ≤ length all → IsPart all at blocks
 is_part all at blocks within =
     let rest = length-drop at all in
     record {

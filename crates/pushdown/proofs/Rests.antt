@@ -5,7 +5,7 @@ use Rattle.program_meaning.specs.declared.end.End.{End}
 use Rattle.program_meaning.specs.declared.end.End.TheVariants as end
 use Rattle.emit_append.specs.Packing.{packed, released, pending_of}
 use Rattle.emit_append.proofs.Proved.{one_group_releases_none, packing_goes_on}
-use Rattle.pushdown.proofs.BlockRuns.{few_runs}
+use Rattle.pushdown.proofs.BlockRuns.{few_block_runs}
 use Rattle.pushdown.specs.Laws.{RestAtAdmission, RestEnds, RestGoesOn, RestIsFew, further, next_turn}
 use Rattle.pushdown.specs.BlockRuns.{Task, block_run, block_runs_from, block_runs_of, goes_on, scratch_after, until_ended}
 use Rattle.pushdown.specs.Outcome.{Turn, Emitted, Progress, coming_to, last_turn, last_turn_by, middle_turn, emitted_by, rest, success, turns_after, with_group}
@@ -145,5 +145,5 @@ one_each block emitted (run ∷ next ∷ block_runs) = ap suc (one_each block (w
 pub rest_is_few : RestIsFew
 rest_is_few task so_far blocks =
     let same = one_each task.sizes.block (emitted_by so_far) (until_ended (block_runs_from task so_far.index so_far.scratch blocks)) in
-    let less = few_runs task so_far.index so_far.scratch blocks in
+    let less = few_block_runs task so_far.index so_far.scratch blocks in
     omega (arith, same, less)

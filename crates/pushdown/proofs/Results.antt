@@ -36,7 +36,7 @@ use Rattle.pushdown.proofs.Changes.{after_event, after_turn as turn_changes}
 use Rattle.pushdown.proofs.Pushdown.{pushdown}
 use Rattle.pushdown.proofs.KeptForRuns.{left_program}
 use Rattle.pushdown.proofs.Spelled.{decoded_has}
-use Rattle.pushdown.proofs.States.{reached_fine, runs_all_done, some_run}
+use Rattle.pushdown.proofs.States.{reached_fine, block_runs_all_done, some_block_run}
 use Rattle.pushdown.proofs.TurnsDone.{left_other}
 
 -- ---- a slot that has a program has one
@@ -151,8 +151,8 @@ module _ {D : Type 0} (operations : Operations D) (never : AcceptedNeverTraps op
   abbrev sub : Submission
   sub = submission_of queue entry input.items
 
-  abbrev all_runs : List BlockRun
-  all_runs = block_runs operations s queue entry input starved command run events
+  abbrev all_block_runs : List BlockRun
+  all_block_runs = block_runs operations s queue entry input starved command run events
 
   abbrev here : Place
   here = place operations s queue entry input starved command run events
@@ -171,7 +171,7 @@ module _ {D : Type 0} (operations : Operations D) (never : AcceptedNeverTraps op
         events_leave_some operations (asked ∷ events) s command.slot
         (demanded (is_some (loaded_at s command.slot)) NO_SUCH_PROGRAM (passed checks 2 admitted.passed))
 
-    leaves_result : own_turns run events + 1 ≡ length here.turns → HasResult then command.slot (last_scratch all_runs)
+    leaves_result : own_turns run events + 1 ≡ length here.turns → HasResult then command.slot (last_scratch all_block_runs)
     leaves_result last =
         let k = own_turns run events in
         let theorem = pushdown operations never s reached queue entry input starved command run events admitted in
@@ -179,16 +179,16 @@ module _ {D : Type 0} (operations : Operations D) (never : AcceptedNeverTraps op
         let ending = last_ending here.turns k last ∙ theorem.tells_frames_and_blocks.ending in
         let slots = does.then_slots ∙ ap (slots_left before_turn here) ending in
         let old = loaded_at before_turn command.slot in
-        let new = keeping_has before_turn command.slot (last_scratch all_runs) old refl has_program in
+        let new = keeping_has before_turn command.slot (last_scratch all_block_runs) old refl has_program in
         record { loaded = new.loaded; at = ap (λ (xs : List (Option Loaded)). get_or xs command.slot None) slots ∙ new.at; result = new.result }
 
-    long : length (last_scratch all_runs) ≡ 1024
+    long : length (last_scratch all_block_runs) ≡ 1024
     long =
         let fine = reached_fine operations never s reached in
         let block = reached.first.block in
-        let some = some_run operations never block sub s command fine admitted.passed (decoded_has entry (commands.Run command) admitted.asked) in
-        last_scratch_long (task operations s queue entry input starved command run events) all_runs
-        (runs_all_done operations never block sub s command fine admitted.passed) some
+        let some = some_block_run operations never block sub s command fine admitted.passed (decoded_has entry (commands.Run command) admitted.asked) in
+        last_scratch_long (task operations s queue entry input starved command run events) all_block_runs
+        (block_runs_all_done operations never block sub s command fine admitted.passed) some
 
 pub results_read_back : {D : Type 0} (operations : Operations D) → AcceptedNeverTraps operations → ResultsReadBack operations
 results_read_back operations never s reached queue entry input starved command run events later admitted last none =

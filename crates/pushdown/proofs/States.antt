@@ -50,7 +50,7 @@ use Rattle.pushdown.specs.Reached.{IsReached}
 use Rattle.pushdown.specs.State.{Place, State, free_place, holds_at, loaded_at, new_state, place_at, with_namespace, with_place, with_slot}
 use Rattle.device_events.specs.declared.event.Event.{Event}
 use Rattle.pushdown.proofs.Added.{added_block}
-use Rattle.pushdown.proofs.BlockRuns.{IsDone, IsReady, few_runs, runs_done, some_runs}
+use Rattle.pushdown.proofs.BlockRuns.{IsDone, IsReady, few_block_runs, block_runs_done, some_block_runs}
 use Rattle.pushdown.proofs.Bytes.{AreBlocks, IsBlock, blocks_by_place}
 use Rattle.pushdown.proofs.Changes.{after_event, after_turn}
 use Rattle.pushdown.proofs.FewBlocks.{HasFew, turns_few}
@@ -207,11 +207,11 @@ module _ {D : Type 0} (operations : Operations D) (never : AcceptedNeverTraps op
         slot_ready s.namespace slot command h.is h.size (all_at SlotIsFine s.slots command.slot None h.slots tt)
         (demanded (is_some slot) NO_SUCH_PROGRAM (passed checks 2 none))
 
-    pub runs_all_done : AllByRecursion (IsDone task) block_runs
-    runs_all_done = runs_done task ready source (source_are s.namespace command h.is)
+    pub block_runs_all_done : AllByRecursion (IsDone task) block_runs
+    block_runs_all_done = block_runs_done task ready source (source_are s.namespace command h.is)
 
     pub all_exit : AllByRecursion (λ (run : BlockRun). IsExit run.end) block_runs
-    all_exit = all_from (IsDone task) (λ (run : BlockRun). IsExit run.end) (λ run done. done.exits.exit) block_runs runs_all_done
+    all_exit = all_from (IsDone task) (λ (run : BlockRun). IsExit run.end) (λ run done. done.exits.exit) block_runs block_runs_all_done
 
     -- the range is written
     pub written : command.lba % s.namespace.size + command.blocks ≤ length (zone_at s.namespace (command.lba / s.namespace.size)).blocks
@@ -226,15 +226,15 @@ module _ {D : Type 0} (operations : Operations D) (never : AcceptedNeverTraps op
         let at = command.lba % s.namespace.size in
         omega (arith, written, some, length-take command.blocks (drop at blocks), length-drop at blocks)
 
-    pub some_run : 1 ≤ command.blocks → 1 ≤ length block_runs
-    some_run some = some_runs task source (some_source some)
+    pub some_block_run : 1 ≤ command.blocks → 1 ≤ length block_runs
+    some_block_run some = some_block_runs task source (some_source some)
 
     pub turns_are : 1 ≤ command.blocks → AppendWhole (admitted_place sub s command).turns
     turns_are some = record {
       whole = subst (λ (n : ℕ). AllByRecursion (HasWhole n) (outcome task source)) h.size
-          (turns_whole s.namespace.block task nothing_emitted block_runs ready.sizes.fits runs_all_done (no_groups s.namespace.block));
+          (turns_whole s.namespace.block task nothing_emitted block_runs ready.sizes.fits block_runs_all_done (no_groups s.namespace.block));
       few = turns_few s.namespace.block nothing_emitted block_runs;
-      ends = ends_with_last task s.namespace.block nothing_emitted block_runs runs_all_done (some_run some);
+      ends = ends_with_last task s.namespace.block nothing_emitted block_runs block_runs_all_done (some_block_run some);
     }
 
     -- no more blocks are appended than were asked for
@@ -242,9 +242,9 @@ module _ {D : Type 0} (operations : Operations D) (never : AcceptedNeverTraps op
     few_blocks =
         let groups = groups_of block_runs in
         let whole = outcome_is_packed task source all_exit in
-        let enough = need_is_enough task.sizes groups ready.sizes.fits (groups_fit task block_runs runs_all_done) in
+        let enough = need_is_enough task.sizes groups ready.sizes.fits (groups_fit task block_runs block_runs_all_done) in
         let some_groups = length-map block_runs (λ (run : BlockRun). run.state.group) in
-        let few = few_runs task 0 no_scratch source in
+        let few = few_block_runs task 0 no_scratch source in
         let most : length groups ≤ command.blocks = omega (arith, some_groups, few, few_source s.namespace command) in
         let grows = need_grows task.sizes (length groups) command.blocks most in
         let same = ap length whole.blocks in

@@ -32,12 +32,12 @@ context task index = context_bytes (record {
 })
 
 -- a program on one block, with as much fuel as it has instructions
-abbrev pub run_over : List (Option Instruction) → ℕ → List ℕ → List ℕ → List ℕ → BlockRun
-run_over program limit bytes context scratch = block_run_of program limit (instruction_count program) 0 (at_start bytes context scratch)
+abbrev pub block_run_over : List (Option Instruction) → ℕ → List ℕ → List ℕ → List ℕ → BlockRun
+block_run_over program limit bytes context scratch = block_run_of program limit (instruction_count program) 0 (at_start bytes context scratch)
 
 -- the run's program on one block
 abbrev pub block_run : Task → ℕ → List ℕ → List ℕ → BlockRun
-block_run task index scratch bytes = run_over task.program task.sizes.limit bytes (context task index) scratch
+block_run task index scratch bytes = block_run_over task.program task.sizes.limit bytes (context task index) scratch
 
 -- the scratch bytes that a block run leaves
 abbrev pub scratch_after : BlockRun → List ℕ

@@ -91,7 +91,7 @@ pub fn events_keep_reached<D: Domain>()
     ensures { EventsKeepReached D.operations }
 {}
 
-/// So do turns, as those that drain a device are.
+/// So do turns, since they are events.
 pub fn turns_keep_reached<D: Domain>()
     ensures { TurnsKeepReached D.operations }
 {}

@@ -5,7 +5,7 @@ use Rattle.program_interface.specs.Context.{context_bytes}
 use Rattle.program_interface.specs.declared.context.Context.{Context}
 use Rattle.image_store.specs.Namespace.{ZonedNamespace}
 use Rattle.pushdown.specs.View.{Active}
-use Rattle.pushdown.specs.BlockRuns.{run_over}
+use Rattle.pushdown.specs.BlockRuns.{block_run_over}
 use Rattle.runner.specs.steps.Turning.{next_block, next_block_run}
 
 -- what a run is told of the block that is next
@@ -29,7 +29,7 @@ module _ (ns : ZonedNamespace) (program : List (Option Instruction)) (limit : �
       ∙ ap (λ (n : ℕ). context_bytes (record { lba = a.command.lba + a.so_far.index; index = a.so_far.index; count = a.command.blocks; block = n; argument = a.command.argument })) is_block
 
   pub run_is : (bytes context : List ℕ) → bytes ≡ next_block ns a → context ≡ context_bytes (next_context ns a)
-      → run_over program limit bytes context a.so_far.scratch ≡ next_block_run ns program limit a
+      → block_run_over program limit bytes context a.so_far.scratch ≡ next_block_run ns program limit a
   run_is bytes context is_next is_told =
-      ap (λ (bytes : List ℕ). run_over program limit bytes context a.so_far.scratch) is_next
-      ∙ ap (λ (context : List ℕ). run_over program limit (next_block ns a) context a.so_far.scratch) is_told
+      ap (λ (bytes : List ℕ). block_run_over program limit bytes context a.so_far.scratch) is_next
+      ∙ ap (λ (context : List ℕ). block_run_over program limit (next_block ns a) context a.so_far.scratch) is_told

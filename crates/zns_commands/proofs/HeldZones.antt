@@ -55,7 +55,7 @@ not_both true true more held e = cc
 not_both true false more held e = cc
 not_both false refuses_it more held e = refl
 
--- is one of the zones held, of which the first has this number?
+-- is one of these zones, of which the first has this number, and which would be taken, held against the action?
 abbrev pub held_from : Holds → ℕ → List CountedZone → Action → Bool
 held_from holds n zones a = list_any (λ p. takes a p.1.state && refuses holds a p.0) (enumerate_from n zones)
 

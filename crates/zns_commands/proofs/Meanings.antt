@@ -1,4 +1,4 @@
--- That each command comes to its effect, or is refused.
+-- What holds after a command, by what holds before it and after its effect.
 use Rattle.std.proofs.Common.{◌≡◌, ℕ, List, Option, Some, None, refl}
 use Rattle.zone_state.specs.declared.status.Status.{Status}
 use Rattle.zone_resources.specs.declared.holds.Holds.{Holds}
@@ -13,7 +13,7 @@ concluded_so : (P : ZonedNamespace → Type 0) (refusal : Option Status) (ns : Z
 concluded_so P None ns effect before done = done refl
 concluded_so P (Some status) ns effect before done = before
 
--- what holds of the namespace before a command, and after its effect where no check fails
+-- what holds of the namespace before a command, and after its effect where no check fails, holds after the command
 pub after_command : (P : ZonedNamespace → Type 0) (ns : ZonedNamespace) (holds : Holds) (command : StandardCommand) (input : List ℕ)
     → P ns → (first_failed (checks_of ns holds command input) ≡ None → P (effect_of ns holds command input).namespace)
     → P (meaning ns holds command input).namespace

@@ -6,7 +6,7 @@ use std::alloc::Global;
 use std::process::Abort;
 use std::test::Fail;
 
-/// Lines of replies. The entries are those of NVMe Base 2.0, 3.3.3.2: Dwords 0 and 1, the queue, the
+/// Lines of replies. The entries are those of NVMe Base 2.0, 3.3.3.2: Dwords 0 and 1, the head of the queue, which is 0, the queue, the
 /// identifier and the status.
 const REPLIES: &[(&str, Reply)] = &[
     ("idle\n", Reply::Idle),

@@ -129,7 +129,8 @@ cpl 1 00000000000000000000010005000000
     ),
 ];
 
-/// Files with data: none, too many bytes, no whole blocks, one that isn't there, and the most that a command moves.
+/// Files with data: none, too many bytes, no whole blocks, one that isn't there, and the most that a command moves; of that
+/// also with a block size that there isn't, and where standard output fails.
 const FILES: &[Act] = &[
     Act::Put("none", &[]),
     Act::Put("short", &[(b"a", 511)]),
@@ -177,7 +178,7 @@ const FILES: &[Act] = &[
     ),
 ];
 
-/// Numbers out of their fields, words that are wanting, and help.
+/// Words that are refused, and help.
 const WORDS: &[Act] = &[
     Act::Fails(
         "zscli entry read --lba 0 --blocks 0",

@@ -15,11 +15,11 @@ const EVENTS: &[Act] = &[
 ];
 
 const SCENES: &[Scene] = &[Scene {
-    name: "lines that are events",
+    name: "what is printed of turns and faults",
     acts: EVENTS,
 }];
 
 #[test]
-fn lines_that_are_events(rt: HostRuntime) -> Result<(), Fail> {
+fn what_is_printed_of_turns_and_faults(rt: HostRuntime) -> Result<(), Fail> {
     play(&rt, rt.alloc(), SCENES)
 }

@@ -51,7 +51,7 @@ const SIZES: &[Act] = &[
     Act::Says("zscli disasm --help", "from 1 to 4096 slots"),
 ];
 
-/// What numbers that are no namespace are refused with, and the help that tells the same.
+/// What numbers that are no geometry are refused with, and the help that tells the same.
 const NAMESPACES: &[Act] = &[
     Act::Says(
         "zscli format new --block 1 --zones 4 --size 8 --capacity 6 --open 2 --active 3",
@@ -86,7 +86,7 @@ const SCENES: &[Scene] = &[
         acts: SIZES,
     },
     Scene {
-        name: "numbers of namespaces",
+        name: "numbers of geometries",
         acts: NAMESPACES,
     },
 ];

@@ -47,9 +47,9 @@ pub(super) enum Act {
     Text(&'static str, &'static str),
     /// Puts a file of these slots of a program.
     Slots(&'static str, &'static [u64]),
-    /// From now on no file can be larger.
+    /// From now on no file that a command makes can be larger.
     Room(usize),
-    /// From now on reading fails behind the first bytes of a file.
+    /// From now on reading in pieces fails behind the first bytes of a file.
     Unreadable,
     /// A command line succeeds, and prints this alone.
     Prints(&'static str, &'static str),

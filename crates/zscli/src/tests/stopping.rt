@@ -1,4 +1,4 @@
-//! Where standard output fails in the turns after the last event.
+//! Where standard output fails at an event, or in the turns after the last one.
 
 use super::scenes::{Act, EMPTY_ZONE, LIMITS, MAGIC, Scene, ZONE_NUMBERS, play};
 use super::stage::Parts;
@@ -25,7 +25,7 @@ const THREE_BLOCKS: Parts = &[
     (b"\0", 511),
 ];
 
-/// The turn is done whose line standard output doesn't take, and no later one.
+/// The event or turn is done whose line standard output doesn't take, and no later one.
 const STOPPED: &[Act] = &[
     Act::Text("text", COPYING),
     Act::Prints("zscli asm text copying", ""),
@@ -70,11 +70,11 @@ const STOPPED: &[Act] = &[
 ];
 
 const SCENES: &[Scene] = &[Scene {
-    name: "standard output fails in a turn",
+    name: "standard output fails at an event or in a turn",
     acts: STOPPED,
 }];
 
 #[test]
-fn standard_output_fails_in_a_turn(rt: HostRuntime) -> Result<(), Fail> {
+fn standard_output_fails_at_an_event_or_in_a_turn(rt: HostRuntime) -> Result<(), Fail> {
     play(&rt, rt.alloc(), SCENES)
 }

@@ -2,7 +2,7 @@ use Rattle.std.proofs.Common.{◌++◌, ◌∙◌, sym}
 use Rattle.std.proofs.lemmas.Bool.{eqb-true}
 use Rattle.std.proofs.lemmas.List.{take-append-drop}
 use Rattle.hex.specs.Hex.{encode_lower}
-use Rattle.event_text.proofs.LineLemmas.{chunk_pushed, chunks_pushed}
+use Rattle.event_text.proofs.DigitLemmas.{chunk_pushed, chunks_pushed}
 use Rattle.event_text.proofs.lines.push_hex.Goals as goal
 
 pub loop-rest-preserved : goal.loop-rest-preserved

@@ -1,4 +1,4 @@
-//! Refused output blocks.
+//! Refused output blocks, and a refused block size.
 
 use super::super::scenes::{Act, Scene, play};
 use std::test::Fail;

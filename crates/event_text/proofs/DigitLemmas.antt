@@ -1,4 +1,4 @@
--- The lines that replies are printed as.
+-- Hexadecimal digits, put behind a line a chunk at a time.
 use Rattle.std.proofs.Common.{◌≡◌, ℕ, List, [], ◌∷◌, ◌++◌, length, slice_index, ◌/◌, ◌%◌, refl, sym, ap, ◌∙◌, append_assoc, append-nil, arith}
 use Rattle.hex.specs.Hex.{encode_with, encode_lower, lower_digits}
 
