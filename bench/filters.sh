@@ -1,7 +1,7 @@
 #!/bin/sh
 # Runs the filters of examples/ and of bench/filters, as examples/Makefile makes them for v2, over a block of 4096 bytes:
 # with every check, over their superinstructions, and in DPDK's interpreter (Debian's libdpdk-dev), which takes no 32-bit compares.
-# Prints the nanoseconds of a run, the least of several rounds and launches, with their ratios to DPDK's, and the geometric
+# Prints the nanoseconds of a block run, the least of several rounds and launches, with their ratios to DPDK's, and the geometric
 # mean of the ratios of the second. A filter that DPDK doesn't load in 5 seconds has no ratio.
 set -eu
 here=$(cd "$(dirname "$0")" && pwd)

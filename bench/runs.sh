@@ -3,7 +3,7 @@
 # blocks of 4096 bytes: beside a Read of such a block through the device, and beside DPDK's interpreter (Debian's
 # libdpdk-dev) on the same filter and blocks alone, over 4096 blocks, which come from memory, and over
 # 64, which stay in a cache. Then the rate of Appends beside plain copies of the same bytes, the
-# time to admit and to refuse runs of one and of 4096 blocks, on a large image and on a small one, and `exec` of a
+# time to admit and to refuse runs of one and of 4096 blocks on a large image, and of one on a small one, and `exec` of a
 # command file of 64 MiB beside `xxd`, which turns its data to bytes, and as many bytes to text. Each
 # is the least of several rounds.
 set -eu

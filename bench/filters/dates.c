@@ -1,4 +1,5 @@
-/* Emits records whose date, as days, is in the argument's month of 30 days, with a discount worked out. */
+/* Of 8 records of 48 bytes whose date, as days, is in the argument's month of 30 days, and whose discount is at most 100
+   percent: emits the day of that month and the price less the discount. */
 #include "pifnjarl.h"
 
 long dates(const struct context *context, const u8 *block, u8 *scratch)

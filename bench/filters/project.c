@@ -1,4 +1,4 @@
-/* Emits key, price, day and store of each of the block's 8 records where the day is late enough. */
+/* Emits key, price, day and store of each of the block's first 8 records where the day is late enough. */
 #include "pifnjarl.h"
 
 struct row {

@@ -4,8 +4,8 @@
    Block:    512 bytes
    Emit:     36, two records of 16 bytes: a record's first
    Argument: none
-   Kept:     the addresses of the records that are the least and the greatest so far, which branches leave in one place
-             each, and those of scratch and of the context, over the emits */
+   Kept:     the address of the record that is the greatest so far, which branches leave in one place, that of the fourth
+             record, and those of scratch and of the context, over the emits */
 #include "pifnjarl.h"
 
 #define STEP(i) \

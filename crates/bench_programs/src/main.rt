@@ -1,5 +1,5 @@
 //! Loads a program and runs it over a block. Prints R0, the number of steps, the length of the group and its frames, and,
-//! after some rounds, the least time of a run in picoseconds.
+//! after some rounds, the least time of a block run in picoseconds.
 //!
 //! bench_programs PROGRAM BLOCK ROUNDS REPEATS FORM, which is `checked` or `prepared`
 #![tactic(auto)]
@@ -25,7 +25,7 @@ fn form_of(word: &str) -> io::Result<Form> {
     }
 }
 
-/// The nanoseconds of some runs.
+/// The nanoseconds of some block runs.
 fn round(
     rt: &impl Clock,
     program: &Prepared<Verified<Intervals>>,
@@ -39,7 +39,7 @@ fn round(
     let done = repeat(program, form, block, repeats, scratch, group);
     let spent = start.elapsed(rt)?.as_nanos();
     if !done {
-        return Err(io::Error::other("a run was not done"));
+        return Err(io::Error::other("a block run was not done"));
     }
     Ok(spent)
 }
@@ -58,7 +58,7 @@ fn main(rt: HostRuntime) -> io::Result<()> {
     let mut scratch = [0; SCRATCH_BYTES];
     let mut group = [0; LARGEST_BLOCK];
     let Some(exit) = run(&program, form, block, &context, &mut scratch, &mut group) else {
-        return Err(io::Error::other("a run was not done"));
+        return Err(io::Error::other("a block run was not done"));
     };
     println!(rt;
         "{} {} {} {}",

@@ -1,4 +1,4 @@
-//! What is timed: runs, and nothing that could fail or that has to be dropped.
+//! What is timed: block runs, and nothing that could fail or that has to be dropped.
 
 ghost use Rattle.std.specs.Prelude.{◌≡◌, ◌≤◌, length};
 ghost use Rattle.interp.specs.Machine.{group_length, machine_slot, steps_of};
@@ -20,7 +20,7 @@ pub enum Form {
     Prepared,
 }
 
-/// One run; none over a block of another size.
+/// One block run; none over a block of another size.
 #[inline(always)]
 pub fn run(
     program: &Prepared<Verified<Intervals>>,
@@ -42,7 +42,7 @@ pub fn run(
     }
 }
 
-/// One run with every check, to its EXIT.
+/// One block run with every check, to its EXIT.
 #[inline(always)]
 fn run_checked(
     verified: &Verified<Intervals>,
@@ -66,7 +66,7 @@ fn run_checked(
     })
 }
 
-/// Some runs, each with another context: was each done?
+/// Some block runs, each with another context: was each done?
 #[inline(never)]
 pub fn repeat(
     program: &Prepared<Verified<Intervals>>,

@@ -2,7 +2,7 @@
 //! admitted and refused.
 //!
 //! bench_runs FILTER          runs the filter over the source blocks, and prints what its completion tells
-//! bench_runs FILTER ROUNDS   prints the least times of so many rounds
+//! bench_runs FILTER ROUNDS   prints the least times of so many rounds, of Appends their rate beside that of copies
 #![tactic(auto)]
 
 ghost use Rattle.std.specs.Prelude.{◌≤◌, length};
@@ -94,7 +94,7 @@ fn compare_turns(
     Ok(())
 }
 
-/// Prints the least times of Appends beside copies of the same bytes.
+/// Prints the rate of Appends as a part of that of copies of the same bytes, each of the least time.
 fn compare_appends(
     rt: &HostRuntime,
     device: &mut Device,
@@ -124,7 +124,7 @@ fn compare_appends(
     Ok(())
 }
 
-/// Prints the least times of admitting runs of two lengths on two images.
+/// Prints the least times of admitting runs of two lengths on a large image, and of the shorter on a small one.
 fn compare_admissions(
     rt: &HostRuntime,
     small: &mut Device,
@@ -148,7 +148,7 @@ fn compare_admissions(
     Ok(())
 }
 
-/// Prints the least times of refusing runs of two lengths on two images.
+/// Prints the least times of refusing runs of two lengths on a large image, and of the shorter on a small one.
 fn compare_refusals(
     rt: &HostRuntime,
     small: &mut Device,

@@ -52,7 +52,7 @@ filled-append : (block : ℕ) (before after : List (List ℕ)) → block_filling
 filled-append block before after = ap (λ l. l.later) (laid-append block 0 before after) ∙ extended-later block (laid_out block 0 before).begun (laid_out block 0 before).later after
 
 -- a block begun holds a byte
-abbrev pub HoldBytes : List (List ℕ) → Type 0
+abbrev HoldBytes : List (List ℕ) → Type 0
 HoldBytes blocks = AllByRecursion (λ bytes. 0 < length bytes) blocks
 
 later-hold : (block room : ℕ) (groups : List (List ℕ)) → HoldBytes (laid_out block room groups).later

@@ -1,4 +1,4 @@
-mod Answered
+mod ReadingCalls
 mod ByteLists
 mod Continuing
 mod FramesRead

@@ -7,7 +7,7 @@ use Rattle.emit_append.specs.Packer.{LendingIsFinishing, LendingIsPutting, Putti
 use Rattle.emit_append.proofs.Continuing.{packing_goes_on}
 use Rattle.emit_append.proofs.Layouts.{filled-empty, filled-first, laid-beginning, laid-behind}
 
--- bytes alone fill one block, or none
+-- a group with bytes, alone, fills one block
 filled-one : (block x : ℕ) (xs : List ℕ) → block_fillings block ((x ∷ xs) ∷ []) ≡ (x ∷ xs) ∷ []
 filled-one block x xs = filled-first block (x ∷ xs) [] (omega arith) ∙ simp append-nil
 

@@ -23,7 +23,7 @@ abbrev pub EachNextIsLonger : ℕ → List (List (List ℕ)) → Type 0
 EachNextIsLonger block [] = Unit {0}
 EachNextIsLonger block (part ∷ parts) = NextIsLonger (block - length (concat part)) parts × EachNextIsLonger block parts
 
--- parts: the groups of each block
+-- blocks that these groups stand in, whole and in order, as is said above; parts: the groups of each block
 pub record ArePacked (block : ℕ) (groups blocks : List (List ℕ)) : Type 0 where
   pub parts : List (List (List ℕ))
   pub whole_in_order : flat_map (λ part. part) parts ≡ without_empty groups

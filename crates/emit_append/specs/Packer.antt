@@ -35,7 +35,7 @@ after_put packer group = record {
 abbrev pub given_by_finish : PackerState → List (List ℕ)
 given_by_finish packer = packed packer.block (packer.pending ∷ [])
 
--- groups put one after another: the blocks that they give, and what the packer is then
+-- the blocks that groups give, put one after another
 abbrev pub given_by_puts : PackerState → List (List ℕ) → List (List ℕ)
 given_by_puts packer [] = []
 given_by_puts packer (group ∷ groups) = given_by_put packer group ++ given_by_puts (after_put packer group) groups

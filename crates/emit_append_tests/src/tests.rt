@@ -1,4 +1,4 @@
-//! The worked examples of packing and reading back.
+//! How many blocks groups can come to, packing them, lending the pending block, and reading records back.
 
 ghost use Rattle.std.specs.Prelude.{◌≡◌, ◌≤◌, ◌++◌, length, OnOk};
 ghost use Rattle.std.specs.List.{concat};
@@ -40,7 +40,7 @@ fn bounds_the_blocks(rt: HostRuntime) {
     }
 }
 
-/// Puts a group behind the blocks, of which the pending one comes first where it has no room for it.
+/// Puts a group into the packer. Where there is no room for it, the pending block goes behind the blocks first.
 fn put(packer: &mut Packer, group: &[u8], blocks: &mut Vec<u8>) -> Result<(), AllocError>
     requires fits { length packer.old.pending ≤ packer.old.block }
     requires whole { length group.now ≤ packer.old.block }

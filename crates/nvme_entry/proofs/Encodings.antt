@@ -25,7 +25,7 @@ two_again low high rest small large =
     let second = little_number-reads_back 4 high rest (omega (arith, large)) in
     omega (arith, first, second)
 
--- no check of all entries fails
+-- an entry that fails no check of all entries is decoded as its fields ask
 pub decoded_is : (entry : List ℕ) (opcode : Opcode) → opcode_of (slice_index entry 0) ≡ Some opcode → fuse_of entry ≡ 0 → namespace_identifier entry ≡ 1
     → decoded entry ≡ asked opcode entry
 decoded_is entry opcode is_opcode is_fuse is_namespace =

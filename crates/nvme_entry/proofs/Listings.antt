@@ -70,7 +70,7 @@ step-fits f x xs old new at place size same_length fits moved put =
     ∙ ap (λ (ys : List ℕ). take at old ++ ys) (sym (whole-more f (length old - at) x xs size enough))))
 
 -- one more piece: what stands up to the place and what is to come are together the same
-pub step-more : {X : Type 0} (f : X → List ℕ) (x : X) (xs : List X) (old new : List ℕ) (at place : ℕ) → length (f x) ≡ 64 → length new ≡ length old
+step-more : {X : Type 0} (f : X → List ℕ) (x : X) (xs : List X) (old new : List ℕ) (at place : ℕ) → length (f x) ≡ 64 → length new ≡ length old
     → (at + 64 ≤ length old → (place ≡ at + 64) × (take place new ≡ take at old ++ f x))
     → (length old < at + 64 → (place ≡ at) × (new ≡ old))
     → take place new ++ whole f (length new - place) xs ≡ take at old ++ whole f (length old - at) (x ∷ xs)

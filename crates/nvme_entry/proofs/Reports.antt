@@ -87,7 +87,7 @@ report-parts bytes zones first size filter partial long =
     ap (λ (ys : List ℕ). ys ++ whole (descriptor_at size) (bytes - 64) (matching zones first filter)) (take_all bytes (report_header number) fits)
 
 -- a report has the length of the transfer
-pub length-report : (bytes : ℕ) (zones : List CountedZone) (first size : ℕ) (filter : ZoneFilter) (partial : Bool) → length (report bytes zones first size filter partial) ≡ bytes
+length-report : (bytes : ℕ) (zones : List CountedZone) (first size : ℕ) (filter : ZoneFilter) (partial : Bool) → length (report bytes zones first size filter partial) ≡ bytes
 unfolding report
 length-report bytes zones first size filter partial =
     let found = matching zones first filter in

@@ -248,7 +248,7 @@ pub enum StandardCommand {
         dwords: DwordCount,
         /// The zones that are reported.
         filter: ZoneFilter,
-        /// Are only the zones told whose descriptors are given?
+        /// Does the number of zones told leave out those whose descriptors do not fit?
         partial: bool,
     },
     /// Writes blocks at the write pointer of the zone whose lowest LBA is `lba`

@@ -1,4 +1,4 @@
-//! Entries read into commands or refused, and the bytes of completions and of reports.
+//! Entries read into commands or refused, the filters of reports, and the bytes of completions and of reports.
 
 mod encoding;
 mod programs;

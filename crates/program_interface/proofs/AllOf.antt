@@ -31,7 +31,7 @@ module _ {X : Type 0} (P : X → Type 0) where
   all_at (x ∷ xs) zero d h k = h.0
   all_at (x ∷ xs) (suc i) d h k = all_at xs i d h.1 k
 
--- what holds of each, for a reason that takes it from each
+-- what follows for each element holds of each
 pub all_from : {X : Type 0} (P Q : X → Type 0) → ((x : X) → P x → Q x) → (xs : List X) → AllByRecursion P xs → AllByRecursion Q xs
 all_from P Q f [] h = tt
 all_from P Q f (x ∷ xs) h = (f x h.0, all_from P Q f xs h.1)

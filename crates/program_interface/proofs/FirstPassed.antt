@@ -39,7 +39,7 @@ module _ {X : Type 0} {number : X → ℕ} {xs : List X} (are : AreNumbered numb
       let place = are.numbered (first test xs) x (at_first test xs (Some x) e) in
       fails_before other (omega (arith, less, place))
 
-  -- before its place there are those that have a smaller number
+  -- where all that have a smaller number fail, what stands before it fails
   fails_earlier : (x : X) → ((other : X) → number other < number x → test other ≡ false) → (k : ℕ) → k < number x - 1 → test (get_or xs k x) ≡ false
   fails_earlier x less k earlier =
       let within = slice_get_within xs (number x - 1) x (are.listed x) in

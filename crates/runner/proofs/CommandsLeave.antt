@@ -28,9 +28,9 @@ use Rattle.runner.proofs.Holding.{holds_are}
 use Rattle.runner.proofs.Staying.{keeps_source, places_stay, still_fits}
 
 -- a later namespace, in which what a device has is ready, and is seen as before
-pub record IsLeft (ns later : ZonedNamespace) (slots : List (Option LoadedProgram)) (runs : List (Option ActiveRun)) : Type 0 where
-  pub ready : IsReady later slots runs
-  pub state : device_state later slots runs ≡ with_namespace (device_state ns slots runs) later
+record IsLeft (ns later : ZonedNamespace) (slots : List (Option LoadedProgram)) (runs : List (Option ActiveRun)) : Type 0 where
+  ready : IsReady later slots runs
+  state : device_state later slots runs ≡ with_namespace (device_state ns slots runs) later
 
 abbrev SourcesGrow : ZonedNamespace → ZonedNamespace → List (Option ActiveRun) → Type 0
 SourcesGrow ns later runs =

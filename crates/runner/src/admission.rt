@@ -1,6 +1,6 @@
 //! Whether a run is admitted.
 
-ghost use Rattle.std.specs.Prelude.{◌≡◌, ◌<◌, ◌+◌, ◌^◌, length, get_or, position, is_some, is_none, None, Option, IfOk, IfErr, OnOk, OnErr};
+ghost use Rattle.std.specs.Prelude.{◌≡◌, ◌<◌, ◌+◌, ◌^◌, length, get_or, position, is_some, is_none, None, IfOk, IfErr, OnOk, OnErr};
 ghost use Rattle.std.specs.Result.{result_err};
 ghost use Rattle.program_interface.specs.Checks.{first_failed};
 ghost use Rattle.pushdown.specs.Admission.{address_checks, destination_checks, run_refusal, source_checks};
@@ -109,7 +109,7 @@ fn source_and_destination(
     Ok((source, destination))
 }
 
-/// Tests the blocks that a run is to read: they lie in one zone, and are written.
+/// Tests the blocks that a run is to read: they lie in one zone, which can be read, and are written.
 fn check_source(namespace: &Namespace, first: ZoneBlock, blocks: BlockCount) -> Result<(), Status>
     requires { first.zone < length namespace.now.zones }
     ensures why { result_err result ≡ first_failed (source_checks namespace.now first blocks) }

@@ -1,6 +1,6 @@
 //! A namespace that takes commands.
 
-ghost use Rattle.std.specs.Prelude.{◌≡◌, ◌≤◌, ◌<◌, ◌*◌, length, drop};
+ghost use Rattle.std.specs.Prelude.{◌≡◌, ◌≤◌, ◌<◌, length, drop};
 ghost use Rattle.image_store.specs.Geometry.{IsShape};
 ghost use Rattle.image_store.specs.Namespace.{appended, shape, IsNamespace};
 ghost use Rattle.zns_commands.specs.Address.{counted_zone_at};

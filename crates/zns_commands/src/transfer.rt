@@ -1,6 +1,6 @@
 //! The checks of a command's data.
 
-ghost use Rattle.std.specs.Prelude.{◌≡◌, ◌≤◌, ◌*◌, ◌<◌, length, OnOk};
+ghost use Rattle.std.specs.Prelude.{◌≡◌, ◌≤◌, ◌*◌, length, OnOk};
 ghost use Rattle.program_interface.specs.Checks.{first_failed, unless_failed};
 ghost use Rattle.zns_commands.specs.Transfer.{transfer_checks};
 

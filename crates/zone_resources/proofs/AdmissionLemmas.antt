@@ -29,7 +29,7 @@ passed Full held e = cc
 passed Offline held e = cc
 
 -- the test of a zone with its number
-abbrev pub closable : Holds → ℕ × CountedZone → Bool
+abbrev closable : Holds → ℕ × CountedZone → Bool
 closable holds p = may_close holds p.0 p.1
 
 -- the test of the zone at a number is that of its entry

@@ -21,10 +21,10 @@ use Rattle.zone_resources.specs.declared.admission.Wanted.TheVariants.{OpenOnly,
 use Rattle.zone_resources.specs.declared.holds.Holds.{Holds}
 
 -- an open resource is free after the close, and nothing else has changed
-pub record HasRoom (zones after : List CountedZone) (limits : Limits) : Type 0 where
-  pub opened : open_count after < limits.open_limit
-  pub active : active_count after ≡ active_count zones
-  pub others : (number : ℕ) (zone : CountedZone)
+record HasRoom (zones after : List CountedZone) (limits : Limits) : Type 0 where
+  opened : open_count after < limits.open_limit
+  active : active_count after ≡ active_count zones
+  others : (number : ℕ) (zone : CountedZone)
       → slice_get zones number ≡ Some zone → zone.state ≢ ImplicitlyOpened → slice_get after number ≡ Some zone
 
 -- a zone is as it was where another one is set

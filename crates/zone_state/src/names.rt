@@ -42,7 +42,7 @@ const STATUSES: &[StatusWords] = &[
     StatusWords {
         status: Status::LBA_OUT_OF_RANGE,
         name: "LBA Out of Range",
-        sentence: "the blocks are not all in the namespace",
+        sentence: "a block that the entry names is not in the namespace",
     },
     StatusWords {
         status: Status::ZONE_BOUNDARY_ERROR,

@@ -75,7 +75,7 @@ impl Status {
         code: 0x0B,
     };
 
-    /// The blocks are not all in the namespace.
+    /// A block that the entry names is not in the namespace.
     pub const LBA_OUT_OF_RANGE: Status = Status {
         kind: StatusType::Generic,
         code: 0x80,

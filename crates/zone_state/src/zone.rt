@@ -128,7 +128,7 @@ impl Zone {
     }
 
     /// Takes a Zone Send Action, and tells the state that the zone then has (ZNS 1.1, 3.4.3).
-    /// Reset and Offline forget the written blocks; Finish moves none.
+    /// Reset and Offline forget the written blocks; Finish writes none.
     ///
     /// # Errors
     ///

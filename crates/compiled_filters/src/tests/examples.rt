@@ -21,7 +21,7 @@ use std::test::Fail;
 use verifier::verify;
 use zns_commands::{Geometry, Image, Limits, MOST_TRANSFER};
 
-/// The blocks of a run.
+/// The blocks of each run, but for those of walks.rt.
 const BLOCKS: usize = 6;
 
 /// The first block of the zone that a run appends to.

@@ -25,7 +25,7 @@ use std::test::Fail;
 use verified_run::Prepared;
 use verifier::{Verified, verify};
 
-/// The address of each block.
+/// The LBA of each block.
 const LBA: u64 = 0x2a;
 
 /// How many blocks its run has.
@@ -56,7 +56,7 @@ struct Scene {
     after: &'static str,
 }
 
-/// What a run leaves: R0, the group with zeros behind it, and scratch.
+/// What a block run leaves: R0, the group with zeros behind it, and scratch.
 #[derive(Debug, PartialEq, Drop)]
 struct Left {
     r0: u64,
@@ -119,7 +119,7 @@ fn context_of(scene: &Scene, block: BlockSize) -> [u8; CONTEXT_BYTES] {
     context.encode()
 }
 
-/// What a run has to leave, of these bytes of scratch.
+/// What a block run has to leave, of these bytes of scratch.
 fn expected(alloc: Global, scene: &Scene, before: &[u8; SCRATCH_BYTES]) -> Result<Left, Fail> {
     let group = group_of(alloc, scene.records)?;
     let mut expected = Left {

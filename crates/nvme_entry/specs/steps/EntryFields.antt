@@ -6,7 +6,8 @@ use Rattle.nvme_entry.specs.Dwords.{dword}
 use Rattle.nvme_entry.specs.declared.command.Opcode.{Opcode}
 use Rattle.nvme_entry.specs.declared.encoding.CommandDwords.{CommandDwords}
 
--- an entry for namespace 1 that isn't part of a fused command, with this opcode, identifier and Command Dwords
+-- an entry for namespace 1 with this opcode, identifier and Command Dwords, whose second byte, FUSE and PSDT, is 0, as are
+-- bytes 8 to 39, the pointers and what is reserved
 pub record HasFields (entry : List ℕ) (opcode : Opcode) (cid : ℕ) (fields : CommandDwords) : Type 0 where
   pub code : opcode_of (slice_index entry 0) ≡ Some opcode
   pub second_byte : field entry 1 1 ≡ 0

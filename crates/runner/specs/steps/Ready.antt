@@ -46,7 +46,7 @@ pub record IsReady (ns : ZonedNamespace) (slots : List (Option LoadedProgram)) (
   pub programs : (k : ℕ) (p : LoadedProgram) → get_or slots k None ≡ Some p → IsForBlocks ns p
   pub running : (k : ℕ) (a : ActiveRun) → get_or runs k None ≡ Some a → IsRunning ns slots a
 
--- what holds of each device that there is: events led to its state
+-- what holds of each device that there is: all that it has is ready, and events led to its state
 pub record IsDevice (ns : ZonedNamespace) (slots : List (Option LoadedProgram)) (runs : List (Option ActiveRun)) : Type 0 where
   pub ready : IsReady ns slots runs
   pub reached : IsReached intervals (device_state ns slots runs)

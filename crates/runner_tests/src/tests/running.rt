@@ -212,7 +212,7 @@ fn what_runs_emit_and_leave(rt: HostRuntime) -> Result<(), Fail> {
 
 const TURNS_OF_RUNS: &[Scene] = &[
     Scene {
-        name: "turns of two runs, one after the other",
+        name: "turns of two runs, in turn",
         shape: FOUR_ZONES,
         zones: "closed 07 07, implicit 07 07, explicit, empty",
         steps: IN_TURN,

@@ -14,7 +14,7 @@ use word_domain::Domain;
 pub(super) enum Case {
     /// A program as text.
     Text(&'static str, u32, Verdict),
-    /// A jump in front of so many moves and an exit, which emits nothing.
+    /// A jump in front of so many moves and an EXIT, which emits nothing.
     Far(&'static str, usize, Verdict),
 }
 
@@ -58,7 +58,7 @@ fn check_over<D: Domain>(rt: &impl Abort, alloc: Global, cases: &[Case]) -> Resu
     Ok(())
 }
 
-/// A jump, so many moves and an exit, as text.
+/// A jump, so many moves and an EXIT, as text.
 fn far(alloc: Global, jump: &str, moves: usize) -> Result<String, AllocError> {
     let mut text = String::new(alloc);
     text.push_str(jump)?;

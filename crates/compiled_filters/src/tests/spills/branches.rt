@@ -3,7 +3,8 @@
 use super::{Filter, Scene, check};
 use std::test::Fail;
 
-/// Slots 25 and 27 load the length of an entry, slots 51, 65 and 70 the offset of the longest so far.
+/// Slots 25 and 27 load the length of an entry, slots 51 and 70 the offset of the longest so far, slot 65 that of the last
+/// entry.
 const LONGEST: Filter = Filter {
     name: "longest.c",
     emit: 170,
@@ -56,8 +57,8 @@ fn the_longest_of_four(rt: HostRuntime) -> Result<(), Fail> {
     check(&rt, rt.alloc(), &LONGEST)
 }
 
-/// Slots 43, 50 and 52 load addresses of the least and the greatest so far, slots 63 and 68 those of scratch and of the
-/// context.
+/// Slots 43 and 52 load the address of the greatest so far, slot 50 that of the fourth record, slots 63 and 68 those of scratch
+/// and of the context.
 const EXTREMES: Filter = Filter {
     name: "extremes.c",
     emit: 36,

@@ -1,7 +1,7 @@
 use Rattle.std.proofs.Common.{◌≡◌, ◌++◌, ◌∷◌, [], take, drop, ◌∙◌, ap, arith}
 use Rattle.std.proofs.lemmas.List.{map_push}
 use Rattle.emit_append.specs.Unpacking.{record_bytes}
-use Rattle.emit_append.proofs.Answered.{gives_records}
+use Rattle.emit_append.proofs.ReadingCalls.{gives_records}
 use Rattle.emit_append.proofs.FramesRead.{frame_is, goes_on, is_short, is_zeros}
 use Rattle.emit_append.proofs.unpacking.read_block.Goals as goal
 

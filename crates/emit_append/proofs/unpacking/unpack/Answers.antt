@@ -2,7 +2,7 @@ use Rattle.std.proofs.Common.{◌≡◌, ◌+◌, ◌-◌, length, arith}
 use Rattle.std.proofs.lemmas.Bool.Decides.{nat_tests}
 use Rattle.std.proofs.lemmas.Result.{err_from_is_err_and}
 use Rattle.emit_append.specs.Unpacking.{output_block_at, unpacked, record_bytes}
-use Rattle.emit_append.proofs.Answered.{fails_on, goes_on_with, is_end, is_part}
+use Rattle.emit_append.proofs.ReadingCalls.{fails_on, goes_on_with, is_end, is_part}
 use Rattle.emit_append.proofs.FramesRead.{read-on}
 use Rattle.emit_append.proofs.unpacking.unpack.Goals as goal
 

@@ -1,4 +1,4 @@
--- What a reading call answers, from the calls that it makes.
+-- What a reading call gives, from the calls that it makes.
 use Rattle.std.proofs.Common.{◌≡◌, ℕ, ◌+◌, ◌/◌, ◌≤◌, ◌<◌, List, [], length, take, drop, Result, Ok, Err, IfSome, ap, sym, ◌∙◌, arith}
 use Rattle.std.proofs.lemmas.List.{append-nil, nil_from_length}
 use Rattle.std.proofs.Math.Nat.{div-eq_of_lt}
@@ -10,7 +10,7 @@ use Rattle.emit_append.specs.Unpacking.{Reading, output_block_at, output_blocks_
 use Rattle.emit_append.proofs.FramesRead.{read-err, more_blocks, no_more_blocks, part_of_block}
 
 -- no more records come after these
-pub gives_records : (answer : Result Unit UnpackFault) (records : List (List ℕ)) (reading : Reading) → Gives byte_told (λ _. []) answer reading → Gives byte_told (λ _. records) answer (with_front records reading)
+pub gives_records : (given : Result Unit UnpackFault) (records : List (List ℕ)) (reading : Reading) → Gives byte_told (λ _. []) given reading → Gives byte_told (λ _. records) given (with_front records reading)
 gives_records (Ok x) records reading is = ap (with_front records) is ∙ ap Ok (append-nil records)
 gives_records (Err (At place)) records reading is = ap (with_front records) is
 gives_records (Err Memory) records reading is = tt
