@@ -22,11 +22,11 @@ use Rattle.ebpf_asm.specs.steps.Labels.{with_label}
 
 -- ---- the lines that are left, and those before
 
-pub drop_lines : (all : List code.Line.Line) (i : ℕ) (line : code.Line.Line) → i < length all → line ≡ get_or all i line → drop i (line_views all) ≡ line_view line ∷ drop (i + 1) (line_views all)
+drop_lines : (all : List code.Line.Line) (i : ℕ) (line : code.Line.Line) → i < length all → line ≡ get_or all i line → drop i (line_views all) ≡ line_view line ∷ drop (i + 1) (line_views all)
 drop_lines all i line lt e =
     drop-map line_view i all ∙ ap line_views (drop_more all i line lt) ∙ ap (λ l. line_view l ∷ line_views (drop (i + 1) all)) (sym e) ∙ ap (λ ls. line_view line ∷ ls) (sym (drop-map line_view (i + 1) all))
 
-pub take_lines : (all : List code.Line.Line) (i : ℕ) (line : code.Line.Line) → i < length all → line ≡ get_or all i line → take (i + 1) (line_views all) ≡ take i (line_views all) ++ line_view line ∷ []
+take_lines : (all : List code.Line.Line) (i : ℕ) (line : code.Line.Line) → i < length all → line ≡ get_or all i line → take (i + 1) (line_views all) ≡ take i (line_views all) ++ line_view line ∷ []
 take_lines all i line lt e =
     take-map line_view (i + 1) all ∙ ap line_views (take_more all i line lt) ∙ map_push line_view (take i all) (get_or all i line) ∙ ap (λ l. line_views (take i all) ++ line_view l ∷ []) (sym e) ∙ ap (λ ls. ls ++ line_view line ∷ []) (sym (take-map line_view i all))
 
@@ -70,7 +70,7 @@ none_if : {X : Type 0} (o : Option X) → is_some o ≡ false → o ≡ None
 none_if None e = refl
 none_if (Some x) e = absurd cc
 
-pub label_map-push : (before : List Line) (line : Line) (name : List ℕ) → is_twice before line ≡ false → label_map (before ++ line ∷ []) name ≡ with_label (label_map before) line.label (slot_count before) name
+label_map-push : (before : List Line) (line : Line) (name : List ℕ) → is_twice before line ≡ false → label_map (before ++ line ∷ []) name ≡ with_label (label_map before) line.label (slot_count before) name
 label_map-push before line name once =
     ap (λ es. slot_named es name) (labels_from-push 0 before line ∙ ap (λ s. labels_from 0 before ++ label_at s line.label) (omega arith)) ∙ at_label line.label once
   where
@@ -120,7 +120,7 @@ told_here before rest all line twice fault labels slots h known told =
     ∙ ap (λ s. told_first n (line_fault twice s line.instruction) later) (sym h.counted)
     ∙ ap (λ f. told_first n f later) (sym told)
 
-pub HasRead-more : (before rest all : List Line) (line : Line) (twice : Bool) (fault : Option FaultKind) (labels more : LabelMap) (slots n : ℕ)
+HasRead-more : (before rest all : List Line) (line : Line) (twice : Bool) (fault : Option FaultKind) (labels more : LabelMap) (slots n : ℕ)
     → HasRead before (line ∷ rest) all labels slots → twice ≡ is_some (option_and_then labels line.label) → fault ≡ line_fault twice slots line.instruction → fault ≡ None
     → ((name : List ℕ) → more name ≡ with_label labels line.label slots name) → n ≡ slots_in line → HasRead (before ++ line ∷ []) rest all more (slots + n)
 HasRead-more before rest all line twice fault labels more slots n h known told none put taken =
@@ -133,7 +133,7 @@ HasRead-more before rest all line twice fault labels more slots n h known told n
       fault = sym (told_here before rest all line twice fault labels slots h known told ∙ ap (λ f. told_first (length before + 1) f (first_fault (before ++ line ∷ []) rest)) none);
     }
 
-pub HasRead-fault : (before rest all : List Line) (line : Line) (twice : Bool) (kind : FaultKind) (labels : LabelMap) (slots : ℕ)
+HasRead-fault : (before rest all : List Line) (line : Line) (twice : Bool) (kind : FaultKind) (labels : LabelMap) (slots : ℕ)
     → HasRead before (line ∷ rest) all labels slots → twice ≡ is_some (option_and_then labels line.label) → Some kind ≡ line_fault twice slots line.instruction
     → first_fault [] all ≡ Some (record { line = length before + 1; kind = kind })
 HasRead-fault before rest all line twice kind labels slots h known told = told_here before rest all line twice (Some kind) labels slots h known told
@@ -146,7 +146,7 @@ pub record HasMade (left all : List Line) (labels : LabelMap) (number slot : ℕ
   pub room : slot + slot_count left ≤ 4096
 
 -- a line without an instruction
-pub HasMade-nothing : (left all : List Line) (line : Line) (labels : LabelMap) (number slot : ℕ) (bytes : List ℕ) → ((instruction : Instruction) → line.instruction ≡ Ok (Some instruction) → ⊥)
+HasMade-nothing : (left all : List Line) (line : Line) (labels : LabelMap) (number slot : ℕ) (bytes : List ℕ) → ((instruction : Instruction) → line.instruction ≡ Ok (Some instruction) → ⊥)
     → HasMade (line ∷ left) all labels number slot bytes → HasMade left all labels (number + 1) slot bytes
 HasMade-nothing left all line labels number slot bytes none h = at line.instruction refl
   where
@@ -164,7 +164,7 @@ HasMade-nothing left all line labels number slot bytes none h = at line.instruct
     at (Ok None) e = skipped (ap slots_of_instruction e) (ap (λ i. bytes_in_front labels number slot i line.target (later (slot + slots_in line))) e)
     at (Err kind) e = skipped (ap slots_of_instruction e) (ap (λ i. bytes_in_front labels number slot i line.target (later (slot + slots_in line))) e)
 
-pub HasMade-more : (left all : List Line) (line : Line) (labels : LabelMap) (number slot n : ℕ) (bytes more : List ℕ) (instruction made : Instruction) → line.instruction ≡ Ok (Some instruction) → Ok made ≡ resolved labels slot instruction line.target
+HasMade-more : (left all : List Line) (line : Line) (labels : LabelMap) (number slot n : ℕ) (bytes more : List ℕ) (instruction made : Instruction) → line.instruction ≡ Ok (Some instruction) → Ok made ≡ resolved labels slot instruction line.target
     → more ≡ bytes ++ spelling made → n ≡ slots_in line → HasMade (line ∷ left) all labels number slot bytes → HasMade left all labels (number + 1) (slot + n) more
 HasMade-more left all line labels number slot n bytes more instruction made e r m taken h =
     let later = bytes_of_lines labels (number + 1) (slot + slots_in line) left in
@@ -174,7 +174,7 @@ HasMade-more left all line labels number slot n bytes more instruction made e r 
       room = omega (arith, h.room, slot_count-cons line left);
     }
 
-pub HasMade-fault : (left all : List Line) (line : Line) (labels : LabelMap) (number slot : ℕ) (bytes : List ℕ) (instruction : Instruction) (kind : FaultKind) → line.instruction ≡ Ok (Some instruction) → Err kind ≡ resolved labels slot instruction line.target
+HasMade-fault : (left all : List Line) (line : Line) (labels : LabelMap) (number slot : ℕ) (bytes : List ℕ) (instruction : Instruction) (kind : FaultKind) → line.instruction ≡ Ok (Some instruction) → Err kind ≡ resolved labels slot instruction line.target
     → HasMade (line ∷ left) all labels number slot bytes → bytes_of_lines labels 1 0 all ≡ Err (record { line = number; kind = kind })
 HasMade-fault left all line labels number slot bytes instruction kind e r h =
     let later = bytes_of_lines labels (number + 1) (slot + slots_in line) left in

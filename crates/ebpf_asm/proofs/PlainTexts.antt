@@ -65,7 +65,7 @@ plain_digits : (radix : ℕ) (ds : List ℕ) → radix ≤ 16 → AllDigits radi
 plain_digits radix [] most h = refl
 plain_digits radix (d ∷ ds) most h = rw (plain_digit d (omega (arith, most, h.0)), plain_digits radix ds most h.1) refl
 
-pub plain_decimal : (n : ℕ) → n < 2 ^ 64 → IsPlain (decimal n)
+plain_decimal : (n : ℕ) → n < 2 ^ 64 → IsPlain (decimal n)
 plain_decimal n small = plain_digits 10 (decimal n) (omega arith) (decimal_is_IsNumeral n small).0.1
 
 plain_zeros : (k : ℕ) → IsPlain (replicate k 48)
@@ -105,7 +105,7 @@ wide_is_text value small =
 
 -- ---- places
 
-pub place_none : (p : ℕ → Bool) (xs : List ℕ) → list_all (λ b. not (p b)) xs ≡ true → position_or_len p xs ≡ length xs
+place_none : (p : ℕ → Bool) (xs : List ℕ) → list_all (λ b. not (p b)) xs ≡ true → position_or_len p xs ≡ length xs
 place_none p xs h =
     position_or_len_is p xs (length xs) 0 (omega arith) (λ k inside. not-true _ (AllPass-from_list_all (λ b. not (p b)) xs h k 0 inside)) (λ inside. absurd (omega (arith, inside)))
 

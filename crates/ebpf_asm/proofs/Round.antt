@@ -21,7 +21,7 @@ use Rattle.ebpf_asm.specs.Operand.{numeral_of, magnitude_of, literal_of, immedia
 use Rattle.ebpf_asm.specs.Listing.{register_text, wide_text}
 
 -- digits are read as the number that they write
-pub numeral_again : (radix : ℕ) (ds : List ℕ) (n : ℕ) → IsNumeral radix ds → digits_value radix ds ≡ n → n < 2 ^ 64 → numeral_of radix ds ≡ Ok n
+numeral_again : (radix : ℕ) (ds : List ℕ) (n : ℕ) → IsNumeral radix ds → digits_value radix ds ≡ n → n < 2 ^ 64 → numeral_of radix ds ≡ Ok n
 numeral_again radix ds n numeral value small =
     ap (λ b. cond b (Err Operand) (cond (list_all (λ byte. is_digit byte radix) ds) (cond (ltb (digits_value radix ds) (2 ^ 64)) (Ok (digits_value radix ds)) (Err OutOfRange)) (Err Operand))) (ne_eqb (length ds) 0 (omega (arith, numeral.0)))
     ∙ rw (all_digits radix ds numeral.1, value, lt-ltb n (2 ^ 64) small) refl
@@ -66,7 +66,7 @@ magnitude_again n small =
     ap (λ b. cond b (numeral_of 16 (drop 2 (decimal n))) (numeral_of 10 (decimal n))) (ap (λ b. eqb (get_or (decimal n) 0 0) 48 && b) (no_x_second (decimal n) d.0.1) ∙ and-false (eqb (get_or (decimal n) 0 0) 48))
     ∙ numeral_again 10 (decimal n) n d.0 d.1 small
 
-pub number_again : (z : ℤ) → mag z + 1 < 2 ^ 64 → literal_of (signed_decimal z) ≡ Ok z
+number_again : (z : ℤ) → mag z + 1 < 2 ^ 64 → literal_of (signed_decimal z) ≡ Ok z
 unfolding literal_of
 number_again (pos n) small =
     let d = decimal_is_IsNumeral n (omega arith) in

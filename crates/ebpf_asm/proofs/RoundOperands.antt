@@ -33,7 +33,7 @@ place_behind p front y rest h e =
     (λ _. ap p (get_or-append_seam front y rest 0) ∙ e)
 
 -- a signed text is a sign and a decimal number
-abbrev pub sign_of : ℤ → ℕ
+abbrev sign_of : ℤ → ℕ
 sign_of (pos n) = 43
 sign_of (negsuc n) = 45
 
@@ -44,7 +44,7 @@ pub signed_text-parts : (z : ℤ) → signed_text z ≡ sign_of z ∷ decimal (n
 signed_text-parts (pos n) = rw (not_below_zero n) refl
 signed_text-parts (negsuc n) = refl
 
-pub signed_again : (z : ℤ) → mag z + 1 < 2 ^ 64 → signed_of (signed_text z) ≡ Ok z
+signed_again : (z : ℤ) → mag z + 1 < 2 ^ 64 → signed_of (signed_text z) ≡ Ok z
 unfolding signed_of
 signed_again (pos n) small = ap signed_of (signed_text-parts (pos n)) ∙ ap (λ r. r >>= λ m. Ok (pos m)) (magnitude_again n (omega arith))
 signed_again (negsuc n) small = ap (λ r. r >>= λ m. Ok (neg_ℤ (pos m))) (magnitude_again (suc n) (omega arith))
@@ -80,7 +80,7 @@ short_distance_again z fits = distance_again short_of z (omega (arith, fits.sfit
 pub long_distance_again : LongDistancesReadBack
 long_distance_again z fits = distance_again long_of z (omega (arith, fits.sfits)) (long_again z fits)
 
-pub offset_again : (z : ℤ) → FitsSigned w16 z → offset_of (signed_text z) ≡ Ok z
+offset_again : (z : ℤ) → FitsSigned w16 z → offset_of (signed_text z) ≡ Ok z
 unfolding offset_of
 offset_again z fits =
     ap (λ b. cond b (Ok (pos 0)) (signed_of (signed_text z) >>= short_of)) (ap (λ t. eqb (length t) 0) (signed_text-parts z) ∙ eqb-suc-zero (length (decimal (nat_abs z))))
@@ -117,7 +117,7 @@ register_source_again n lt = ap (λ r. r >>= λ v. Ok (sources.Register v)) (reg
 
 -- ---- memory operands
 
-pub inside_again : (inside : List ℕ) → inside_brackets (91 ∷ inside ++ 93 ∷ []) ≡ Ok inside
+inside_again : (inside : List ℕ) → inside_brackets (91 ∷ inside ++ 93 ∷ []) ≡ Ok inside
 inside_again inside =
     let text = 91 ∷ inside ++ 93 ∷ [] in
     let long : length text ≡ length inside + 2 = omega (arith, length-append (91 ∷ inside) (93 ∷ [])) in

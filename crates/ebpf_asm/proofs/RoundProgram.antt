@@ -37,14 +37,14 @@ use Rattle.ebpf_asm.proofs.PlainTexts.{IsPlain, IsText, append_passes, is_plain,
 -- ---- an instruction's text
 
 -- these operands are read as the instruction
-abbrev pub Again : Instruction → List (List ℕ) → Type 0
+abbrev Again : Instruction → List (List ℕ) → Type 0
 Again instruction [] = statement_of (mnemonic_text (mnemonic_of instruction) ++ []) ≡ Ok (instruction, None)
 Again instruction (first ∷ others) = statement_with (mnemonic_of instruction) (first ∷ others) ≡ Ok (instruction, None)
 
 -- the operands are texts, and are read as the instruction
-pub record IsListed (instruction : Instruction) : Type 0 where
-  pub texts : AllByRecursion IsText (operand_texts instruction)
-  pub again : Again instruction (operand_texts instruction)
+record IsListed (instruction : Instruction) : Type 0 where
+  texts : AllByRecursion IsText (operand_texts instruction)
+  again : Again instruction (operand_texts instruction)
 
 source_is_text : (source : Source) → IsSource source → IsText (source_text source)
 source_is_text (sources.Immediate z) fits = signed_decimal_is_text z (omega (arith, fits.sfits))
@@ -62,7 +62,7 @@ is_branch_source : (width : _) (relation : _) (dst : ℕ) (source : Source) (dis
 is_branch_source width relation dst (sources.Immediate z) distance fits = fits.immediate
 is_branch_source width relation dst (sources.Register n) distance fits = fits.src
 
-pub is_listed : (instruction : Instruction) → Fits instruction → IsListed instruction
+is_listed : (instruction : Instruction) → Fits instruction → IsListed instruction
 unfolding statement_of operands_of statement_with one_of two_of three_of none_of
 is_listed (LoadImmediate dst value) fits = record {
   texts = (register_is_text dst fits.dst, (wide_is_text value fits.value, tt));
@@ -186,7 +186,7 @@ line_again text h ends some =
     ∙ ap (λ c. behind_label (split_label text c)) (cut_none 58 text (weaker is_inline (λ b. not (eqb b 58)) inline_no_colon text h))
     ∙ ap (labelled None) ends ∙ ap (λ c. cond c empty (with_statement None (statement_of text))) (ne_eqb (length text) 0 (omega (arith, some)))
 
-abbrev pub line_with : Instruction → Line
+abbrev line_with : Instruction → Line
 line_with instruction = record { label = None; instruction = Ok (Some instruction); target = None }
 
 statement_listed : (instruction : Instruction) (texts : List (List ℕ)) → AllByRecursion IsText texts → Again instruction texts → statement_of (mnemonic_text (mnemonic_of instruction) ++ operands_text texts) ≡ Ok (instruction, None)

@@ -19,7 +19,7 @@ register_text number = 114 ∷ decimal number
 abbrev pub signed_text : ℤ → List ℕ
 signed_text z = if int_lt z (pos 0) then signed_decimal z else 43 ∷ signed_decimal z
 
--- an address in memory: a register and an offset in brackets
+-- a memory operand: a register and an offset in brackets
 abbrev pub memory_text : ℕ → ℤ → List ℕ
 memory_text base offset = 91 ∷ (register_text base ++ signed_text offset) ++ 93 ∷ []
 

@@ -6,7 +6,8 @@ use Rattle.ebpf_asm.specs.declared.refusal.AssemblyRefusal.{AssemblyRefusal}
 use Rattle.text_lines.specs.Cut.{trimmed}
 use Rattle.text_lines.specs.Excerpt.{IsExcerptOf}
 
--- the line with this number without the blanks at its ends, or nothing where the text has no such line
+-- the line with this number without the blanks at its ends, or nothing where the text has no such line; of 0
+-- it is the first
 abbrev pub line_shown : ℕ → List ℕ → List ℕ
 line_shown number text = trimmed (unwrap_or (slice_get (lines text) (number - 1)) [])
 

@@ -58,7 +58,7 @@ swap32 r7 ; d707000020000000\n\
 swap64 r7 ; d707000040000000\n\
 ";
 
-/// Lines of jumps, a call and an exit, with their bytes (RFC 9669, 4.3).
+/// Lines of jumps, a call and EXIT, with their bytes (RFC 9669, 4.3).
 const JUMPS: &str = "\
 ja +5 ; 0500050000000000\n\
 jaw -70000 ; 0600000090eefeff\n\

@@ -25,20 +25,20 @@ use Rattle.ebpf_decode.proofs.Slots.{length-slots}
 use Rattle.ebpf_decode.proofs.ReadAreSpelled.{AreFields, AreFieldsIn, read-takes}
 
 -- instructions whose slots they are
-pub record Spelled (fs : List Fields) (slots : List (Option Instruction)) : Type 0 where
-  pub instructions : List Instruction
-  pub layout : slots ≡ slots_of instructions
-  pub spelled : fs ≡ flat_map slots_spelled instructions
-  pub fits : AllByRecursion Fits instructions
+record Spelled (fs : List Fields) (slots : List (Option Instruction)) : Type 0 where
+  instructions : List Instruction
+  layout : slots ≡ slots_of instructions
+  spelled : fs ≡ flat_map slots_spelled instructions
+  fits : AllByRecursion Fits instructions
 
 -- the same behind a wide instruction's second slot
-pub record AfterSecond (fs : List Fields) (slots : List (Option Instruction)) : Type 0 where
-  pub second : Fields
-  pub others : List Fields
-  pub rest : List (Option Instruction)
-  pub are : fs ≡ second ∷ others
-  pub slots_are : slots ≡ None ∷ rest
-  pub after : Spelled others rest
+record AfterSecond (fs : List Fields) (slots : List (Option Instruction)) : Type 0 where
+  second : Fields
+  others : List Fields
+  rest : List (Option Instruction)
+  are : fs ≡ second ∷ others
+  slots_are : slots ≡ None ∷ rest
+  after : Spelled others rest
 
 abbrev SpelledFrom : Bool → List Fields → List (Option Instruction) → Type 0
 SpelledFrom false fs slots = Spelled fs slots
@@ -95,12 +95,12 @@ takes (f ∷ fs) false s slots all some e =
     (takes fs (is_wide r.0) (s + 1) w.0 all.1 (λ wide. wide-has-second r.0 (slice_get fs 0) wide taken.second) w.1)
 
 -- what is read from slots is spelled by them
-pub slots-take : (fs : List Fields) (slots : List (Option Instruction)) → AllByRecursion AreFields fs → read_slots false 0 fs ≡ Ok slots → Spelled fs slots
+slots-take : (fs : List Fields) (slots : List (Option Instruction)) → AllByRecursion AreFields fs → read_slots false 0 fs ≡ Ok slots → Spelled fs slots
 slots-take fs slots all e = takes fs false 0 slots all (λ never. absurd cc) e
 
 -- ---- lengths, instructions and bytes of programs
 
-pub length-slots_of : (is : List Instruction) → length (slots_of is) ≡ length (flat_map slots_spelled is)
+length-slots_of : (is : List Instruction) → length (slots_of is) ≡ length (flat_map slots_spelled is)
 length-slots_of [] = refl
 length-slots_of (LoadImmediate dst value ∷ is) = ap (λ n. suc (suc n)) (length-slots_of is)
 length-slots_of (i ∷ is) = ap suc (length-slots_of is)
@@ -110,12 +110,12 @@ instructions_of-slots_of [] = refl
 instructions_of-slots_of (LoadImmediate dst value ∷ is) = ap (λ xs. LoadImmediate dst value ∷ xs) (instructions_of-slots_of is)
 instructions_of-slots_of (i ∷ is) = ap (λ xs. i ∷ xs) (instructions_of-slots_of is)
 
-pub spelling-slots : (is : List Instruction) → flat_map spelling is ≡ flat_map slot_bytes (flat_map slots_spelled is)
+spelling-slots : (is : List Instruction) → flat_map spelling is ≡ flat_map slot_bytes (flat_map slots_spelled is)
 spelling-slots [] = refl
 spelling-slots (i ∷ is) =
     ap (λ xs. spelling i ++ xs) (spelling-slots is) ∙ sym (flat_map-append slot_bytes (slots_spelled i) (flat_map slots_spelled is))
 
-pub program_bytes-slots_of : (is : List Instruction) → program_bytes (slots_of is) ≡ flat_map slot_bytes (flat_map slots_spelled is)
+program_bytes-slots_of : (is : List Instruction) → program_bytes (slots_of is) ≡ flat_map slot_bytes (flat_map slots_spelled is)
 program_bytes-slots_of is = ap (flat_map spelling) (instructions_of-slots_of is) ∙ spelling-slots is
 
 -- bytes whose length has no fault have no more slots than a program may

@@ -41,7 +41,7 @@ operand_bit operands.Immediate = 0
 operand_bit operands.Register = 1
 
 -- the opcode of what an opcode names
-abbrev pub opcode_of : Opcode → ℕ
+abbrev opcode_of : Opcode → ℕ
 opcode_of LoadImmediate = access_opcode IMM (size_code sizes.DoubleWord) LD
 opcode_of (Load size) = access_opcode MEM (size_code size) LDX
 opcode_of (LoadSigned size) = access_opcode MEMSX (signed_size_code size) LDX
@@ -85,13 +85,13 @@ low true n below unused = below refl
 low false n below unused = omega (arith, unused refl)
 
 -- fields that aren't used are 0, and registers that are used are there
-pub record IsUsed (used : Uses) (f : Fields) : Type 0 where
-  pub dst : used.dst ≡ false → f.dst ≡ 0
-  pub src : used.src ≡ false → f.src ≡ 0
-  pub offset : used.offset ≡ false → f.offset ≡ pos 0
-  pub immediate : used.immediate ≡ false → f.immediate ≡ pos 0
-  pub low_dst : f.dst < 11
-  pub low_src : f.src < 11
+record IsUsed (used : Uses) (f : Fields) : Type 0 where
+  dst : used.dst ≡ false → f.dst ≡ 0
+  src : used.src ≡ false → f.src ≡ 0
+  offset : used.offset ≡ false → f.offset ≡ pos 0
+  immediate : used.immediate ≡ false → f.immediate ≡ pos 0
+  low_dst : f.dst < 11
+  low_src : f.src < 11
 
 is_used : (used : Uses) (f : Fields) → has_no_register used f ≡ false → has_unused used f ≡ false → IsUsed used f
 is_used used f registers unused =
@@ -116,7 +116,7 @@ slot-is : (f : Fields) (opcode dst src : ℕ) (offset immediate : ℤ)
 slot-is f opcode dst src offset immediate o d s t i = rw (o, d, s, t, i) refl
 
 -- the instruction is spelled by the slot, and by the next one where it is wide
-abbrev pub IsSpelled : Fields → Option Fields → Instruction → Type 0
+abbrev IsSpelled : Fields → Option Fields → Instruction → Type 0
 IsSpelled f next i = (first_slot i ≡ f) × (second_slot i ≡ cond (is_wide i) next None) × HasValue i
 
 moved : (f : Fields) (next : Option Fields) (x i : Instruction) → Some x ≡ Some i → IsSpelled f next x → IsSpelled f next i

@@ -29,8 +29,7 @@ use Rattle.instruction_set.specs.declared.operation.SwapSize.{SwapSize}
 use Rattle.instruction_set.specs.declared.operation.SwapSize.TheVariants as kept
 use Rattle.instruction_set.specs.declared.operation.Width.{Width}
 use Rattle.instruction_set.specs.declared.operation.Width.TheVariants as widths
-use Rattle.instruction_set.specs.Codes.{extension_with, swap_size_with, variant_with}
-use Rattle.instruction_set.specs.Codes.{has_variants}
+use Rattle.instruction_set.specs.Codes.{extension_with, has_variants, swap_size_with, variant_with}
 use Rattle.ebpf_decode.specs.Opcodes.{opcode_named, uses}
 use Rattle.instruction_set.specs.Program.{is_wide}
 use Rattle.ebpf_decode.specs.declared.fault.FaultKind.TheVariants as kinds

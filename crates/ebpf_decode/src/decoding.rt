@@ -252,6 +252,7 @@ fn read(fields: &Fields, next: Option<Fields>) -> Result<Instruction, FaultKind>
     if let Some(kind) = first_fault(opcode, fields, next) {
         return Err(kind);
     }
+    // by a `match`, since the borrow checker's proof doesn't cover `ok_or` of an enum that has another inside
     match instruction(opcode, fields, next) {
         Some(found) => Ok(found),
         None => Err(FaultKind::Value),

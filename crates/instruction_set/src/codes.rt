@@ -1,9 +1,9 @@
-//! The numbers that an opcode is made of: classes, modes, and the codes of operations, relations and sizes.
+//! The numbers that tell an instruction: what its opcode is made of (classes, modes, and the codes of operations, relations and
+//! sizes), the offset of an operation, and the immediate of a byte swap.
 
 ghost use Rattle.std.specs.Prelude.{◌≡◌, ◌<◌};
 ghost use Rattle.instruction_set.specs.Spelling.{arithmetic_class, extension_offset, extension_width, jump_class, kept_bits, operation_code, operation_offset, relation_code, signed_size_code, size_code, swap_opcode};
-ghost use Rattle.instruction_set.specs.Codes.{extension_with, operation_with, relation_with, signed_size_with, size_with, swap_size_with, swap_with, variant_with};
-ghost use Rattle.instruction_set.specs.Codes.{has_variants};
+ghost use Rattle.instruction_set.specs.Codes.{extension_with, has_variants, operation_with, relation_with, signed_size_with, size_with, swap_size_with, swap_with, variant_with};
 
 use crate::operation::{
     Operation, Relation, SignExtension, SignedSize, Size, Swap, SwapSize, Width,

@@ -75,7 +75,7 @@ pub enum Instruction {
         dst: Register,
         src: Register,
     },
-    /// `dst` = its low bytes, in another order (RFC 9669, 4.2).
+    /// `dst` = its low bytes, in the order that `swap` tells (RFC 9669, 4.2).
     SwapBytes {
         swap: Swap,
         size: SwapSize,

@@ -14,7 +14,7 @@ pub enum Arithmetic {
     Negate { width: Width },
     /// The low bits of the source, sign-extended.
     MoveSigned { extension: SignExtension },
-    /// The low bytes of the destination, in another order.
+    /// The low bytes of the destination, in the order that the swap tells.
     SwapBytes { swap: Swap, size: SwapSize },
 }
 

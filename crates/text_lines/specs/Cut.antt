@@ -1,4 +1,4 @@
--- Where a line is cut (profile).
+-- Where a text is cut (profile).
 use Rattle.std.specs.Prelude.{ℕ, ◌==◌, Bool, ◌&&◌, ◌||◌, nat_lt, if◌then◌else◌, List, [], ◌∷◌, length, Option, Some, None}
 use Rattle.std.specs.List.{before_first, after_first, position_or_len, slice_split}
 
