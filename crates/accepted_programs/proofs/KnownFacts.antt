@@ -50,7 +50,7 @@ module _ {D : Type 0} (IsFact : D → Type 0) where
   SomeAreFacts (Some facts) = AreFacts facts
 
   -- ---- cells
-  pub no_cell_facts : AreCellFacts no_cells
+  no_cell_facts : AreCellFacts no_cells
   no_cell_facts j d e = absurd (none_known CELLS j d e)
 
   overwritten_facts : (told : Option Offsets) (offset : ℤ) (size : ℕ) (cells : List (Option D)) → AreCellFacts cells
@@ -83,11 +83,11 @@ module _ {D : Type 0} {IsFact : D → Type 0} {operations : Operations D} (give 
   pub fact_is : (facts : Facts D) (r : ℕ) → AreFacts IsFact facts → IsFact (fact operations facts r)
   fact_is facts r are = all_at IsFact facts.registers r operations.any are.registers give.any
 
-  pub source_is : (facts : Facts D) (source : Source) → AreFacts IsFact facts → IsFact (source_fact operations facts source)
+  source_is : (facts : Facts D) (source : Source) → AreFacts IsFact facts → IsFact (source_fact operations facts source)
   source_is facts (Register r) are = fact_is facts r are
   source_is facts (Immediate z) are = give.constant (immediate_word z) (immediate_fits z)
 
-  pub compared_is : (facts : Facts D) (width : Width) (source : Source) → AreFacts IsFact facts
+  compared_is : (facts : Facts D) (width : Width) (source : Source) → AreFacts IsFact facts
       → IsFact (compared_fact operations width facts source)
   compared_is facts width (Register r) are = fact_is facts r are
   compared_is facts width (Immediate z) are =

@@ -42,7 +42,7 @@ in_stack block address n lies =
     let both = and_parts (nat_le (address_of Stack) address) (nat_le (address + n) (address_of Stack + STACK_BYTES)) lies in
     record { from = leb-true _ _ both.0; to = leb-true _ _ both.1 }
 
-pub between : (w n : ℕ) (low high offset : ℤ) → w < 2 ^ 64 → FitsSigned w16 offset
+between : (w n : ℕ) (low high offset : ℤ) → w < 2 ^ 64 → FitsSigned w16 offset
     → low ≤ℤ (pos w -ℤ pos (address_of Stack)) → (pos w -ℤ pos (address_of Stack)) ≤ℤ high
     → IsInStack ((w + cast_unsigned w64 offset) % 2 ^ 64) n
     → IsBetween low high offset ((w + cast_unsigned w64 offset) % 2 ^ 64 - address_of Stack)
@@ -74,13 +74,13 @@ cell_apart low high offset at n j near some none =
     ]
 
 -- the cell of an access of eight bytes
-pub record IsCell (told : Option Offsets) (offset : ℤ) (j : ℕ) : Type 0 where
-  pub offsets : Offsets
-  pub is : told ≡ Some offsets
-  pub stack : offsets.area ≡ Stack
-  pub exact : offsets.high ≡ offsets.low
-  pub at : (offsets.low +ℤ offset) ≡ pos (8 * j)
-  pub within : 8 * j + 8 ≤ STACK_BYTES
+record IsCell (told : Option Offsets) (offset : ℤ) (j : ℕ) : Type 0 where
+  offsets : Offsets
+  is : told ≡ Some offsets
+  stack : offsets.area ≡ Stack
+  exact : offsets.high ≡ offsets.low
+  at : (offsets.low +ℤ offset) ≡ pos (8 * j)
+  within : 8 * j + 8 ≤ STACK_BYTES
 
 is_the_stack : (area : Area) → is_stack area ≡ true → area ≡ Stack
 is_the_stack Stack e = refl
@@ -99,7 +99,7 @@ cell_from_is (pos k) j e =
     (ap pos exact, omega (arith, exact, inside))
 cell_from_is (negsuc n) j e = cc
 
-pub cell_is : (told : Option Offsets) (offset : ℤ) (j : ℕ) → cell_of told offset ≡ Some j → IsCell told offset j
+cell_is : (told : Option Offsets) (offset : ℤ) (j : ℕ) → cell_of told offset ≡ Some j → IsCell told offset j
 cell_is None offset j e = cc
 cell_is (Some told) offset j e =
     let chosen = if_some (is_stack told.area && int_eq told.low told.high) (cell_from (told.low +ℤ offset)) j e in
@@ -177,10 +177,10 @@ module _ {D : Type 0} (contains : D → ℕ → Type 0) (stack bytes : List ℕ)
       (λ _. none_belong)
 
   -- a store that fills no cell
-  pub overwritten_belong : BelongThen (overwritten told offset (length bytes) cells)
+  overwritten_belong : BelongThen (overwritten told offset (length bytes) cells)
   overwritten_belong = overwritten_by told refl
 
-  pub none_filled : (cell : Option ℕ) → BelongThen (filled cell None cells (overwritten told offset (length bytes) cells))
+  none_filled : (cell : Option ℕ) → BelongThen (filled cell None cells (overwritten told offset (length bytes) cells))
   none_filled (Some j) = overwritten_belong
   none_filled None = overwritten_belong
 
@@ -215,7 +215,7 @@ module _ {D : Type 0} (contains : D → ℕ → Type 0) (stack bytes : List ℕ)
     filled_by None kept same is = overwritten_belong
 
     -- a store of a word that may fill a cell
-    pub filled_belong : (kept : Option D) → ((d : D) → kept ≡ Some d → contains d word)
+    filled_belong : (kept : Option D) → ((d : D) → kept ≡ Some d → contains d word)
         → BelongThen (filled (cell_of told offset) kept cells (overwritten told offset (length bytes) cells))
     filled_belong kept is = filled_by (cell_of told offset) kept refl is
 

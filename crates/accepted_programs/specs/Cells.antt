@@ -1,5 +1,5 @@
--- What is known of the stack: 64 cells, of which the j-th stands for the stack's bytes 8j to 8j + 7. A cell is a fact
--- about the little-endian word that they are, or nothing (profile).
+-- What is known of the stack: of each of its 64 cells, of which the j-th is the bytes 8j to 8j + 7, a fact about the
+-- little-endian word that they are, or nothing (profile).
 use Rattle.std.specs.Prelude.{ℕ, ℤ, pos, negsuc, suc, Bool, true, false, ◌+◌, ◌-◌, ◌*◌, ◌/◌, ◌%◌, ◌+ℤ◌, ◌-ℤ◌, ◌==◌, ◌&&◌, nat_lt, int_le, List, [], ◌∷◌, replicate, set, get_or, Option, Some, None, if◌then◌else◌}
 use Rattle.std.specs.Ordering.{int_eq}
 use Rattle.program_interface.specs.declared.area.Area.{Area}

@@ -136,7 +136,8 @@ module _ {D : Type 0} (operations : Operations D) where
 
   -- ---- words that instructions leave
 
-  -- the destination of a load, and what is known of the word there; none of another instruction
+  -- the destination of a load or of the wide instruction, and what is known of the word there; none of another
+  -- instruction
   abbrev pub loaded_word : Instruction → Facts D → Option (ℕ × D)
   loaded_word (LoadImmediate dst value) facts = Some (dst, operations.constant (value % 2 ^ 64))
   loaded_word (Load size dst src offset) facts = Some (dst, loaded_fact facts size src offset)

@@ -83,11 +83,11 @@ const NO_ROOM: End = End::Trap {
     cause: Cause::EmitLength,
 };
 
-/// A run of `MATCHING`: the most bytes that it may emit and its fuel; how it ends, after how many steps, and the bytes
+/// A block run of `MATCHING`: the most bytes that it may emit and its fuel; how it ends, after how many steps, and the bytes
 /// and the frames that it has emitted by then.
-type Run = (usize, u64, End, u64, usize, u64);
+type BlockRun = (usize, u64, End, u64, usize, u64);
 
-const RUNS: &[Run] = &[
+const BLOCK_RUNS: &[BlockRun] = &[
     (10, 7, End::Exit { r0: 0 }, 7, 10, 1),
     (10, 100, End::Exit { r0: 0 }, 7, 10, 1),
     (9, 100, NO_ROOM, 4, 0, 0),
@@ -96,7 +96,7 @@ const RUNS: &[Run] = &[
 ];
 
 /// Runs the filter over a block that begins with 7.
-fn check_filter(rt: &impl Abort, filter: &Program, run: Run) {
+fn check_filter(rt: &impl Abort, filter: &Program, run: BlockRun) {
     let (limit, fuel, end, steps, group_length, frames) = run;
     let mut block = [0; 512];
     block[0] = 7;
@@ -120,7 +120,7 @@ fn check_filter(rt: &impl Abort, filter: &Program, run: Run) {
 #[test]
 fn a_frame_of_a_block_that_matches(rt: HostRuntime) -> Result<(), Fail> {
     let filter = program(rt.alloc(), MATCHING)?;
-    for run in RUNS {
+    for run in BLOCK_RUNS {
         check_filter(&rt, &filter, *run);
     }
     Ok(())
@@ -163,7 +163,7 @@ fn a_frame_that_fills_the_largest_block(rt: HostRuntime) -> Result<(), Fail> {
 }
 
 #[test]
-fn the_slots_of_a_run(rt: HostRuntime) -> Result<(), Fail> {
+fn the_slots_of_a_block_run(rt: HostRuntime) -> Result<(), Fail> {
     let filter = program(rt.alloc(), MATCHING)?;
     let mut block = [0; 512];
     block[0] = 7;

@@ -21,11 +21,11 @@ use Rattle.interval_facts.specs.declared.fact.Fact.{Fact}
 use Rattle.interval_facts.specs.declared.fact.Fact.TheVariants.{Words, Pointer}
 
 -- an area's address is far from 0 and from the greatest word
-pub record IsFarIn (address : ℕ) : Type 0 where
-  pub above : 2 ^ 32 ≤ address
-  pub below : address ≤ 2 ^ 34
+record IsFarIn (address : ℕ) : Type 0 where
+  above : 2 ^ 32 ≤ address
+  below : address ≤ 2 ^ 34
 
-pub far_in : (area : Area) → IsFarIn (address_of area)
+far_in : (area : Area) → IsFarIn (address_of area)
 far_in Context = record { above = omega arith; below = omega arith }
 far_in Block = record { above = omega arith; below = omega arith }
 far_in Stack = record { above = omega arith; below = omega arith }
@@ -34,7 +34,7 @@ far_in Scratch = record { above = omega arith; below = omega arith }
 pub int_le-true : (a b : ℤ) → int_le a b ≡ true → a ≤ℤ b
 int_le-true a b h = grind (arith, ints)
 
-pub pointer_to_law : (area : Area) (low high : ℤ) (w : ℕ) → w < 2 ^ 64
+pointer_to_law : (area : Area) (low high : ℤ) (w : ℕ) → w < 2 ^ 64
     → ((pos 0 -ℤ farthest) ≤ℤ low → high ≤ℤ farthest
     → (low ≤ℤ (pos w -ℤ pos (address_of area))) × ((pos w -ℤ pos (address_of area)) ≤ℤ high))
     → ContainsWord (pointer_to area low high) w

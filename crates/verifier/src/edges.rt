@@ -154,7 +154,7 @@ fn load<D: Domain>(facts: &Facts<D>, size: Size, src: Register, offset: i16) -> 
     }
 }
 
-/// The destination of a load, and what is known of the word there.
+/// The destination of a load or of the wide instruction, and what is known of the word there.
 fn loaded<D: Domain>(instruction: &Instruction, facts: &Facts<D>) -> Option<(Register, D)>
     ensures { result ≡ loaded_word D.operations instruction.now facts.now }
 {

@@ -104,7 +104,7 @@ fn loads_outside<D: Domain>(block: BlockSize, facts: &Facts<D>, instruction: &In
     }
 }
 
-/// May it be that an area can't be written, or that there is none?
+/// Is there no area, or one that no program can store to?
 #[inline]
 fn is_unwritable(area: Option<Area>) -> bool
     ensures { result ≡ area_is_unwritable area }
