@@ -1,4 +1,4 @@
--- Bytes cut into blocks, and blocks joined.
+-- Bytes cut into blocks, blocks joined, and bytes with others put in their place.
 use Rattle.std.proofs.Common.{◌≡◌, ℕ, ◌+◌, ◌-◌, ◌*◌, ◌≤◌, zero, suc, List, ◌∷◌, ◌++◌, length, take, drop, refl, ap, sym, ◌∙◌, arith, length-take}
 use Rattle.std.specs.List.{concat}
 use Rattle.std.proofs.lemmas.List.{take-take, drop-take, drop-drop, take_at, drop_at, take-append-le, drop-append-le}
@@ -16,7 +16,7 @@ blocks_are_counted b zero xs = refl
 blocks_are_counted b (suc n) xs = ap suc (blocks_are_counted b n (drop b xs))
 
 -- blocks come from the front alone
-pub blocks-take : (b n k : ℕ) (xs : List ℕ) → n * b ≤ k → pieces b n (take k xs) ≡ pieces b n xs
+blocks-take : (b n k : ℕ) (xs : List ℕ) → n * b ≤ k → pieces b n (take k xs) ≡ pieces b n xs
 blocks-take b zero k xs h = refl
 blocks-take b (suc n) k xs h =
     let low : b ≤ k = omega (arith, suc-mul n b) in
@@ -51,11 +51,11 @@ blocks_keep_bytes b (suc n) xs =
     ap (λ (ys : List ℕ). take b xs ++ ys) (blocks_keep_bytes b n (drop b xs))
     ∙ (sym (take-add b (n * b) xs) ∙ ap (λ (k : ℕ). take k xs) place)
 
-pub drop-blocks : (b i n : ℕ) (xs : List ℕ) → drop i (pieces b (i + n) xs) ≡ pieces b n (drop (i * b) xs)
+drop-blocks : (b i n : ℕ) (xs : List ℕ) → drop i (pieces b (i + n) xs) ≡ pieces b n (drop (i * b) xs)
 drop-blocks b i n xs =
     ap (drop i) (blocks-add b i n xs) ∙ drop_at (pieces b i xs) (pieces b n (drop (i * b) xs)) i (blocks_are_counted b i xs)
 
-pub take-blocks : (b n m : ℕ) (xs : List ℕ) → take n (pieces b (n + m) xs) ≡ pieces b n xs
+take-blocks : (b n m : ℕ) (xs : List ℕ) → take n (pieces b (n + m) xs) ≡ pieces b n xs
 take-blocks b n m xs =
     ap (take n) (blocks-add b n m xs) ∙ take_at (pieces b n xs) (pieces b m (drop (n * b) xs)) n (blocks_are_counted b n xs)
 

@@ -94,7 +94,7 @@ room_holds s zs xs i flat inside =
     let low : (get_or zs i no_counted_zone).written * s.block ≤ s.capacity * s.block = mul-le-mul_right s.block (within s zs xs i flat inside) in
     omega arith
 
-abbrev pub put_in : ℕ → List ℕ → Split → Result Split LoadFault
+abbrev put_in : ℕ → List ℕ → Split → Result Split LoadFault
 put_in at xs part = Ok (spliced at part.0 xs, part.1)
 
 rest_of : (s : Shape) (zs : List CountedZone) (i : ℕ) (rest : List ℕ) (front : List ZoneWithBlocks) → i < length zs

@@ -100,7 +100,7 @@ header_fault_is_told bytes fault there e = whole_text bytes there ∙ ap (λ (r 
 header_passes : (bytes : List ℕ) (h : Header) → 64 ≤ length bytes → header_told (take 64 bytes) ≡ Ok h → namespace_in bytes ≡ after_header h (drop 64 bytes)
 header_passes bytes h there e = whole_text bytes there ∙ ap (λ (r : Result Header LoadFault). r >>= λ h. after_header h (drop 64 bytes)) e
 
--- the bytes of a version's magic, which alone tell the version
+-- the version whose magic these bytes are: the first 8 bytes of a text alone tell its version
 abbrev version_of : List ℕ → Option Version
 version_of front = find (λ version. pointwise (λ a b. a == b) (numbers_of_version version).magic front) (One ∷ Two ∷ [])
 

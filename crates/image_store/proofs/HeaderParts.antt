@@ -52,7 +52,8 @@ version_has version s done e =
       zones = leb-true s.zones most (demanded (nat_le s.zones most) (fault.Header (header_fault.VersionZones version s.zones)) (passed checks 1 none));
     }
 
--- the version, and what holds of the shape
+-- what 64 bytes that tell a header have: the magic of a version, a shape that it has, zeros behind what it tells, and the
+-- number of written blocks
 pub record IsHeader (bytes : List ℕ) (header : Header) : Type 0 where
   pub version : Version
   pub begins : begins bytes version ≡ true

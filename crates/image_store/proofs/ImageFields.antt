@@ -147,7 +147,7 @@ part_seen s zs xs z first count inside written =
     ∙ (sym (bytes-middle s.block first count (get_or zs z no_counted_zone).written (drop (z * (s.capacity * s.block)) xs) written)
     ∙ ap (λ (zone : ZoneWithBlocks). concat (take count (drop first zone.blocks))) (sym (zone-at s.block s.capacity zs xs z inside)))
 
--- the same of the blocks that the namespace's zone has
+-- what is no more than the namespace's zone has blocks is no more than the image counts
 pub written_seen : (s : Shape) (zs : List CountedZone) (xs : List ℕ) (z most : ℕ) (ns : ZonedNamespace) → namespace_of s zs xs ≡ ns → z < length zs → most ≤ length (zone_at ns z).blocks → most ≤ (get_or zs z no_counted_zone).written
 written_seen s zs xs z most ns seen inside h =
     let same = ap (λ (m : ZonedNamespace). length (zone_at m z).blocks) seen in

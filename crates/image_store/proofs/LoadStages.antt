@@ -37,7 +37,7 @@ header_no_stream (Err first) front e = no_stream first (header_text_fault front 
 row_fits : (capacity : ℕ) (row : List ℕ) (z : CountedZone) → 1 ≤ capacity → TellsZone capacity row z → (z.capacity ≡ capacity) × IsZone z.state z.written capacity
 row_fits capacity row z some tells = (sym tells.same_capacity, subst (IsZone z.state z.written) (sym tells.same_capacity) (subst (λ (c : ℕ). 1 ≤ c) tells.same_capacity some, tells.fits))
 
--- the zones of rows, as many as were wanted
+-- the zones of rows: as many as were wanted, each of the capacity, with blocks that fit its state
 pub record HaveFit (capacity n : ℕ) (zs : List CountedZone) : Type 0 where
   pub count : length zs ≡ n
   pub each : (k : ℕ) → k < length zs → ((get_or zs k no_counted_zone).capacity ≡ capacity) × IsZone (get_or zs k no_counted_zone).state (get_or zs k no_counted_zone).written capacity

@@ -25,7 +25,7 @@ use Rattle.image_store.proofs.BlocksRead.{zone_read}
 use Rattle.image_store.proofs.Shapes.{resized}
 use Rattle.image_store.proofs.SoundImages.{blocks_are_whole}
 
--- zones of whole blocks
+-- zones of whole blocks of bytes
 record AreWhole (block : ℕ) (zones : List ZoneWithBlocks) : Type 0 where
   pub whole : (z i : ℕ) → i < length (get_or zones z no_zone).blocks → length (get_or (get_or zones z no_zone).blocks i []) ≡ block
   pub bytes : (z i : ℕ) → AreBytes (get_or (get_or zones z no_zone).blocks i [])

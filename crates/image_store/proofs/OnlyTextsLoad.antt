@@ -49,7 +49,7 @@ total_is : (version : Version) (xs : List ℕ) → total_told version xs ≡ tot
 total_is One xs = refl
 total_is Two xs = refl
 
-pub header_only : (bytes : List ℕ) (told : Header) (rest : List ℕ) → AreBytes bytes → header_in bytes ≡ Ok (told, rest) → IsHeaded bytes told rest
+header_only : (bytes : List ℕ) (told : Header) (rest : List ℕ) → AreBytes bytes → header_in bytes ≡ Ok (told, rest) → IsHeaded bytes told rest
 header_only bytes told rest fit e =
     let a = bind_ok (bytes_in 64 bytes) (λ front. header_told front.0 >>= λ all. Ok (all, front.1)) (told, rest) e in
     let b = bind_ok (header_told a.0.0) (λ all. Ok (all, a.0.1)) (told, rest) a.2 in
@@ -70,7 +70,7 @@ header_only bytes told rest fit e =
     })
 
 -- a number of written blocks that is told is that of the rows
-pub header_counted : (version : Version) (s : Shape) (total : ℕ) (zs : List CountedZone) (done : Unit {0}) → total_kept (total_in version total) zs ≡ Ok done
+header_counted : (version : Version) (s : Shape) (total : ℕ) (zs : List CountedZone) (done : Unit {0}) → total_kept (total_in version total) zs ≡ Ok done
     → header version s total ≡ header version s (written_blocks zs)
 header_counted One s total zs done e = refl
 header_counted Two s total zs done e =
@@ -117,7 +117,7 @@ pub record AreWritten (capacity : ℕ) (zs : List CountedZone) (xs : List ℕ) (
   pub spelled : blocks_text got.0 ++ got.1 ≡ xs
   pub counted : map (counted capacity) got.0 ≡ zs
 
-pub blocks_only : (b capacity : ℕ) (zs : List CountedZone) (xs : List ℕ) (got : List ZoneWithBlocks × List ℕ) → ((k : ℕ) → k < length zs → (get_or zs k no_counted_zone).capacity ≡ capacity)
+blocks_only : (b capacity : ℕ) (zs : List CountedZone) (xs : List ℕ) (got : List ZoneWithBlocks × List ℕ) → ((k : ℕ) → k < length zs → (get_or zs k no_counted_zone).capacity ≡ capacity)
     → blocks_in b zs xs ≡ Ok got → AreWritten capacity zs xs got
 blocks_only b capacity [] xs got same e =
     subst (AreWritten capacity [] xs) (ok_is ([], xs) got e) (record { spelled = refl; counted = refl })
@@ -139,7 +139,7 @@ pub record AreZoneRows (s : Shape) (bytes : List ℕ) (zs : List CountedZone) (r
   pub spelled : zone_rows zs ++ rest ≡ bytes
   pub fit : HaveFit s.capacity s.zones zs
 
-pub rows_only : (s : Shape) (bytes : List ℕ) (got : List CountedZone × List ℕ) → IsShape s → AreBytes bytes → zone_rows_in s bytes ≡ Ok got → AreZoneRows s bytes got.0 got.1
+rows_only : (s : Shape) (bytes : List ℕ) (got : List CountedZone × List ℕ) → IsShape s → AreBytes bytes → zone_rows_in s bytes ≡ Ok got → AreZoneRows s bytes got.0 got.1
 rows_only s bytes got known fit e =
     let r = bind_ok (bytes_in (s.zones * 8) bytes) (λ front. zones_in 0 s.capacity s.zones front.0 >>= λ all. Ok (all, front.1)) got e in
     let q = bind_ok (zones_in 0 s.capacity s.zones r.0.0) (λ all. Ok (all, r.0.1)) got r.2 in

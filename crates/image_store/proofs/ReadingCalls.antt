@@ -1,4 +1,4 @@
--- What calls that read answer, one after another.
+-- The results of calls that read, one after another.
 use Rattle.std.proofs.Common.{◌≡◌, Bool, true, false, cond, Result, Ok, Err, refl, ap, subst}
 use Rattle.program_interface.proofs.Proved.{guarded}
 use Rattle.image_store.specs.declared.fault.LoadFault.{LoadFault}

@@ -18,7 +18,7 @@ use Rattle.image_store.specs.Namespace.{ZoneWithBlocks, ZonedNamespace, zone_at,
 use Rattle.image_store.proofs.ZonesInMemory.{zone-at, zones-set}
 use Rattle.image_store.proofs.ImageFields.{blocks_seen, write_fits}
 
-pub zone_set : (s : Shape) (zs : List CountedZone) (xs : List ℕ) (z : ℕ) (r : CountedZone)
+zone_set : (s : Shape) (zs : List CountedZone) (xs : List ℕ) (z : ℕ) (r : CountedZone)
     → namespace_of s (set zs z r) xs ≡ with_zone (namespace_of s zs xs) z (zone_seen s.block r (drop (z * (s.capacity * s.block)) xs))
 zone_set s zs xs z r =
     ap (namespace_with s) (zones-set s.block s.capacity zs xs z r)

@@ -1,4 +1,5 @@
--- The tests of a namespace's numbers, and what holds of each shape that passes them.
+-- The tests of a namespace's numbers, what holds of each shape that passes them, and that each version's blocks and zones are
+-- some that there are.
 use Rattle.std.proofs.Common.{◌≡◌, ℕ, ◌*◌, ◌≤◌, true, Ok, refl, arith, lit≤}
 use Rattle.std.proofs.lemmas.Bool.{le-leb, leb-true, and_parts}
 use Rattle.std.proofs.lemmas.Bool.Decides.{nat_tests}

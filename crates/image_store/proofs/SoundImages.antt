@@ -1,4 +1,4 @@
--- What holds of the namespace that an image stands for, and its blocks by address.
+-- What holds of the namespace that an image stands for, and of a block by its number.
 use Rattle.std.proofs.Common.{◌≡◌, ℕ, ◌*◌, ◌<◌, ◌≤◌, zero, suc, List, [], length, get_or, take, drop, refl, ap, sym, subst, ◌∙◌, arith, length-take, length-drop, ⊎_elim}
 use Rattle.std.proofs.lemmas.Bool.{cases_lt}
 use Rattle.std.proofs.lemmas.List.{get_or_past}
@@ -49,7 +49,7 @@ zone_block_whole s zs xs z i flat inside written =
     ap (λ (zone : ZoneWithBlocks). length (get_or zone.blocks i [])) (zone-at s.block s.capacity zs xs z inside)
     ∙ blocks_are_whole s.block n i (drop start xs) written (omega (arith, length-drop start xs))
 
-pub image_sound : (s : Shape) (zs : List CountedZone) (counts : Counts) (xs : List ℕ) → IsImage s zs counts xs → IsNamespace (namespace_of s zs xs)
+image_sound : (s : Shape) (zs : List CountedZone) (counts : Counts) (xs : List ℕ) → IsImage s zs counts xs → IsNamespace (namespace_of s zs xs)
 image_sound s zs counts xs image =
     let flat = image.flat in
     record {

@@ -15,7 +15,7 @@ use Rattle.program_interface.proofs.Proved.{bytes_from, bytes_spelled}
 use Rattle.image_store.proofs.HeaderParts.{begins}
 
 -- the number at a place, and what follows
-pub number_spelled : (xs : List ℕ) (at : ℕ) → at + 4 ≤ length xs → AreBytes xs → little_bytes 4 (field xs at 4) ++ drop (at + 4) xs ≡ drop at xs
+number_spelled : (xs : List ℕ) (at : ℕ) → at + 4 ≤ length xs → AreBytes xs → little_bytes 4 (field xs at 4) ++ drop (at + 4) xs ≡ drop at xs
 number_spelled xs at h fit =
     ap (λ (rest : List ℕ). little_bytes 4 (field xs at 4) ++ rest) (sym (drop-drop 4 at xs))
     ∙ bytes_spelled 4 (drop at xs) (omega (arith, length-drop at xs)) (bytes_from at xs fit)

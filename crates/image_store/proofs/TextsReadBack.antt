@@ -36,7 +36,7 @@ use Rattle.image_store.proofs.Headers.{header_read, header_seen, total_in}
 use Rattle.image_store.proofs.ImageFields.{written_is_within}
 use Rattle.image_store.proofs.LoadStages.{after_limits, past_header, past_rows, past_total, past_limits, past_blocks, past_end}
 
--- rows that can be spelled
+-- a zone that a row can spell
 pub record CanSpell (capacity : ℕ) (z : CountedZone) : Type 0 where
   pub same : z.capacity ≡ capacity
   pub fits : IsZone z.state z.written capacity
@@ -61,14 +61,14 @@ rows_again zone capacity (z ∷ zs) can =
 pub length-rows : (zs : List CountedZone) → length (zone_rows zs) ≡ length zs * 8
 length-rows zs = length-flat_map-each zone_row 8 zs (λ k d h. refl)
 
-pub rows_read : (s : Shape) (zs : List CountedZone) (rest : List ℕ) → length zs ≡ s.zones → ((k : ℕ) → k < length zs → CanSpell s.capacity (get_or zs k no_counted_zone))
+rows_read : (s : Shape) (zs : List CountedZone) (rest : List ℕ) → length zs ≡ s.zones → ((k : ℕ) → k < length zs → CanSpell s.capacity (get_or zs k no_counted_zone))
     → zone_rows_in s (zone_rows zs ++ rest) ≡ Ok (zs, rest)
 rows_read s zs rest count can =
     ap (λ (r : Result Split LoadFault). r >>= λ front. zones_in 0 s.capacity s.zones front.0 >>= λ all. Ok (all, front.1)) (bytes_whole (s.zones * 8) (zone_rows zs) rest (length-rows zs ∙ ap (λ (n : ℕ). n * 8) count))
     ∙ (ap (λ (n : ℕ). zones_in 0 s.capacity n (zone_rows zs) >>= λ all. Ok (all, rest)) (sym count)
     ∙ ap (λ (r : Result (List CountedZone) LoadFault). r >>= λ all. Ok (all, rest)) (rows_again 0 s.capacity zs can))
 
-pub limits_read : (limits : Limits) (zs : List CountedZone) → IsWithin zs limits → limits_kept limits zs ≡ Ok tt
+limits_read : (limits : Limits) (zs : List CountedZone) → IsWithin zs limits → limits_kept limits zs ≡ Ok tt
 limits_read limits zs within = rw (le-leb (open_count zs) limits.open_limit within.opened, le-leb (active_count zs) limits.active_limit within.active) refl
 
 -- whole blocks have so many bytes in all,
@@ -93,7 +93,7 @@ blocks_read b c (zone ∷ zones) rest whole =
     ∙ (ap (λ (r : Result (List ZoneWithBlocks × List ℕ) LoadFault). r >>= λ more. Ok (zone_seen b (counted c zone) (concat zone.blocks) ∷ more.0, more.1)) (blocks_read b c zones rest (λ z i h. whole (suc z) i h))
     ∙ ap (λ (bs : List (List ℕ)). let seen : ZoneWithBlocks = record { state = zone.state; blocks = bs } in let r : Result (List ZoneWithBlocks × List ℕ) LoadFault = Ok (seen ∷ zones, rest) in r) (blocks_are_cut_again b zone.blocks (whole 0))))
 
-pub can_spell : (ns : ZonedNamespace) → IsNamespace ns → (k : ℕ) → k < length (counted_zones ns) → CanSpell ns.capacity (get_or (counted_zones ns) k no_counted_zone)
+can_spell : (ns : ZonedNamespace) → IsNamespace ns → (k : ℕ) → k < length (counted_zones ns) → CanSpell ns.capacity (get_or (counted_zones ns) k no_counted_zone)
 can_spell ns sound k h =
     let there : k < length ns.zones = omega (arith, length-map ns.zones (counted ns.capacity)) in
     let most = sound.shape.capacity_most in
@@ -113,7 +113,7 @@ total_small ns sound =
     omega arith
 
 -- the number of written blocks that the header tells is that of the rows
-pub total_read : (version : Version) (zs : List CountedZone) → total_kept (total_in version (written_blocks zs)) zs ≡ Ok tt
+total_read : (version : Version) (zs : List CountedZone) → total_kept (total_in version (written_blocks zs)) zs ≡ Ok tt
 total_read One zs = refl
 total_read Two zs =
     let total = written_blocks zs in

@@ -43,11 +43,12 @@ blocks-grown b w n new xs size room =
     ∙ (ap (λ (bs : List (List ℕ)). bs ++ pieces b n (drop (w * b) (spliced (w * b) new xs))) before
     ∙ ap (λ (bs : List (List ℕ)). pieces b w xs ++ bs) (ap (pieces b n) (drop-spliced (w * b) new xs room) ∙ behind))
 
--- the place of a zone's write pointer, and how far the new bytes reach
+-- the new bytes are n blocks, for which a zone with w written ones has room
 pub record HasRoom (b c w n : ℕ) (new : List ℕ) : Type 0 where
   pub size : length new ≡ n * b
   pub room : w + n ≤ c
 
+-- so they end within the zone's room
 pub write_end : (b c w n : ℕ) (new : List ℕ) → HasRoom b c w n new → w * b + length new ≤ c * b
 write_end b c w n new h =
     let product : (w + n) * b ≤ c * b = mul-le-mul_right b h.room in

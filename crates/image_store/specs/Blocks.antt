@@ -6,6 +6,6 @@ use Rattle.program_interface.specs.Bytes.{pieces}
 abbrev pub block_count : ℕ → List ℕ → ℕ
 block_count block bytes = length bytes / block
 
--- all of these bytes as blocks
+-- these bytes as blocks, as many whole ones as they are
 abbrev pub as_blocks : ℕ → List ℕ → List (List ℕ)
 as_blocks block bytes = pieces block (block_count block bytes) bytes

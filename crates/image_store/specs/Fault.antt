@@ -1,4 +1,4 @@
--- The faults of loading an image.
+-- The numbers of the faults of loading an image.
 use Rattle.std.specs.Prelude.{ℕ}
 use Rattle.image_store.specs.declared.fault.LoadFault.{LoadFault}
 use Rattle.image_store.specs.declared.fault.LoadFault.TheVariants.{Truncated, Magic, Header, ZoneRow, Total, Limits, Trailing, Stream, Memory}

@@ -84,14 +84,14 @@ pub enum LoadFault {
     /// The source failed, which says nothing of the text.
     #[error("the stream failed")]
     Stream,
-    /// Memory was refused, which says nothing of the text.
+    /// Memory was refused, which is no fault of the text.
     #[error("no memory")]
     Memory,
 }
 
 impl LoadFault {
     /// The fault's number (profile). A user is told those of a text's faults, 10 to 15 and 18; that the stream failed
-    /// or memory was wanting says nothing of the text, and is told in words alone.
+    /// or memory was wanting is none of these, and is told in words alone.
     pub fn number(self) -> u8
         ensures { result ≡ load_number self }
     {

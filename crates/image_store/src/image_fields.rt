@@ -1,4 +1,5 @@
-//! What changes the fields of an image, over slices: the methods that change an image only call these.
+//! The fields of an image, over slices: a zone of which nothing is written, what changes them, and the bytes of written blocks.
+//! The methods that change an image or give its blocks only call these.
 
 ghost use Rattle.std.specs.Prelude.{◌≡◌, ◌≤◌, ◌<◌, ◌+◌, ◌*◌, length, get_or, set, take, drop, Ok};
 ghost use Rattle.std.specs.List.{concat};

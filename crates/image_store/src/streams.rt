@@ -12,8 +12,8 @@ pub struct StreamFault;
 
 /// What bytes come from, in pieces of any size.
 pub trait Source {
-    /// Does the source tell which bytes come from it? Over memory it does, over a file it doesn't:
-    /// then nothing is known of the bytes that come.
+    /// Does the source tell which bytes come from it? Where it doesn't, as one over a file of the system, nothing is known of
+    /// the bytes that come.
     ghost tells: { Type 0 };
 
     /// The bytes that are still to come.
@@ -22,12 +22,12 @@ pub trait Source {
     /// How many calls have failed.
     ghost failures: { Self → ℕ };
 
-    /// Reads some bytes to the front of `to`, and says how many. A source over memory gives none only
-    /// at the end, or where `to` is empty.
+    /// Reads some bytes to the front of `to`, and says how many. A source that tells gives none only at the end, or where `to`
+    /// is empty.
     ///
     /// # Errors
     ///
-    /// [`StreamFault`] where the stream fails, which is counted. A source over memory has lost no byte then.
+    /// [`StreamFault`] where the stream fails, which is counted. A source that tells has lost no byte then.
     fn read(&mut self, to: &mut [u8]) -> Result<usize, StreamFault>
         requires { failures self.old < 2 ^ 64 - 1 }
         ensures bound { IfOk result (λ n. n ≤ length to.new) }
@@ -43,8 +43,8 @@ pub trait Source {
 
 /// What takes bytes, in pieces of any size.
 pub trait Sink {
-    /// Does the sink tell which bytes it has taken? Over memory it does, over a file it doesn't:
-    /// then nothing is known of the bytes that it has.
+    /// Does the sink tell which bytes it has taken? Where it doesn't, as one over a file of the system, nothing is known of the
+    /// bytes that it has.
     ghost tells: { Type 0 };
 
     /// The bytes taken so far.
@@ -58,7 +58,7 @@ pub trait Sink {
     ///
     /// # Errors
     ///
-    /// [`StreamFault`] where the stream fails, which is counted. A sink over memory has taken no byte then.
+    /// [`StreamFault`] where the stream fails, which is counted. A sink that tells has taken no byte then.
     fn write(&mut self, from: &[u8]) -> Result<usize, StreamFault>
         requires { failures self.old < 2 ^ 64 - 1 }
         ensures bound { IfOk result (λ n. n ≤ length from.now) }

@@ -116,7 +116,7 @@ fn an_empty_image_has_one_length(rt: HostRuntime) -> Result<(), Fail> {
 }
 
 #[test]
-fn each_damage_has_its_fault(rt: HostRuntime) -> Result<(), Fail> {
+fn each_bad_header_has_its_fault(rt: HostRuntime) -> Result<(), Fail> {
     assert_eq!(rt;
         fault_of(rt.alloc(), &changed(&[(0, 0)])),
         Some(LoadFault::Magic)
@@ -185,7 +185,7 @@ fn too_many() -> Option<LoadFault> {
 }
 
 #[test]
-fn each_bad_zone_row_has_its_fault(rt: HostRuntime) -> Result<(), Fail> {
+fn each_bad_zone_row_and_too_many_open_zones_have_their_fault(rt: HostRuntime) -> Result<(), Fail> {
     assert_eq!(rt; fault_of(rt.alloc(), &changed(&[(64, 2)])), bad_count(0));
     assert_eq!(rt;
         fault_of(rt.alloc(), &changed(&[(64, 2), (68, 6)])),
