@@ -1,7 +1,7 @@
 // Times DPDK's interpreter on a program, over a block in one buffer with a context and scratch: a prologue points R2 and R3
 // into it. Emit is an external function that copies its bytes.
 //
-// filters PROGRAM BLOCK ROUNDS REPEATS    prints R0, the bytes of the group and its frames, and the least time of a run in
+// filters PROGRAM BLOCK ROUNDS REPEATS    prints R0, the bytes of the group and its frames, and the least time of a block run in
 //                                         picoseconds; or refused
 #include "programs.h"
 
@@ -53,7 +53,7 @@ int main(int argc, char **argv) {
   for (int round = 0; round < rounds; round++) {
     uint64_t start = now();
     for (int i = 0; i < repeats; i++) {
-      memory[0] = i; // another context for each run
+      memory[0] = i; // another context for each block run
       used = frames = 0;
       r0 += rte_bpf_exec(bpf, memory);
     }
@@ -61,6 +61,6 @@ int main(int argc, char **argv) {
     if (spent < least) least = spent;
   }
   if (rounds && repeats) printf("%lu ps\n", least * 1000 / repeats);
-  fprintf(stderr, "%lu\n", r0); // so that no run is left out
+  fprintf(stderr, "%lu\n", r0); // so that no block run is left out
   return 0;
 }

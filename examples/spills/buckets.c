@@ -1,5 +1,6 @@
-/* A histogram that shows its first values: counts the values of a byte in 64 buckets of scratch, and emits the record where
-   its bucket was empty.
+/* A histogram that shows its first values: counts the values of a byte, by its low 6 bits, in 64 buckets of scratch, and
+   emits the record where its bucket was empty. Behind the buckets the number of these records is added up, and the block's
+   LBA is left.
 
    Record:   32 bytes, the first 4 of a block: the byte that is counted is byte 5
    Block:    512 bytes

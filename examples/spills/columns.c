@@ -1,4 +1,5 @@
-/* Two columns, of offsets and widths that the block's head tells, of three rows: emits each row's two cells.
+/* Two columns, of offsets and widths that the block's head tells, of three rows: emits each row's two cells, and
+   adds the two widths to a sum in scratch.
 
    Record:   the head: for each column its offset (u8, its low 5 bits) and its width less 1 (u8, its low 3 bits), at bytes 0
              to 3; rows of 64 bytes from byte 64 on

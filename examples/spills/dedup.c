@@ -1,5 +1,5 @@
 /* Each key once: emits those of a block's four records whose key isn't in its place of a table in scratch, where it then
-   is, and counts the others.
+   is. Behind the table these and the others are counted, and the block's LBA is left.
 
    Record:   16 bytes, the first 4 of a block: a key (u64), not 0, at byte 0
    Block:    512 bytes

@@ -1,5 +1,5 @@
 /* A record of one of two kinds, each with its trailer elsewhere: emits its head, as long as the kind has it, two fields
-   that both kinds have, and the trailer.
+   that both kinds have, and the trailer. Scratch has the number of records of either kind, and the block's LBA.
 
    Record:   a kind at byte 0; kind 1 has a head of 4 bytes at byte 8 and its trailer where byte 1 says, others a head of 12
              and the trailer 128 bytes behind where byte 2 says; bytes 3 and 4 say where the fields are, of 4 bytes each

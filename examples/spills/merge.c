@@ -1,4 +1,5 @@
 /* Two lists in order, merged: emits the four least of their entries in order, of equal ones the left list's first.
+   Adds to two numbers in scratch how many are of either list, and leaves the block's LBA there.
 
    Record:   two lists of 4 entries of 16 bytes, at bytes 0 and 256: a key (u32) at byte 0
    Block:    512 bytes

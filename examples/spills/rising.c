@@ -1,5 +1,5 @@
 /* Records of a run: emits each of a block's four readings that is above all before it, in this block and the blocks before,
-   and keeps the greatest and the number of such readings in scratch.
+   and keeps the greatest, the number of such readings, the sum of all and the block's LBA in scratch.
 
    Record:   16 bytes, the first 4 of a block: a measure (u64) at byte 8
    Block:    512 bytes

@@ -1,5 +1,6 @@
 /* Rows that are put together on the stack: for each of four records whose field is above the argument emits the block's
-   LBA, the record's number and the field; the last such field is left in scratch.
+   LBA, the record's number and the field; in scratch the last such field is left, the sum of all fields, and the block's
+   index in the run.
 
    Record:   64 bytes, the first 4 of a block: a field (u32) at byte 12
    Block:    512 bytes

@@ -1,9 +1,9 @@
 /* A tally on the stack: counts four bytes by their low 2 bits in an array, emits the array, the record that the block
-   names, and the block's first bytes where the argument asks for them, and adds to a sum in scratch and to an exclusive OR
-   of the blocks' first words.
+   names, and the block's first bytes where the argument asks for them, and adds four other bytes to a sum in scratch and the
+   block's first word to an exclusive OR there.
 
-   Record:   32 bytes at the block's start, whose bytes 0, 8, 16 and 24 are counted; 4 records of 8 bytes at byte 64, of
-             which the low 2 bits of byte 63 name one
+   Record:   32 bytes at the block's start, whose bytes 0, 8, 16 and 24 are counted, and the ones behind these added; 4
+             records of 8 bytes at byte 64, of which the low 2 bits of byte 63 name one
    Block:    512 bytes
    Emit:     54, records of 32, 8 and 8 bytes
    Argument: 0 for no first bytes

@@ -35,7 +35,7 @@ const REGISTERS: &str = "registers";
 
 const LONG_ABOUT: &str = "\
 Runs a program on one block, with every check, and prints the slot of each instruction that it \
-executes, and then how the run ended:
+executes, and then how the block run ended:
 
   exit R0 STEPS HEX   by EXIT: R0, the number of steps and what was emitted (- for nothing)
   trap SLOT CAUSE     at an instruction that cannot be done
@@ -246,7 +246,7 @@ impl Tracer<'_> {
         }
     }
 
-    /// Prints the end of a run by a trap: the slot of the instruction and the cause; on a line before that, if it is asked for,
+    /// Prints the end of a block run by a trap: the slot of the instruction and the cause; on a line before that, if it is asked for,
     /// the instruction and the cause in words.
     fn print_trap<'a, O: Write>(
         &self,
@@ -269,7 +269,7 @@ impl Tracer<'_> {
     }
 }
 
-/// Prints the end of a run by EXIT, with what it emitted in hexadecimal.
+/// Prints the end of a block run by EXIT, with what it emitted in hexadecimal.
 fn print_exit<O: Write>(out: &mut O, r0: u64, steps: u64, group: &str) -> io::Result<()> {
     let group = if group.is_empty() { "-" } else { group };
     writeln!(out, "exit {r0} {steps} {group}")
