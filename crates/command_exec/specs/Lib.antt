@@ -1,1 +1,3 @@
 pub mod Executed
+pub mod UserTold
+pub mod steps

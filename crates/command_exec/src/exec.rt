@@ -6,6 +6,8 @@ ghost use Rattle.pushdown.specs.JoinedEvents.{HasServedAndDrained};
 ghost use Rattle.command_files.specs.Arguments.{value_of};
 ghost use Rattle.command_files.specs.Made.{KeepsOthers, MakesOne};
 ghost use Rattle.command_exec.specs.Executed.{Executes, ExecutesFirst, HasBegun, HasPrinted, SavesAll, SavesFirst};
+ghost use Rattle.command_exec.specs.UserTold.{ExecFails};
+ghost use Rattle.command_exec.specs.steps.Told.{RunFails};
 
 use clap::{Arg, ArgMatches, Command};
 use command_failure::Failure;
@@ -92,6 +94,7 @@ pub fn exec<'a, F: Files, O: Write>(
 ) -> Result<(), Failure<'a>>
     ensures executed { OnOk result (Executes F.Reader.tells F.Writer.tells (F.contents files.old) (value_of matches.now IMAGE.now) (value_of matches.now COMMANDS.now) (F.made files.old) (F.made files.new) (O.contents out.old) (O.contents out.new)) }
     ensures stopped { result ≡ Err Failure.CannotPrint → ExecutesFirst F.Reader.tells F.Writer.tells (F.contents files.old) (value_of matches.now IMAGE.now) (value_of matches.now COMMANDS.now) (F.made files.old) (F.made files.new) }
+    ensures failed { IfErr result (ExecFails F.Reader.tells (F.contents files.old) (value_of matches.now IMAGE.now) (value_of matches.now COMMANDS.now)) }
     ensures made { OnOk result (MakesOne (value_of matches.now IMAGE.now) (F.made files.old) (F.made files.new)) }
     ensures one { result ≡ Err Failure.CannotPrint → MakesOne (value_of matches.now IMAGE.now) (F.made files.old) (F.made files.new) }
     ensures others { OnOk result (KeepsOthers (value_of matches.now IMAGE.now) (F.contents files.old) (F.contents files.new)) }
@@ -124,6 +127,7 @@ fn run<'a, F: Files, O: Write>(
 ) -> Result<(), Failure<'a>>
     ensures saved { OnOk result (SavesAll F.Writer.tells events.now image path.now (F.made files.old) (F.made files.new) (O.contents out.old) (O.contents out.new)) }
     ensures stopped { result ≡ Err Failure.CannotPrint → SavesFirst F.Writer.tells events.now image path.now (F.made files.old) (F.made files.new) }
+    ensures failed { IfErr result (RunFails path.entry) }
     ensures made { OnOk result (MakesOne path.now (F.made files.old) (F.made files.new)) }
     ensures one { result ≡ Err Failure.CannotPrint → MakesOne path.now (F.made files.old) (F.made files.new) }
     ensures others { OnOk result (KeepsOthers path.now (F.contents files.old) (F.contents files.new)) }

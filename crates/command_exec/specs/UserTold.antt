@@ -1,0 +1,17 @@
+-- Why `exec` ends before its work is done (profile).
+use Rattle.std.specs.Prelude.{◌≡◌, ◌⊎◌, ℕ, List, Option, Err, IfSome}
+use Rattle.event_text.specs.CommandFile.{events_in}
+use Rattle.command_failure.specs.declared.failure.Failure.{Failure}
+use Rattle.command_failure.specs.declared.failure.Failure.TheVariants.{CannotPrint, CannotRead, CannotWrite, LineRefused}
+use Rattle.command_images.specs.UserTold.{LoadingFails}
+
+-- why `exec` ends before its work is done: standard output fails; the image file can't be written; it or the command file can't be read;
+-- the lowest line of the command file that is none of an event, where the file's bytes are told; why the image isn't loaded; or want of
+-- memory; and nothing else
+abbrev pub ExecFails : Type 0 → (List ℕ → Option (List ℕ)) → List ℕ → List ℕ → Failure → Type 0
+ExecFails reads contents path commands CannotPrint = Unit {0}
+ExecFails reads contents path commands (CannotWrite told cause) = told.now ≡ path
+ExecFails reads contents path commands (CannotRead told cause) = (told.now ≡ path) ⊎ (told.now ≡ commands)
+ExecFails reads contents path commands (LineRefused told number fault) =
+    (told.now ≡ commands) × IfSome (contents commands) (λ bytes. events_in bytes ≡ Err number)
+ExecFails reads contents path commands failure = LoadingFails reads (contents path) path failure
