@@ -5,9 +5,9 @@ use Rattle.command_failure.specs.declared.failure.Failure.{Failure}
 use Rattle.command_failure.specs.declared.failure.Failure.TheVariants.{CannotPrint, CannotRead, CannotWrite, LineRefused}
 use Rattle.command_images.specs.UserTold.{LoadingFails}
 
--- why `exec` ends before its work is done: standard output fails; the image file can't be written; it or the command file can't be read;
--- the lowest line of the command file that is none of an event, where the file's bytes are told; why the image isn't loaded; or want of
--- memory; and nothing else
+-- why `exec` ends before its work is done: standard output fails; the image file can't be written; it or the command file can't
+-- be read; a line of the command file, the lowest that tells no event, where the file's bytes are told; why the image isn't
+-- loaded; or want of memory; and nothing else
 abbrev pub ExecFails : Type 0 → (List ℕ → Option (List ℕ)) → List ℕ → List ℕ → Failure → Type 0
 ExecFails reads contents path commands CannotPrint = Unit {0}
 ExecFails reads contents path commands (CannotWrite told cause) = told.now ≡ path
