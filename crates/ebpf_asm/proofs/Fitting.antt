@@ -34,7 +34,7 @@ use Rattle.ebpf_asm.specs.Assembly.{LabelMap, fitting, jump_by, jump_to, resolve
 use Rattle.text_lines.specs.Cut.{is_blank_byte}
 use Rattle.ebpf_decode.proofs.Proved.{fits-32}
 use Rattle.ebpf_asm.proofs.EachLine.{LineHas, lines_have}
-use Rattle.ebpf_asm.proofs.RoundOperands.{IsSource, long_again, short_again}
+use Rattle.ebpf_asm.proofs.OperandsReadBack.{IsSource, long_again, short_again}
 
 -- ---- readings that follow one another
 

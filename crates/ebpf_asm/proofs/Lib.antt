@@ -3,10 +3,10 @@ mod Numbers
 mod Operands
 mod Passes
 mod Names
-mod Round
-mod RoundOperands
+mod NumbersReadBack
+mod OperandsReadBack
 mod PlainTexts
-mod RoundProgram
+mod ListingsAssemble
 mod Columns
 mod SlotFronts
 mod SlotListings

@@ -16,7 +16,7 @@ use Rattle.text_lines.specs.Cut.{cut_at, is_blank_byte, parts_at, trimmed, witho
 use Rattle.ebpf_asm.specs.Statement.{operands_of}
 use Rattle.ebpf_asm.specs.Listing.{further_texts, operands_text, register_text, signed_text, memory_text, wide_text}
 use Rattle.text_lines.proofs.Proved.{cut_is_after_first_part, without_first_blanks-cons, without_end_blanks-cons, uncut_is_one_part}
-use Rattle.ebpf_asm.proofs.RoundOperands.{place_behind, signed_text-parts}
+use Rattle.ebpf_asm.proofs.OperandsReadBack.{place_behind, signed_text-parts}
 
 -- bytes of mnemonics and operands
 abbrev pub is_plain : ℕ → Bool

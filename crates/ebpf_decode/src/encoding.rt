@@ -102,7 +102,7 @@ fn opcode(instruction: &Instruction) -> u8
     }
 }
 
-fn destination(instruction: &Instruction) -> u8
+fn dst(instruction: &Instruction) -> u8
     ensures value { result ≡ (first_slot instruction.now).dst }
     ensures bound { result < REGISTERS }
 {
@@ -124,7 +124,7 @@ fn destination(instruction: &Instruction) -> u8
     }
 }
 
-fn source(instruction: &Instruction) -> u8
+fn src(instruction: &Instruction) -> u8
     ensures value { result ≡ (first_slot instruction.now).src }
     ensures bound { result < REGISTERS }
 {
@@ -188,8 +188,8 @@ fn first_slot(instruction: &Instruction) -> Fields
 {
     Fields {
         opcode: opcode(instruction),
-        dst: destination(instruction),
-        src: source(instruction),
+        dst: dst(instruction),
+        src: src(instruction),
         offset: offset(instruction),
         immediate: immediate(instruction),
     }

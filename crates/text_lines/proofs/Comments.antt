@@ -1,4 +1,4 @@
--- What stands before the first comment of a line.
+-- What stands before the comment of a line.
 use Rattle.std.proofs.Common.{◌≡◌, ℕ, ◌+◌, ◌==◌, suc, not, Bool, true, false, cond, List, [], ◌∷◌, ◌++◌, length, take, refl, sym, ap, ◌∙◌, arith}
 use Rattle.std.specs.List.{All, position_or_len}
 use Rattle.std.proofs.lemmas.List.{take_all}

@@ -1,4 +1,4 @@
-use Rattle.ebpf_asm.proofs.RoundOperands.{long_distance_again, short_distance_again}
+use Rattle.ebpf_asm.proofs.OperandsReadBack.{long_distance_again, short_distance_again}
 use Rattle.ebpf_asm.proofs.laws.distances_read_back.Goals as goal
 
 pub returns-clause-short : goal.returns-clause-short

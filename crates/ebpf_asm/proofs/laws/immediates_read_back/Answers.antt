@@ -1,4 +1,4 @@
-use Rattle.ebpf_asm.proofs.Round.{immediate_again}
+use Rattle.ebpf_asm.proofs.NumbersReadBack.{immediate_again}
 use Rattle.ebpf_asm.proofs.laws.immediates_read_back.Goals as goal
 
 pub returns : goal.returns

@@ -1,4 +1,4 @@
-use Rattle.ebpf_asm.proofs.RoundProgram.{listing_again}
+use Rattle.ebpf_asm.proofs.ListingsAssemble.{listing_again}
 use Rattle.ebpf_asm.proofs.laws.listings_assemble.Goals as goal
 
 pub returns : goal.returns

@@ -1,4 +1,4 @@
-use Rattle.ebpf_asm.proofs.Round.{register_again}
+use Rattle.ebpf_asm.proofs.NumbersReadBack.{register_again}
 use Rattle.ebpf_asm.proofs.laws.registers_read_back.Goals as goal
 
 pub returns : goal.returns

@@ -23,7 +23,7 @@ use Rattle.ebpf_asm.specs.Fault.{read_both}
 use Rattle.ebpf_asm.specs.Operand.{register_of, immediate_told, source_told, signed_of, short_of, long_of, offset_of, memory_told, distance_told, label_of, is_label_name, is_sign_byte, inside_brackets}
 use Rattle.ebpf_asm.specs.Laws.{LongDistancesReadBack, ShortDistancesReadBack}
 use Rattle.ebpf_asm.specs.Listing.{register_text, signed_text, source_text, memory_text}
-use Rattle.ebpf_asm.proofs.Round.{register_again, magnitude_again, immediate_again}
+use Rattle.ebpf_asm.proofs.NumbersReadBack.{register_again, magnitude_again, immediate_again}
 
 -- the first place of a byte of a kind, behind a front that has none
 pub place_behind : (p : ℕ → Bool) (front : List ℕ) (y : ℕ) (rest : List ℕ) → list_all (λ b. not (p b)) front ≡ true → p y ≡ true → position_or_len p (front ++ y ∷ rest) ≡ length front

@@ -30,8 +30,8 @@ use Rattle.ebpf_decode.proofs.Proved.{instructions_of-slots_of}
 use Rattle.ebpf_asm.proofs.Passes.{slot_count-cons, slot_count-push}
 use Rattle.ebpf_asm.proofs.Programs.{counted_more}
 use Rattle.ebpf_asm.proofs.Names.{mnemonic_again, mnemonic_plain}
-use Rattle.ebpf_asm.proofs.Round.{register_again, immediate_again, wide_again}
-use Rattle.ebpf_asm.proofs.RoundOperands.{IsSource, place_behind, immediate_source_again, register_source_again, memory_again, distance_again, short_again, long_again, no_label}
+use Rattle.ebpf_asm.proofs.NumbersReadBack.{register_again, immediate_again, wide_again}
+use Rattle.ebpf_asm.proofs.OperandsReadBack.{IsSource, place_behind, immediate_source_again, register_source_again, memory_again, distance_again, short_again, long_again, no_label}
 use Rattle.ebpf_asm.proofs.PlainTexts.{IsPlain, IsText, append_passes, is_plain, is_inline, weaker, plain_inline, plain_no_blank, inline_ascii, inline_no_semicolon, inline_no_colon, inline_no_newline, inline_no_return, cut_none, cut_some, first_text, end_plain, operands_again, register_is_text, signed_decimal_is_text, signed_text_is_text, memory_is_text, wide_is_text}
 
 -- ---- an instruction's text
