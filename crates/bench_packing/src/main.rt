@@ -3,13 +3,13 @@
 
 ghost use Rattle.std.specs.Prelude.{◌≡◌, ◌≤◌, ◌<◌, length, IfOk};
 
-mod work;
+mod packing;
 
 use bench_common::percent;
+use packing::{BLOCK, copy_all, copy_groups, pack_groups};
 use std::alloc::Global;
 use std::time::Instant;
 use std::{env, io};
-use work::{BLOCK, copy_all, copy_groups, pack_groups};
 
 /// The lengths of the groups.
 const LENGTHS: [usize; 2] = [10, 510];

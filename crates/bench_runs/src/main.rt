@@ -8,14 +8,14 @@
 ghost use Rattle.std.specs.Prelude.{◌≤◌, length};
 
 mod entries;
-mod work;
+mod timed;
 
 use bench_common::{number, percent, told};
 use nvme_entry::Completion;
 use runner::Device;
 use std::alloc::Global;
 use std::{env, fs, io};
-use work::{
+use timed::{
     BLOCK, CACHED, SOURCE, TRANSFER_BLOCKS, ZONE_SIZE, admission, appends, cached_turns, copies,
     events, fill, load_filter, refusal, source_reads, whole_run,
 };

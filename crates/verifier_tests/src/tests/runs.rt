@@ -16,7 +16,7 @@ use verified_run::Prepared;
 use verifier::{Verified, verify};
 
 /// The most bytes that a program of these tests emits for a block.
-const ROOM: usize = 16;
+const MOST_EMITTED: usize = 16;
 
 /// First bytes for programs that look at them.
 const FIRSTS: &[u8] = &[7, 8, 7, 0, 3, 99, 100, 255];
@@ -72,8 +72,8 @@ fn compare_on(
     let (program, sizes) = (prepared.verified().program(), prepared.verified().sizes());
     let limit = sizes.limit() as usize;
     assert!(rt; block.len() == sizes.block().bytes() as usize);
-    assert!(rt; limit <= ROOM);
-    let (mut group, mut other_group) = ([9; ROOM], [9; ROOM]);
+    assert!(rt; limit <= MOST_EMITTED);
+    let (mut group, mut other_group) = ([9; MOST_EMITTED], [9; MOST_EMITTED]);
     let mut machine = Machine::new(block, context, scratch);
     assert!(rt; program.at(machine.slot()).is_some());
     let end = machine.run_checked(

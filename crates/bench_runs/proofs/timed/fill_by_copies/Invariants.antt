@@ -1,5 +1,5 @@
 use Rattle.std.proofs.Common.{◌-◌, ◌≤◌, length}
-use Rattle.bench_runs.proofs.work.fill_by_copies.Given as goal
+use Rattle.bench_runs.proofs.timed.fill_by_copies.Given as goal
 
 abbrev pub invariant-loop-target : goal.invariant-loop-target
 invariant-loop-target l = l.copied ≤ length l.target

@@ -1,4 +1,4 @@
-//! The things that are compared.
+//! Packing, and the copies of the same bytes that it is compared with.
 
 ghost use Rattle.std.specs.Prelude.{◌≡◌, ◌≤◌, ◌<◌, ◌++◌, length, drop};
 

@@ -1,5 +1,5 @@
 use Rattle.std.proofs.Common.{◌≡◌, ◌≤◌, length}
-use Rattle.bench_packing.proofs.work.pack_groups.Given as goal
+use Rattle.bench_packing.proofs.packing.pack_groups.Given as goal
 
 abbrev pub invariant-loop-rest : goal.invariant-loop-rest
 invariant-loop-rest l = (l.packer.block ≡ 4096) × (l.filled ≤ length l.target)

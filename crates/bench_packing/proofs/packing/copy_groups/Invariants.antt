@@ -1,5 +1,5 @@
 use Rattle.std.proofs.Common.{◌-◌, ◌≤◌, length}
-use Rattle.bench_packing.proofs.work.copy_groups.Given as goal
+use Rattle.bench_packing.proofs.packing.copy_groups.Given as goal
 
 abbrev pub invariant-loop-copied : goal.invariant-loop-copied
 invariant-loop-copied l = (l.copied ≤ length l.bytes) × (l.copied ≤ length l.target)
