@@ -11,16 +11,16 @@ use std::alloc::Global;
 #[derive(Drop)]
 pub(crate) struct Asked {
     pub(crate) command: Command,
-    pub(crate) data: Vec<u8>,
+    pub(crate) input: Vec<u8>,
     ghost within: { program_length command ≤ MOST_TRANSFER },
 }
 
 impl Asked {
     /// A command of the standards, with this data.
-    pub(crate) fn standard(command: StandardCommand, data: Vec<u8>) -> Asked {
+    pub(crate) fn standard(command: StandardCommand, input: Vec<u8>) -> Asked {
         Asked {
             command: Command::Standard(command),
-            data,
+            input,
         }
     }
 

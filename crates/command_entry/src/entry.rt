@@ -96,7 +96,7 @@ fn submit<'a, F: Files, O: Write>(
         alloc,
         identifiers,
         asked.command,
-        asked.data.as_slice(),
+        asked.input.as_slice(),
         out,
     )
 }

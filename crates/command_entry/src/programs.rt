@@ -101,7 +101,7 @@ pub(crate) fn load<'a, F: Files>(
     };
     Ok(Asked {
         command: nvme_entry::Command::Load(load),
-        data,
+        input: data,
     })
 }
 
@@ -116,7 +116,7 @@ pub(crate) fn run<'a>(alloc: Global, matches: &ArgMatches<'a>) -> Result<Asked, 
     };
     Ok(Asked {
         command: nvme_entry::Command::Run(run),
-        data: Vec::new(alloc),
+        input: Vec::new(alloc),
     })
 }
 
@@ -125,6 +125,6 @@ pub(crate) fn result_of<'a>(alloc: Global, matches: &ArgMatches<'a>) -> Result<A
     let slot = slot(matches, SLOT)?;
     Ok(Asked {
         command: nvme_entry::Command::Result(slot),
-        data: Vec::new(alloc),
+        input: Vec::new(alloc),
     })
 }

@@ -6,7 +6,7 @@ use Rattle.image_store.specs.Reading.{namespace_in}
 use Rattle.image_store.specs.Text.{text}
 use Rattle.interval_domain.specs.Intervals.{intervals}
 use Rattle.device_events.specs.Printed.{Printed}
-use Rattle.device_events.specs.Refusals.{CountsRefusals}
+use Rattle.program_interface.specs.Failures.{CountsFailure}
 use Rattle.device_events.specs.Replies.{Joins, ReplyWithData}
 use Rattle.device_events.proofs.Proved.{prints_in_parts}
 use Rattle.pushdown.specs.Draining.{HasDrained, HasStoppedDraining}
@@ -43,7 +43,7 @@ stops_in_events events old new took done stopped = InEvents done (record {
 
 module _ (events : List Event) (old between new : State) (before then after : ℕ × Printed) (served : HasServed intervals events old between (Took before then)) where
   -- a drain, behind events that were all done
-  pub serves_and_drains : (result : Result (Unit {0}) Stopped) → then.1.refusals ≡ before.1.refusals → CountsRefusals then.1.refusals after.1.refusals result
+  pub serves_and_drains : (result : Result (Unit {0}) Stopped) → then.1.refusals ≡ before.1.refusals → CountsFailure then.1.refusals after.1.refusals result
       → OnOk result (HasDrained between new (Took then after)) → OnOk result (HasServedAndDrained intervals events old new (HasPrinted before.1.bytes after.1.bytes))
   serves_and_drains (Err error) none count drained = tt
   serves_and_drains (Ok done) none count drained =

@@ -5,7 +5,6 @@ use command_files::Counted;
 use ebpf_asm::instruction_text;
 use instruction_set::{Instruction, Register};
 use interp::Machine;
-use program_interface::Area;
 use program_meaning::Cause;
 use std::alloc::Global;
 use std::io::{self, Write};
@@ -29,14 +28,12 @@ impl Emitting {
         }
     }
 
-    /// Where its bytes begin, of which at least one lies in an area: that with the greatest address up to theirs.
-    fn offsets(self) -> Option<Offsets> {
-        let area = [Area::Scratch, Area::Stack, Area::Block, Area::Context]
-            .into_iter()
-            .find(|area| area.address() <= self.address)?;
-        let offset = i64::try_from(self.address.checked_sub(area.address())?).ok()?;
+    /// Where its bytes begin, which all lie in one area where it was done.
+    fn offsets(self, machine: &Machine<'_>) -> Option<Offsets> {
+        let begin = machine.area_offset(self.address, self.length)?;
+        let offset = i64::try_from(begin.offset).ok()?;
         Some(Offsets {
-            area,
+            area: begin.area,
             low: offset,
             high: offset,
         })
@@ -55,7 +52,7 @@ pub(crate) fn print_changes<'a, O: Write>(
     let text = instruction_text(alloc, instruction)?;
     printed(write!(out, "{slot:4}  {text}"))?;
     if let Instruction::Call { .. } = *instruction {
-        printed(print_emit(emitting, out))?;
+        printed(print_emit(emitting, machine, out))?;
     }
     if let Some(register) = changed(instruction) {
         let (number, word) = (register.number(), machine.register(register));
@@ -77,9 +74,9 @@ pub(crate) fn print_cause<'a, O: Write>(
 }
 
 /// Prints what was emitted.
-fn print_emit<O: Write>(emitting: Emitting, out: &mut O) -> io::Result<()> {
+fn print_emit<O: Write>(emitting: Emitting, machine: &Machine<'_>, out: &mut O) -> io::Result<()> {
     let length = Counted(emitting.length, "byte");
-    match emitting.offsets() {
+    match emitting.offsets(machine) {
         Some(offsets) => write!(out, "  emit {length} at {offsets}"),
         None => write!(out, "  emit {length}"),
     }

@@ -2,7 +2,7 @@
 
 ghost use Rattle.std.specs.Prelude.{◌≡◌, ◌+◌, ◌<◌, ◌^◌, ℕ, List, [], ◌∷◌, OnOk, OnErr};
 ghost use Rattle.device_events.specs.Replies.{ReplyWithData, Joins};
-ghost use Rattle.device_events.specs.Refusals.{CountsRefusals};
+ghost use Rattle.program_interface.specs.Failures.{CountsFailure};
 
 use crate::reply::Reply;
 
@@ -28,7 +28,7 @@ pub trait Out {
         requires { refusals self.old + 1 < 2 ^ 64 }
         ensures ok { OnOk result (took self.old self.new (record { reply = reply; bytes = bytes.now } ∷ [])) }
         ensures err { OnErr result (took self.old self.new []) }
-        ensures count { CountsRefusals (refusals self.old) (refusals self.new) result };
+        ensures count { CountsFailure (refusals self.old) (refusals self.new) result };
 
     /// How many replies it refused.
     fn refusals(&self) -> u64

@@ -4,7 +4,7 @@ ghost use Rattle.std.specs.Prelude.{◌≡◌, ◌≤◌, ◌<◌, ◌+◌, ◌^
 ghost use Rattle.std.proofs.Common.{◌∙◌, refl};
 ghost use Rattle.std.specs.Io.KnownBytes.{Appends};
 ghost use Rattle.hex.specs.Hex.{encode_lower};
-ghost use Rattle.device_events.specs.Refusals.{CountsRefusals};
+ghost use Rattle.program_interface.specs.Failures.{CountsFailure};
 ghost use Rattle.device_events.proofs.Proved.{prints_in_parts, prints_none};
 ghost use Rattle.event_text.specs.Lines.{Took, data_text, printed_by, reply_line, line_text, reply_text};
 
@@ -69,7 +69,7 @@ impl<W: Write> Out for Lines<'_, W> {
         requires { self.old.refusals + 1 < 2 ^ 64 }
         ensures same_writer { self.new.out.ghost_name ≡ self.old.out.ghost_name }
         ensures printed { OnOk result (Appends (W.contents self.old.out.now) (W.contents self.new.out.now) (line_text reply bytes.now)) }
-        ensures count { CountsRefusals self.old.refusals self.new.refusals result }
+        ensures count { CountsFailure self.old.refusals self.new.refusals result }
     {
         match print(self.out, &mut self.line, reply, bytes) {
             Ok(()) => Ok(()),

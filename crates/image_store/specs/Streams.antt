@@ -22,8 +22,3 @@ pub record IsBegun (before after text rest : List ℕ) : Type 0 where
 abbrev pub Takes : {E : Type 0} → List ℕ → List ℕ → List ℕ → Result Unit E → Type 0
 Takes before after text (Ok done) = after ≡ before ++ text
 Takes before after text (Err fault) = (rest : List ℕ) × IsBegun before after text rest
-
--- the count of failures stays, and is one more where the stream failed
-abbrev pub CountsFailure : {X E : Type 0} → ℕ → ℕ → Result X E → Type 0
-CountsFailure before after (Ok x) = after ≡ before
-CountsFailure before after (Err fault) = after ≡ before + 1

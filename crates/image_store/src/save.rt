@@ -1,7 +1,8 @@
 //! Saving the fields of an image.
 
 ghost use Rattle.std.specs.Prelude.{◌<◌, ◌-◌, ◌^◌};
-ghost use Rattle.image_store.specs.Streams.{Takes, CountsFailure};
+ghost use Rattle.image_store.specs.Streams.{Takes};
+ghost use Rattle.program_interface.specs.Failures.{CountsFailure};
 ghost use Rattle.image_store.specs.ImageInMemory.{IsFlat, namespace_of};
 ghost use Rattle.image_store.specs.Text.{text, zone_rows, blocks_text};
 

@@ -1,6 +1,7 @@
 //! The streams that an image is read from and written to. Each counts its failures.
 
-ghost use Rattle.std.specs.Prelude.{◌≡◌, ℕ, List, ◌++◌, ◌^◌, ◌<◌, ◌≤◌, ◌-◌, ◌+◌, length, take, IfOk, OnOk, OnErr};
+ghost use Rattle.std.specs.Prelude.{◌≡◌, ℕ, List, ◌++◌, ◌^◌, ◌<◌, ◌≤◌, ◌-◌, ◌+◌, length, take, IfOk, OnErr};
+ghost use Rattle.program_interface.specs.Failures.{CountsFailure};
 ghost use Rattle.image_store.specs.Streams.{IsRead};
 
 use thiserror::Error;
@@ -33,8 +34,7 @@ pub trait Source {
         ensures bound { IfOk result (λ n. n ≤ length to.new) }
         ensures read { tells → IfOk result (IsRead (rest self.old) (rest self.new) to.new) }
         ensures kept { tells → OnErr result (rest self.new ≡ rest self.old) }
-        ensures healthy { OnOk result (failures self.new ≡ failures self.old) }
-        ensures failed { OnErr result (failures self.new ≡ failures self.old + 1) };
+        ensures count { CountsFailure (failures self.old) (failures self.new) result };
 
     /// How many calls have failed.
     fn failures(&self) -> u64
@@ -65,8 +65,7 @@ pub trait Sink {
         ensures some { IfOk result (λ n. 1 ≤ length from.now → 1 ≤ n) }
         ensures taken { tells → IfOk result (λ n. taken self.new ≡ taken self.old ++ take n from.now) }
         ensures kept { tells → OnErr result (taken self.new ≡ taken self.old) }
-        ensures healthy { OnOk result (failures self.new ≡ failures self.old) }
-        ensures failed { OnErr result (failures self.new ≡ failures self.old + 1) };
+        ensures count { CountsFailure (failures self.old) (failures self.new) result };
 
     /// How many calls have failed.
     fn failures(&self) -> u64

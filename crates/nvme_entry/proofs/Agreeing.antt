@@ -1,4 +1,4 @@
--- Entries that agree in what is named for their opcode are decoded alike.
+-- Entries that agree in opcode, FUSE and namespace, and in what they spell, are decoded alike.
 use Rattle.std.proofs.Common.{◌≡◌, ℕ, ◌==◌, List, [], ◌∷◌, Option, Some, None, slice_index, refl, ap, sym, subst, ◌∙◌}
 use Rattle.std.proofs.lemmas.Option.{same_Some}
 use Rattle.std.specs.Option.{ok_or}

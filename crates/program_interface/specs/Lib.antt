@@ -7,6 +7,7 @@ pub mod Registers
 pub mod Frame
 pub mod Readings
 pub mod Gives
+pub mod Failures
 pub mod Below
 pub mod Checks
 pub mod FirstCheck

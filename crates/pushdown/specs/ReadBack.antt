@@ -34,9 +34,9 @@ use Rattle.device_events.specs.declared.event.Event.TheVariants as event
 
 -- the event submits an entry of this command, with these bytes beside it
 abbrev pub Submits : Event → Command → List ℕ → Type 0
-Submits (event.Submit queue entry bytes) c input = (decoded entry ≡ Ok c) × (bytes.items ≡ input)
-Submits (event.Turn run) c input = ⊥
-Submits (event.Fault zone state) c input = ⊥
+Submits (event.Submit queue entry input) c bytes = (decoded entry ≡ Ok c) × (input.items ≡ bytes)
+Submits (event.Turn run) c bytes = ⊥
+Submits (event.Fault zone state) c bytes = ⊥
 
 -- what happens is that the event's entry is completed with this effect
 abbrev pub IsCompleted : Event → State → Effect → Happening → Type 0

@@ -9,7 +9,7 @@ ghost use Rattle.pushdown.specs.Events.{HasHappened, HasServed, HasStopped};
 ghost use Rattle.pushdown.specs.Happenings.{faulting};
 ghost use Rattle.pushdown.specs.State.{new_state};
 ghost use Rattle.pushdown.specs.Reached.{IsReached};
-ghost use Rattle.device_events.specs.Refusals.{CountsRefusals};
+ghost use Rattle.program_interface.specs.Failures.{CountsFailure};
 ghost use Rattle.runner.specs.steps.ServedOne.{HasServedOne};
 
 use crate::active_run::ActiveRun;
@@ -145,7 +145,7 @@ impl Device {
         requires room { MOST_TRANSFER ≤ length output.old }
         requires counts { O.refusals out.old + 1 < 2 ^ 64 }
         ensures served { HasServedOne event.now self.old self.new (O.took out.old out.new) result }
-        ensures refused { CountsRefusals (O.refusals out.old) (O.refusals out.new) result }
+        ensures refused { CountsFailure (O.refusals out.old) (O.refusals out.new) result }
     {
         let reply = self.apply(event, output);
         out.take(reply, &output[..reply.data_length()])
@@ -167,7 +167,7 @@ impl Device {
         requires counts { O.refusals out.old + 1 < 2 ^ 64 }
         ensures served { OnOk result (HasServed intervals events.now self.old self.new (O.took out.old out.new)) }
         ensures stopped { IfErr result (λ stopped. HasStopped intervals events.now self.old self.new (O.took out.old out.new) stopped.done) }
-        ensures refused { CountsRefusals (O.refusals out.old) (O.refusals out.new) result }
+        ensures refused { CountsFailure (O.refusals out.old) (O.refusals out.new) result }
     {
         for (index, event) in events.iter().enumerate() {
             match self.serve_one(event, output, out) {
@@ -198,7 +198,7 @@ impl Device {
         requires counts { O.refusals out.old + 1 < 2 ^ 64 }
         ensures drained { OnOk result (HasDrained self.old self.new (O.took out.old out.new)) }
         ensures stopped { IfErr result (λ stopped. HasStoppedDraining self.old self.new (O.took out.old out.new) stopped.done) }
-        ensures refused { CountsRefusals (O.refusals out.old) (O.refusals out.new) result }
+        ensures refused { CountsFailure (O.refusals out.old) (O.refusals out.new) result }
     {
         let mut done = 0;
         while let Some(run) = self.lowest_run() {

@@ -64,13 +64,13 @@ fn an_image_is_the_one_of_now(rt: HostRuntime) -> Result<(), Fail> {
     let alloc = rt.alloc();
     let mut device = device_of(alloc, &FOUR_ZONES, ALL_EMPTY)?;
     let mut room = room(&rt, alloc);
-    let data = room.as_mut_slice();
+    let output = room.as_mut_slice();
     let scene = "before its last turn";
-    check_steps(&rt, alloc, &mut device, data, scene, UP_TO_ITS_LAST_TURN)?;
+    check_steps(&rt, alloc, &mut device, output, scene, UP_TO_ITS_LAST_TURN)?;
     let zones = "implicit 2, explicit 0, empty 0, empty 0";
     check_zones(&rt, alloc, &device, scene, zones)?;
     let scene = "behind it";
-    check_steps(&rt, alloc, &mut device, data, scene, FROM_THERE_ON)?;
+    check_steps(&rt, alloc, &mut device, output, scene, FROM_THERE_ON)?;
     let zones = "readonly 2, explicit 1, empty 0, empty 0";
     check_zones(&rt, alloc, &device, scene, zones)
 }
@@ -165,11 +165,11 @@ fn replies_are_handed_out_with_their_data(rt: HostRuntime) -> Result<(), Fail> {
     let alloc = rt.alloc();
     let mut device = device_of(alloc, &FOUR_ZONES, ALL_EMPTY)?;
     let mut room = room(&rt, alloc);
-    let data = room.as_mut_slice();
+    let output = room.as_mut_slice();
     let mut served = Kept::new(alloc, usize::MAX);
-    device.serve(&events_of(alloc, SERVED)?, data, &mut served)?;
+    device.serve(&events_of(alloc, SERVED)?, output, &mut served)?;
     check_kept(&rt, alloc, &served, SERVED)?;
     let mut drained = Kept::new(alloc, usize::MAX);
-    device.drain(data, &mut drained)?;
+    device.drain(output, &mut drained)?;
     check_kept(&rt, alloc, &drained, DRAINED)
 }

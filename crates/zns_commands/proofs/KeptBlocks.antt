@@ -1,4 +1,4 @@
--- That a zone which isn't cleared keeps its blocks through each step, and can be read; and that each step keeps the shape.
+-- That a zone which isn't cleared keeps its blocks through each event, and can be read; and that each event keeps the shape.
 use Rattle.std.proofs.Common.{◌≡◌, ℕ, zero, suc, Bool, true, false, cond, List, [], ◌∷◌, ◌++◌, get_or, set, Option, Some, None, Result, Ok, Err, refl, ap, sym, subst, ◌∙◌, append_assoc}
 use Rattle.std.proofs.lemmas.List.{append-nil, length-map, length-set}
 use Rattle.zone_state.specs.Zone.{state_of_fault}

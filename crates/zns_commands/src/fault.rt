@@ -18,7 +18,7 @@ pub fn fault(
     state: FaultState,
     holds: &Holds,
 ) -> Result<(), FaultRefused>
-    ensures answer { result ≡ zone_fault_refusal image.old holds.now zone state }
+    ensures refusal { result ≡ zone_fault_refusal image.old holds.now zone state }
     ensures state { image.new ≡ faulted image.old holds.now zone state }
 {
     if zone >= image.geometry().zones() || holds.is_held(zone) {

@@ -130,7 +130,7 @@ impl Namespace {
     /// [`FaultRefused`] for a zone that there isn't, for one that an active run uses, and for Read
     /// Only where the zone is Offline; nothing has changed then.
     pub fn fault(&mut self, zone: u32, state: FaultState, holds: &Holds) -> Result<(), FaultRefused>
-        ensures answer { result ≡ zone_fault_refusal self.old holds.now zone state }
+        ensures refusal { result ≡ zone_fault_refusal self.old holds.now zone state }
         ensures state { self.new ≡ faulted self.old holds.now zone state }
     {
         fault(&mut self.image, zone, state, holds)

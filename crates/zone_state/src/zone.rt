@@ -153,7 +153,7 @@ impl Zone {
     ///
     /// [`FaultRefused`] for Read Only where the zone is Offline; the zone is then as before.
     pub fn fault(&mut self, to: FaultState) -> Result<(), FaultRefused>
-        ensures answer { result ≡ fault_refusal to self.old.state }
+        ensures refusal { result ≡ fault_refusal to self.old.state }
         ensures ok { OnOk result (self.new ≡ in_state (state_of_fault to) self.old) }
         ensures fits { OnOk result (IsZone (state_of_fault to) (kept (state_of_fault to) self.old.written) self.old.capacity) }
         ensures err { OnErr result (self.new ≡ self.old) }

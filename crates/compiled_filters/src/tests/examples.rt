@@ -25,7 +25,7 @@ use zns_commands::{Geometry, Image, Limits, MOST_TRANSFER};
 const BLOCKS: usize = 6;
 
 /// The first block of the zone that a run appends to.
-const OUTPUT: u64 = 64;
+const DESTINATION: u64 = 64;
 
 /// A filter of `examples/` in hexadecimal, for versions 2 and 3 of the instruction set.
 struct Filter {

@@ -35,7 +35,7 @@ impl Machine<'_> {
         requires limit { limit < 2 ^ 16 }
         requires room { limit ≤ length group.old }
         requires used { group_length self.old ≤ length group.old }
-        ensures answer { (slot : ℕ) → result ≡ unless_fault (emit_cause limit (state_at self.old slot group.old)) (Ok tt) }
+        ensures value { (slot : ℕ) → result ≡ unless_fault (emit_cause limit (state_at self.old slot group.old)) (Ok tt) }
         ensures state { (slot : ℕ) → state_at self.new slot group.new ≡ (if is_ok result then emitted (state_at self.old slot group.old) else state_at self.old slot group.old) }
         ensures extends { Extends self.old self.new group.old group.new }
     {

@@ -10,11 +10,6 @@ use test_inputs::programs::{MATCHING, RETURNING};
 /// Zone 0 has 3 blocks, zone 1 is open, zone 2 is Offline and zone 3 Closed.
 const REFUSED: &[Case] = &[
     (Step::Load(1, 0, 10, MATCHING), Done(1)),
-    // There are 8 slots.
-    (
-        Step::Entry(2, 0xc0, [0, 0, 0x8_0000, 0, 8, 0], ""),
-        Refused(2, Status::INVALID_FIELD_IN_COMMAND),
-    ),
     // A Run takes no bytes.
     (
         Step::Entry(2, 0xc0, [0, 0, 0, 0, 8, 0], "00"),

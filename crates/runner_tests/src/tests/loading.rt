@@ -24,13 +24,6 @@ const REFUSED: &[Case] = &[
         Step::LoadBytes(8, 0, 0, "1801000000000000"),
         ProgramRefused(8, 0, 26),
     ),
-    // A jump into one.
-    (
-        Step::Load(8, 0, 0, "ja +1\nlddw r1, 0\nexit"),
-        ProgramRefused(8, 0, 2),
-    ),
-    // No EXIT.
-    (Step::Load(8, 0, 0, "mov r0, 0"), ProgramRefused(8, 0, 3)),
     // No bytes.
     (Step::Load(8, 0, 0, ""), ProgramRefused(8, 0, 21)),
     // 4097 slots.
@@ -52,29 +45,8 @@ exit",
     ),
     // A loop.
     (Step::Load(8, 0, 0, "ja -1\nexit"), ProgramRefused(8, 0, 1)),
-    // A jump behind the last slot.
-    (Step::Load(8, 0, 0, "ja +1\nexit"), ProgramRefused(8, 0, 2)),
     // One byte more than the limit.
     (Step::Load(8, 0, 9, MATCHING), ProgramRefused(8, 4, 10)),
-    // R10 is written.
-    (
-        Step::Load(8, 0, 0, "mov r10, 0\nexit"),
-        ProgramRefused(8, 0, 4),
-    ),
-    // A store into the context.
-    (
-        Step::Load(8, 0, 0, "stxdw [r1+0], r0\nexit"),
-        ProgramRefused(8, 0, 6),
-    ),
-    // No such helper.
-    (Step::Load(8, 0, 0, "call 2\nexit"), ProgramRefused(8, 0, 7)),
-    // A length that is an address.
-    (Step::Load(8, 0, 0, "call 1\nexit"), ProgramRefused(8, 0, 9)),
-    // An address that is 0.
-    (
-        Step::Load(8, 0, 3, "mov r1, 0\nmov r2, 1\ncall 1\nexit"),
-        ProgramRefused(8, 2, 8),
-    ),
     // Nothing of this is in the slot.
     (Step::Result(8, 0, ""), Refused(8, Status::NO_SUCH_PROGRAM)),
     (Step::Run(8, 0, 1, 8), Refused(8, Status::NO_SUCH_PROGRAM)),
@@ -89,25 +61,6 @@ const WRONG_FIELDS: &[Case] = &[
     // The limit is over the block's size.
     (
         Step::Load(8, 0, 513, RETURNING),
-        Refused(8, Status::INVALID_FIELD_IN_COMMAND),
-    ),
-    // There are 8 slots.
-    (
-        Step::Entry(
-            8,
-            0xc1,
-            [8, 0, 16, 0, 0, 0],
-            "b700000000000000 9500000000000000",
-        ),
-        Refused(8, Status::INVALID_FIELD_IN_COMMAND),
-    ),
-    (
-        Step::Entry(8, 0xc2, [8, 0, 0, 0, 0, 0], ""),
-        Refused(8, Status::INVALID_FIELD_IN_COMMAND),
-    ),
-    // More than 131072 bytes.
-    (
-        Step::Entry(8, 0xc1, [0, 0, 131_080, 0, 0, 0], "b700000000000000*16385"),
         Refused(8, Status::INVALID_FIELD_IN_COMMAND),
     ),
     // A Result takes no bytes.

@@ -69,9 +69,9 @@ fn serve_and_drain<O: Out>(
 /// Does all where each reply is taken.
 fn all_taken(rt: &impl Abort, alloc: Global, events: &[Event]) -> Result<Whole, Fail> {
     let mut device = device_of(alloc, &EIGHT_ZONES, EIGHT_EMPTY)?;
-    let mut data = room(rt, alloc);
+    let mut output = room(rt, alloc);
     let mut out = Kept::new(alloc, usize::MAX);
-    let done = serve_and_drain(&mut device, events, data.as_mut_slice(), &mut out);
+    let done = serve_and_drain(&mut device, events, output.as_mut_slice(), &mut out);
     assert_eq!(rt; done, Ok(()));
     let image = saved(alloc, &device)?;
     Ok(Whole { out, image })
@@ -88,13 +88,13 @@ fn check_refused(
 ) -> Result<(), Fail> {
     let done = taken.saturating_add(1);
     let mut device = device_of(alloc, &EIGHT_ZONES, EIGHT_EMPTY)?;
-    let mut data = room(rt, alloc);
+    let mut output = room(rt, alloc);
     let mut first = Kept::new(alloc, taken);
-    let stopped = serve_and_drain(&mut device, events, data.as_mut_slice(), &mut first);
+    let stopped = serve_and_drain(&mut device, events, output.as_mut_slice(), &mut first);
     assert_eq!(rt; (stopped, first.refusals()), (Err(done), 1));
     let mut rest = Kept::new(alloc, usize::MAX);
     let left = events.get(done..).unwrap_or(&[]);
-    let ended = serve_and_drain(&mut device, left, data.as_mut_slice(), &mut rest);
+    let ended = serve_and_drain(&mut device, left, output.as_mut_slice(), &mut rest);
     assert_eq!(rt; ended, Ok(()));
     let replies = whole.out.replies.as_slice();
     assert!(rt;

@@ -239,12 +239,12 @@ fn turns_of_no_run(rt: HostRuntime) -> Result<(), Fail> {
     let alloc = rt.alloc();
     let mut device = device_of(alloc, &FOUR_ZONES, ALL_EMPTY)?;
     let mut room = room(&rt, alloc);
-    let data = room.as_mut_slice();
+    let output = room.as_mut_slice();
     let scene = "turns of no run";
-    check_steps(&rt, alloc, &mut device, data, scene, UP_TO_ITS_LAST_TURN)?;
+    check_steps(&rt, alloc, &mut device, output, scene, UP_TO_ITS_LAST_TURN)?;
     let image = saved(alloc, &device)?;
     for run in 1..=255 {
-        let reply = device.apply(&Event::Turn { run }, data);
+        let reply = device.apply(&Event::Turn { run }, output);
         assert_eq!(rt; reply, Reply::Idle, "run {run}");
     }
     assert!(rt; saved(alloc, &device)?.as_slice() == image.as_slice());

@@ -97,9 +97,9 @@ pub(super) fn play(rt: &impl Abort, alloc: Global, scenes: &[Scene]) -> Result<(
 fn play_one(rt: &impl Abort, alloc: Global, scene: &Scene) -> Result<(), Fail> {
     let mut device = device_of(alloc, &scene.shape, scene.zones)?;
     let mut room = room(rt, alloc);
-    let data = room.as_mut_slice();
-    check_steps(rt, alloc, &mut device, data, scene.name, scene.steps)?;
-    check_drained(rt, alloc, &mut device, data, scene)?;
+    let output = room.as_mut_slice();
+    check_steps(rt, alloc, &mut device, output, scene.name, scene.steps)?;
+    check_drained(rt, alloc, &mut device, output, scene)?;
     check_zones(rt, alloc, &device, scene.name, scene.left)
 }
 

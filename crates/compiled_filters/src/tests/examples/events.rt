@@ -3,7 +3,7 @@
 ghost use Rattle.std.specs.Prelude.{◌≤◌};
 ghost use Rattle.nvme_entry.specs.Encoding.{program_length};
 
-use super::OUTPUT;
+use super::DESTINATION;
 use nvme_entry::{Command, Completion, Entry, LoadCommand, ProgramSlot, RunCommand};
 use runner::{Event, Reply};
 use std::alloc::Global;
@@ -54,7 +54,7 @@ pub(super) fn append(last: u16, bytes: Vec<u8>) -> Event {
 /// Opens the zone that the run appends to.
 pub(super) fn open(alloc: Global) -> Event {
     let command = StandardCommand::Send {
-        lba: OUTPUT,
+        lba: DESTINATION,
         action: Action::Open,
         select_all: false,
     };
@@ -80,7 +80,7 @@ pub(super) fn run(alloc: Global, last: u16, argument: u32) -> Result<Event, Fail
         blocks: BlockCount::from_zero_based(last),
         slot: first_slot()?,
         argument,
-        destination: OUTPUT,
+        destination: DESTINATION,
     };
     Ok(submit(Command::Run(run), RUN, Vec::new(alloc)))
 }
@@ -89,7 +89,7 @@ pub(super) fn run(alloc: Global, last: u16, argument: u32) -> Result<Event, Fail
 pub(super) fn read(alloc: Global, last: u16) -> Event {
     let blocks = BlockCount::from_zero_based(last);
     let command = StandardCommand::Read {
-        lba: OUTPUT,
+        lba: DESTINATION,
         blocks,
     };
     submit(Command::Standard(command), READ, Vec::new(alloc))

@@ -10,5 +10,5 @@ loop-at-preserved g c =
     record {
       bytes = λ told. fill_bytes l.at c.in_ok-count.count left l.to c.read.new.to (g.R.Source.rest c.args.source.now) (g.R.Source.rest l.source) (g.R.Source.rest c.read.new.self) l.invariant.within read.bound (l.invariant.bytes told) (read.read told);
       within = fill_within l.at c.in_ok-count.count left l.to c.read.new.to l.invariant.within read.bound;
-      count = read.healthy ∙ l.invariant.count;
+      count = read.count ∙ l.invariant.count;
     }

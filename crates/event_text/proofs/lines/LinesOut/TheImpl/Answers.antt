@@ -1,7 +1,7 @@
 use Rattle.std.proofs.Common.{◌≡◌, ℕ, [], ◌∷◌, append-nil, Result, Ok, Err, OnOk, OnErr, subst, sym, arith}
 use Rattle.std.specs.Io.KnownBytes.{Appends}
 use Rattle.device_events.specs.Printed.{Printed}
-use Rattle.device_events.specs.Refusals.{CountsRefusals}
+use Rattle.program_interface.specs.Failures.{CountsFailure}
 use Rattle.device_events.specs.Replies.{ReplyWithData}
 use Rattle.event_text.specs.Lines.{Took, printed_by, reply_line}
 use Rattle.event_text.proofs.lines.LinesOut.TheImpl.Goals as goal
@@ -9,7 +9,7 @@ use Rattle.event_text.proofs.lines.LinesOut.TheImpl.Goals as goal
 -- one writer, to which a line was printed, or one that failed
 module _ {T E : Type 0} (old new : ℕ × Printed) (same : new.0 ≡ old.0) where
   line_taken : (result : Result T E) (given : ReplyWithData) → OnOk result (Appends old.1.bytes new.1.bytes (reply_line given))
-      → CountsRefusals old.1.refusals new.1.refusals result → OnOk result (Took old new (given ∷ []))
+      → CountsFailure old.1.refusals new.1.refusals result → OnOk result (Took old new (given ∷ []))
   line_taken (Err error) given printed count = tt
   line_taken (Ok value) given printed count = (
     same,
@@ -19,7 +19,7 @@ module _ {T E : Type 0} (old new : ℕ × Printed) (same : new.0 ≡ old.0) wher
     },
   )
 
-  line_refused : (result : Result T E) → CountsRefusals old.1.refusals new.1.refusals result → OnErr result (Took old new [])
+  line_refused : (result : Result T E) → CountsFailure old.1.refusals new.1.refusals result → OnErr result (Took old new [])
   line_refused (Ok value) count = tt
   line_refused (Err error) count = (same, record { no_fewer = omega (arith, count); texts = λ none. absurd (omega (arith, count, none)) })
 

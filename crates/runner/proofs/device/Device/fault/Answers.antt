@@ -24,7 +24,7 @@ invariant_of-self c =
 pub returns-clause-reply : goal.returns-clause-reply
 returns-clause-reply c =
     let d = c.self.inside in
-    let answer = c.fault.ensures.answer
+    let answer = c.fault.ensures.refusal
     ∙ ap (λ (h : Holds). zone_fault_refusal d.namespace h c.args.zone c.args.state) (c.holds.ensures ∙ holds_are d.namespace d.slots d.runs c.self.invariant.ready)
     ∙ ap (λ (s : State). zone_fault_refusal s.namespace (holds_at s) c.args.zone c.args.state) c.self.view_is in
     elim c.match-fault.branch [
