@@ -6,9 +6,9 @@ mod Drains
 mod Holding
 mod Loads
 mod MayBeThere
-mod Nexts
+mod NextBlockRun
 mod Numbers
-mod Occurrences
+mod Happened
 mod Reached
 mod Replies
 mod Served

@@ -112,8 +112,8 @@ module _ (ns : ZonedNamespace) (holds : Holds) (d : ℕ) (held : is_source holds
   effect_kept (Receive lba dwords filter partial) input none = grows_by_none (zone_at ns d).blocks
   effect_kept (Send lba a select_all) input none = sent_kept lba a select_all input none
 
-  faulted_kept : (z : ℕ) (fault : FaultState) (answer : Result Unit FaultRefused)
-      → ((done : Unit {0}) → answer ≡ Ok done → is_held holds z ≡ false) → Kept (faulted_by answer ns z fault)
+  faulted_kept : (z : ℕ) (fault : FaultState) (result : Result Unit FaultRefused)
+      → ((done : Unit {0}) → result ≡ Ok done → is_held holds z ≡ false) → Kept (faulted_by result ns z fault)
   faulted_kept z fault (Err none) free = grows_by_none (zone_at ns d).blocks
   faulted_kept z fault (Ok done) free =
       moved_kept None z (state_of_fault fault)

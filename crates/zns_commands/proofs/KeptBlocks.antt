@@ -104,9 +104,9 @@ send_grows ns holds lba a true z stays =
 send_grows ns holds lba a false z stays =
     let plan = zone_plan ns holds lba a in moved_grows ns plan.closing plan.zone z plan.to stays
 
-faulted_grows : (answer : Result Unit FaultRefused) (ns : ZonedNamespace) (y z : ℕ) (fault : FaultState)
-    → is_cleared (zone_at (faulted_by answer ns y fault) z).state ≡ false
-    → Grows (zone_at ns z).blocks (zone_at (faulted_by answer ns y fault) z).blocks
+faulted_grows : (result : Result Unit FaultRefused) (ns : ZonedNamespace) (y z : ℕ) (fault : FaultState)
+    → is_cleared (zone_at (faulted_by result ns y fault) z).state ≡ false
+    → Grows (zone_at ns z).blocks (zone_at (faulted_by result ns y fault) z).blocks
 faulted_grows (Ok done) ns y z fault stays = moved_grows ns None y z (state_of_fault fault) stays
 faulted_grows (Err none) ns y z fault stays = grows_by_none (zone_at ns z).blocks
 
@@ -149,7 +149,7 @@ send_shape ns holds lba a true = ap (resized (shape ns)) (length-map ns.zones (s
 send_shape ns holds lba a false =
     let plan = zone_plan ns holds lba a in moved_shape ns plan.closing plan.zone plan.to
 
-faulted_shape : (answer : Result Unit FaultRefused) (ns : ZonedNamespace) (z : ℕ) (fault : FaultState) → shape (faulted_by answer ns z fault) ≡ shape ns
+faulted_shape : (result : Result Unit FaultRefused) (ns : ZonedNamespace) (z : ℕ) (fault : FaultState) → shape (faulted_by result ns z fault) ≡ shape ns
 faulted_shape (Ok done) ns z fault = moved_shape ns None z (state_of_fault fault)
 faulted_shape (Err none) ns z fault = refl
 

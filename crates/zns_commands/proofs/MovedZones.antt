@@ -97,8 +97,8 @@ lost_sound ns z fault sound inside =
     (fault_fits fault zone.state (length zone.blocks) ns.capacity (sound.fits z inside)))
     (fault_holds fault zone.state)
 
-faulted_by_sound : (ns : ZonedNamespace) (z : ℕ) (fault : FaultState) (answer : Result Unit FaultRefused)
-    → IsNamespace ns → ((done : Unit {0}) → answer ≡ Ok done → z < length ns.zones) → IsNamespace (faulted_by answer ns z fault)
+faulted_by_sound : (ns : ZonedNamespace) (z : ℕ) (fault : FaultState) (result : Result Unit FaultRefused)
+    → IsNamespace ns → ((done : Unit {0}) → result ≡ Ok done → z < length ns.zones) → IsNamespace (faulted_by result ns z fault)
 faulted_by_sound ns z fault (Ok done) sound inside = lost_sound ns z fault sound (inside done refl)
 faulted_by_sound ns z fault (Err none) sound inside = sound
 

@@ -67,8 +67,8 @@ module _ (ns : ZonedNamespace) (d : ℕ) where
   either_none : (z : ℕ) → nat_eq z d ≡ false → is_either z None d ≡ false
   either_none z other = rw other refl
 
-  pub faulted_left : (z : ℕ) (fault : FaultState) (answer : Result Unit FaultRefused)
-      → ((done : Unit {0}) → answer ≡ Ok done → nat_eq z d ≡ false) → Left (faulted_by answer ns z fault)
+  pub faulted_left : (z : ℕ) (fault : FaultState) (result : Result Unit FaultRefused)
+      → ((done : Unit {0}) → result ≡ Ok done → nat_eq z d ≡ false) → Left (faulted_by result ns z fault)
   faulted_left z fault (Err none) other = refl
   faulted_left z fault (Ok done) other = moved_left None z (state_of_fault fault) (either_none z (other done refl))
 

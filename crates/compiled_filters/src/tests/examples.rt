@@ -128,10 +128,10 @@ impl Trial {
         verify::<Intervals>(self.alloc, decoded, sizes(filter.emit)?)?;
         let mut device = device(self.alloc)?;
         let mut room = vec![in self.alloc; 0; MOST_TRANSFER]?;
-        let data = room.as_mut_slice();
+        let output = room.as_mut_slice();
         let loading = load(rt, filter.emit, program)?;
-        self.check_run(rt, filter.name, &mut device, data, &loading, argument)?;
-        self.check_left(rt, filter.name, &mut device, data)
+        self.check_run(rt, filter.name, &mut device, output, &loading, argument)?;
+        self.check_left(rt, filter.name, &mut device, output)
     }
 
     /// Appends the blocks, and runs the program over them.
@@ -140,34 +140,41 @@ impl Trial {
         rt: &impl Abort,
         name: &str,
         device: &mut Device,
-        data: &mut [u8],
+        output: &mut [u8],
         loading: &Event,
         argument: u32,
     ) -> Result<(), Fail>
-        requires { MOST_TRANSFER ≤ length data.old }
-        ensures { MOST_TRANSFER ≤ length data.new }
+        requires { MOST_TRANSFER ≤ length output.old }
+        ensures { MOST_TRANSFER ≤ length output.new }
     {
         let last = u16::try_from((self.blocks.len() / BLOCK).wrapping_sub(1))?;
         let blocks = Vec::from_slice(self.alloc, self.blocks.as_slice())?;
         let pending = Reply::Pending { run: 0 };
         let appending = append(last, blocks);
-        expect(rt, name, device, data, &appending, done(APPEND, [0, 0], 0));
         expect(
             rt,
             name,
             device,
-            data,
+            output,
+            &appending,
+            done(APPEND, [0, 0], 0),
+        );
+        expect(
+            rt,
+            name,
+            device,
+            output,
             &open(self.alloc),
             done(OPEN, [0, 0], 0),
         );
-        expect(rt, name, device, data, loading, done(LOAD, [0, 0], 0));
+        expect(rt, name, device, output, loading, done(LOAD, [0, 0], 0));
         let running = run(self.alloc, last, argument)?;
-        expect(rt, name, device, data, &running, pending);
+        expect(rt, name, device, output, &running, pending);
         for _ in 0..last {
-            expect(rt, name, device, data, &Event::Turn { run: 0 }, pending);
+            expect(rt, name, device, output, &Event::Turn { run: 0 }, pending);
         }
         let ended = done(RUN, [self.frames, self.appended()?], 0);
-        expect(rt, name, device, data, &Event::Turn { run: 0 }, ended);
+        expect(rt, name, device, output, &Event::Turn { run: 0 }, ended);
         Ok(())
     }
 
@@ -177,13 +184,13 @@ impl Trial {
         rt: &impl Abort,
         name: &str,
         device: &mut Device,
-        data: &mut [u8],
+        output: &mut [u8],
     ) -> Result<(), Fail>
-        requires { MOST_TRANSFER ≤ length data.old }
+        requires { MOST_TRANSFER ≤ length output.old }
     {
         // a block that isn't written reads as zeros
         let unwritten = [0; BLOCK];
-        let output = bytes_or(self.output.as_slice(), &unwritten);
+        let appended = bytes_or(self.output.as_slice(), &unwritten);
         let reading = read(
             self.alloc,
             u16::try_from(self.appended()?.saturating_sub(1))?,
@@ -192,22 +199,22 @@ impl Trial {
             rt,
             name,
             device,
-            data,
+            output,
             &reading,
-            done(READ, [0, 0], output.len()),
+            done(READ, [0, 0], appended.len()),
         );
-        assert!(rt; data.starts_with(output), "{name}");
+        assert!(rt; output.starts_with(appended), "{name}");
         let unused = [0; SCRATCH_BYTES];
         let scratch = bytes_or(self.scratch.as_slice(), &unused);
         expect(
             rt,
             name,
             device,
-            data,
+            output,
             &result(self.alloc)?,
             done(RESULT, [0, 0], scratch.len()),
         );
-        assert!(rt; data.starts_with(scratch), "{name}");
+        assert!(rt; output.starts_with(scratch), "{name}");
         Ok(())
     }
 
@@ -232,14 +239,14 @@ fn expect(
     rt: &impl Abort,
     name: &str,
     device: &mut Device,
-    data: &mut [u8],
+    output: &mut [u8],
     event: &Event,
     reply: Reply,
 )
-    requires { MOST_TRANSFER ≤ length data.old }
-    ensures { MOST_TRANSFER ≤ length data.new }
+    requires { MOST_TRANSFER ≤ length output.old }
+    ensures { MOST_TRANSFER ≤ length output.new }
 {
-    assert_eq!(rt; device.apply(event, data), reply, "{name}");
+    assert_eq!(rt; device.apply(event, output), reply, "{name}");
 }
 
 /// Bytes, or zeros where there are none.

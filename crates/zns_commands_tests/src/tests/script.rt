@@ -199,8 +199,8 @@ impl Stage {
                 self.execute(rt, &command, 0, status)?;
             }
             Step::Fault(zone, state, taken) => {
-                let answer = self.namespace.fault(zone, state, &self.holds);
-                assert_eq!(rt; answer.is_ok(), taken, "step {number}");
+                let result = self.namespace.fault(zone, state, &self.holds);
+                assert_eq!(rt; result.is_ok(), taken, "step {number}");
             }
             Step::Answers(told) => {
                 let (low, high) = (u64::from(self.last.dw0), u64::from(self.last.dw1));

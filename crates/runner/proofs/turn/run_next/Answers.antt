@@ -4,7 +4,7 @@ use Rattle.image_store.specs.Geometry.{Shape}
 use Rattle.runner.specs.DeviceState.{active_of}
 use Rattle.runner.specs.steps.Ran.{HasRun}
 use Rattle.runner.specs.steps.Turning.{with_scratch}
-use Rattle.runner.proofs.Nexts.{run_is, told_is}
+use Rattle.runner.proofs.NextBlockRun.{run_is, told_is}
 use Rattle.runner.proofs.turn.run_next.Goals as goal
 
 pub returns-clause-run : goal.returns-clause-run

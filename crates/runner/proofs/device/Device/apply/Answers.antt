@@ -8,7 +8,7 @@ use Rattle.device_events.specs.declared.event.Event.{Event}
 use Rattle.device_events.specs.declared.event.Event.TheVariants as event
 use Rattle.runner.specs.steps.Answered.{as_submission}
 use Rattle.runner.specs.DeviceState.{device_state}
-use Rattle.runner.proofs.Occurrences.{reached_by, reached_more, submission_happened}
+use Rattle.runner.proofs.Happened.{reached_by, reached_more, submission_happened}
 use Rattle.runner.proofs.device.Device.apply.Goals as goal
 
 pub invariant_of-self : goal.invariant_of-self

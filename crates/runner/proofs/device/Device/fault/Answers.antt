@@ -6,7 +6,7 @@ use Rattle.pushdown.specs.State.{State, holds_at}
 use Rattle.device_events.specs.declared.event.Event.TheVariants as event
 use Rattle.runner.specs.DeviceState.{device_state}
 use Rattle.runner.proofs.Holding.{holds_are}
-use Rattle.runner.proofs.Occurrences.{reached_more}
+use Rattle.runner.proofs.Happened.{reached_more}
 use Rattle.runner.proofs.CommandsLeave.{fault_leaves}
 use Rattle.runner.proofs.device.Device.fault.Goals as goal
 use Rattle.runner.proofs.device.Device.fault.Goals.{in-Ok, in-Err}

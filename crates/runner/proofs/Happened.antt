@@ -1,4 +1,4 @@
--- Lists of occurrences, one longer.
+-- One event that happened: the state behind it is one that events leave, and a submitted entry is such an event.
 use Rattle.std.proofs.Common.{◌≡◌, ℕ, List, [], ◌∷◌, ap, sym, subst, ◌∙◌}
 use Rattle.std.specs.Prelude.{Vec}
 use Rattle.std.specs.declared.alloc.Global.{Global}
