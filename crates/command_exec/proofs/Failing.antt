@@ -1,7 +1,6 @@
 -- Why `exec` ends before its work is done.
-use Rattle.std.proofs.Common.{◌≡◌, ℕ, List, Option, Err, IfSome, ap, sym, subst, ◌∙◌, inl, inr}
+use Rattle.std.proofs.Common.{◌≡◌, ℕ, List, Option, Err, IfSome, subst, ◌∙◌, inl, inr}
 use Rattle.std.specs.Borrow.{Bor}
-use Rattle.std.proofs.lemmas.Option.{IfSome_then}
 use Rattle.event_text.specs.CommandFile.{events_in, refused_line}
 use Rattle.event_text.specs.declared.command_file.ParseFault.{ParseFault}
 use Rattle.event_text.specs.declared.command_file.ParseFault.TheVariants.{Line, Memory}
@@ -9,14 +8,14 @@ use Rattle.command_failure.specs.UserTold.{told_of_commands}
 use Rattle.command_failure.specs.declared.failure.Failure.{Failure}
 use Rattle.command_failure.specs.declared.failure.Failure.TheVariants.{CannotPrint, CannotRead, CannotWrite, LineRefused, NoMemory}
 use Rattle.command_files.specs.UserTold.{IsUnread, IsUnwritten}
-use Rattle.command_files.proofs.Proved.{same_name, unwritten_holds}
+use Rattle.command_files.proofs.Proved.{read_holds, same_name, unread_holds, unwritten_holds}
 use Rattle.command_images.specs.UserTold.{LoadingFails}
 use Rattle.command_exec.specs.UserTold.{ExecFails}
-use Rattle.command_exec.specs.steps.Told.{RunFails}
+use Rattle.command_exec.specs.steps.Told.{SavingFails}
 
 -- what was done can't be saved
-pub run_of_writing : (path : Bor (List ℕ)) (failure : Failure) → IsUnwritten path failure → RunFails path failure
-run_of_writing path = unwritten_holds path (RunFails path) (λ told cause is. is) tt
+pub saving_of_writing : (path : Bor (List ℕ)) (failure : Failure) → IsUnwritten path failure → SavingFails path failure
+saving_of_writing path = unwritten_holds path (SavingFails path) (λ told cause is. is) tt
 
 module _ (reads : Type 0) (contents : List ℕ → Option (List ℕ)) (path commands : List ℕ) where
   -- the image isn't loaded
@@ -29,9 +28,7 @@ module _ (reads : Type 0) (contents : List ℕ → Option (List ℕ)) (path comm
 
   -- the command file isn't read
   pub exec_of_reading : (file : Bor (List ℕ)) → file.now ≡ commands → (failure : Failure) → IsUnread file failure → ExecFails reads contents path commands failure
-  exec_of_reading file is_named (CannotRead told cause) is = inr (same_name is is_named)
-  exec_of_reading file is_named NoMemory is = tt
-  exec_of_reading file is_named _ is = absurd is
+  exec_of_reading file is_named = unread_holds file (ExecFails reads contents path commands) (λ told cause is. inr (same_name is is_named)) tt
 
   -- it is read and is none: what was read is what the file held, since contents stayed the same
   pub exec_of_commands : (file : Bor (List ℕ)) → file.now ≡ commands → (then : List ℕ → Option (List ℕ)) → then ≡ contents
@@ -39,15 +36,14 @@ module _ (reads : Type 0) (contents : List ℕ → Option (List ℕ)) (path comm
       → (fault : ParseFault) → IfSome (refused_line fault) (λ number. events_in slice ≡ Err number) → ExecFails reads contents path commands (told_of_commands file fault)
   exec_of_commands file is_named then same read slice slice_is file_is (Line number fault) refused = (
     is_named,
-    subst (λ (c : List ℕ). IfSome (contents c) (λ bytes. events_in bytes ≡ Err number)) is_named
-        (IfSome_then (contents file.now) (subst (λ (c : List ℕ → Option (List ℕ)). IfSome (c file.now) (λ bytes. read ≡ bytes)) same file_is)
-        (λ bytes is. ap events_in (sym (slice_is ∙ is)) ∙ refused)),
+    read_holds contents file.now commands read slice (λ bytes. events_in bytes ≡ Err number) is_named slice_is
+        (subst (λ (c : List ℕ → Option (List ℕ)). IfSome (c file.now) (λ bytes. read ≡ bytes)) same file_is) refused,
   )
   exec_of_commands file is_named then same read slice slice_is file_is Memory refused = tt
 
   -- the events aren't all done and saved
-  pub exec_of_run : (image : Bor (List ℕ)) → image.now ≡ path → (failure : Failure) → RunFails image failure → ExecFails reads contents path commands failure
-  exec_of_run image is_named CannotPrint is = tt
-  exec_of_run image is_named (CannotWrite told cause) is = same_name is is_named
-  exec_of_run image is_named NoMemory is = tt
-  exec_of_run image is_named _ is = absurd is
+  pub exec_of_saving : (image : Bor (List ℕ)) → image.now ≡ path → (failure : Failure) → SavingFails image failure → ExecFails reads contents path commands failure
+  exec_of_saving image is_named CannotPrint is = tt
+  exec_of_saving image is_named (CannotWrite told cause) is = same_name is is_named
+  exec_of_saving image is_named NoMemory is = tt
+  exec_of_saving image is_named _ is = absurd is

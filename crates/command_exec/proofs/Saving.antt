@@ -1,6 +1,5 @@
 -- What was done, and what was done where a reply is refused.
-use Rattle.std.proofs.Common.{◌≡◌, ℕ, List, map, Option, Result, Ok, Err, OnOk, OnErr, IfErr, IfSome, ◌∙◌, ap, sym, subst}
-use Rattle.std.proofs.lemmas.Option.{IfSome_then}
+use Rattle.std.proofs.Common.{◌≡◌, ℕ, List, map, Option, Result, Ok, Err, OnOk, OnErr, IfErr, IfSome, ◌∙◌, subst}
 use Rattle.image_store.specs.Namespace.{ZonedNamespace}
 use Rattle.image_store.specs.Reading.{namespace_in}
 use Rattle.image_store.specs.Text.{text}
@@ -19,6 +18,7 @@ use Rattle.runner.specs.declared.device.Stopped.{Stopped}
 use Rattle.event_text.specs.CommandFile.{events_in, told_of}
 use Rattle.event_text.specs.Lines.{Took, reply_line}
 use Rattle.command_files.specs.Made.{Made, then_made}
+use Rattle.command_files.proofs.Proved.{read_holds}
 use Rattle.command_exec.specs.Executed.{AreInFiles, Executes, ExecutesFirst, HasBegun, HasPrinted, InEvents, InTurns, SavesAll, SavesFirst}
 
 pub on_err : {T E fact : Type 0} (result : Result T E) → fact → OnErr result fact
@@ -114,10 +114,8 @@ module _ (reads writes : Type 0) (contents then : List ℕ → Option (List ℕ)
   in_both : (reads → IfSome (contents path) (λ bytes. namespace_in bytes ≡ Ok namespace)) → AreInFiles reads contents named named_commands namespace events
   in_both namespace_is = record {
     namespace_is = λ read. subst (λ (p : List ℕ). IfSome (contents p) (λ bytes. namespace_in bytes ≡ Ok namespace)) is_named (namespace_is read);
-    events_are = IfSome_then (contents named_commands)
-        (subst (λ (c : List ℕ). IfSome (contents c) (λ bytes. file ≡ bytes)) are_named
-        (subst (λ (c : List ℕ → Option (List ℕ)). IfSome (c commands) (λ bytes. file ≡ bytes)) same file_is))
-        (λ bytes is. ap events_in (sym (slice_is ∙ is)) ∙ events_are);
+    events_are = read_holds contents commands named_commands file slice (λ bytes. events_in bytes ≡ Ok (map told_of events)) are_named slice_is
+        (subst (λ (c : List ℕ → Option (List ℕ)). IfSome (c commands) (λ bytes. file ≡ bytes)) same file_is) events_are;
   }
 
   -- what `run` does of them is what the command does of the files

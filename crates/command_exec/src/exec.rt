@@ -7,7 +7,7 @@ ghost use Rattle.command_files.specs.Arguments.{value_of};
 ghost use Rattle.command_files.specs.Made.{KeepsOthers, MakesOne};
 ghost use Rattle.command_exec.specs.Executed.{Executes, ExecutesFirst, HasBegun, HasPrinted, SavesAll, SavesFirst};
 ghost use Rattle.command_exec.specs.UserTold.{ExecFails};
-ghost use Rattle.command_exec.specs.steps.Told.{RunFails};
+ghost use Rattle.command_exec.specs.steps.Told.{SavingFails};
 
 use clap::{Arg, ArgMatches, Command};
 use command_failure::Failure;
@@ -115,7 +115,7 @@ pub fn exec<'a, F: Files, O: Write>(
 /// Runs the events on an image and then the turns that are left, prints a line for each, and makes the
 /// image's file anew, as they left it: all of them, or where standard output fails, those that were done
 /// by then.
-// The device stands in this frame, which is to be gone from the stack while the command line is read.
+// The device stands in this frame, which isn't to stand on the stack yet while the command line is read.
 #[inline(never)]
 fn run<'a, F: Files, O: Write>(
     alloc: Global,
@@ -127,7 +127,7 @@ fn run<'a, F: Files, O: Write>(
 ) -> Result<(), Failure<'a>>
     ensures saved { OnOk result (SavesAll F.Writer.tells events.now image path.now (F.made files.old) (F.made files.new) (O.contents out.old) (O.contents out.new)) }
     ensures stopped { result ≡ Err Failure.CannotPrint → SavesFirst F.Writer.tells events.now image path.now (F.made files.old) (F.made files.new) }
-    ensures failed { IfErr result (RunFails path.entry) }
+    ensures failed { IfErr result (SavingFails path.entry) }
     ensures made { OnOk result (MakesOne path.now (F.made files.old) (F.made files.new)) }
     ensures one { result ≡ Err Failure.CannotPrint → MakesOne path.now (F.made files.old) (F.made files.new) }
     ensures others { OnOk result (KeepsOthers path.now (F.contents files.old) (F.contents files.new)) }

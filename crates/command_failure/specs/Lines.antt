@@ -1,10 +1,10 @@
--- What the user is told of a failure (profile).
+-- What a failure is printed as (profile).
 use Rattle.std.specs.Prelude.{◌≡◌, ℕ, List, [], ◌∷◌, ◌++◌, codes, Option}
 use Rattle.std.specs.Fmt.{decimal}
 use Rattle.std.specs.Io.KnownBytes.{Appends}
 use Rattle.ebpf_asm.specs.Fault.{fault_number as assembly_number}
 use Rattle.ebpf_asm.specs.declared.refusal.AssemblyRefusal.{AssemblyRefusal}
-use Rattle.ebpf_decode.specs.Faults.{fault_number as program_number}
+use Rattle.ebpf_decode.specs.Fault.{fault_number as program_number}
 use Rattle.ebpf_decode.specs.declared.refusal.ProgramRefusal.{ProgramRefusal}
 use Rattle.emit_append.specs.Refusal.{refused_byte}
 use Rattle.emit_append.specs.declared.refusal.FrameRefusal.{FrameRefusal}

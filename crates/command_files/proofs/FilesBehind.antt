@@ -10,15 +10,15 @@ use Rattle.command_files.specs.declared.memory_files.NamedFile.{NamedFile}
 
 -- it is the first that is looked at
 looked_at_first : (files : List NamedFile) (file : NamedFile) (name : List ℕ) → bytes_named (files ++ file ∷ []) name
-    ≡ option_map (λ (file : NamedFile). file.bytes.items) (find (λ (file : NamedFile). bytes_eq (string_bytes file.name) name) (file ∷ reverse files))
+    ≡ option_map (λ (file : NamedFile). file.bytes.items) (find (λ (file : NamedFile). bytes_eq (string_bytes file.path) name) (file ∷ reverse files))
 looked_at_first files file name =
-    ap (λ (found : List NamedFile). option_map (λ (file : NamedFile). file.bytes.items) (find (λ (file : NamedFile). bytes_eq (string_bytes file.name) name) found))
+    ap (λ (found : List NamedFile). option_map (λ (file : NamedFile). file.bytes.items) (find (λ (file : NamedFile). bytes_eq (string_bytes file.path) name) found))
     (reverse-append files (file ∷ []))
 
 -- it hides those of its name alone
-pub replaced_behind : (files : List NamedFile) (file : NamedFile) → HasReplaced (string_bytes file.name) file.bytes.items (bytes_named files) (bytes_named (files ++ file ∷ []))
+pub replaced_behind : (files : List NamedFile) (file : NamedFile) → HasReplaced (string_bytes file.path) file.bytes.items (bytes_named files) (bytes_named (files ++ file ∷ []))
 replaced_behind files file = record {
-  same = rw (looked_at_first files file (string_bytes file.name), (bytes_eq-Decides (string_bytes file.name) (string_bytes file.name)).1 refl) refl;
+  same = rw (looked_at_first files file (string_bytes file.path), (bytes_eq-Decides (string_bytes file.path) (string_bytes file.path)).1 refl) refl;
   others = λ name differs. rw
-      (looked_at_first files file name, false_from_ne_true _ (λ e. differs (sym ((bytes_eq-Decides (string_bytes file.name) name).0 e)))) refl;
+      (looked_at_first files file name, false_from_ne_true _ (λ e. differs (sym ((bytes_eq-Decides (string_bytes file.path) name).0 e)))) refl;
 }

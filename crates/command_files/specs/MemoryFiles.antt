@@ -5,11 +5,11 @@ use Rattle.command_files.specs.declared.memory_files.NamedFile.{NamedFile}
 
 -- the files that were made, in order
 abbrev pub made_of : List NamedFile → List Made
-made_of files = map (λ file. record { path = string_bytes file.name; bytes = file.bytes.items }) files
+made_of files = map (λ file. record { path = string_bytes file.path; bytes = file.bytes.items }) files
 
 -- the last of these files that has this name
 abbrev pub last_named : List NamedFile → List ℕ → Option NamedFile
-last_named files path = find (λ file. bytes_eq (string_bytes file.name) path) (reverse files)
+last_named files path = find (λ file. bytes_eq (string_bytes file.path) path) (reverse files)
 
 -- its bytes
 abbrev pub bytes_named : List NamedFile → List ℕ → Option (List ℕ)

@@ -12,7 +12,7 @@ use std::alloc::{AllocError, Global};
 /// A file with its name.
 #[derive(Drop)]
 struct NamedFile {
-    name: String,
+    path: String,
     bytes: Vec<u8>,
 }
 
@@ -55,7 +55,7 @@ impl MemoryFiles {
         ensures same { (self.new.room ≡ self.old.room) × (self.new.fails ≡ self.old.fails) }
     {
         let file = NamedFile {
-            name: String::from_str(self.alloc, path)?,
+            path: String::from_str(self.alloc, path)?,
             bytes: Vec::from_slice(self.alloc, bytes)?,
         };
         self.files.push(file)?;
@@ -97,7 +97,7 @@ impl MemoryFiles {
         self.files
             .iter()
             .rev()
-            .find(|file| file.name.as_str() == path)
+            .find(|file| file.path.as_str() == path)
     }
 }
 

@@ -1,4 +1,4 @@
-//! Whole files, and what the user is told of one that fails.
+//! Whole files, and what the user is told of a file that fails.
 
 ghost use Rattle.std.specs.Prelude.{◌≡◌, ◌≢◌, ◌≤◌, IfErr, IfOk, IfSome, None, OnOk, OnErr};
 ghost use Rattle.program_interface.specs.BlockSize.{block_size as size_of_bytes};

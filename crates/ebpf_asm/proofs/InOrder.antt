@@ -19,7 +19,7 @@ use Rattle.ebpf_asm.specs.declared.fault.FaultKind.{FaultKind}
 use Rattle.ebpf_asm.specs.Line.{Line, slots_in, slots_of_instruction}
 use Rattle.ebpf_asm.specs.Assembly.{LabelMap, before_later, bytes_of_lines, bytes_in_front, fault_behind, first_fault, is_twice, jump_to, label_at, label_map, labels_from, line_fault, lines_of, resolved, slot_count, slot_named, slot_of_line}
 use Rattle.ebpf_asm.specs.LowestFault.{HaveNone, own_fault}
-use Rattle.ebpf_asm.specs.Assembled.{IsInPlace, IsMadeOf, LeadsToLabel, label_of_line}
+use Rattle.ebpf_asm.specs.InOrder.{IsInPlace, IsMadeOf, LeadsToLabel, label_of_line}
 use Rattle.ebpf_asm.specs.Laws.{LinesAreInOrder}
 use Rattle.ebpf_asm.proofs.Fitting.{Fills, LineFits, lines_fit, resolved_fits}
 use Rattle.ebpf_asm.proofs.Jumps.{Jumps, LineJumps, lines_jump}

@@ -15,7 +15,7 @@ use Rattle.ebpf_asm.specs.Operand.{distance_told, immediate_told, in_range, labe
 use Rattle.ebpf_asm.specs.Statement.{Statement, none_of, one_of, operands_of, statement_of, statement_with, three_of, two_of}
 use Rattle.ebpf_asm.specs.Line.{Line, line_of}
 use Rattle.ebpf_asm.specs.Assembly.{fitting, jump_by}
-use Rattle.ebpf_asm.specs.Assembled.{with_distance}
+use Rattle.ebpf_asm.specs.InOrder.{with_distance}
 use Rattle.ebpf_asm.proofs.EachLine.{LineHas, lines_have}
 use Rattle.ebpf_asm.proofs.Fitting.{after}
 use Rattle.text_lines.specs.Cut.{is_blank_byte}

@@ -11,7 +11,7 @@ use Rattle.instruction_set.specs.Spelling.{program_bytes}
 use Rattle.text_lines.specs.Laws.{AreBlanks}
 use Rattle.ebpf_asm.specs.declared.fault.Fault.{Fault}
 use Rattle.ebpf_asm.specs.declared.mnemonic.Mnemonic.{Mnemonic}
-use Rattle.ebpf_asm.specs.Assembled.{AreInOrder}
+use Rattle.ebpf_asm.specs.InOrder.{AreInOrder}
 use Rattle.ebpf_asm.specs.Assembly.{assembled, lines_of, slot_count}
 use Rattle.ebpf_asm.specs.Line.{line_of}
 use Rattle.ebpf_asm.specs.LowestFault.{IsLowestFault}

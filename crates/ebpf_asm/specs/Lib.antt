@@ -6,7 +6,7 @@ pub mod Statement
 pub mod Line
 pub mod Assembly
 pub mod LowestFault
-pub mod Assembled
+pub mod InOrder
 pub mod Refusal
 pub mod Laws
 pub mod steps

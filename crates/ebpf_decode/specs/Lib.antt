@@ -1,5 +1,5 @@
 pub mod Opcodes
-pub mod Faults
+pub mod Fault
 pub mod Reading
 pub mod Refusal
 pub mod FirstFault

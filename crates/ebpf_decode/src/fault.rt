@@ -1,7 +1,7 @@
 //! Why bytes are no program.
 
 ghost use Rattle.std.specs.Prelude.{◌≡◌, ◌≤◌, ◌↔◌, IfSome, IsSome};
-ghost use Rattle.ebpf_decode.specs.Faults.{fault_number};
+ghost use Rattle.ebpf_decode.specs.Fault.{fault_number};
 ghost use Rattle.ebpf_decode.specs.declared.fault.DecodeFault.TheVariants.{Memory};
 
 use program_interface::{MOST_SLOTS, REGISTERS};

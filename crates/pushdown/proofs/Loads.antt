@@ -6,7 +6,7 @@ use Rattle.zone_state.specs.declared.status.TheConstants.Status.{SUCCESS, PROGRA
 use Rattle.program_interface.specs.Checks.{first_failed}
 use Rattle.nvme_entry.specs.Entry.{identifier_of}
 use Rattle.nvme_entry.specs.declared.command.LoadCommand.{LoadCommand}
-use Rattle.ebpf_decode.specs.Faults.{fault_number}
+use Rattle.ebpf_decode.specs.Fault.{fault_number}
 use Rattle.ebpf_decode.specs.Reading.{decoded_program}
 use Rattle.ebpf_decode.specs.declared.fault.Fault.{Fault}
 use Rattle.instruction_set.specs.declared.instruction.Instruction.{Instruction}

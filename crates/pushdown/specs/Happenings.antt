@@ -10,7 +10,7 @@ use Rattle.nvme_entry.specs.declared.command.Command.{Command}
 use Rattle.nvme_entry.specs.declared.command.Command.TheVariants as commands
 use Rattle.nvme_entry.specs.declared.command.LoadCommand.{LoadCommand}
 use Rattle.nvme_entry.specs.declared.command.RunCommand.{RunCommand}
-use Rattle.ebpf_decode.specs.Faults.{fault_number}
+use Rattle.ebpf_decode.specs.Fault.{fault_number}
 use Rattle.ebpf_decode.specs.Reading.{decoded_program}
 use Rattle.ebpf_decode.specs.declared.fault.Fault.{Fault}
 use Rattle.instruction_set.specs.declared.instruction.Instruction.{Instruction}

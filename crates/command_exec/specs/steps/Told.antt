@@ -6,6 +6,6 @@ use Rattle.command_failure.specs.declared.failure.Failure.TheVariants.{CannotPri
 use Rattle.command_files.specs.UserTold.{IsUnwritten}
 
 -- standard output fails, the file with this name can't be written, or memory is wanting, and nothing else
-abbrev pub RunFails : Bor (List ℕ) → Failure → Type 0
-RunFails path CannotPrint = Unit {0}
-RunFails path failure = IsUnwritten path failure
+abbrev pub SavingFails : Bor (List ℕ) → Failure → Type 0
+SavingFails path CannotPrint = Unit {0}
+SavingFails path failure = IsUnwritten path failure

@@ -3,7 +3,7 @@ use Rattle.std.specs.Prelude.{codes}
 use Rattle.std.proofs.lemmas.Result.{err_from_is_err_and, IfErr-weaker, on_ok_weaker}
 use Rattle.command_files.specs.Arguments.{value_of}
 use Rattle.command_files.proofs.Proved.{others_kept}
-use Rattle.command_exec.proofs.Failing.{exec_of_commands, exec_of_loading, exec_of_reading, exec_of_run}
+use Rattle.command_exec.proofs.Failing.{exec_of_commands, exec_of_loading, exec_of_reading, exec_of_saving}
 use Rattle.command_exec.proofs.Saving.{executes, executes_first}
 use Rattle.command_exec.proofs.exec.exec.Goals as goal
 
@@ -46,7 +46,7 @@ returns-clause-failed g c =
 pub returns-in-Ok-clause-failed : goal.returns-in-Ok-clause-failed
 returns-in-Ok-clause-failed g c =
     IfErr-weaker c.run.result _ _
-    (exec_of_run g.F.Reader.Source.tells (g.F.Files.contents c.args.files.now) (value_of c.args.matches.now (codes "IMAGE")) (value_of c.args.matches.now (codes "COMMANDS"))
+    (exec_of_saving g.F.Reader.Source.tells (g.F.Files.contents c.args.files.now) (value_of c.args.matches.now (codes "IMAGE")) (value_of c.args.matches.now (codes "COMMANDS"))
     c.required-path.result c.required-path.ensures) c.run.ensures.failed
 
 pub returns-in-Ok-clause-others : goal.returns-in-Ok-clause-others

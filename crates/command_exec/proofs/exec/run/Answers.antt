@@ -1,6 +1,6 @@
 use Rattle.std.proofs.Common.{ap, sym, ◌∙◌, rules}
 use Rattle.std.proofs.lemmas.Result.{err_from_is_err_and}
-use Rattle.command_exec.proofs.Failing.{run_of_writing}
+use Rattle.command_exec.proofs.Failing.{saving_of_writing}
 use Rattle.command_exec.proofs.Saving.{prints_all, saves_all, saves_first}
 use Rattle.command_exec.proofs.exec.run.Goals as goal
 
@@ -23,7 +23,7 @@ returns-clause-stopped g c = λ _.
 pub returns-in_err-save-clause-failed : goal.returns-in_err-save-clause-failed
 returns-in_err-save-clause-failed g c =
     let p = err_from_is_err_and c.from_residual-in_err-save.result c.from_residual-in_err-save.ensures.1 in
-    rw (p.1, p.2) (run_of_writing c.args.path _ c.in_err-save.ensures.unwritten)
+    rw (p.1, p.2) (saving_of_writing c.args.path _ c.in_err-save.ensures.unwritten)
 
 pub returns-in-Ok-clause-others : goal.returns-in-Ok-clause-others
 returns-in-Ok-clause-others g c = c.in_ok-save.ensures.others

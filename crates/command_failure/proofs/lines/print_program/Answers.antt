@@ -1,6 +1,6 @@
 use Rattle.std.proofs.Common.{ℕ, List, [], ◌∷◌, ◌++◌, ap, sym, append_assoc}
 use Rattle.std.specs.Prelude.{codes, decimal}
-use Rattle.ebpf_decode.specs.Faults.{fault_number}
+use Rattle.ebpf_decode.specs.Fault.{fault_number}
 use Rattle.command_failure.proofs.PrintLemmas.{reframed}
 use Rattle.command_failure.proofs.lines.print_program.Goals as goal
 

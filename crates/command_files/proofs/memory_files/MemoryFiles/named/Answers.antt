@@ -7,5 +7,5 @@ use Rattle.command_files.proofs.memory_files.MemoryFiles.named.Goals as goal
 
 pub returns : goal.returns
 returns c =
-    find_from_yields_List (λ (file : NamedFile). bytes_eq (string_bytes file.name) c.args.path.now) _ _ c.find.result c.find.ensures.ran
+    find_from_yields_List (λ (file : NamedFile). bytes_eq (string_bytes file.path) c.args.path.now) _ _ c.find.result c.find.ensures.ran
     (YieldsList-from_rev_slice c.args.self.now.files.items cc) (λ x b q k. search (rules, tests))

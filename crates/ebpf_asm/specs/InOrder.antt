@@ -1,4 +1,4 @@
--- What a text assembles to, told by the index of each line.
+-- That the bytes of lines stand in their order, told by the index of each line.
 use Rattle.std.specs.Prelude.{◌≡◌, ℕ, ℤ, pos, ◌*◌, List, length, take, drop, slice_get, Option, Some, None, option_and_then, Ok}
 use Rattle.instruction_set.specs.declared.instruction.Instruction.{Instruction}
 use Rattle.instruction_set.specs.declared.instruction.Instruction.TheVariants.{Jump, JumpLong, Branch}

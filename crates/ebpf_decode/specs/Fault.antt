@@ -1,4 +1,4 @@
--- The kinds of fault (profile).
+-- The numbers of the kinds of fault (profile).
 use Rattle.std.specs.Prelude.{ℕ}
 use Rattle.ebpf_decode.specs.declared.fault.FaultKind.{FaultKind}
 use Rattle.ebpf_decode.specs.declared.fault.FaultKind.TheVariants as kinds
