@@ -1,26 +1,31 @@
--- What a turn and what any event makes of a state, by cases.
-use Rattle.std.proofs.Common.{◌≡◌, ℕ, ◌≤◌, Bool, List, [], ◌∷◌, Option, Some, None, Result, Ok, Err, refl, sym, subst, inl, inr}
+-- What a turn, an entry and any event come to, by cases.
+use Rattle.std.proofs.Common.{◌≡◌, ℕ, ◌≤◌, Bool, List, [], ◌∷◌, Option, Some, None, Result, Ok, Err, refl, sym, subst, ap, inl, inr}
+use Rattle.std.specs.Prelude.{is_some}
 use Rattle.zone_state.specs.declared.status.Status.{Status}
+use Rattle.zone_state.specs.declared.status.TheConstants.Status.{SUCCESS, NO_RUN_FREE, NO_SUCH_PROGRAM}
 use Rattle.program_interface.specs.Checks.{first_failed}
+use Rattle.program_interface.proofs.Proved.{demanded, passed}
 use Rattle.nvme_entry.specs.Entry.{decoded}
 use Rattle.nvme_entry.specs.declared.command.Command.{Command}
 use Rattle.nvme_entry.specs.declared.command.Command.TheVariants as commands
 use Rattle.nvme_entry.specs.declared.command.LoadCommand.{LoadCommand}
 use Rattle.nvme_entry.specs.declared.command.RunCommand.{RunCommand}
+use Rattle.nvme_entry.specs.declared.command.StandardCommand.{StandardCommand}
 use Rattle.word_domain.specs.Domain.{Operations}
 use Rattle.program_interface.specs.Bytes.{AreBytes}
 use Rattle.zns_commands.specs.Left as kept
 use Rattle.zns_commands.specs.Laws.{Commanded, Faulted, IsSpelled, NamespaceEvent, after}
+use Rattle.zns_commands.specs.Meaning.{meaning}
 use Rattle.zns_commands.specs.Transfer.{transfer_checks}
-use Rattle.pushdown.specs.Admission.{Loaded}
-use Rattle.pushdown.specs.EventReplies.{Submission, submission_of}
-use Rattle.pushdown.specs.Happenings.{admitted_place, happens, just_loaded, loading, result_by, start_by, submitted, take_turn, turn_state, turned, turned_at, why_not_run}
+use Rattle.pushdown.specs.Admission.{Loaded, admission_checks}
+use Rattle.pushdown.specs.EventReplies.{Happening, Submission, completed, submission_of}
+use Rattle.pushdown.specs.Happenings.{admitted_place, commanded, happens, just_loaded, loading, result_by, start_by, submitted, take_turn, turn_state, turned, turned_at, why_not_run}
 use Rattle.pushdown.specs.Outcome.{Turn}
 use Rattle.pushdown.specs.Events.{CarriesBytes}
 use Rattle.pushdown.specs.State.{Place, State, free_place, holds_at, loaded_at, place_at, with_namespace, with_place, with_slot}
 use Rattle.device_events.specs.declared.event.Event.{Event}
 use Rattle.device_events.specs.declared.event.Event.TheVariants as event
-use Rattle.pushdown.proofs.Loads.{TakesSlot, loading_is}
+use Rattle.pushdown.proofs.Loads.{IsLoad, TakesSlot, loading_is}
 use Rattle.pushdown.proofs.Spelled.{decoded_has, spelled}
 
 -- what holds of a state holds after a turn of a run, if it holds after the first of the run's turns
@@ -42,6 +47,50 @@ module _ (P : State → Type 0) (s : State) (run : ℕ) where
   pub after_turn : P s → AfterFirst → P (turned s run).state
   after_turn here first = after_turned here first (place_at s run) refl
 
+module _ {D : Type 0} (operations : Operations D) (P : Happening → Type 0) (sub : Submission) (s : State) where
+  -- it holds of each thing that the entry can come to
+  pub record HoldsOfEach : Type 0 where
+    -- it is refused, or a Result: it is answered, and nothing changes
+    pub unchanged : (status : Status) (output : List ℕ) → P (completed sub status 0 0 output s)
+    pub standard : (c : StandardCommand) → decoded sub.entry ≡ Ok (commands.Standard c)
+        → P (commanded sub s (meaning s.namespace (holds_at s) c sub.input))
+    -- a Load, whatever it comes to
+    pub load : (load : LoadCommand) (h : Happening) → decoded sub.entry ≡ Ok (commands.Load load) → IsLoad operations sub s load h → P h
+    -- a Run that is admitted
+    pub start : (command : RunCommand) (run : ℕ) → decoded sub.entry ≡ Ok (commands.Run command) → why_not_run sub s command ≡ None
+        → free_place s ≡ Some run → P (start_by None (Some run) sub s command)
+
+  module _ (holds : HoldsOfEach) where
+    -- what a Run comes to; that a place is free is among its checks
+    of_run : (why : Option Status) (free : Option ℕ) (command : RunCommand) → decoded sub.entry ≡ Ok (commands.Run command)
+        → why_not_run sub s command ≡ why → free_place s ≡ free → P (start_by why free sub s command)
+    of_run (Some status) free command asked is at = holds.unchanged status []
+    of_run None None command asked is at =
+        let checks = admission_checks s.namespace (holds_at s) (is_some (free_place s)) (loaded_at s command.slot) command sub.input in
+        let there = demanded (is_some (free_place s)) NO_RUN_FREE (passed checks 7 is) in
+        let nowhere = ap is_some at in
+        absurd cc
+    of_run None (Some run) command asked is at = holds.start command run asked is at
+
+    -- what a Result comes to
+    of_result : (slot : Option Loaded) (why : Option Status) → P (result_by slot why sub s)
+    of_result slot (Some status) = holds.unchanged status []
+    of_result None None = holds.unchanged NO_SUCH_PROGRAM []
+    of_result (Some loaded) None = holds.unchanged SUCCESS loaded.result
+
+    -- what an entry comes to that names this command
+    of_asked : (starved : Bool) (asked : Result Command Status) → decoded sub.entry ≡ asked → P (submitted operations starved sub s asked)
+    of_asked starved (Err status) is = holds.unchanged status []
+    of_asked starved (Ok (commands.Standard c)) is = holds.standard c is
+    of_asked starved (Ok (commands.Load load)) is =
+        holds.load load (loading operations starved sub s load) is (loading_is operations sub s load starved)
+    of_asked starved (Ok (commands.Run command)) is = of_run (why_not_run sub s command) (free_place s) command is refl refl
+    of_asked starved (Ok (commands.Result slot)) is = of_result (loaded_at s slot) (first_failed (transfer_checks 0 0 sub.input))
+
+  -- what holds of each thing that an entry can come to holds of what it comes to
+  pub of_entry : HoldsOfEach → (starved : Bool) → P (submitted operations starved sub s (decoded sub.entry))
+  of_entry holds starved = of_asked holds starved (decoded sub.entry) refl
+
 module _ {D : Type 0} (operations : Operations D) (P : State → Type 0) (s : State) where
   -- it holds of the state that the event finds, and after each change that the event can be
   pub record HoldsAfter (e : Event) : Type 0 where
@@ -55,39 +104,27 @@ module _ {D : Type 0} (operations : Operations D) (P : State → Type 0) (s : St
         → place.turns ≡ turn ∷ later → P (turn_state s run place turn later)
 
   module _ (e : Event) (holds : HoldsAfter e) where
-    after_load : (starved : Bool) (sub : Submission) (load : LoadCommand) → (CarriesBytes e → AreBytes sub.input)
-        → P (loading operations starved sub s load).state
-    after_load starved sub load are = elim (loading_is operations sub s load starved).state [
+    -- it holds of the state that a Load leaves
+    after_load : (sub : Submission) (load : LoadCommand) (h : Happening) → (CarriesBytes e → AreBytes sub.input) → IsLoad operations sub s load h
+        → P h.state
+    after_load sub load h are is = elim is.state [
       | inl same ↦ subst P (sym same) holds.same
-      | inr takes ↦ subst P (sym takes.taken) (holds.load sub load (loading operations starved sub s load).state are takes)
+      | inr takes ↦ subst P (sym takes.taken) (holds.load sub load h.state are takes)
     ]
 
-    after_start : (why : Option Status) (free : Option ℕ) (sub : Submission) (command : RunCommand) → why_not_run sub s command ≡ why
-        → free_place s ≡ free → 1 ≤ command.blocks → P (start_by why free sub s command).state
-    after_start (Some status) free sub command is at some = holds.same
-    after_start None None sub command is at some = holds.same
-    after_start None (Some run) sub command is at some = holds.start sub command run is at some
-
-    after_result : (slot : Option Loaded) (why : Option Status) (sub : Submission) → P (result_by slot why sub s).state
-    after_result slot (Some status) sub = holds.same
-    after_result None None sub = holds.same
-    after_result (Some loaded) None sub = holds.same
-
-    after_entry : (starved : Bool) (sub : Submission) (asked : Result Command Status) → decoded sub.entry ≡ asked
-        → (CarriesBytes e → AreBytes sub.input) → P (submitted operations starved sub s asked).state
-    after_entry starved sub (Err status) is are = holds.same
-    after_entry starved sub (Ok (commands.Standard c)) is are =
-        holds.step (Commanded (holds_at s) c sub.input) refl
-        (λ has. spelled (holds_at s) c sub.input (decoded_has sub.entry (commands.Standard c) is) (are has))
-    after_entry starved sub (Ok (commands.Load load)) is are = after_load starved sub load are
-    after_entry starved sub (Ok (commands.Run command)) is are =
-        after_start (why_not_run sub s command) (free_place s) sub command refl refl (decoded_has sub.entry (commands.Run command) is)
-    after_entry starved sub (Ok (commands.Result slot)) is are =
-        after_result (loaded_at s slot) (first_failed (transfer_checks 0 0 sub.input)) sub
+    -- it holds of the state that each thing leaves that an entry can come to
+    after_entry : (sub : Submission) → (CarriesBytes e → AreBytes sub.input) → HoldsOfEach operations (λ h. P h.state) sub s
+    after_entry sub are = record {
+      unchanged = λ status output. holds.same;
+      standard = λ c asked. holds.step (Commanded (holds_at s) c sub.input) refl
+          (λ has. spelled (holds_at s) c sub.input (decoded_has sub.entry (commands.Standard c) asked) (are has));
+      load = λ load h asked is. after_load sub load h are is;
+      start = λ command run asked is at. holds.start sub command run is at (decoded_has sub.entry (commands.Run command) asked);
+    }
 
   pub after_event : (starved : Bool) (e : Event) → HoldsAfter e → P (happens operations s starved e).state
   after_event starved (event.Submit queue entry input) holds =
-      after_entry (event.Submit queue entry input) holds starved (submission_of queue entry input.items) (decoded entry) refl
-      (λ has. has)
+      let sub = submission_of queue entry input.items in
+      of_entry operations (λ h. P h.state) sub s (after_entry (event.Submit queue entry input) holds sub (λ has. has)) starved
   after_event starved (event.Turn run) holds = after_turn P s run holds.same (λ place turn later. holds.turn run place turn later refl)
   after_event starved (event.Fault zone state) holds = holds.step (Faulted (holds_at s) zone state) refl (λ has. tt)
