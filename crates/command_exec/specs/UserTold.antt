@@ -6,7 +6,7 @@ use Rattle.command_failure.specs.declared.failure.Failure.TheVariants.{CannotPri
 use Rattle.command_images.specs.UserTold.{LoadingFails}
 
 -- why `exec` ends before its work is done: standard output fails; the image file can't be written; it or the command file can't
--- be read; a line of the command file, the lowest that tells no event, where the file's bytes are told; why the image isn't
+-- be read; a line of the command file, the lowest that is refused, where the file's bytes are told; why the image isn't
 -- loaded; or want of memory; and nothing else
 abbrev pub ExecFails : Type 0 → (List ℕ → Option (List ℕ)) → List ℕ → List ℕ → Failure → Type 0
 ExecFails reads contents path commands CannotPrint = Unit {0}
