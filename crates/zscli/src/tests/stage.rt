@@ -21,8 +21,6 @@ struct Printed {
 }
 
 impl Write for Printed {
-    ghost contents = { λ printed. Some printed.bytes.items };
-
     fn write(&mut self, buf: &[u8]) -> io::Result<usize> {
         if self.writes == 0 {
             return Err(io::Error::from(io::ErrorKind::Other));
