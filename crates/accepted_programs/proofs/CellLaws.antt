@@ -6,8 +6,8 @@ use Rattle.std.specs.Prelude.{is_some, if◌then◌else◌}
 use Rattle.byteorder.specs.Endian.{little_bytes, little_number}
 use Rattle.byteorder.specs.Numbers.{length-bytes_low_first, little_from-lt, little_number-reads_back}
 use Rattle.program_meaning.proofs.Proved.{same_number, writes_read_back}
-use Rattle.program_interface.proofs.Proved.{bytes_from}
-use Rattle.program_interface.specs.Bytes.{AreBytes, spliced}
+use Rattle.common_definitions.proofs.Proved.{bytes_from}
+use Rattle.common_definitions.specs.Bytes.{AreBytes, spliced}
 use Rattle.accepted_programs.specs.Cells.{forgotten, has_byte, join_cell, joined_each}
 use Rattle.accepted_programs.specs.Meets.{word_in}
 

@@ -14,7 +14,7 @@ use Rattle.accepted_programs.specs.Laws.{AcceptedFailsNowhere, RefusalIsFirst, R
 use Rattle.accepted_programs.specs.declared.facts.Facts.{Facts}
 use Rattle.accepted_programs.specs.declared.reason.Reason.{Reason}
 use Rattle.accepted_programs.specs.declared.reason.Refusal.{Refusal}
-use Rattle.program_interface.proofs.Proved.{found_passes, less_fails}
+use Rattle.common_definitions.proofs.Proved.{found_passes, less_fails}
 use Rattle.accepted_programs.proofs.Refusals.{are_numbered, none_holds}
 
 none_before : (before last : Option Refusal) → option_or before last ≡ None → (before ≡ None) × (last ≡ None)

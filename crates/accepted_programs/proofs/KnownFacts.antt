@@ -21,7 +21,7 @@ use Rattle.program_meaning.specs.declared.word.Arithmetic.TheVariants as word
 use Rattle.word_domain.specs.Domain.{GiveFacts, Operations}
 use Rattle.word_domain.specs.declared.offsets.Offsets.{Offsets}
 use Rattle.accepted_programs.specs.Cells.{cell_of, filled, is_stack, joined_each, known_in, no_cells, overwritten}
-use Rattle.program_interface.proofs.Proved.{all_append, all_at, all_drop, all_same, all_set}
+use Rattle.common_definitions.proofs.Proved.{all_append, all_at, all_drop, all_same, all_set}
 use Rattle.accepted_programs.proofs.CellLaws.{if_some, joined_known, left_known, none_known, set_known}
 use Rattle.accepted_programs.specs.declared.facts.TheConstants.{CELLS}
 use Rattle.accepted_programs.specs.Facts.{after_store, along, area_of, cell_at, compared_fact, enters_stack, facts_at_start, fact, facts_at, facts_at_target, facts_behind, given_below, gives, is_register, kept_fact, leads, loaded_fact, merge, slot_behind, source_fact, with_both, with_fact}

@@ -7,7 +7,7 @@ use Rattle.accepted_programs.specs.Accepted.{all_reasons, fails, reason_number, 
 use Rattle.accepted_programs.specs.declared.reason.Reason.{Reason}
 use Rattle.accepted_programs.specs.declared.reason.Reason.TheVariants as reason
 use Rattle.accepted_programs.specs.declared.reason.Refusal.{Refusal}
-use Rattle.program_interface.proofs.Proved.{AreNumbered, all_fail}
+use Rattle.common_definitions.proofs.Proved.{AreNumbered, all_fail}
 use Rattle.accepted_programs.proofs.Statements.{NoReasonHolds, RefusalIsAtItsSlot}
 
 listed : (r : Reason) → slice_get all_reasons (reason_number r - 1) ≡ Some r

@@ -11,11 +11,11 @@ use Rattle.byteorder.specs.Numbers.{length-bytes_low_first}
 use Rattle.instruction_set.specs.Instruction.{size_of}
 use Rattle.instruction_set.specs.declared.operation.Size.{Size}
 use Rattle.instruction_set.specs.declared.operation.Size.TheVariants.{Byte, HalfWord, Word, DoubleWord}
+use Rattle.common_definitions.specs.Bytes.{spliced}
 use Rattle.program_interface.specs.Area.{address_of}
 use Rattle.program_interface.specs.declared.area.Area.{Area}
 use Rattle.program_interface.specs.declared.area.Area.TheVariants.{Context, Block, Stack, Scratch}
 use Rattle.program_interface.specs.declared.area.TheConstants.{STACK_BYTES}
-use Rattle.program_interface.specs.Bytes.{spliced}
 use Rattle.program_meaning.specs.Memory.{IsMemory, Memory, lies_in, loaded, stored, truncated}
 use Rattle.program_meaning.proofs.Proved.{areas_are_apart}
 use Rattle.word_domain.specs.Domain.{IsAtOffset}

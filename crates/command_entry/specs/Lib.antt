@@ -1,1 +1,4 @@
+pub mod Identifiers
 pub mod Printed
+pub mod Added
+pub mod Done

@@ -1,10 +1,14 @@
 //! The command `entry`: a line of a command file, made of words.
 
-ghost use Rattle.std.specs.Prelude.{◌≡◌, OnOk};
-ghost use Rattle.command_entry.specs.Printed.{PrintsEntry};
+ghost use Rattle.std.specs.Prelude.{◌≡◌, OnOk, OnErr};
+ghost use Rattle.clap.specs.Matches.{first_value, found_of};
+ghost use Rattle.command_files.specs.Made.{MakesAtMostOne};
+ghost use Rattle.command_entry.specs.Done.{IsDone, IsDoneSomewhere};
 
+use crate::adding::add;
 use crate::asked::Asked;
-use crate::printing::{Identifiers, print};
+use crate::identifiers::{INTO, Identifiers};
+use crate::printing::print;
 use crate::{programs, transfers, zones};
 use clap::{ArgMatches, Command};
 use command_failure::Failure;
@@ -18,9 +22,12 @@ pub const NAME: &str = "entry";
 
 const LONG_ABOUT: &str = "\
 Prints the line of a command file that submits an entry, made of words. Many such lines are a command file, \
-which `exec` runs.
+which `exec` runs. With `--into` nothing is printed: the line is added to the end of a command file, which is \
+begun where there is none.
 
-An entry goes to queue 1 and has command identifier 1, where `--queue` and `--cid` say nothing else. \
+An entry goes to queue 1 and has command identifier 1, where `--queue` and `--cid` say nothing else. With `--into` \
+identifiers are counted up: without `--cid` an entry has one more than the highest that a submission to its queue \
+has in the file, or behind 65535 the lowest that none has. \
 Numbers are in decimal, or behind `0x` in hexadecimal, as `explain` prints the addresses of a report. A file with data is whole \
 blocks, of 512 bytes where `--block` says nothing else, and has at most 131072 bytes. So has a program's file here; \
 a program that a Load accepts has at most 32768.";
@@ -28,8 +35,8 @@ a program that a Load accepts has at most 32768.";
 const EXAMPLE: &str = "\
 Example: a command file that appends a block to the zone of block 8, and reads it back.
 
-  zscli entry append --lba 8 --data block.bin > work.cmd
-  zscli entry read --lba 8 --blocks 1 --cid 2 >> work.cmd
+  zscli entry append --lba 8 --data block.bin --into work.cmd
+  zscli entry read --lba 8 --blocks 1 --into work.cmd
   zscli exec zoned.img work.cmd";
 
 /// How the command stands on the command line.
@@ -39,7 +46,7 @@ Example: a command file that appends a block to the zone of block 8, and reads i
 /// Want of memory.
 pub fn subcommand<'a>(alloc: Global) -> Result<Command<'a>, AllocError> {
     let command = Command::new(alloc, NAME)
-        .about("Prints a line of a command file, made of words")
+        .about("Prints a line of a command file, made of words, or adds it to one")
         .long_about(LONG_ABOUT)
         .after_help(EXAMPLE)
         .subcommand_required(true)
@@ -58,8 +65,8 @@ pub fn subcommand<'a>(alloc: Global) -> Result<Command<'a>, AllocError> {
 ///
 /// # Errors
 ///
-/// The words ask for no entry, a file can't be read or isn't what a command can move, standard output fails, or memory is
-/// wanting.
+/// The words ask for no entry, a file can't be read or isn't what a command can move, the command file can't be read, has a line that
+/// is refused, has no command identifier left or can't be written, standard output fails, or memory is wanting.
 pub fn entry<'a, F: Files, O: Write>(
     alloc: Global,
     command_line: &mut Command<'a>,
@@ -67,9 +74,11 @@ pub fn entry<'a, F: Files, O: Write>(
     files: &mut F,
     out: &mut O,
 ) -> Result<(), Failure<'a>>
-    ensures printed { OnOk result (PrintsEntry (O.contents out.old) (O.contents out.new)) }
-    ensures made { F.made files.new ≡ F.made files.old }
-    ensures contents { F.contents files.new ≡ F.contents files.old }
+    ensures done { OnOk result (IsDoneSomewhere (O.contents out.old) (O.contents out.new)
+        (F.made files.old) (F.made files.new) (F.contents files.old) (F.contents files.new)) }
+    ensures one { MakesAtMostOne (F.made files.old) (F.made files.new) }
+    ensures kept { OnErr result (F.made files.new ≡ F.made files.old) }
+    ensures contents { OnErr result (F.contents files.new ≡ F.contents files.old) }
 {
     match matches.subcommand() {
         Some((name, matches)) => submit(alloc, command_line, name, matches, files, out),
@@ -77,7 +86,7 @@ pub fn entry<'a, F: Files, O: Write>(
     }
 }
 
-/// Prints the line of the kind of entry that has this name.
+/// Prints the line of the kind of entry that has this name, or adds it to the command file that the words name.
 fn submit<'a, F: Files, O: Write>(
     alloc: Global,
     command_line: &mut Command<'a>,
@@ -86,19 +95,32 @@ fn submit<'a, F: Files, O: Write>(
     files: &mut F,
     out: &mut O,
 ) -> Result<(), Failure<'a>>
-    ensures printed { OnOk result (PrintsEntry (O.contents out.old) (O.contents out.new)) }
-    ensures made { F.made files.new ≡ F.made files.old }
-    ensures contents { F.contents files.new ≡ F.contents files.old }
+    ensures done { OnOk result (IsDone (first_value (found_of matches.now) INTO.now) (O.contents out.old) (O.contents out.new)
+        (F.made files.old) (F.made files.new) (F.contents files.old) (F.contents files.new)) }
+    ensures kept { OnErr result (F.made files.new ≡ F.made files.old) }
+    ensures contents { OnErr result (F.contents files.new ≡ F.contents files.old) }
 {
     let identifiers = Identifiers::of_words(matches)?;
-    let asked = words_asked(alloc, command_line, name, matches, files)?;
-    print(
-        alloc,
-        identifiers,
-        asked.command,
-        asked.input.as_slice(),
-        out,
-    )
+    let Asked { command, input } = words_asked(alloc, command_line, name, matches, files)?;
+    match matches.get_str(INTO) {
+        Some(path) => add(
+            alloc,
+            command_line,
+            path,
+            identifiers,
+            command,
+            input.as_slice(),
+            files,
+        ),
+        None => print(
+            alloc,
+            identifiers.queue,
+            identifiers.cid.unwrap_or(1),
+            command,
+            input.as_slice(),
+            out,
+        ),
+    }
 }
 
 /// What the words of the kind of entry that has this name ask for.

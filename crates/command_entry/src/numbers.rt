@@ -2,7 +2,7 @@
 
 use clap::{Arg, ArgMatches};
 use command_failure::Failure;
-use command_files::arguments::{not_in_range, number_in_range, option};
+use command_files::arguments::{not_in_range, number_or_hexadecimal_in_range, option};
 use nvme_entry::{BlockCount, DwordCount, MOST_BLOCKS, MOST_DWORDS, PROGRAM_SLOTS, ProgramSlot};
 use std::alloc::Global;
 
@@ -27,7 +27,7 @@ pub(crate) fn blocks_option<'a>(alloc: Global, help: &'a str) -> Arg<'a> {
 
 /// A logical block address.
 pub(crate) fn address<'a>(matches: &ArgMatches<'a>, option: &'a str) -> Result<u64, Failure<'a>> {
-    number_in_range(matches, option, 0, u64::MAX)
+    number_or_hexadecimal_in_range(matches, option, 0, u64::MAX)
 }
 
 /// A submission queue, or a command identifier.
@@ -35,7 +35,7 @@ pub(crate) fn identifier<'a>(
     matches: &ArgMatches<'a>,
     option: &'a str,
 ) -> Result<u16, Failure<'a>> {
-    let number = number_in_range(matches, option, 0, u64::from(u16::MAX))?;
+    let number = number_or_hexadecimal_in_range(matches, option, 0, u64::from(u16::MAX))?;
     Ok(number as u16)
 }
 
@@ -45,7 +45,7 @@ pub(crate) fn blocks<'a>(
     option: &'a str,
 ) -> Result<BlockCount, Failure<'a>> {
     let most = u64::from(MOST_BLOCKS);
-    let blocks = number_in_range(matches, option, 1, most)?;
+    let blocks = number_or_hexadecimal_in_range(matches, option, 1, most)?;
     BlockCount::new(blocks as u32).ok_or(not_in_range(matches, option, 1, most))
 }
 
@@ -55,7 +55,7 @@ pub(crate) fn dwords<'a>(
     option: &'a str,
 ) -> Result<DwordCount, Failure<'a>> {
     let most = u64::from(MOST_DWORDS);
-    let dwords = number_in_range(matches, option, 1, most)?;
+    let dwords = number_or_hexadecimal_in_range(matches, option, 1, most)?;
     DwordCount::new(dwords as u32).ok_or(not_in_range(matches, option, 1, most))
 }
 
@@ -64,7 +64,7 @@ pub(crate) fn slot<'a>(
     matches: &ArgMatches<'a>,
     option: &'a str,
 ) -> Result<ProgramSlot, Failure<'a>> {
-    let slot = number_in_range(matches, option, 0, LAST_SLOT)?;
+    let slot = number_or_hexadecimal_in_range(matches, option, 0, LAST_SLOT)?;
     ProgramSlot::new(slot as u32).ok_or(not_in_range(matches, option, 0, LAST_SLOT))
 }
 

@@ -4,14 +4,14 @@ ghost use Rattle.std.specs.Prelude.{◌≡◌};
 
 use crate::asked::Asked;
 use crate::data_file::read_data;
+use crate::identifiers::and_identifiers;
 use crate::numbers::{BLOCKS, address, blocks, blocks_option, slot};
-use crate::printing::and_identifiers;
 use clap::{Arg, ArgAction, ArgMatches, Command};
 use command_failure::Failure;
 use command_files::Files;
 use command_files::arguments::{
-    ARGUMENT_OPTION, EMIT_OPTION, PROGRAM, and_argument, argument_option, emit_option, number,
-    option, program_argument, required,
+    ARGUMENT_OPTION, EMIT_OPTION, PROGRAM, and_argument, argument_option, emit_option,
+    number_or_hexadecimal, option, program_argument, required,
 };
 use nvme_entry::{LoadCommand, RunCommand};
 use std::alloc::{AllocError, Global};
@@ -92,7 +92,7 @@ pub(crate) fn load<'a, F: Files>(
     ensures contents { F.contents files.new ≡ F.contents files.old }
 {
     let slot = slot(matches, SLOT)?;
-    let limit = number(matches, EMIT_OPTION)?;
+    let limit = number_or_hexadecimal(matches, EMIT_OPTION)?;
     let data = read_data(required(matches, PROGRAM), files)?;
     let load = LoadCommand {
         slot,
@@ -111,7 +111,7 @@ pub(crate) fn run<'a>(alloc: Global, matches: &ArgMatches<'a>) -> Result<Asked, 
         lba: address(matches, FROM)?,
         blocks: blocks(matches, BLOCKS)?,
         slot: slot(matches, SLOT)?,
-        argument: number(matches, ARGUMENT_OPTION)?,
+        argument: number_or_hexadecimal(matches, ARGUMENT_OPTION)?,
         destination: address(matches, TO)?,
     };
     Ok(Asked {

@@ -4,13 +4,13 @@ ghost use Rattle.std.specs.Prelude.{◌≡◌};
 
 use crate::asked::Asked;
 use crate::data_file::{read_data, whole_blocks};
+use crate::identifiers::and_identifiers;
 use crate::numbers::{BLOCKS, LBA, address, blocks, blocks_option, lba_option};
-use crate::printing::and_identifiers;
 use clap::{ArgMatches, Command};
 use command_failure::Failure;
 use command_files::Files;
 use command_files::arguments::{
-    BLOCK_OPTION, and_argument, block_option, block_size, number, option, required,
+    BLOCK_OPTION, and_argument, block_option, block_size, number_or_hexadecimal, option, required,
 };
 use nvme_entry::{BlockCount, StandardCommand};
 use std::alloc::{AllocError, Global};
@@ -117,7 +117,7 @@ fn address_and_data<'a, F: Files>(
     ensures contents { F.contents files.new ≡ F.contents files.old }
 {
     let lba = address(matches, LBA)?;
-    let block = block_size(number(matches, BLOCK_OPTION)?)?;
+    let block = block_size(number_or_hexadecimal(matches, BLOCK_OPTION)?)?;
     let path = required(matches, DATA);
     let data = read_data(path, files)?;
     let blocks = whole_blocks(path, data.len(), block)?;

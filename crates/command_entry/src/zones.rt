@@ -1,8 +1,8 @@
 //! Entries for zones: `open`, `close`, `finish`, `reset`, `offline` and `report`.
 
 use crate::asked::Asked;
+use crate::identifiers::and_identifiers;
 use crate::numbers::{LBA, address, dwords, lba_option};
-use crate::printing::and_identifiers;
 use clap::{Arg, ArgAction, ArgGroup, ArgMatches, Command};
 use command_failure::Failure;
 use command_files::arguments::{and_argument, and_command, option, required};

@@ -7,21 +7,22 @@ use Rattle.event_text.specs.declared.command_file.ParseFault.TheVariants.{Line, 
 use Rattle.command_failure.specs.UserTold.{told_of_commands}
 use Rattle.command_failure.specs.declared.failure.Failure.{Failure}
 use Rattle.command_failure.specs.declared.failure.Failure.TheVariants.{CannotPrint, CannotRead, CannotWrite, LineRefused, NoMemory}
-use Rattle.command_files.specs.UserTold.{IsUnread, IsUnwritten}
-use Rattle.command_files.proofs.Proved.{read_holds, same_name, unread_holds, unwritten_holds}
-use Rattle.command_images.specs.UserTold.{LoadingFails}
+use Rattle.command_files.specs.UserTold.{IsUnread}
+use Rattle.command_files.proofs.Proved.{read_holds, same_name, unread_holds}
+use Rattle.command_images.specs.UserTold.{IsUnheld, LoadingFails, UpgradeFails}
 use Rattle.command_exec.specs.UserTold.{ExecFails}
 use Rattle.command_exec.specs.steps.Told.{SavingFails}
 
 -- what was done can't be saved
-pub saving_of_writing : (path : Bor (List ℕ)) (failure : Failure) → IsUnwritten path failure → SavingFails path failure
-saving_of_writing path = unwritten_holds path (SavingFails path) (λ told cause is. is) tt
+pub saving_of_changes : (path : Bor (List ℕ)) (failure : Failure) → IsUnheld path failure → SavingFails path failure
+saving_of_changes path CannotPrint is = tt
+saving_of_changes path _ is = is
 
 module _ (reads : Type 0) (contents : List ℕ → Option (List ℕ)) (path commands : List ℕ) where
   -- the image isn't loaded
-  pub exec_of_loading : (image : List ℕ) → image ≡ path → (failure : Failure) → LoadingFails reads (contents image) image failure → ExecFails reads contents path commands failure
+  pub exec_of_loading : (image : List ℕ) → image ≡ path → (failure : Failure) → UpgradeFails reads (contents image) image failure → ExecFails reads contents path commands failure
   exec_of_loading image is_named CannotPrint is = tt
-  exec_of_loading image is_named (CannotWrite told cause) is = absurd is
+  exec_of_loading image is_named (CannotWrite told cause) is = is ∙ is_named
   exec_of_loading image is_named (CannotRead told cause) is = inl (is ∙ is_named)
   exec_of_loading image is_named (LineRefused told number fault) is = absurd is
   exec_of_loading image is_named failure is = subst (λ (p : List ℕ). LoadingFails reads (contents p) p failure) is_named is
@@ -45,5 +46,6 @@ module _ (reads : Type 0) (contents : List ℕ → Option (List ℕ)) (path comm
   pub exec_of_saving : (image : Bor (List ℕ)) → image.now ≡ path → (failure : Failure) → SavingFails image failure → ExecFails reads contents path commands failure
   exec_of_saving image is_named CannotPrint is = tt
   exec_of_saving image is_named (CannotWrite told cause) is = same_name is is_named
+  exec_of_saving image is_named (CannotRead told cause) is = inl (same_name is is_named)
   exec_of_saving image is_named NoMemory is = tt
   exec_of_saving image is_named _ is = absurd is

@@ -1,24 +1,25 @@
 -- What was done, and what was done where a reply is refused.
 use Rattle.std.proofs.Common.{◌≡◌, ℕ, List, map, Option, Result, Ok, Err, OnOk, OnErr, IfErr, IfSome, ◌∙◌, subst}
 use Rattle.image_store.specs.Namespace.{ZonedNamespace}
-use Rattle.image_store.specs.Reading.{namespace_in}
-use Rattle.image_store.specs.Text.{text}
+use Rattle.image_text.specs.Reading.{namespace_in}
+use Rattle.image_text.specs.Text.{text}
 use Rattle.interval_domain.specs.Intervals.{intervals}
 use Rattle.device_events.specs.Printed.{Printed}
-use Rattle.program_interface.specs.Failures.{CountsFailure}
+use Rattle.common_definitions.specs.Failures.{CountsFailure}
 use Rattle.device_events.specs.Replies.{Joins, ReplyWithData}
 use Rattle.device_events.proofs.Proved.{prints_in_parts}
-use Rattle.pushdown.specs.Draining.{HasDrained, HasStoppedDraining}
-use Rattle.pushdown.specs.Events.{HasServed, HasStopped}
-use Rattle.pushdown.specs.JoinedEvents.{HasServedAndDrained}
-use Rattle.pushdown.specs.State.{State, new_state}
+use Rattle.device_meaning.specs.Draining.{HasDrained, HasStoppedDraining}
+use Rattle.device_meaning.specs.Events.{HasServed, HasStopped}
+use Rattle.device_meaning.specs.JoinedEvents.{HasServedAndDrained}
+use Rattle.device_meaning.specs.State.{State, new_state}
 use Rattle.device_events.specs.declared.event.Event.{Event}
-use Rattle.pushdown.proofs.Proved.{served_and_drained}
+use Rattle.device_meaning.proofs.Proved.{served_and_drained}
 use Rattle.runner.specs.declared.device.Stopped.{Stopped}
 use Rattle.event_text.specs.CommandFile.{events_in, told_of}
 use Rattle.event_text.specs.Lines.{Took, reply_line}
-use Rattle.command_files.specs.Made.{Made, then_made}
+use Rattle.command_files.specs.Made.{Made}
 use Rattle.command_files.proofs.Proved.{read_holds}
+use Rattle.command_images.specs.Images.{HasText}
 use Rattle.command_exec.specs.Executed.{AreInFiles, Executes, ExecutesFirst, HasBegun, HasPrinted, InEvents, InTurns, SavesAll, SavesFirst}
 
 pub on_err : {T E fact : Type 0} (result : Result T E) → fact → OnErr result fact
@@ -90,20 +91,20 @@ prints_all events namespace old left held before holds after begins first last d
     (subst (λ (bytes : Option (List ℕ)). HasServedAndDrained intervals events old left (HasPrinted held bytes)) last did))
 
 -- the namespace is saved that a device shows
-module _ (writes : Type 0) (events : List Event) (namespace shown : ZonedNamespace) (path : List ℕ) (before after : Option (List Made)) (left : State)
-    (made : writes → after ≡ then_made before path (text shown)) (shows : shown ≡ left.namespace) where
-  meant : writes → after ≡ then_made before path (text left.namespace)
-  meant write = subst (λ (ns : ZonedNamespace). after ≡ then_made before path (text ns)) shows (made write)
+module _ (reads writes : Type 0) (bytes : Option (List ℕ)) (events : List Event) (namespace shown : ZonedNamespace) (path : List ℕ) (before after : Option (List Made)) (left : State)
+    (saved : HasText reads writes bytes path (text shown) before after) (shows : shown ≡ left.namespace) where
+  meant : HasText reads writes bytes path (text left.namespace) before after
+  meant = subst (λ (ns : ZonedNamespace). HasText reads writes bytes path (text ns) before after) shows saved
 
   pub saves_all : (printed printed_after : Option (List ℕ)) → HasServedAndDrained intervals events (new_state namespace) left (HasPrinted printed printed_after)
-      → SavesAll writes events namespace path before after printed printed_after
-  saves_all printed printed_after did = record { left = left; served_and_drained = did; made = meant }
+      → SavesAll reads writes bytes events namespace path before after printed printed_after
+  saves_all printed printed_after did = record { left = left; served_and_drained = did; saved = meant }
 
-  pub saves_first : (old : State) → old ≡ new_state namespace → HasBegun events old left → SavesFirst writes events namespace path before after
+  pub saves_first : (old : State) → old ≡ new_state namespace → HasBegun events old left → SavesFirst reads writes bytes events namespace path before after
   saves_first old begins begun = record {
     left = left;
     begun = subst (λ (s : State). HasBegun events s left) begins begun;
-    made = meant;
+    saved = meant;
   }
 
 -- an image was loaded, and then a command file was read, of the files that the command line names; the contents of files
@@ -119,27 +120,29 @@ module _ (reads writes : Type 0) (contents then : List ℕ → Option (List ℕ)
   }
 
   -- what `run` does of them is what the command does of the files
-  pub executes : {T E : Type 0} (given : List Event) (printed printed_after : Option (List ℕ)) (result : Result T E)
+  pub executes : {T E : Type 0} (bytes : Option (List ℕ)) (given : List Event) (printed printed_after : Option (List ℕ)) (result : Result T E)
       → (reads → IfSome (contents path) (λ bytes. namespace_in bytes ≡ Ok namespace))
-      → OnOk result (SavesAll writes given namespace path loaded after printed printed_after) → given ≡ events
+      → bytes ≡ contents path → OnOk result (SavesAll reads writes bytes given namespace path loaded after printed printed_after) → given ≡ events
       → OnOk result (Executes reads writes contents named named_commands before after printed printed_after)
-  executes given printed printed_after (Err error) namespace_is saves are = tt
-  executes given printed printed_after (Ok done) namespace_is saves are = record {
+  executes bytes given printed printed_after (Err error) namespace_is bytes_are saves are = tt
+  executes bytes given printed printed_after (Ok done) namespace_is bytes_are saves are = record {
     namespace = namespace;
     events = events;
     in_files = in_both namespace_is;
-    saves = subst (λ (p : List ℕ). SavesAll writes events namespace p before after printed printed_after) is_named
-        (subst (λ (made : Option (List Made)). SavesAll writes events namespace path made after printed printed_after) kept
-        (subst (λ (list : List Event). SavesAll writes list namespace path loaded after printed printed_after) are saves));
+    saves = subst (λ (p : List ℕ). SavesAll reads writes (contents p) events namespace p before after printed printed_after) is_named
+        (subst (λ (b : Option (List ℕ)). SavesAll reads writes b events namespace path before after printed printed_after) bytes_are
+        (subst (λ (made : Option (List Made)). SavesAll reads writes bytes events namespace path made after printed printed_after) kept
+        (subst (λ (list : List Event). SavesAll reads writes bytes list namespace path loaded after printed printed_after) are saves)));
   }
 
-  pub executes_first : (given : List Event) → (reads → IfSome (contents path) (λ bytes. namespace_in bytes ≡ Ok namespace))
-      → SavesFirst writes given namespace path loaded after → given ≡ events → ExecutesFirst reads writes contents named named_commands before after
-  executes_first given namespace_is saves are = record {
+  pub executes_first : (bytes : Option (List ℕ)) (given : List Event) → (reads → IfSome (contents path) (λ bytes. namespace_in bytes ≡ Ok namespace))
+      → bytes ≡ contents path → SavesFirst reads writes bytes given namespace path loaded after → given ≡ events → ExecutesFirst reads writes contents named named_commands before after
+  executes_first bytes given namespace_is bytes_are saves are = record {
     namespace = namespace;
     events = events;
     in_files = in_both namespace_is;
-    saves = subst (λ (p : List ℕ). SavesFirst writes events namespace p before after) is_named
-        (subst (λ (made : Option (List Made)). SavesFirst writes events namespace path made after) kept
-        (subst (λ (list : List Event). SavesFirst writes list namespace path loaded after) are saves));
+    saves = subst (λ (p : List ℕ). SavesFirst reads writes (contents p) events namespace p before after) is_named
+        (subst (λ (b : Option (List ℕ)). SavesFirst reads writes b events namespace path before after) bytes_are
+        (subst (λ (made : Option (List Made)). SavesFirst reads writes bytes events namespace path made after) kept
+        (subst (λ (list : List Event). SavesFirst reads writes bytes list namespace path loaded after) are saves)));
   }

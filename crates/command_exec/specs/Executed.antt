@@ -2,18 +2,19 @@
 use Rattle.std.specs.Prelude.{◌≡◌, ℕ, List, map, flat_map, Option, Ok, IfSome}
 use Rattle.std.specs.Io.KnownBytes.{Appends}
 use Rattle.image_store.specs.Namespace.{ZonedNamespace}
-use Rattle.image_store.specs.Reading.{namespace_in}
-use Rattle.image_store.specs.Text.{text}
+use Rattle.image_text.specs.Reading.{namespace_in}
+use Rattle.image_text.specs.Text.{text}
 use Rattle.interval_domain.specs.Intervals.{intervals}
 use Rattle.device_events.specs.Replies.{ReplyWithData}
-use Rattle.pushdown.specs.Draining.{HasStoppedDraining}
-use Rattle.pushdown.specs.Events.{HasServed, HasStopped}
-use Rattle.pushdown.specs.JoinedEvents.{HasServedAndDrained}
-use Rattle.pushdown.specs.State.{State, new_state}
+use Rattle.device_meaning.specs.Draining.{HasStoppedDraining}
+use Rattle.device_meaning.specs.Events.{HasServed, HasStopped}
+use Rattle.device_meaning.specs.JoinedEvents.{HasServedAndDrained}
+use Rattle.device_meaning.specs.State.{State, new_state}
 use Rattle.device_events.specs.declared.event.Event.{Event}
 use Rattle.event_text.specs.CommandFile.{events_in, told_of}
 use Rattle.event_text.specs.Lines.{reply_line}
-use Rattle.command_files.specs.Made.{Made, then_made}
+use Rattle.command_files.specs.Made.{Made}
+use Rattle.command_images.specs.Images.{HasText}
 
 -- the lines of these replies were printed, in order, and nothing else, where the output tells what it holds
 abbrev pub HasPrinted : Option (List ℕ) → Option (List ℕ) → List ReplyWithData → Type 0
@@ -30,19 +31,19 @@ pub data HasBegun (events : List Event) (old new : State) : Type 0 where
   InTurns : (between : State) (done : ℕ) (served : HasServed intervals events old between Untold)
       (stopped : HasStoppedDraining between new Untold done) → HasBegun events old new
 
--- the events are done on a namespace, and the turns behind them, the line of each reply is printed, and the file is made
--- anew of the namespace that is left, where what is written of it is told
-pub record SavesAll (writes : Type 0) (events : List Event) (namespace : ZonedNamespace) (path : List ℕ) (before after : Option (List Made)) (printed printed_after : Option (List ℕ)) : Type 0 where
+-- the events are done on a namespace, and the turns behind them, the line of each reply is printed, and the file, which had
+-- these bytes, has the text of the namespace that is left
+pub record SavesAll (reads writes : Type 0) (bytes : Option (List ℕ)) (events : List Event) (namespace : ZonedNamespace) (path : List ℕ) (before after : Option (List Made)) (printed printed_after : Option (List ℕ)) : Type 0 where
   pub left : State
   pub served_and_drained : HasServedAndDrained intervals events (new_state namespace) left (HasPrinted printed printed_after)
-  pub made : writes → after ≡ then_made before path (text left.namespace)
+  pub saved : HasText reads writes bytes path (text left.namespace) before after
 
--- the file is made anew of the namespace that the first of these leave, where that is told. How many is not said: standard
--- output doesn't tell what it took
-pub record SavesFirst (writes : Type 0) (events : List Event) (namespace : ZonedNamespace) (path : List ℕ) (before after : Option (List Made)) : Type 0 where
+-- the file has the text of the namespace that the first of these leave. How many is not said: standard output doesn't tell
+-- what it took
+pub record SavesFirst (reads writes : Type 0) (bytes : Option (List ℕ)) (events : List Event) (namespace : ZonedNamespace) (path : List ℕ) (before after : Option (List Made)) : Type 0 where
   pub left : State
   pub begun : HasBegun events (new_state namespace) left
-  pub made : writes → after ≡ then_made before path (text left.namespace)
+  pub saved : HasText reads writes bytes path (text left.namespace) before after
 
 -- the image file's bytes stand for a namespace, where these and what is read of them are told, and the command file's for
 -- some events, where these are told
@@ -55,11 +56,11 @@ pub record Executes (reads writes : Type 0) (contents : List ℕ → Option (Lis
   pub namespace : ZonedNamespace
   pub events : List Event
   pub in_files : AreInFiles reads contents path commands namespace events
-  pub saves : SavesAll writes events namespace path before after printed printed_after
+  pub saves : SavesAll reads writes (contents path) events namespace path before after printed printed_after
 
 -- the first of them are
 pub record ExecutesFirst (reads writes : Type 0) (contents : List ℕ → Option (List ℕ)) (path commands : List ℕ) (before after : Option (List Made)) : Type 0 where
   pub namespace : ZonedNamespace
   pub events : List Event
   pub in_files : AreInFiles reads contents path commands namespace events
-  pub saves : SavesFirst writes events namespace path before after
+  pub saves : SavesFirst reads writes (contents path) events namespace path before after

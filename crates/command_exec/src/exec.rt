@@ -1,10 +1,10 @@
 //! The command `exec`: the events of a command file, run on an image.
 
-ghost use Rattle.std.specs.Prelude.{◌≡◌, ◌≢◌, ◌≤◌, ◌<◌, ◌+◌, ◌^◌, length, OnOk, OnErr, IfErr};
+ghost use Rattle.std.specs.Prelude.{◌≡◌, ◌≢◌, ◌≤◌, ◌<◌, ◌+◌, ◌^◌, length, OnOk, OnErr, IfErr, Some};
 ghost use Rattle.interval_domain.specs.Intervals.{intervals};
-ghost use Rattle.pushdown.specs.JoinedEvents.{HasServedAndDrained};
+ghost use Rattle.device_meaning.specs.JoinedEvents.{HasServedAndDrained};
 ghost use Rattle.command_files.specs.Arguments.{value_of};
-ghost use Rattle.command_files.specs.Made.{KeepsOthers, MakesOne};
+ghost use Rattle.command_files.specs.Made.{KeepsModes, KeepsOthers, MakesAtMost};
 ghost use Rattle.command_exec.specs.Executed.{Executes, ExecutesFirst, HasBegun, HasPrinted, SavesAll, SavesFirst};
 ghost use Rattle.command_exec.specs.UserTold.{ExecFails};
 ghost use Rattle.command_exec.specs.steps.Told.{SavingFails};
@@ -28,7 +28,9 @@ const COMMANDS: &str = "COMMANDS";
 const LONG_ABOUT: &str = "\
 Runs the events of a command file on an image, one after another. Then it gives turns to the runs that \
 are left, always to the one of the lowest number, until each has ended. It prints a line for each event \
-and for each of these turns, and writes the image back, as they left it.
+and for each of these turns, and writes the image back, as they left it. Where they left it as it was, nothing is written.
+
+No other command works on the image meanwhile: one that tries to is told that it is in use.
 
 A command file is ASCII text with an event on each line; `entry` makes those of `submit`. Words are separated by \
 spaces or tabs, and `;` begins a comment.
@@ -52,8 +54,8 @@ What is printed, which `explain` says in words:
 Where a line cannot be printed, no later event happens and no later turn is given, and the image is \
 written as those up to then left it. Where anything else fails, the image is as it was: the image or the command file cannot be \
 read or is refused, or the new image cannot be written. The new image is written beside the old one, as \
-IMAGE.unfinished, and takes its place when it is whole. Where only its place cannot be brought to the disk \
-then, it stands there all the same.";
+IMAGE.unfinished, and takes its place, with its permissions, when it is whole. Where only its place cannot be brought to the \
+disk then, it stands there all the same.";
 
 const EXAMPLE: &str = "\
 Example, in the folder of the sources:
@@ -95,15 +97,16 @@ pub fn exec<'a, F: Files, O: Write>(
     ensures executed { OnOk result (Executes F.Reader.tells F.Writer.tells (F.contents files.old) (value_of matches.now IMAGE.now) (value_of matches.now COMMANDS.now) (F.made files.old) (F.made files.new) (O.contents out.old) (O.contents out.new)) }
     ensures stopped { result ≡ Err Failure.CannotPrint → ExecutesFirst F.Reader.tells F.Writer.tells (F.contents files.old) (value_of matches.now IMAGE.now) (value_of matches.now COMMANDS.now) (F.made files.old) (F.made files.new) }
     ensures failed { IfErr result (ExecFails F.Reader.tells (F.contents files.old) (value_of matches.now IMAGE.now) (value_of matches.now COMMANDS.now)) }
-    ensures made { OnOk result (MakesOne (value_of matches.now IMAGE.now) (F.made files.old) (F.made files.new)) }
-    ensures one { result ≡ Err Failure.CannotPrint → MakesOne (value_of matches.now IMAGE.now) (F.made files.old) (F.made files.new) }
+    ensures made { OnOk result (MakesAtMost (value_of matches.now IMAGE.now) (F.made files.old) (F.made files.new)) }
+    ensures one { result ≡ Err Failure.CannotPrint → MakesAtMost (value_of matches.now IMAGE.now) (F.made files.old) (F.made files.new) }
     ensures others { OnOk result (KeepsOthers (value_of matches.now IMAGE.now) (F.contents files.old) (F.contents files.new)) }
     ensures others_stopped { result ≡ Err Failure.CannotPrint → KeepsOthers (value_of matches.now IMAGE.now) (F.contents files.old) (F.contents files.new) }
     ensures kept { IfErr result (λ failure. failure ≢ Failure.CannotPrint → F.made files.new ≡ F.made files.old) }
     ensures contents { IfErr result (λ failure. failure ≢ Failure.CannotPrint → F.contents files.new ≡ F.contents files.old) }
+    ensures modes { OnOk result (KeepsModes (F.modes files.old) (F.modes files.new)) }
 {
     let path = required(matches, IMAGE);
-    let image = image_file::load(alloc, path, files)?;
+    let image = image_file::load_to_replace(alloc, path, files)?;
     let commands = required(matches, COMMANDS);
     let file = read(commands, files)?;
     match event_text::parse(alloc, file.as_slice()) {
@@ -112,9 +115,8 @@ pub fn exec<'a, F: Files, O: Write>(
     }
 }
 
-/// Runs the events on an image and then the turns that are left, prints a line for each, and makes the
-/// image's file anew, as they left it: all of them, or where standard output fails, those that were done
-/// by then.
+/// Runs the events on an image and then the turns that are left, prints a line for each, and saves the image as they left it:
+/// all of them, or where standard output fails, those that were done by then.
 // The device stands in this frame, which isn't to stand on the stack yet while the command line is read.
 #[inline(never)]
 fn run<'a, F: Files, O: Write>(
@@ -125,22 +127,24 @@ fn run<'a, F: Files, O: Write>(
     files: &mut F,
     out: &mut O,
 ) -> Result<(), Failure<'a>>
-    ensures saved { OnOk result (SavesAll F.Writer.tells events.now image path.now (F.made files.old) (F.made files.new) (O.contents out.old) (O.contents out.new)) }
-    ensures stopped { result ≡ Err Failure.CannotPrint → SavesFirst F.Writer.tells events.now image path.now (F.made files.old) (F.made files.new) }
+    requires { F.held files.old ≡ Some path.now }
+    ensures saved { OnOk result (SavesAll F.Reader.tells F.Writer.tells (F.contents files.old path.now) events.now image path.now (F.made files.old) (F.made files.new) (O.contents out.old) (O.contents out.new)) }
+    ensures stopped { result ≡ Err Failure.CannotPrint → SavesFirst F.Reader.tells F.Writer.tells (F.contents files.old path.now) events.now image path.now (F.made files.old) (F.made files.new) }
     ensures failed { IfErr result (SavingFails path.entry) }
-    ensures made { OnOk result (MakesOne path.now (F.made files.old) (F.made files.new)) }
-    ensures one { result ≡ Err Failure.CannotPrint → MakesOne path.now (F.made files.old) (F.made files.new) }
+    ensures made { OnOk result (MakesAtMost path.now (F.made files.old) (F.made files.new)) }
+    ensures one { result ≡ Err Failure.CannotPrint → MakesAtMost path.now (F.made files.old) (F.made files.new) }
     ensures others { OnOk result (KeepsOthers path.now (F.contents files.old) (F.contents files.new)) }
     ensures others_stopped { result ≡ Err Failure.CannotPrint → KeepsOthers path.now (F.contents files.old) (F.contents files.new) }
     ensures kept { IfErr result (λ failure. failure ≢ Failure.CannotPrint → F.made files.new ≡ F.made files.old) }
     ensures contents { IfErr result (λ failure. failure ≢ Failure.CannotPrint → F.contents files.new ≡ F.contents files.old) }
+    ensures modes { OnOk result (KeepsModes (F.modes files.old) (F.modes files.new)) }
 {
     let mut lines = Lines::new(alloc, out)?;
     let mut output = vec![in alloc; 0; MOST_TRANSFER]?;
     let mut device = Device::new(alloc, image);
     let done = serve_and_drain(&mut device, events, output.as_mut_slice(), &mut lines);
     let out = lines.into_writer();
-    image_file::save(device.image(), path, files)?;
+    image_file::save_changes(device.image(), path, files)?;
     // No effect at run time. The proof reads what was printed from this use of `out`.
     let _ = &*out;
     match done {

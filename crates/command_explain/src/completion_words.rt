@@ -1,28 +1,31 @@
 //! Completions in words.
 
 use crate::command_words::CommandWords;
+use crate::fitting::{can_answer, has_no_dwords};
+use crate::pairing::Paired;
 use crate::refusal_words::ReasonWords;
 use crate::report_words::print_report;
+use crate::uses::Doubt;
 use command_files::Counted;
 use nvme_entry::{Command, Completion, Entry, StandardCommand, Status};
 use std::io::{self, Write};
 
 /// What is known of the command that a completion answers.
 #[derive(Clone, Copy)]
-pub(crate) enum Answered {
+pub(crate) enum Answered<'a> {
     /// No command file tells it.
     Unnamed,
-    /// The command file has no submission that waits for this completion.
-    NotThere,
-    /// The entry of the command.
-    Submitted([u8; 64]),
+    /// The command file with this name has no submission left that has its queue and its command identifier.
+    NotThere(&'a str),
+    /// The submission that it is taken to answer.
+    Paired(Paired<'a>),
 }
 
 /// Prints what a completion and its data tell of its command.
 pub(crate) fn print_completion<O: Write>(
     completion: &Completion,
     data: &[u8],
-    answered: &Answered,
+    answered: &Answered<'_>,
     out: &mut O,
 ) -> io::Result<()> {
     let queue = completion.queue;
@@ -30,17 +33,82 @@ pub(crate) fn print_completion<O: Write>(
     write!(out, "queue {queue}, command {cid}: ")?;
     match answered {
         Answered::Unnamed => print_unnamed(completion, data, out),
-        Answered::NotThere => {
-            write!(out, "no submission of the command file waits for it: ")?;
+        Answered::NotThere(path) => {
+            write!(out, "no submission of {path} is left for it: ")?;
             print_unnamed(completion, data, out)
         }
-        Answered::Submitted(entry) => match Entry::decode(entry) {
-            Ok(command) => print_of_command(completion, data, &command, out),
-            Err(_) => {
-                write!(out, "an entry that is no command: ")?;
+        Answered::Paired(paired) => print_paired(completion, data, paired, out),
+    }
+}
+
+/// Prints what a completion tells of the submission that it is taken to answer: in the words of its command where this can have
+/// such an answer, and else what is certain whatever the command is.
+fn print_paired<O: Write>(
+    completion: &Completion,
+    data: &[u8],
+    paired: &Paired<'_>,
+    out: &mut O,
+) -> io::Result<()> {
+    match Entry::decode(&paired.submission.entry) {
+        Ok(command) => {
+            let fits = can_answer(completion, data.len(), &command);
+            print_doubt(completion, paired, fits, out)?;
+            let words = CommandWords(&command);
+            write!(out, "{words}: ")?;
+            if fits {
+                print_of_command(completion, data, &command, out)
+            } else {
                 print_unnamed(completion, data, out)
             }
-        },
+        }
+        Err(status) => {
+            let fits = completion.status == status && has_no_dwords(completion);
+            print_doubt(completion, paired, fits, out)?;
+            write!(out, "an entry that is no command: ")?;
+            print_unnamed(completion, data, out)
+        }
+    }
+}
+
+/// Prints why it is a guess that a submission is answered, where it is one. `fits` says whether it can have such an answer.
+fn print_doubt<O: Write>(
+    completion: &Completion,
+    paired: &Paired<'_>,
+    fits: bool,
+    out: &mut O,
+) -> io::Result<()> {
+    let path = paired.path;
+    let line = paired.submission.line;
+    let queue = completion.queue;
+    let cid = completion.cid;
+    if !fits {
+        return write!(
+            out,
+            "{path}, line {line} (a guess: it cannot have this answer): "
+        );
+    }
+    match paired.doubt {
+        None => Ok(()),
+        Some(
+            Doubt::Counts {
+                submissions,
+                completions,
+            },
+        ) => {
+            let submissions = Counted(submissions, "submission");
+            let completions = Counted(completions, "completion");
+            write!(
+                out,
+                "{path}, line {line} (a guess: queue {queue} has {submissions} with identifier {cid} there, and {completions} here): "
+            )
+        }
+        Some(Doubt::BehindRun { submissions }) => {
+            let submissions = Counted(submissions, "submission");
+            write!(
+                out,
+                "{path}, line {line} (a guess: queue {queue} has {submissions} with identifier {cid} there, one behind a run): "
+            )
+        }
     }
 }
 
@@ -68,15 +136,13 @@ fn print_unnamed<O: Write>(completion: &Completion, data: &[u8], out: &mut O) ->
     writeln!(out)
 }
 
-/// Prints a command and how it ended.
+/// Prints how a command ended that can have this answer.
 fn print_of_command<O: Write>(
     completion: &Completion,
     data: &[u8],
     command: &Command,
     out: &mut O,
 ) -> io::Result<()> {
-    let words = CommandWords(command);
-    write!(out, "{words}: ")?;
     if completion.status != Status::SUCCESS {
         return print_refusal(completion, out);
     }

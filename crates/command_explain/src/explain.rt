@@ -4,13 +4,14 @@ ghost use Rattle.std.specs.Prelude.{◌≡◌};
 ghost use Rattle.command_explain.specs.steps.Told.{told_of_replies};
 
 use crate::completion_words::{Answered, print_completion};
-use crate::waiting::Waiting;
+use crate::pairing::Pairing;
+use crate::submissions::{Submission, submissions};
 use clap::{Arg, ArgMatches, Command};
 use command_failure::{Failure, printed};
 use command_files::arguments::{and_argument, option, required};
 use command_files::{Files, read};
 use device_events::Reply;
-use event_text::{RepliesFault, ToldReply, parse, replies};
+use event_text::{RepliesFault, ToldReply, event_lines, parse, replies};
 use nvme_entry::Completion;
 use std::alloc::{AllocError, Global};
 use std::io::{self, Write};
@@ -30,8 +31,13 @@ a fault.
 A completion does not name its command, and what its dwords 0 and 1 are depends on that: of an append they are \
 an LBA, of a run its records and its blocks. So without --commands both are said. With it each completion is \
 taken for that of the first submission in the command file that has its queue and its command identifier and no \
-completion yet, and is told as that command's, with each zone of a report on a line. This is right where the \
-commands of a queue that wait at the same time have identifiers that differ, as they must have.
+completion yet, and is told as that command's, with each zone of a report on a line.
+
+Where another submission may be answered, or the command cannot have this answer, the line says that this is a guess, \
+names the command file and the line of the submission, and says why. It is none where the file has as many completions with \
+this queue and identifier as the command file has submissions, and none but the last of these is a run, whose completion \
+comes later; lines may have been cut out, but not moved. So give each command of a queue an identifier of its own, as \
+`zscli entry` does with --into.
 
 Of a file with a line that `exec` does not print nothing is explained, and `line LINE refused` tells the lowest.";
 
@@ -77,26 +83,30 @@ pub fn explain<'a, F: Files, O: Write>(
 {
     let path = required(matches, FILE);
     let file = read(path, files)?;
-    let printed_replies = replies(alloc, file.as_slice()).map_err(|fault| no_replies(path, fault))?;
-    let mut waiting = match matches.get_str(COMMANDS) {
-        Some(path) => Some(submissions(alloc, path, files)?),
+    let told = replies(alloc, file.as_slice()).map_err(|fault| no_replies(path, fault))?;
+    let mut pairing = match matches.get_str(COMMANDS) {
+        Some(path) => {
+            let submissions = read_submissions(alloc, path, files)?;
+            Some(Pairing::new(alloc, path, submissions.as_slice(), told.as_slice())?)
+        }
         None => None,
     };
-    printed(print_replies(printed_replies.as_slice(), &mut waiting, out))
+    printed(print_replies(told.as_slice(), &mut pairing, out))
 }
 
 /// The submissions of a command file.
-fn submissions<'a, F: Files>(
+fn read_submissions<'a, F: Files>(
     alloc: Global,
     path: &'a str,
     files: &mut F,
-) -> Result<Waiting, Failure<'a>>
+) -> Result<Vec<Submission>, Failure<'a>>
     ensures made { F.made files.new ≡ F.made files.old }
     ensures contents { F.contents files.new ≡ F.contents files.old }
 {
     let file = read(path, files)?;
     let events = parse(alloc, file.as_slice()).map_err(|fault| Failure::of_commands(path, fault))?;
-    Ok(Waiting::new(alloc, events.as_slice())?)
+    let lines = event_lines(alloc, file.as_slice())?;
+    Ok(submissions(alloc, events.as_slice(), lines.as_slice())?)
 }
 
 /// What the user is told of a file with this name, with a line that `exec` doesn't print.
@@ -112,11 +122,11 @@ fn no_replies<'a>(path: &'a str, fault: RepliesFault) -> Failure<'a>
 /// Prints each reply in words.
 fn print_replies<O: Write>(
     replies: &[ToldReply],
-    waiting: &mut Option<Waiting>,
+    pairing: &mut Option<Pairing<'_>>,
     out: &mut O,
 ) -> io::Result<()> {
     for told in replies {
-        print_reply(told.reply, told.bytes.as_slice(), waiting, out)?;
+        print_reply(told.reply, told.bytes.as_slice(), pairing, out)?;
     }
     Ok(())
 }
@@ -124,13 +134,13 @@ fn print_replies<O: Write>(
 fn print_reply<O: Write>(
     reply: Reply,
     data: &[u8],
-    waiting: &mut Option<Waiting>,
+    pairing: &mut Option<Pairing<'_>>,
     out: &mut O,
 ) -> io::Result<()> {
     match reply {
         Reply::Complete { queue, entry, .. } => match completion_from(queue, &entry) {
             Some(completion) => {
-                let answered = answered(waiting, &completion);
+                let answered = answered(pairing, &completion);
                 print_completion(&completion, data, &answered, out)
             }
             None => writeln!(
@@ -162,12 +172,12 @@ fn completion_from(queue: u16, entry: &[u8; 16]) -> Option<Completion> {
 }
 
 /// What the command file tells of the command that a completion answers.
-fn answered(waiting: &mut Option<Waiting>, completion: &Completion) -> Answered {
-    match waiting {
+fn answered<'a>(pairing: &mut Option<Pairing<'a>>, completion: &Completion) -> Answered<'a> {
+    match pairing {
         None => Answered::Unnamed,
-        Some(waiting) => match waiting.complete(completion.queue, completion.cid) {
-            Some(entry) => Answered::Submitted(entry),
-            None => Answered::NotThere,
+        Some(pairing) => match pairing.pair(completion) {
+            Some(paired) => Answered::Paired(paired),
+            None => Answered::NotThere(pairing.path()),
         },
     }
 }

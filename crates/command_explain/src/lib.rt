@@ -4,6 +4,10 @@
 mod command_words;
 mod completion_words;
 pub mod explain;
+mod fitting;
+mod pairing;
 mod refusal_words;
 mod report_words;
+mod submissions;
+mod uses;
 mod waiting;

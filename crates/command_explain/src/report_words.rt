@@ -4,12 +4,17 @@ use command_files::Counted;
 use nvme_entry::{DESCRIPTOR_BYTES, REPORT_HEADER_BYTES, ZONE_TYPE, ZoneDescriptor, zones_told};
 use std::io::{self, Write};
 
-/// Prints what a report tells: how many zones, and on a line each those whose descriptors it has.
+/// Prints what a report tells: how many zones, of how many descriptors it has where these are fewer, and on a line each those
+/// whose descriptors it has.
 pub(crate) fn print_report<O: Write>(report: &[u8], out: &mut O) -> io::Result<()> {
     match report.split_first_chunk::<REPORT_HEADER_BYTES>() {
         Some((header, descriptors)) => {
             let told = zones_told(header);
+            let given = (descriptors.len() / DESCRIPTOR_BYTES) as u64;
             let zones = Counted(told, "zone");
+            if given < told {
+                write!(out, "{given} of ")?;
+            }
             writeln!(out, "{zones}")?;
             print_zones(told, descriptors, out)
         }

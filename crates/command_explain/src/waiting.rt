@@ -1,20 +1,11 @@
 //! The submissions of a command file that wait for their completions.
 
-ghost use Rattle.std.specs.Prelude.{◌≡◌, IfOk, position};
-ghost use Rattle.std.specs.List.{filter_map};
-ghost use Rattle.command_explain.specs.steps.Waiting.{has_identifier, submission_in, TakesFirst};
+ghost use Rattle.std.specs.Prelude.{◌≡◌, ◌==◌, IfOk, position};
+ghost use Rattle.command_explain.specs.steps.Waiting.{TakesFirst};
 
-use device_events::Event;
-use nvme_entry::Entry;
+use crate::submissions::Submission;
 use std::alloc::{AllocError, Global};
 use std::collections::VecDeque;
-
-/// An entry and the queue that it was submitted to.
-#[derive(Clone, Copy)]
-struct Submission {
-    queue: u16,
-    entry: [u8; 64],
-}
 
 /// The submissions that wait for their completions, in order.
 #[derive(Drop)]
@@ -23,56 +14,36 @@ pub(crate) struct Waiting {
 }
 
 impl Waiting {
-    /// Those of a command file's events: none has its completion yet.
+    /// All of a command file: none has its completion yet.
     ///
     /// # Errors
     ///
     /// Want of memory.
-    pub(crate) fn new(alloc: Global, events: &[Event]) -> Result<Waiting, AllocError>
-        ensures { IfOk result (λ waiting. waiting.submissions.items ≡ filter_map submission_in events.now) }
+    pub(crate) fn new(alloc: Global, all: &[Submission]) -> Result<Waiting, AllocError>
+        ensures { IfOk result (λ waiting. waiting.submissions.items ≡ all.now) }
     {
         let mut submissions = VecDeque::new(alloc);
-        for submission in events.iter().filter_map(|event| submission_in(event)) {
-            submissions.push_back(submission)?;
+        for submission in all {
+            submissions.push_back(*submission)?;
         }
         Ok(Waiting { submissions })
     }
 
-    /// The entry of the first that waits with this queue and this command identifier. It waits no longer.
-    pub(crate) fn complete(&mut self, queue: u16, cid: u16) -> Option<[u8; 64]>
-        ensures { TakesFirst queue cid self.old.submissions.items self.new.submissions.items result }
+    /// The first that waits with this identity. It waits no longer.
+    pub(crate) fn complete(&mut self, identity: u32) -> Option<Submission>
+        ensures { TakesFirst identity self.old.submissions.items self.new.submissions.items result }
     {
-        let at = self.index(queue, cid)?;
+        let at = self.index(identity)?;
         let submission = self.submissions.remove(at)?;
-        Some(submission.entry)
+        Some(submission)
     }
 
-    /// The index of the first that waits with this queue and this command identifier.
-    fn index(&self, queue: u16, cid: u16) -> Option<usize>
-        ensures { result ≡ position (has_identifier queue cid) self.now.submissions.items }
+    /// The index of the first that waits with this identity.
+    fn index(&self, identity: u32) -> Option<usize>
+        ensures { result ≡ position (λ submission. submission.identity == identity) self.now.submissions.items }
     {
         self.submissions
             .iter()
-            .position(|submission| has_identifier(submission, queue, cid))
+            .position(|submission| submission.identity == identity)
     }
-}
-
-/// The submission that an event is.
-fn submission_in(event: &Event) -> Option<Submission>
-    ensures { result ≡ submission_in event.now }
-{
-    match event {
-        Event::Submit { queue, entry, .. } => Some(Submission {
-            queue: *queue,
-            entry: *entry,
-        }),
-        Event::Turn { .. } | Event::Fault { .. } => None,
-    }
-}
-
-/// Is it from this queue, with this command identifier?
-fn has_identifier(submission: &Submission, queue: u16, cid: u16) -> bool
-    ensures { result ≡ has_identifier queue cid submission.now }
-{
-    submission.queue == queue && Entry::cid(&submission.entry) == cid
 }

@@ -1,1 +1,2 @@
 mod PrintLemmas
+mod ShownLemmas

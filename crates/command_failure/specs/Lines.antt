@@ -8,16 +8,18 @@ use Rattle.ebpf_decode.specs.Fault.{fault_number as program_number}
 use Rattle.ebpf_decode.specs.declared.refusal.ProgramRefusal.{ProgramRefusal}
 use Rattle.emit_append.specs.Refusal.{refused_byte}
 use Rattle.emit_append.specs.declared.refusal.FrameRefusal.{FrameRefusal}
-use Rattle.image_store.specs.Fault.{load_number}
+use Rattle.image_text.specs.Fault.{load_number}
 use Rattle.image_store.specs.Geometry.{geometry_refusal_number as geometry_number}
-use Rattle.image_store.specs.declared.fault.LoadFault.{LoadFault}
+use Rattle.image_text.specs.declared.fault.LoadFault.{LoadFault}
 use Rattle.image_store.specs.declared.geometry.GeometryRefusal.{GeometryRefusal}
 use Rattle.command_failure.specs.DataFault.{data_number}
 use Rattle.command_failure.specs.FileCause.{cause_words}
+use Rattle.command_failure.specs.Shown.{shown}
 use Rattle.command_failure.specs.declared.data_fault.DataFault.{DataFault}
 use Rattle.command_failure.specs.declared.failure.Failure.{Failure}
 use Rattle.command_failure.specs.declared.file_cause.FileCause.{FileCause}
-use Rattle.command_failure.specs.declared.failure.Failure.TheVariants.{CommandLine, NotText, NotInRange, CannotRead, CannotWrite, CannotPrint, NoMemory, LineRefused, ReplyRefused, GeometryRefused, ImageRefused, AssemblyRefused, ProgramRefused, FrameRefused, DataRefused, NotAccepted}
+use Rattle.command_failure.specs.declared.file_cause.FileCause.TheVariants.{Other}
+use Rattle.command_failure.specs.declared.failure.Failure.TheVariants.{CommandLine, NotText, NotInRange, CannotRead, CannotWrite, NotAnImage, CannotPrint, NoMemory, LineRefused, ReplyRefused, GeometryRefused, NotABlock, EmitExceedsBlock, ImageRefused, AssemblyRefused, ProgramRefused, FrameRefused, DataRefused, NotAccepted}
 
 -- a text: one that is said here, one around words that another crate has, one that another crate has, or none
 pub data Text : Type 0 where
@@ -39,13 +41,23 @@ abbrev pub range_text : List ℕ → List ℕ → ℕ → ℕ → Text
 range_text option word least most =
     line (codes "error: '" ++ word ++ codes "' for --" ++ option ++ codes " is not a number from " ++ decimal least ++ codes " to " ++ decimal most)
 
--- a file that can't be read: its name, and why, where that is known
+-- why a file fails, in a sentence: nothing where the cause isn't known
+abbrev pub cause_sentence : List ℕ → FileCause → List ℕ
+cause_sentence path Other = []
+cause_sentence path cause = path ++ codes ": " ++ cause_words cause ++ 10 ∷ []
+
+-- a file that can't be read: why, and the line for scripts
 abbrev pub unread_text : List ℕ → FileCause → Text
-unread_text path cause = line (codes "cannot read " ++ path ++ cause_words cause)
+unread_text path cause = Said (cause_sentence path cause ++ (codes "cannot read " ++ path ++ 10 ∷ []))
 
 -- the same of a file that can't be written
 abbrev pub unwritten_text : List ℕ → FileCause → Text
-unwritten_text path cause = line (codes "cannot write " ++ path ++ cause_words cause)
+unwritten_text path cause = Said (cause_sentence path cause ++ (codes "cannot write " ++ path ++ 10 ∷ []))
+
+-- a file that isn't replaced by an image, since it has bytes that are none
+abbrev pub not_an_image_text : List ℕ → Text
+not_an_image_text path =
+    Said (path ++ codes ": " ++ codes "it has bytes that are no image; `--force` replaces it" ++ 10 ∷ [] ++ (codes "cannot write " ++ path ++ 10 ∷ []))
 
 -- a line of a file: what stands in front of why it is refused
 abbrev pub line_front : List ℕ → ℕ → List ℕ
@@ -89,27 +101,40 @@ program_text path refusal =
 abbrev pub frame_text : List ℕ → FrameRefusal → Text
 frame_text path refusal = sentence (path ++ codes ", ") (codes "frame refused " ++ decimal (refused_byte refusal))
 
--- a file that no command moves, or that is no block, with the number of the fault
+-- a file that no command moves, with the number of the fault
 abbrev pub data_failure_text : List ℕ → DataFault → Text
 data_failure_text path fault = sentence (path ++ codes ": ") (codes "data refused " ++ decimal (data_number fault))
+
+-- a file of so many bytes, as which there is no block
+abbrev pub not_a_block_text : List ℕ → ℕ → Text
+not_a_block_text path bytes =
+    Said (path ++ codes ": " ++ decimal bytes ++ codes " bytes; a block has a power of 2 from 512 to 16384\ngeometry refused 1\n")
+
+-- more bytes to be emitted than a block has
+abbrev pub emit_text : ℕ → ℕ → Text
+emit_text emit block =
+    Said (codes "--emit gives " ++ decimal emit ++ codes " bytes, and a block has " ++ decimal block ++ 10 ∷ codes "emit exceeds block" ++ 10 ∷ [])
 
 -- what the user is told of each failure
 abbrev pub failure_text : Failure → Text
 failure_text (CommandLine error) = Elsewhere
 failure_text NotText = line (codes "error: a word of the command line is not text")
-failure_text (NotInRange option word least most) = range_text option.now word.now least most
-failure_text (CannotRead path cause) = unread_text path.now cause
-failure_text (CannotWrite path cause) = unwritten_text path.now cause
-failure_text CannotPrint = line (codes "cannot write to standard output")
+failure_text (NotInRange option word least most) = range_text option.now (shown word.now) least most
+failure_text (CannotRead path cause) = unread_text (shown path.now) cause
+failure_text (CannotWrite path cause) = unwritten_text (shown path.now) cause
+failure_text (NotAnImage path) = not_an_image_text (shown path.now)
+failure_text CannotPrint = line (codes "cannot write -")
 failure_text NoMemory = line (codes "no memory")
-failure_text (LineRefused path number fault) = line_failure_text path.now number
-failure_text (ReplyRefused path number) = reply_failure_text path.now number
+failure_text (LineRefused path number fault) = line_failure_text (shown path.now) number
+failure_text (ReplyRefused path number) = reply_failure_text (shown path.now) number
 failure_text (GeometryRefused refusal) = geometry_text refusal
-failure_text (ImageRefused path fault) = image_text path.now fault
-failure_text (AssemblyRefused path refusal) = assembly_text path.now refusal
-failure_text (ProgramRefused path refusal) = program_text path.now refusal
-failure_text (FrameRefused path refusal) = frame_text path.now refusal
-failure_text (DataRefused path fault) = data_failure_text path.now fault
+failure_text (NotABlock path bytes) = not_a_block_text (shown path.now) bytes
+failure_text (EmitExceedsBlock emit block) = emit_text emit block
+failure_text (ImageRefused path fault) = image_text (shown path.now) fault
+failure_text (AssemblyRefused path refusal) = assembly_text (shown path.now) refusal
+failure_text (ProgramRefused path refusal) = program_text (shown path.now) refusal
+failure_text (FrameRefused path refusal) = frame_text (shown path.now) refusal
+failure_text (DataRefused path fault) = data_failure_text (shown path.now) fault
 failure_text NotAccepted = Silence
 
 -- a stream grows by some words, with this in front of them and that behind them

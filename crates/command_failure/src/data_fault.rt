@@ -1,13 +1,12 @@
-//! Why the bytes of a file can't be moved by a command, or are no block.
+//! Why the bytes of a file can't be moved by a command.
 
 ghost use Rattle.std.specs.Prelude.{◌≡◌};
 ghost use Rattle.command_failure.specs.DataFault.{data_number};
 
 use nvme_entry::MOST_TRANSFER;
-use program_interface::LARGEST_BLOCK;
 use thiserror::Error;
 
-/// Why a file of so many bytes can't be moved by a command of the device, or is no block.
+/// Why a file of so many bytes can't be moved by a command of the device.
 #[derive(Clone, Copy, Debug, PartialEq, Eq, Error)]
 pub enum DataFault {
     /// There are none.
@@ -19,9 +18,6 @@ pub enum DataFault {
     /// They aren't whole blocks.
     #[error("{bytes} bytes; whole blocks of {block} are expected")]
     NotWholeBlocks { bytes: usize, block: u32 },
-    /// No block has as many.
-    #[error("{0} bytes; a block has a power of 2 from 512 to {most}", most = LARGEST_BLOCK)]
-    NotABlock(usize),
 }
 
 impl DataFault {
@@ -33,7 +29,6 @@ impl DataFault {
             DataFault::Empty => 1,
             DataFault::TooLong(_) => 2,
             DataFault::NotWholeBlocks { .. } => 3,
-            DataFault::NotABlock(_) => 4,
         }
     }
 }

@@ -13,12 +13,12 @@ use ebpf_asm::AssemblyRefusal;
 use ebpf_decode::ProgramRefusal;
 use emit_append::FrameRefusal;
 use event_text::{LineFault, ParseFault};
-use image_store::{GeometryRefusal, LoadFault};
+use image_store::GeometryRefusal;
+use image_text::LoadFault;
 use std::alloc::AllocError;
 use std::io::{self, ErrorKind, Write};
 
-/// Why a command ended. Its text is the last on standard error: of input that is refused a sentence, and behind it a
-/// line for scripts.
+/// Why a command ended. Its text is the last on standard error: often a sentence, and behind it a line for scripts.
 #[derive(Debug, Drop)]
 pub enum Failure<'a> {
     /// The words of the command line are no command's.
@@ -36,6 +36,8 @@ pub enum Failure<'a> {
     CannotRead(&'a str, FileCause),
     /// The file with this name can't be written.
     CannotWrite(&'a str, FileCause),
+    /// The file with this name isn't replaced by an image: it has bytes that are none.
+    NotAnImage(&'a str),
     /// Standard output failed.
     CannotPrint,
     /// Memory is wanting.
@@ -53,6 +55,16 @@ pub enum Failure<'a> {
     },
     /// Numbers that are no geometry.
     GeometryRefused(GeometryRefusal),
+    /// A file of so many bytes, where a block is wanted and none has as many.
+    NotABlock {
+        path: &'a str,
+        bytes: usize,
+    },
+    /// More bytes may be emitted for a block than it has.
+    EmitExceedsBlock {
+        emit: u32,
+        block: u32,
+    },
     /// A file that is no image.
     ImageRefused {
         path: &'a str,
@@ -73,7 +85,7 @@ pub enum Failure<'a> {
         path: &'a str,
         refusal: FrameRefusal,
     },
-    /// A file that is not what a command can move, or no block.
+    /// A file that is not what a command can move.
     DataRefused {
         path: &'a str,
         fault: DataFault,
@@ -115,12 +127,17 @@ impl<'a> Failure<'a> {
         match self {
             Failure::CannotRead(..)
             | Failure::CannotWrite(..)
+            | Failure::NotAnImage(_)
             | Failure::CannotPrint
             | Failure::NoMemory => 1,
-            Failure::CommandLine(_) | Failure::NotText | Failure::NotInRange { .. } => 2,
+            Failure::CommandLine(_)
+            | Failure::NotText
+            | Failure::NotInRange { .. }
+            | Failure::EmitExceedsBlock { .. } => 2,
             Failure::LineRefused { .. }
             | Failure::ReplyRefused { .. }
             | Failure::GeometryRefused(_)
+            | Failure::NotABlock { .. }
             | Failure::ImageRefused { .. }
             | Failure::AssemblyRefused { .. }
             | Failure::ProgramRefused { .. }

@@ -18,22 +18,28 @@ pub enum FileCause {
     ReadOnlyFilesystem,
     /// The file system, or what the user may have of it, is full.
     NoRoom,
+    /// Another command works on the file.
+    InUse,
+    /// The name is that of a device, a pipe or a socket, or of another thing that holds no bytes.
+    NotOrdinary,
     /// Another one, or none that is told.
     Other,
 }
 
 impl FileCause {
-    /// What the user is told behind the file's name: nothing of another cause.
+    /// What the user is told of the file: nothing of another cause.
     pub fn words(self) -> &'static str
         ensures { result.now ≡ cause_words self }
     {
         match self {
-            FileCause::NotFound => ": no such file or folder",
-            FileCause::PermissionDenied => ": permission denied",
-            FileCause::NotADirectory => ": a part of its path is no folder",
-            FileCause::IsADirectory => ": it is a folder",
-            FileCause::ReadOnlyFilesystem => ": the file system is read-only",
-            FileCause::NoRoom => ": no room is left",
+            FileCause::NotFound => "no such file or folder",
+            FileCause::PermissionDenied => "permission denied",
+            FileCause::NotADirectory => "a part of its path is no folder",
+            FileCause::IsADirectory => "it is a folder",
+            FileCause::ReadOnlyFilesystem => "the file system is read-only",
+            FileCause::NoRoom => "no room is left",
+            FileCause::InUse => "in use by another command",
+            FileCause::NotOrdinary => "not an ordinary file",
             FileCause::Other => "",
         }
     }

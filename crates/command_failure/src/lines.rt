@@ -2,16 +2,19 @@
 
 ghost use Rattle.std.specs.Prelude.{◌++◌, ◌∷◌, [], IfSome, OnOk};
 ghost use Rattle.std.specs.Io.KnownBytes.{Appends};
-ghost use Rattle.command_failure.specs.Lines.{IsPrinted, assembly_text, at_line, data_failure_text, frame_text, geometry_text, image_text, line, line_front, line_failure_text, program_text, range_text, reply_failure_text, sentence, failure_text, unread_text, unwritten_text};
+ghost use Rattle.command_failure.specs.Shown.{shown};
+ghost use Rattle.command_failure.specs.Lines.{IsPrinted, assembly_text, at_line, cause_sentence, data_failure_text, emit_text, frame_text, geometry_text, image_text, line, line_front, line_failure_text, not_an_image_text, not_a_block_text, program_text, range_text, reply_failure_text, sentence, failure_text, unread_text, unwritten_text};
 
 use crate::data_fault::DataFault;
 use crate::failure::Failure;
 use crate::file_cause::FileCause;
+use crate::shown::Shown;
 use ebpf_asm::AssemblyRefusal;
 use ebpf_decode::ProgramRefusal;
 use emit_append::FrameRefusal;
 use event_text::LineFault;
-use image_store::{GeometryRefusal, LoadFault};
+use image_store::GeometryRefusal;
+use image_text::LoadFault;
 use std::fmt::{Display, InlineText};
 use std::io::{self, Write};
 
@@ -39,13 +42,16 @@ impl Failure<'_> {
             } => print_range(out, option, word, *least, *most),
             Failure::CannotRead(path, cause) => print_unread(out, path, *cause),
             Failure::CannotWrite(path, cause) => print_unwritten(out, path, *cause),
-            Failure::CannotPrint => print_line(out, "cannot write to standard output"),
+            Failure::NotAnImage(path) => print_not_an_image(out, path),
+            Failure::CannotPrint => print_line(out, "cannot write -"),
             Failure::NoMemory => print_line(out, "no memory"),
             Failure::LineRefused { path, line, fault } => {
                 print_line_fault(out, path, *line, *fault)
             }
             Failure::ReplyRefused { path, line } => print_reply(out, path, *line),
             Failure::GeometryRefused(refusal) => print_geometry(out, *refusal),
+            Failure::NotABlock { path, bytes } => print_not_a_block(out, path, *bytes),
+            Failure::EmitExceedsBlock { emit, block } => print_emit(out, *emit, *block),
             Failure::ImageRefused { path, fault } => print_image(out, path, *fault),
             Failure::AssemblyRefused { path, refusal } => print_assembly(out, path, *refusal),
             Failure::ProgramRefused { path, refusal } => print_program(out, path, *refusal),
@@ -64,17 +70,38 @@ fn print_line<W: Write, D: Display + Drop>(out: &mut W, text: D) -> io::Result<(
 }
 
 fn print_unread<W: Write>(out: &mut W, path: &str, cause: FileCause) -> io::Result<()>
-    ensures { OnOk result (IsPrinted (unread_text path.now cause) (W.contents out.old) (W.contents out.new)) }
+    ensures { OnOk result (IsPrinted (unread_text (shown path.now) cause) (W.contents out.old) (W.contents out.new)) }
 {
-    let words = cause.words();
-    print_line(out, format_args!("cannot read {path}{words}"))
+    print_cause(out, path, cause)?;
+    let path = Shown(path);
+    print_line(out, format_args!("cannot read {path}"))
 }
 
 fn print_unwritten<W: Write>(out: &mut W, path: &str, cause: FileCause) -> io::Result<()>
-    ensures { OnOk result (IsPrinted (unwritten_text path.now cause) (W.contents out.old) (W.contents out.new)) }
+    ensures { OnOk result (IsPrinted (unwritten_text (shown path.now) cause) (W.contents out.old) (W.contents out.new)) }
 {
-    let words = cause.words();
-    print_line(out, format_args!("cannot write {path}{words}"))
+    print_cause(out, path, cause)?;
+    let path = Shown(path);
+    print_line(out, format_args!("cannot write {path}"))
+}
+
+fn print_not_an_image<W: Write>(out: &mut W, path: &str) -> io::Result<()>
+    ensures { OnOk result (IsPrinted (not_an_image_text (shown path.now)) (W.contents out.old) (W.contents out.new)) }
+{
+    let words = "it has bytes that are no image; `--force` replaces it";
+    print_words(out, path, ": ", words)?;
+    let path = Shown(path);
+    print_line(out, format_args!("cannot write {path}"))
+}
+
+/// Prints why a file fails, where that is known.
+fn print_cause<W: Write>(out: &mut W, path: &str, cause: FileCause) -> io::Result<()>
+    ensures { OnOk result (Appends (W.contents out.old) (W.contents out.new) (cause_sentence (shown path.now) cause)) }
+{
+    match cause {
+        FileCause::Other => Ok(()),
+        _ => print_words(out, path, ": ", cause.words()),
+    }
 }
 
 fn print_range<W: Write>(
@@ -84,8 +111,9 @@ fn print_range<W: Write>(
     least: u64,
     most: u64,
 ) -> io::Result<()>
-    ensures { OnOk result (IsPrinted (range_text option.now word.now least most) (W.contents out.old) (W.contents out.new)) }
+    ensures { OnOk result (IsPrinted (range_text option.now (shown word.now) least most) (W.contents out.old) (W.contents out.new)) }
 {
+    let word = Shown(word);
     print_line(
         out,
         format_args!("error: '{word}' for --{option} is not a number from {least} to {most}"),
@@ -98,14 +126,14 @@ fn print_line_fault<W: Write>(
     number: usize,
     fault: LineFault,
 ) -> io::Result<()>
-    ensures { OnOk result (IsPrinted (line_failure_text path.now number) (W.contents out.old) (W.contents out.new)) }
+    ensures { OnOk result (IsPrinted (line_failure_text (shown path.now) number) (W.contents out.old) (W.contents out.new)) }
 {
     let words = Words::of(fault);
     print_at_line(out, path, number, words.as_str())
 }
 
 fn print_reply<W: Write>(out: &mut W, path: &str, number: usize) -> io::Result<()>
-    ensures { OnOk result (IsPrinted (reply_failure_text path.now number) (W.contents out.old) (W.contents out.new)) }
+    ensures { OnOk result (IsPrinted (reply_failure_text (shown path.now) number) (W.contents out.old) (W.contents out.new)) }
 {
     print_at_line(out, path, number, "not one that `exec` prints")
 }
@@ -113,18 +141,34 @@ fn print_reply<W: Write>(out: &mut W, path: &str, number: usize) -> io::Result<(
 fn print_geometry<W: Write>(out: &mut W, refusal: GeometryRefusal) -> io::Result<()>
     ensures { OnOk result (IsPrinted (geometry_text refusal) (W.contents out.old) (W.contents out.new)) }
 {
+    let words = Words::of(refusal);
     let number = refusal.number();
-    print_refusal(
+    print_line(out, words.as_str())?;
+    print_line(out, format_args!("geometry refused {number}"))
+}
+
+fn print_not_a_block<W: Write>(out: &mut W, path: &str, bytes: usize) -> io::Result<()>
+    ensures { OnOk result (IsPrinted (not_a_block_text (shown path.now) bytes) (W.contents out.old) (W.contents out.new)) }
+{
+    let path = Shown(path);
+    write!(
         out,
-        "",
-        "",
-        refusal,
-        format_args!("geometry refused {number}"),
+        "{path}: {bytes} bytes; a block has a power of 2 from 512 to 16384\ngeometry refused 1\n"
     )
 }
 
+fn print_emit<W: Write>(out: &mut W, emit: u32, block: u32) -> io::Result<()>
+    ensures { OnOk result (IsPrinted (emit_text emit block) (W.contents out.old) (W.contents out.new)) }
+{
+    print_line(
+        out,
+        format_args!("--emit gives {emit} bytes, and a block has {block}"),
+    )?;
+    print_line(out, "emit exceeds block")
+}
+
 fn print_image<W: Write>(out: &mut W, path: &str, fault: LoadFault) -> io::Result<()>
-    ensures { OnOk result (IsPrinted (image_text path.now fault) (W.contents out.old) (W.contents out.new)) }
+    ensures { OnOk result (IsPrinted (image_text (shown path.now) fault) (W.contents out.old) (W.contents out.new)) }
 {
     let number = fault.number();
     print_refusal(
@@ -137,7 +181,7 @@ fn print_image<W: Write>(out: &mut W, path: &str, fault: LoadFault) -> io::Resul
 }
 
 fn print_assembly<W: Write>(out: &mut W, path: &str, refusal: AssemblyRefusal) -> io::Result<()>
-    ensures { OnOk result (IsPrinted (assembly_text path.now refusal) (W.contents out.old) (W.contents out.new)) }
+    ensures { OnOk result (IsPrinted (assembly_text (shown path.now) refusal) (W.contents out.old) (W.contents out.new)) }
 {
     let line = refusal.fault.line;
     let number = refusal.fault.kind.number();
@@ -151,7 +195,7 @@ fn print_assembly<W: Write>(out: &mut W, path: &str, refusal: AssemblyRefusal) -
 }
 
 fn print_program<W: Write>(out: &mut W, path: &str, refusal: ProgramRefusal) -> io::Result<()>
-    ensures { OnOk result (IsPrinted (program_text path.now refusal) (W.contents out.old) (W.contents out.new)) }
+    ensures { OnOk result (IsPrinted (program_text (shown path.now) refusal) (W.contents out.old) (W.contents out.new)) }
 {
     let slot = refusal.fault.slot;
     let number = refusal.fault.kind.number();
@@ -165,7 +209,7 @@ fn print_program<W: Write>(out: &mut W, path: &str, refusal: ProgramRefusal) -> 
 }
 
 fn print_frame<W: Write>(out: &mut W, path: &str, refusal: FrameRefusal) -> io::Result<()>
-    ensures { OnOk result (IsPrinted (frame_text path.now refusal) (W.contents out.old) (W.contents out.new)) }
+    ensures { OnOk result (IsPrinted (frame_text (shown path.now) refusal) (W.contents out.old) (W.contents out.new)) }
 {
     let byte = refusal.refused_byte();
     print_refusal(
@@ -178,7 +222,7 @@ fn print_frame<W: Write>(out: &mut W, path: &str, refusal: FrameRefusal) -> io::
 }
 
 fn print_data<W: Write>(out: &mut W, path: &str, fault: DataFault) -> io::Result<()>
-    ensures { OnOk result (IsPrinted (data_failure_text path.now fault) (W.contents out.old) (W.contents out.new)) }
+    ensures { OnOk result (IsPrinted (data_failure_text (shown path.now) fault) (W.contents out.old) (W.contents out.new)) }
 {
     let number = fault.number();
     print_refusal(
@@ -198,7 +242,7 @@ fn print_refusal<W: Write, D: Display + Drop, B: Display + Drop>(
     fault: D,
     behind: B,
 ) -> io::Result<()>
-    ensures { OnOk result (IfSome (B.output behind) (λ behind. IsPrinted (sentence (path.now ++ mark.now) behind) (W.contents out.old) (W.contents out.new))) }
+    ensures { OnOk result (IfSome (B.output behind) (λ behind. IsPrinted (sentence (shown path.now ++ mark.now) behind) (W.contents out.old) (W.contents out.new))) }
 {
     let words = Words::of(fault);
     print_sentence(out, path, mark, words.as_str(), behind)
@@ -212,7 +256,7 @@ fn print_sentence<W: Write, B: Display + Drop>(
     words: &str,
     behind: B,
 ) -> io::Result<()>
-    ensures { OnOk result (IfSome (B.output behind) (λ behind. Appends (W.contents out.old) (W.contents out.new) (path.now ++ mark.now ++ words.now ++ 10 ∷ behind ++ 10 ∷ []))) }
+    ensures { OnOk result (IfSome (B.output behind) (λ behind. Appends (W.contents out.old) (W.contents out.new) (shown path.now ++ mark.now ++ words.now ++ 10 ∷ behind ++ 10 ∷ []))) }
 {
     print_words(out, path, mark, words)?;
     print_line(out, behind)
@@ -220,20 +264,22 @@ fn print_sentence<W: Write, B: Display + Drop>(
 
 /// Prints a sentence on a line of a file, and a line for scripts.
 fn print_at_line<W: Write>(out: &mut W, path: &str, number: usize, words: &str) -> io::Result<()>
-    ensures { OnOk result (Appends (W.contents out.old) (W.contents out.new) (at_line path.now number words.now)) }
+    ensures { OnOk result (Appends (W.contents out.old) (W.contents out.new) (at_line (shown path.now) number words.now)) }
 {
     print_line_words(out, path, number, words)?;
     print_line(out, format_args!("line {number} refused"))
 }
 
 fn print_words<W: Write>(out: &mut W, path: &str, mark: &str, words: &str) -> io::Result<()>
-    ensures { OnOk result (IsPrinted (line (path.now ++ mark.now ++ words.now)) (W.contents out.old) (W.contents out.new)) }
+    ensures { OnOk result (IsPrinted (line (shown path.now ++ mark.now ++ words.now)) (W.contents out.old) (W.contents out.new)) }
 {
+    let path = Shown(path);
     writeln!(out, "{path}{mark}{words}")
 }
 
 fn print_line_words<W: Write>(out: &mut W, path: &str, number: usize, words: &str) -> io::Result<()>
-    ensures { OnOk result (IsPrinted (line (line_front path.now number ++ words.now)) (W.contents out.old) (W.contents out.new)) }
+    ensures { OnOk result (IsPrinted (line (line_front (shown path.now) number ++ words.now)) (W.contents out.old) (W.contents out.new)) }
 {
+    let path = Shown(path);
     writeln!(out, "{path}, line {number}: {words}")
 }

@@ -1,7 +1,7 @@
 -- What reading a piece of some bytes does.
 use Rattle.std.proofs.Common.{◌≡◌, ℕ, ◌+◌, ◌-◌, List, ◌++◌, length, take, drop, min, ap, sym, ◌∙◌, arith, length-append, length-drop}
 use Rattle.std.proofs.lemmas.List.{take_rest, drop_min, take_at, drop-drop, take-append-drop, length-take}
-use Rattle.image_store.specs.Streams.{IsRead}
+use Rattle.image_text.specs.Streams.{IsRead}
 
 -- the bytes at a place, as many as there are and as have room, are put to the front of another slice
 pub piece : (bytes to copied : List ℕ) (at start count : ℕ) → start ≡ min at (length bytes)

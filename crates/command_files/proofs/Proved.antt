@@ -1,11 +1,11 @@
 -- What the proofs of other crates cite of this one.
-use Rattle.std.proofs.Common.{◌≡◌, ℕ, List, Option, IfSome, ◌∙◌, ap, subst}
+use Rattle.std.proofs.Common.{◌≡◌, ℕ, List, Option, Some, None, IfSome, ◌∙◌, ap, refl, subst, sym}
 use Rattle.std.specs.Borrow.{Bor}
 use Rattle.std.proofs.lemmas.Option.{IfSome_then}
 use Rattle.command_failure.specs.declared.failure.Failure.{Failure}
 use Rattle.command_failure.specs.declared.failure.Failure.TheVariants.{CannotRead, CannotWrite, NoMemory}
 use Rattle.command_failure.specs.declared.file_cause.FileCause.{FileCause}
-use Rattle.command_files.specs.Made.{KeepsOthers}
+use Rattle.command_files.specs.Made.{KeepsModes, KeepsOthers}
 use Rattle.command_files.specs.UserTold.{IsUnread, IsUnwritten}
 
 -- what holds where this file can't be written, for whatever cause, and where memory is wanting, holds of each such failure
@@ -39,3 +39,15 @@ pub others_kept : (path wanted : List ℕ) (before between after : List ℕ → 
 others_kept path wanted before between after same kept others =
     subst (λ (name : List ℕ). KeepsOthers name before after) same
     (subst (λ (contents : List ℕ → Option (List ℕ)). KeepsOthers path contents after) kept others)
+
+-- modes were kept behind what left them
+pub modes_kept : (before between after : List ℕ → Option ℕ) → between ≡ before → KeepsModes between after → KeepsModes before after
+modes_kept before between after same kept = subst (λ (modes : List ℕ → Option ℕ). KeepsModes modes after) same kept
+
+itself : (mode : Option ℕ) → IfSome mode (λ m. mode ≡ Some m)
+itself None = tt
+itself (Some m) = refl
+
+-- modes that stay are kept
+pub modes_stay : (before after : List ℕ → Option ℕ) → after ≡ before → KeepsModes before after
+modes_stay before after same name = subst (λ (modes : List ℕ → Option ℕ). IfSome (before name) (λ mode. modes name ≡ Some mode)) (sym same) (itself (before name))

@@ -1,5 +1,5 @@
 -- The files that a command makes.
-use Rattle.std.specs.Prelude.{◌≡◌, ◌≢◌, ℕ, List, [], ◌∷◌, ◌++◌, ◌⊎◌, Option, IfSome}
+use Rattle.std.specs.Prelude.{◌≡◌, ◌≢◌, ℕ, List, [], ◌∷◌, ◌++◌, ◌⊎◌, Option, Some, IfSome}
 use Rattle.std.specs.Option.{option_map}
 
 -- a file with its name
@@ -16,6 +16,10 @@ pub record MakesOne (path : List ℕ) (before after : Option (List Made)) : Type
   pub bytes : List ℕ
   pub made : after ≡ then_made before path bytes
 
+-- none is made, or one with this name
+abbrev pub MakesAtMost : List ℕ → Option (List Made) → Option (List Made) → Type 0
+MakesAtMost path before after = (after ≡ before) ⊎ MakesOne path before after
+
 -- none is made, or one with some name
 abbrev pub MakesAtMostOne : Option (List Made) → Option (List Made) → Type 0
 MakesAtMostOne before after = (after ≡ before) ⊎ ((path : List ℕ) × MakesOne path before after)
@@ -28,3 +32,7 @@ KeepsOthers path before after = (name : List ℕ) → name ≢ path → after na
 pub record HasReplaced (path bytes : List ℕ) (before after : List ℕ → Option (List ℕ)) : Type 0 where
   pub same : IfSome (after path) (λ told. told ≡ bytes)
   pub others : KeepsOthers path before after
+
+-- a file that had permission bits has these
+abbrev pub KeepsModes : (List ℕ → Option ℕ) → (List ℕ → Option ℕ) → Type 0
+KeepsModes before after = (name : List ℕ) → IfSome (before name) (λ mode. after name ≡ Some mode)

@@ -14,3 +14,7 @@ last_named files path = find (λ file. bytes_eq (string_bytes file.path) path) (
 -- its bytes
 abbrev pub bytes_named : List NamedFile → List ℕ → Option (List ℕ)
 bytes_named files path = option_map (λ file. file.bytes.items) (last_named files path)
+
+-- its permission bits
+abbrev pub mode_named : List NamedFile → List ℕ → Option ℕ
+mode_named files path = option_map (λ file. file.mode) (last_named files path)

@@ -1,5 +1,5 @@
 -- What an error of the system is told as, a file that can't be read or written, and a word that spells no number of a range (profile).
-use Rattle.std.specs.Prelude.{◌≡◌, ◌<◌, ◌⊎◌, ℕ, List, IfSome}
+use Rattle.std.specs.Prelude.{◌≡◌, ◌<◌, ◌⊎◌, ℕ, List, Option, IfSome}
 use Rattle.std.specs.Borrow.{Bor}
 use Rattle.std.specs.declared.io.ErrorKind.{ErrorKind}
 use Rattle.std.specs.declared.io.ErrorKind.TheVariants as system
@@ -7,7 +7,7 @@ use Rattle.clap.specs.declared.parser.matches.ArgMatches.{ArgMatches}
 use Rattle.command_failure.specs.declared.failure.Failure.{Failure}
 use Rattle.command_failure.specs.declared.failure.Failure.TheVariants.{CannotRead, CannotWrite, NotInRange, NoMemory}
 use Rattle.command_failure.specs.declared.file_cause.FileCause.TheVariants as file_cause
-use Rattle.command_files.specs.Arguments.{number_of, value_of}
+use Rattle.command_files.specs.Arguments.{number_of, number_or_hexadecimal_of, value_of}
 use Rattle.command_files.specs.declared.files.FileFault.{FileFault}
 use Rattle.command_files.specs.declared.files.FileFault.TheVariants as file
 
@@ -51,7 +51,16 @@ IsNotInRange matches option least most (NotInRange told word low high) =
     (told ≡ option) × (word.now ≡ value_of matches option.now) × (low ≡ least) × (high ≡ most)
 IsNotInRange matches option least most _ = ⊥
 
--- the failure tells an option whose word spells no number from the least to the most
+-- the failure tells an option whose word is read as no number from the least to the most
+abbrev pub IsReadAsNone : Option ℕ → ArgMatches → Bor (List ℕ) → ℕ → ℕ → Failure → Type 0
+IsReadAsNone read matches option least most failure =
+    IsNotInRange matches option least most failure × IfSome read (λ number. (number < least) ⊎ (most < number))
+
+-- whose word spells none in decimal digits
 abbrev pub SpellsNone : ArgMatches → Bor (List ℕ) → ℕ → ℕ → Failure → Type 0
-SpellsNone matches option least most failure =
-    IsNotInRange matches option least most failure × IfSome (number_of matches option.now) (λ number. (number < least) ⊎ (most < number))
+SpellsNone matches option least most failure = IsReadAsNone (number_of matches option.now) matches option least most failure
+
+-- nor in hexadecimal ones behind `0x`
+abbrev pub SpellsNoneOrHexadecimal : ArgMatches → Bor (List ℕ) → ℕ → ℕ → Failure → Type 0
+SpellsNoneOrHexadecimal matches option least most failure =
+    IsReadAsNone (number_or_hexadecimal_of matches option.now) matches option least most failure

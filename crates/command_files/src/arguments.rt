@@ -2,16 +2,17 @@
 
 ghost use Rattle.std.specs.Prelude.{◌≡◌, ◌≤◌, IfErr, IfOk, None, OnErr, Some};
 ghost use Rattle.program_interface.specs.BlockSize.{block_size as size_of_bytes};
-ghost use Rattle.command_files.specs.Arguments.{number_of, value_of};
-ghost use Rattle.command_files.specs.UserTold.{IsNotInRange, SpellsNone};
+ghost use Rattle.command_files.specs.Arguments.{number_of, number_or_hexadecimal_of, value_of};
+ghost use Rattle.command_files.specs.UserTold.{IsNotInRange, SpellsNone, SpellsNoneOrHexadecimal};
 
-use crate::numbers::spelled;
+use crate::numbers::decimal_or_hexadecimal;
 use clap::error::ErrorKind;
 use clap::{Arg, ArgAction, ArgMatches, Command};
 use command_failure::Failure;
 use image_store::GeometryRefusal;
 use program_interface::BlockSize;
 use std::alloc::{AllocError, Global};
+use text_lines::decimal;
 
 /// The option that [`block_option`] describes.
 pub const BLOCK_OPTION: &str = "block";
@@ -104,31 +105,8 @@ pub fn required<'a>(matches: &ArgMatches<'a>, id: &str) -> &'a str
     }
 }
 
-/// The number that the word of an option spells, which is required or has a default, from `least` to `most`: in decimal
-/// digits alone, or in hexadecimal ones behind `0x`.
-///
-/// # Errors
-///
-/// [`Failure::NotInRange`] where the word spells no such number.
-pub fn number_in_range<'a>(
-    matches: &ArgMatches<'a>,
-    option: &'a str,
-    least: u64,
-    most: u64,
-) -> Result<u64, Failure<'a>>
-    ensures value { IfOk result (λ number. number_of matches.now option.now ≡ Some number) }
-    ensures low { IfOk result (λ number. least ≤ number) }
-    ensures high { IfOk result (λ number. number ≤ most) }
-    ensures unspelled { IfErr result (SpellsNone matches.now option.entry least most) }
-{
-    let failure = not_in_range(matches, option, least, most);
-    match spelled(required(matches, option)) {
-        Some(number) if least <= number && number <= most => Ok(number),
-        _ => Err(failure),
-    }
-}
-
-/// The same from 0 to what 32 bits hold.
+/// The number that the word of an option spells, which is required or has a default, from 0 to what 32 bits hold: in
+/// decimal digits alone.
 ///
 /// # Errors
 ///
@@ -137,7 +115,49 @@ pub fn number<'a>(matches: &ArgMatches<'a>, option: &'a str) -> Result<u32, Fail
     ensures value { IfOk result (λ number. number_of matches.now option.now ≡ Some number) }
     ensures unspelled { IfErr result (SpellsNone matches.now option.entry 0 4294967295) }
 {
-    Ok(number_in_range(matches, option, 0, u64::from(u32::MAX))? as u32)
+    match decimal(required(matches, option).as_bytes()) {
+        Some(number) => Ok(number),
+        None => Err(not_in_range(matches, option, 0, u64::from(u32::MAX))),
+    }
+}
+
+/// The same in decimal digits, or in hexadecimal ones behind `0x`.
+///
+/// # Errors
+///
+/// [`Failure::NotInRange`] where the word spells no such number.
+pub fn number_or_hexadecimal<'a>(
+    matches: &ArgMatches<'a>,
+    option: &'a str,
+) -> Result<u32, Failure<'a>>
+    ensures value { IfOk result (λ number. number_or_hexadecimal_of matches.now option.now ≡ Some number) }
+    ensures unspelled { IfErr result (SpellsNoneOrHexadecimal matches.now option.entry 0 4294967295) }
+{
+    let most = u64::from(u32::MAX);
+    Ok(number_or_hexadecimal_in_range(matches, option, 0, most)? as u32)
+}
+
+/// The same, from `least` to `most`.
+///
+/// # Errors
+///
+/// [`Failure::NotInRange`] where the word spells no such number.
+pub fn number_or_hexadecimal_in_range<'a>(
+    matches: &ArgMatches<'a>,
+    option: &'a str,
+    least: u64,
+    most: u64,
+) -> Result<u64, Failure<'a>>
+    ensures value { IfOk result (λ number. number_or_hexadecimal_of matches.now option.now ≡ Some number) }
+    ensures low { IfOk result (λ number. least ≤ number) }
+    ensures high { IfOk result (λ number. number ≤ most) }
+    ensures unspelled { IfErr result (SpellsNoneOrHexadecimal matches.now option.entry least most) }
+{
+    let failure = not_in_range(matches, option, least, most);
+    match decimal_or_hexadecimal(required(matches, option)) {
+        Some(number) if least <= number && number <= most => Ok(number),
+        _ => Err(failure),
+    }
 }
 
 /// The failure that tells this option, its word, and the least and the most.

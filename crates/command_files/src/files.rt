@@ -1,13 +1,13 @@
 //! Where names lead to bytes.
 
-ghost use Rattle.std.specs.Prelude.{◌≡◌, ℕ, List, [], IfOk, IfSome, OnOk, OnErr, Option, None};
+ghost use Rattle.std.specs.Prelude.{◌≡◌, ℕ, List, [], IfOk, IfSome, OnOk, OnErr, Option, None, Some, take};
 ghost use Rattle.std.specs.IoError.{error_kind};
-ghost use Rattle.command_files.specs.Made.{Made, then_made, HasReplaced};
+ghost use Rattle.command_files.specs.Made.{HasReplaced, KeepsModes, Made, then_made};
 ghost use Rattle.command_files.specs.UserTold.{told_of_file};
 ghost use Rattle.command_files.specs.declared.files.FileFault.TheVariants.{Memory};
 
 use command_failure::FileCause;
-use image_store::{Sink, Source};
+use image_text::{Sink, Source};
 use std::alloc::AllocError;
 use std::io::{self, ErrorKind};
 use thiserror::Error;
@@ -16,7 +16,7 @@ use thiserror::Error;
 #[derive(Clone, Copy, Debug, PartialEq, Eq, Error)]
 pub enum FileFault {
     /// A call of the system for it failed.
-    #[error("the file fails{}", .0.words())]
+    #[error("the file fails")]
     Failed(FileCause),
     /// Memory is wanting.
     #[error("no memory")]
@@ -37,6 +37,12 @@ pub trait Files {
     /// The bytes of the file of each name, or `None` where it doesn't tell them.
     ghost contents: { Self → List ℕ → Option (List ℕ) } = { λ _ _. None };
 
+    /// The permission bits of the file of each name, or `None` where it doesn't tell them.
+    ghost modes: { Self → List ℕ → Option ℕ } = { λ _ _. None };
+
+    /// The name that is held, if one is.
+    ghost held: { Self → Option (List ℕ) };
+
     /// All bytes of a file.
     ///
     /// # Errors
@@ -45,9 +51,11 @@ pub trait Files {
     fn read(&mut self, path: &str) -> Result<Vec<u8>, FileFault>
         ensures made { made self.new ≡ made self.old }
         ensures contents { contents self.new ≡ contents self.old }
+        ensures modes { modes self.new ≡ modes self.old }
+        ensures held { held self.new ≡ held self.old }
         ensures bytes { IfOk result (λ file. IfSome (contents self.old path.now) (λ bytes. file.items ≡ bytes)) };
 
-    /// Makes a file of these bytes, in place of the one with this name.
+    /// Makes a file of these bytes, in place of the one with this name, whose permissions it keeps.
     ///
     /// # Errors
     ///
@@ -57,7 +65,10 @@ pub trait Files {
         ensures made { OnOk result (made self.new ≡ then_made (made self.old) path.now bytes.now) }
         ensures kept { OnErr result (made self.new ≡ made self.old) }
         ensures replaced { OnOk result (HasReplaced path.now bytes.now (contents self.old) (contents self.new)) }
-        ensures contents { OnErr result (contents self.new ≡ contents self.old) };
+        ensures contents { OnErr result (contents self.new ≡ contents self.old) }
+        ensures modes { OnOk result (KeepsModes (modes self.old) (modes self.new)) }
+        ensures modes_left { OnErr result (modes self.new ≡ modes self.old) }
+        ensures held { held self.new ≡ held self.old };
 
     /// A file, from its first byte on.
     ///
@@ -67,37 +78,89 @@ pub trait Files {
     fn open(&mut self, path: &str) -> Result<Self::Reader, FileFault>
         ensures made { made self.new ≡ made self.old }
         ensures contents { contents self.new ≡ contents self.old }
+        ensures modes { modes self.new ≡ modes self.old }
+        ensures held { held self.new ≡ held self.old }
         ensures healthy { IfOk result (λ file. Self.Reader.failures file ≡ 0) }
         ensures bytes { Self.Reader.tells → IfOk result (λ file. IfSome (contents self.old path.now) (λ bytes. Self.Reader.rest file ≡ bytes)) };
 
-    /// A file of no bytes yet. It has its name once it is finished: the file with this name is as
-    /// it was until then.
+    /// Holds a name, whether or not a file has it: no other command replaces the file that the name leads to, until this one
+    /// has finished a new file, holds another name or ends.
+    ///
+    /// # Errors
+    ///
+    /// Another command holds the file ([`FileCause::InUse`]), it is no ordinary one ([`FileCause::NotOrdinary`]), or it can't be
+    /// opened.
+    fn hold(&mut self, path: &str) -> Result<(), FileFault>
+        ensures made { made self.new ≡ made self.old }
+        ensures contents { contents self.new ≡ contents self.old }
+        ensures modes { modes self.new ≡ modes self.old }
+        ensures held { OnOk result (held self.new ≡ Some path.now) };
+
+    /// The first bytes of the file whose name is held, as many as it has and at most so many; none where no file has the name.
+    ///
+    /// # Errors
+    ///
+    /// It can't be read, or memory is wanting.
+    fn first_bytes(&mut self, path: &str, most: usize) -> Result<Vec<u8>, FileFault>
+        requires { held self.old ≡ Some path.now }
+        ensures made { made self.new ≡ made self.old }
+        ensures contents { contents self.new ≡ contents self.old }
+        ensures modes { modes self.new ≡ modes self.old }
+        ensures held { held self.new ≡ held self.old }
+        ensures bytes { IfOk result (λ first. IfSome (contents self.old path.now) (λ bytes. first.items ≡ take most bytes)) };
+
+    /// The file whose name is held, from its first byte on.
+    ///
+    /// # Errors
+    ///
+    /// No file has the name, it can't be read, or memory is wanting.
+    fn open_held(&mut self, path: &str) -> Result<Self::Reader, FileFault>
+        requires { held self.old ≡ Some path.now }
+        ensures made { made self.new ≡ made self.old }
+        ensures contents { contents self.new ≡ contents self.old }
+        ensures modes { modes self.new ≡ modes self.old }
+        ensures held { held self.new ≡ held self.old }
+        ensures healthy { IfOk result (λ file. Self.Reader.failures file ≡ 0) }
+        ensures bytes { Self.Reader.tells → IfOk result (λ file. IfSome (contents self.old path.now) (λ bytes. Self.Reader.rest file ≡ bytes)) };
+
+    /// A file of no bytes yet, which is this command's alone. It has the name that is held once it is finished: the file with
+    /// this name is as it was until then.
     ///
     /// # Errors
     ///
     /// It can't be begun, or memory is wanting.
     fn begin(&mut self, path: &str) -> Result<Self::Writer, FileFault>
+        requires { held self.old ≡ Some path.now }
         ensures made { made self.new ≡ made self.old }
         ensures contents { contents self.new ≡ contents self.old }
+        ensures modes { modes self.new ≡ modes self.old }
+        ensures held { held self.new ≡ held self.old }
         ensures healthy { IfOk result (λ file. Self.Writer.failures file ≡ 0) }
         ensures empty { Self.Writer.tells → IfOk result (λ file. Self.Writer.taken file ≡ []) };
 
-    /// Gives a file that was begun its name, in place of the file with this name.
+    /// Gives a file that was begun the name that is held, in place of the file with this name, whose permissions it has then.
+    /// The name is held no longer.
     ///
     /// # Errors
     ///
     /// It can't be finished, and is forgotten then: the file with this name is as it was, unless
     /// the new one has its name and only its folder couldn't be brought to the disk.
     fn finish(&mut self, path: &str, file: Self::Writer) -> Result<(), FileFault>
+        requires { held self.old ≡ Some path.now }
         ensures made { OnOk result (made self.new ≡ then_made (made self.old) path.now (Self.Writer.taken file)) }
         ensures kept { OnErr result (made self.new ≡ made self.old) }
         ensures replaced { OnOk result (HasReplaced path.now (Self.Writer.taken file) (contents self.old) (contents self.new)) }
-        ensures contents { OnErr result (contents self.new ≡ contents self.old) };
+        ensures contents { OnErr result (contents self.new ≡ contents self.old) }
+        ensures modes { OnOk result (KeepsModes (modes self.old) (modes self.new)) }
+        ensures modes_left { OnErr result (modes self.new ≡ modes self.old) }
+        ensures held { held self.new ≡ None };
 
     /// Forgets a file that was begun.
     fn discard(&mut self, file: Self::Writer)
         ensures made { made self.new ≡ made self.old }
-        ensures contents { contents self.new ≡ contents self.old };
+        ensures contents { contents self.new ≡ contents self.old }
+        ensures modes { modes self.new ≡ modes self.old }
+        ensures held { held self.new ≡ held self.old };
 }
 
 impl From<io::Error> for FileFault {

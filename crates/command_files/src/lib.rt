@@ -6,6 +6,7 @@ pub mod arguments;
 mod counted;
 mod disk;
 mod files;
+mod held_file;
 mod memory_files;
 mod numbers;
 mod whole;

@@ -1,19 +1,23 @@
 //! Files in memory. They tell which files were made, and the bytes of each.
 
-ghost use Rattle.std.specs.Prelude.{◌≡◌, [], ◌∷◌, ◌++◌, drop, false, Some, OnOk, OnErr, option_copied, unwrap_or};
-ghost use Rattle.command_files.specs.Made.{HasReplaced};
-ghost use Rattle.command_files.specs.MemoryFiles.{bytes_named, last_named, made_of};
+ghost use Rattle.std.specs.Prelude.{◌≡◌, [], ◌∷◌, ◌++◌, drop, false, Some, None, OnOk, OnErr, option_copied, option_map, string_bytes, unwrap_or};
+ghost use Rattle.command_files.specs.Made.{HasReplaced, KeepsModes};
+ghost use Rattle.command_files.specs.MemoryFiles.{bytes_named, last_named, made_of, mode_named};
 
 use crate::files::{FileFault, Files};
 use command_failure::FileCause;
-use image_store::{Sink, Source, StreamFault};
+use image_text::{Sink, Source, StreamFault};
 use std::alloc::{AllocError, Global};
+
+/// The permission bits that a new file has: its owner may read and write it, others read it.
+const NEW_MODE: u32 = 0o644;
 
 /// A file with its name.
 #[derive(Drop)]
 struct NamedFile {
     path: String,
     bytes: Vec<u8>,
+    mode: u32,
 }
 
 /// Files in memory, each with its name.
@@ -26,6 +30,8 @@ pub struct MemoryFiles {
     pub room: usize,
     /// Does reading in pieces fail behind the first bytes of a file?
     pub fails: bool,
+    /// The name that is held.
+    held: Option<String>,
 }
 
 impl MemoryFiles {
@@ -34,16 +40,18 @@ impl MemoryFiles {
         ensures made { made_of result.files.items ≡ [] }
         ensures room { result.room ≡ usize.MAX }
         ensures healthy { result.fails ≡ false }
+        ensures free { result.held ≡ None }
     {
         MemoryFiles {
             alloc,
             files: Vec::new(alloc),
             room: usize::MAX,
             fails: false,
+            held: None,
         }
     }
 
-    /// Puts a file of these bytes in the place of the one with this name, whatever room there is.
+    /// Puts a file of these bytes in the place of the one with this name, whose permissions it has, whatever room there is.
     ///
     /// # Errors
     ///
@@ -51,12 +59,14 @@ impl MemoryFiles {
     pub fn put(&mut self, path: &str, bytes: &[u8]) -> Result<(), AllocError>
         ensures made { OnOk result (made_of self.new.files.items ≡ made_of self.old.files.items ++ record { path = path.now; bytes = bytes.now } ∷ []) }
         ensures replaced { OnOk result (HasReplaced path.now bytes.now (bytes_named self.old.files.items) (bytes_named self.new.files.items)) }
+        ensures modes { OnOk result (KeepsModes (mode_named self.old.files.items) (mode_named self.new.files.items)) }
         ensures kept { OnErr result (self.new.files.items ≡ self.old.files.items) }
-        ensures same { (self.new.room ≡ self.old.room) × (self.new.fails ≡ self.old.fails) }
+        ensures same { (self.new.room ≡ self.old.room) × (self.new.fails ≡ self.old.fails) × (self.new.held ≡ self.old.held) }
     {
         let file = NamedFile {
             path: String::from_str(self.alloc, path)?,
             bytes: Vec::from_slice(self.alloc, bytes)?,
+            mode: self.mode(path),
         };
         self.files.push(file)?;
         Ok(())
@@ -69,8 +79,9 @@ impl MemoryFiles {
     /// Want of memory, which leaves the files as they were.
     pub fn add(&mut self, path: &str, bytes: &[u8]) -> Result<(), AllocError>
         ensures made { OnOk result (made_of self.new.files.items ≡ made_of self.old.files.items ++ record { path = path.now; bytes = unwrap_or (bytes_named self.old.files.items path.now) [] ++ bytes.now } ∷ []) }
+        ensures modes { OnOk result (KeepsModes (mode_named self.old.files.items) (mode_named self.new.files.items)) }
         ensures kept { OnErr result (self.new.files.items ≡ self.old.files.items) }
-        ensures same { (self.new.room ≡ self.old.room) × (self.new.fails ≡ self.old.fails) }
+        ensures same { (self.new.room ≡ self.old.room) × (self.new.fails ≡ self.old.fails) × (self.new.held ≡ self.old.held) }
     {
         let mut all = Vec::new(self.alloc);
         if let Some(before) = self.bytes(path) {
@@ -87,6 +98,16 @@ impl MemoryFiles {
         match self.named(path) {
             Some(file) => Some(file.bytes.as_slice()),
             None => None,
+        }
+    }
+
+    /// The permission bits of the last file that was made with this name, or those of a new file.
+    fn mode(&self, path: &str) -> u32
+        ensures { result ≡ unwrap_or (mode_named self.now.files.items path.now) NEW_MODE }
+    {
+        match self.named(path) {
+            Some(file) => file.mode,
+            None => NEW_MODE,
         }
     }
 
@@ -109,6 +130,10 @@ impl Files for MemoryFiles {
     ghost made = { λ memory. Some (made_of memory.files.items) };
 
     ghost contents = { λ memory path. bytes_named memory.files.items path };
+
+    ghost modes = { λ memory path. mode_named memory.files.items path };
+
+    ghost held = { λ memory. option_map string_bytes memory.held };
 
     fn read(&mut self, path: &str) -> Result<Vec<u8>, FileFault> {
         let bytes = self
@@ -133,6 +158,21 @@ impl Files for MemoryFiles {
         })
     }
 
+    fn hold(&mut self, path: &str) -> Result<(), FileFault> {
+        self.held = Some(String::from_str(self.alloc, path)?);
+        Ok(())
+    }
+
+    fn first_bytes(&mut self, path: &str, most: usize) -> Result<Vec<u8>, FileFault> {
+        let bytes = self.bytes(path).unwrap_or(&[]);
+        let count = most.min(bytes.len());
+        Ok(Vec::from_slice(self.alloc, &bytes[..count])?)
+    }
+
+    fn open_held(&mut self, path: &str) -> Result<MemoryReader, FileFault> {
+        self.open(path)
+    }
+
     fn begin(&mut self, _path: &str) -> Result<MemoryWriter, FileFault> {
         Ok(MemoryWriter {
             bytes: Vec::new(self.alloc),
@@ -142,6 +182,7 @@ impl Files for MemoryFiles {
     }
 
     fn finish(&mut self, path: &str, file: MemoryWriter) -> Result<(), FileFault> {
+        self.held = None;
         Ok(self.put(path, file.bytes.as_slice())?)
     }
 

@@ -1,11 +1,11 @@
-//! Words that spell numbers.
+//! Words that spell numbers in decimal or in hexadecimal.
 
 ghost use Rattle.std.specs.Prelude.{◌≡◌, ◌≤◌};
-ghost use Rattle.command_files.specs.Number.{numeral_of, spelled};
+ghost use Rattle.command_files.specs.Number.{decimal_or_hexadecimal, numeral_of};
 
 /// The number that decimal digits spell, or hexadecimal ones behind `0x`, and nothing else, if it is below 2^64.
-pub(crate) fn spelled(word: &str) -> Option<u64>
-    ensures { result ≡ spelled word.now }
+pub(crate) fn decimal_or_hexadecimal(word: &str) -> Option<u64>
+    ensures { result ≡ decimal_or_hexadecimal word.now }
 {
     match word.strip_prefix("0x") {
         Some(digits) => numeral(digits, 16),

@@ -6,7 +6,7 @@ ghost use Rattle.command_files.specs.Made.{HasReplaced, then_made};
 ghost use Rattle.command_files.specs.UserTold.{IsUnread, IsUnwritten, told_unread, told_unwritten};
 
 use crate::files::{FileFault, Files};
-use command_failure::{DataFault, Failure};
+use command_failure::Failure;
 use program_interface::{BlockSize, LARGEST_BLOCK};
 
 /// All bytes of a file.
@@ -17,6 +17,8 @@ use program_interface::{BlockSize, LARGEST_BLOCK};
 pub fn read<'a, F: Files>(path: &'a str, files: &mut F) -> Result<Vec<u8>, Failure<'a>>
     ensures made { F.made files.new ≡ F.made files.old }
     ensures contents { F.contents files.new ≡ F.contents files.old }
+    ensures modes { F.modes files.new ≡ F.modes files.old }
+    ensures held { F.held files.new ≡ F.held files.old }
     ensures bytes { IfOk result (λ file. IfSome (F.contents files.old path.now) (λ bytes. file.items ≡ bytes)) }
     ensures unread { IfErr result (IsUnread path.entry) }
     ensures not_printing { result ≢ Err Failure.CannotPrint }
@@ -49,11 +51,11 @@ pub fn write<'a, F: Files>(path: &'a str, bytes: &[u8], files: &mut F) -> Result
 ///
 /// # Errors
 ///
-/// [`Failure::DataRefused`] with its name where no block has as many.
+/// [`Failure::NotABlock`] with its name where no block has as many.
 pub fn size_as_block<'a>(path: &'a str, bytes: usize) -> Result<BlockSize, Failure<'a>>
     ensures same { IfOk result (λ block. block ≡ bytes) }
     ensures most { OnOk result (bytes ≤ LARGEST_BLOCK) }
-    ensures told { IfErr result (λ failure. failure ≡ Failure.DataRefused path.entry (DataFault.NotABlock bytes)) }
+    ensures told { IfErr result (λ failure. failure ≡ Failure.NotABlock path.entry bytes) }
     ensures refused { OnErr result (size_of_bytes bytes ≡ None) }
 {
     let size = match u32::try_from(bytes) {
@@ -66,10 +68,7 @@ pub fn size_as_block<'a>(path: &'a str, bytes: usize) -> Result<BlockSize, Failu
             let _ = size.bytes();
             Ok(size)
         }
-        None => Err(Failure::DataRefused {
-            path,
-            fault: DataFault::NotABlock(bytes),
-        }),
+        None => Err(Failure::NotABlock { path, bytes }),
     }
 }
 

@@ -1,11 +1,13 @@
 -- The images that commands make.
-use Rattle.std.specs.Prelude.{◌≡◌, ℕ, List, codes, Option, Some, Ok, IfSome}
+use Rattle.std.specs.Prelude.{◌≡◌, ◌≢◌, ◌⊎◌, ◌||◌, ℕ, Bool, true, false, List, [], take, bytes_eq, codes, Option, Some, Ok, IfSome}
 use Rattle.clap.specs.declared.parser.matches.ArgMatches.{ArgMatches}
 use Rattle.image_store.specs.Geometry.{Shape, tested}
 use Rattle.image_store.specs.Namespace.{ZonedNamespace, all_empty}
-use Rattle.image_store.specs.Reading.{namespace_in}
-use Rattle.image_store.specs.Text.{text}
-use Rattle.command_files.specs.Arguments.{number_of}
+use Rattle.image_text.specs.Reading.{namespace_in}
+use Rattle.image_text.specs.Text.{text}
+use Rattle.image_text.specs.Version.{numbers_of_version}
+use Rattle.image_text.specs.declared.version.Version.TheVariants.{One, Two}
+use Rattle.command_files.specs.Arguments.{number_of, value_of}
 use Rattle.command_files.specs.Made.{Made, then_made}
 
 -- the numbers of a shape are those that the options of a command line spell
@@ -16,6 +18,15 @@ pub record IsAskedFor (matches : ArgMatches) (s : Shape) : Type 0 where
   pub capacity : number_of matches (codes "capacity") ≡ Some s.capacity
   pub open_limit : number_of matches (codes "open") ≡ Some s.limits.open_limit
   pub active_limit : number_of matches (codes "active") ≡ Some s.limits.active_limit
+
+-- it is asked for by force
+abbrev pub IsForced : ArgMatches → Type 0
+IsForced matches = value_of matches (codes "force") ≡ codes "true"
+
+-- may the file of these bytes be replaced by a new image? It has none, or begins as an image of one of the versions does
+abbrev pub is_replaceable : List ℕ → Bool
+is_replaceable bytes =
+    bytes_eq bytes [] || bytes_eq (take 8 bytes) (numbers_of_version One).magic || bytes_eq (take 8 bytes) (numbers_of_version Two).magic
 
 -- the file is made anew of a namespace of the shape that is asked for, which passes the tests, and of which nothing is
 -- written, where what is written of it is told
@@ -31,3 +42,18 @@ pub record MakesAnew (reads writes : Type 0) (bytes : Option (List ℕ)) (path :
   pub namespace : ZonedNamespace
   pub held : reads → IfSome bytes (λ bytes. namespace_in bytes ≡ Ok namespace)
   pub made : writes → after ≡ then_made before path (text namespace)
+
+-- a file has a text afterwards, where its bytes, what is read of them and what is written are told: none is made, since it had
+-- this text; or it is made anew, since it had another
+abbrev pub HasText : Type 0 → Type 0 → Option (List ℕ) → List ℕ → List ℕ → Option (List Made) → Option (List Made) → Type 0
+HasText reads writes bytes path text before after =
+    ((after ≡ before) × (reads → IfSome bytes (λ bytes. bytes ≡ text)))
+    ⊎ ((writes → after ≡ then_made before path text) × (reads → IfSome bytes (λ bytes. bytes ≢ text)))
+
+-- where a file's bytes are told, they are none or begin as an image does
+abbrev pub IsReplaceable : Option (List ℕ) → Type 0
+IsReplaceable bytes = IfSome bytes (λ bytes. is_replaceable bytes ≡ true)
+
+-- where they are told, they are others
+abbrev pub IsAnother : Option (List ℕ) → Type 0
+IsAnother bytes = IfSome bytes (λ bytes. is_replaceable bytes ≡ false)

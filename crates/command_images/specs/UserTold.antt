@@ -1,14 +1,15 @@
 -- What the user is told of an image that isn't made or loaded (profile).
+use Rattle.std.specs.Borrow.{Bor}
 use Rattle.std.specs.Prelude.{ℕ, ◌≡◌, List, [], ◌∷◌, codes, Option, IfSome, Err}
 use Rattle.std.specs.List.{Contains}
 use Rattle.clap.specs.declared.parser.matches.ArgMatches.{ArgMatches}
 use Rattle.image_store.specs.Geometry.{Shape, tested}
-use Rattle.image_store.specs.Reading.{namespace_in}
+use Rattle.image_text.specs.Reading.{namespace_in}
 use Rattle.image_store.specs.declared.geometry.GeometryRefusal.{GeometryRefusal}
 use Rattle.command_failure.specs.declared.failure.Failure.{Failure}
-use Rattle.command_failure.specs.declared.failure.Failure.TheVariants.{NotInRange, CannotRead, CannotWrite, NoMemory, GeometryRefused, ImageRefused}
-use Rattle.command_files.specs.UserTold.{SpellsNone}
-use Rattle.command_images.specs.Images.{IsAskedFor}
+use Rattle.command_failure.specs.declared.failure.Failure.TheVariants.{NotInRange, CannotRead, CannotWrite, NoMemory, NotAnImage, GeometryRefused, ImageRefused}
+use Rattle.command_files.specs.UserTold.{IsUnwritten, SpellsNone}
+use Rattle.command_images.specs.Images.{IsAnother, IsAskedFor, IsForced}
 
 -- the options that give the numbers of a shape
 abbrev pub shape_options : List (List ℕ)
@@ -28,11 +29,13 @@ RefusesShape matches (NotInRange option word least most) =
 RefusesShape matches (GeometryRefused refusal) = FailsTest matches refusal
 RefusesShape matches _ = ⊥
 
--- why `format` makes no image: that, a file that can't be written, or want of memory, and nothing else
-abbrev pub FormatFails : ArgMatches → List ℕ → Failure → Type 0
-FormatFails matches path (CannotWrite told cause) = told.now ≡ path
-FormatFails matches path NoMemory = Unit {0}
-FormatFails matches path failure = RefusesShape matches failure
+-- why `format` makes no image: that, a file whose bytes, where they are told, are others than those of an image, and not asked
+-- for by force, a file that can't be written, or want of memory, and nothing else
+abbrev pub FormatFails : ArgMatches → Option (List ℕ) → List ℕ → Failure → Type 0
+FormatFails matches bytes path (NotAnImage told) = (told.now ≡ path) × IsAnother bytes × ¬ IsForced matches
+FormatFails matches bytes path (CannotWrite told cause) = told.now ≡ path
+FormatFails matches bytes path NoMemory = Unit {0}
+FormatFails matches bytes path failure = RefusesShape matches failure
 
 -- why an image isn't loaded: the first fault of the file's bytes, where these and what is read of them are told, a file
 -- that can't be read, or want of memory, and nothing else
@@ -42,7 +45,17 @@ LoadingFails reads bytes path (CannotRead told cause) = told.now ≡ path
 LoadingFails reads bytes path NoMemory = Unit {0}
 LoadingFails reads bytes path _ = ⊥
 
--- why `upgrade` makes none: that, or a file that can't be written, and nothing else
+-- why an image isn't loaded to be replaced, and why `upgrade` makes none: that, or a file that can't be written, and nothing else
 abbrev pub UpgradeFails : Type 0 → Option (List ℕ) → List ℕ → Failure → Type 0
 UpgradeFails reads bytes path (CannotWrite told cause) = told.now ≡ path
 UpgradeFails reads bytes path failure = LoadingFails reads bytes path failure
+
+-- why a name isn't held: its file can't be read or replaced, or want of memory
+abbrev pub IsUnheld : Bor (List ℕ) → Failure → Type 0
+IsUnheld path (CannotRead told cause) = told ≡ path
+IsUnheld path failure = IsUnwritten path failure
+
+-- why a name isn't held that a new image is to have, by force or not: the same of its file
+abbrev pub IsUnreplaced : Type 0 → Option (List ℕ) → Bor (List ℕ) → Failure → Type 0
+IsUnreplaced forced bytes path (NotAnImage told) = (told ≡ path) × IsAnother bytes × ¬ forced
+IsUnreplaced forced bytes path failure = IsUnwritten path failure

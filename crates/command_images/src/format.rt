@@ -1,20 +1,22 @@
 //! The command `format`: a new image.
 
-ghost use Rattle.std.specs.Prelude.{◌≡◌, IfErr, IfOk, OnOk, OnErr};
+ghost use Rattle.std.specs.Prelude.{◌≡◌, ◌↔◌, ◌⊎◌, IfErr, IfOk, IsTrue, OnOk, OnErr, Some};
 ghost use Rattle.command_files.specs.Arguments.{value_of};
-ghost use Rattle.command_files.specs.Made.{KeepsOthers, MakesOne};
+ghost use Rattle.command_files.specs.Made.{KeepsModes, KeepsOthers, MakesOne};
 ghost use Rattle.image_store.specs.Geometry.{tested};
-ghost use Rattle.command_images.specs.Images.{IsAskedFor, MakesEmpty};
-ghost use Rattle.command_images.specs.UserTold.{FormatFails, RefusesShape};
+ghost use Rattle.command_images.specs.Images.{IsAskedFor, IsForced, IsReplaceable, MakesEmpty};
+ghost use Rattle.command_images.specs.UserTold.{FormatFails, IsUnreplaced, RefusesShape};
+ghost use Rattle.command_images.specs.steps.Beginnings.{may_begin};
 
 use crate::image_file::{self, IMAGE};
-use clap::{Arg, ArgMatches, Command};
+use clap::{Arg, ArgAction, ArgMatches, Command};
 use command_failure::Failure;
-use command_files::Files;
 use command_files::arguments::{
     BLOCK_OPTION, and_argument, block_option, number, option, required,
 };
+use command_files::{Files, cannot_write};
 use image_store::{Geometry, Image, Limits};
+use image_text::Version;
 use std::alloc::{AllocError, Global};
 
 /// The command's name.
@@ -30,8 +32,17 @@ const OPEN: &str = "open";
 
 const ACTIVE: &str = "active";
 
+const FORCE: &str = "force";
+
+/// The first bytes of an image, by which it is told from other files.
+const MAGIC_BYTES: usize = 8;
+
 const LONG_ABOUT: &str = "\
 Writes an image: a namespace of zones of which nothing is written.
+
+A file with this name is replaced, with all its data, where it is an image or has no bytes; any other only with --force. The \
+new file has the permissions of the old one, and a link is followed. What is no ordinary file is refused, and so is an image \
+that another command works on.
 
 The blocks of a zone count towards its size; of these the first, as many as its capacity, can be \
 written. At most so many zones are open at a time, and so many active.
@@ -66,6 +77,10 @@ pub fn subcommand<'a>(alloc: Global) -> Result<Command<'a>, AllocError> {
         "A",
         "The most zones that are active at a time",
     );
+    let force = Arg::new(alloc, FORCE)
+        .long(FORCE)
+        .action(ArgAction::SetTrue)
+        .help("Replaces a file whose bytes are no image too");
     let command = Command::new(alloc, NAME)
         .about("Writes an image of empty zones")
         .long_about(LONG_ABOUT)
@@ -76,7 +91,8 @@ pub fn subcommand<'a>(alloc: Global) -> Result<Command<'a>, AllocError> {
     let command = and_argument(command, size);
     let command = and_argument(command, capacity);
     let command = and_argument(command, open);
-    and_argument(command, active)
+    let command = and_argument(command, active);
+    and_argument(command, force)
 }
 
 fn count<'a>(alloc: Global, name: &'a str, letter: &'a str, help: &'a str) -> Arg<'a> {
@@ -87,23 +103,69 @@ fn count<'a>(alloc: Global, name: &'a str, letter: &'a str, help: &'a str) -> Ar
 ///
 /// # Errors
 ///
-/// A word is no number, the numbers are no geometry, the image can't be written, or memory is wanting. No file is
-/// made then, but for what [`Files::finish`] says.
+/// A word is no number, the numbers are no geometry, the image can't be written, or memory is wanting; also where a file has
+/// bytes that are no image, unless it is asked for by force. No file is made then, but for what [`Files::finish`] says.
 pub fn format<'a, F: Files>(
     alloc: Global,
     matches: &ArgMatches<'a>,
     files: &mut F,
 ) -> Result<(), Failure<'a>>
     ensures empty { OnOk result (MakesEmpty F.Writer.tells matches.now (value_of matches.now IMAGE.now) (F.made files.old) (F.made files.new)) }
-    ensures failed { IfErr result (FormatFails matches.now (value_of matches.now IMAGE.now)) }
+    ensures replaceable { OnOk result (IsForced matches.now ⊎ IsReplaceable (F.contents files.old (value_of matches.now IMAGE.now))) }
+    ensures failed { IfErr result (FormatFails matches.now (F.contents files.old (value_of matches.now IMAGE.now)) (value_of matches.now IMAGE.now)) }
     ensures made { OnOk result (MakesOne (value_of matches.now IMAGE.now) (F.made files.old) (F.made files.new)) }
     ensures others { OnOk result (KeepsOthers (value_of matches.now IMAGE.now) (F.contents files.old) (F.contents files.new)) }
     ensures kept { OnErr result (F.made files.new ≡ F.made files.old) }
     ensures contents { OnErr result (F.contents files.new ≡ F.contents files.old) }
+    ensures modes { OnOk result (KeepsModes (F.modes files.old) (F.modes files.new)) }
 {
     let geometry = geometry(matches)?;
+    let path = required(matches, IMAGE);
+    hold_to_format(path, is_forced(matches), files)?;
     let image = Image::empty(alloc, geometry)?;
-    image_file::save(&image, required(matches, IMAGE), files)
+    image_file::save(&image, path, files)
+}
+
+/// Holds the name of a file that may be replaced by a new image: by force, or since it has no bytes or those of an image.
+fn hold_to_format<'a, F: Files>(
+    path: &'a str,
+    by_force: bool,
+    files: &mut F,
+) -> Result<(), Failure<'a>>
+    ensures made { F.made files.new ≡ F.made files.old }
+    ensures contents { F.contents files.new ≡ F.contents files.old }
+    ensures modes { F.modes files.new ≡ F.modes files.old }
+    ensures held { OnOk result (F.held files.new ≡ Some path.now) }
+    ensures replaceable { OnOk result (IsTrue by_force ⊎ IsReplaceable (F.contents files.old path.now)) }
+    ensures failed { IfErr result (IsUnreplaced (IsTrue by_force) (F.contents files.old path.now) path.entry) }
+{
+    if let Err(fault) = files.hold(path) {
+        return Err(cannot_write(path, fault));
+    }
+    if by_force {
+        return Ok(());
+    }
+    match files.first_bytes(path, MAGIC_BYTES) {
+        Ok(first) if may_begin(first.as_slice()) => Ok(()),
+        Ok(_) => Err(Failure::NotAnImage(path)),
+        Err(fault) => Err(cannot_write(path, fault)),
+    }
+}
+
+/// Are these the first bytes of a file that has none, or of an image?
+fn may_begin(first: &[u8]) -> bool
+    ensures { result ≡ may_begin first.now }
+{
+    first.is_empty()
+        || first == Version::One.magic().as_slice()
+        || first == Version::Two.magic().as_slice()
+}
+
+/// Is it asked for by force?
+fn is_forced<'a>(matches: &ArgMatches<'a>) -> bool
+    ensures { IsTrue result ↔ IsForced matches.now }
+{
+    required(matches, FORCE) == "true"
 }
 
 /// The geometry that the options spell, or what the user is told of these numbers.

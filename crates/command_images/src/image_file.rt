@@ -1,20 +1,48 @@
 //! Images in files.
 
-ghost use Rattle.std.specs.Prelude.{◌≡◌, ◌≢◌, IfOk, IfErr, IfSome, OnOk, OnErr};
-ghost use Rattle.image_store.specs.Reading.{namespace_in};
-ghost use Rattle.image_store.specs.Text.{text};
-ghost use Rattle.command_files.specs.Made.{KeepsOthers, MakesOne, then_made};
-ghost use Rattle.command_files.specs.UserTold.{IsUnwritten};
-ghost use Rattle.command_images.specs.UserTold.{LoadingFails};
+ghost use Rattle.std.specs.Prelude.{◌≡◌, ◌≢◌, ◌↔◌, IfOk, IfErr, IfSome, IsTrue, OnOk, OnErr, Some};
+ghost use Rattle.image_text.specs.Reading.{namespace_in};
+ghost use Rattle.image_text.specs.Text.{text};
+ghost use Rattle.command_files.specs.Made.{KeepsModes, KeepsOthers, MakesAtMost, MakesOne, then_made};
+ghost use Rattle.command_files.specs.UserTold.{IsUnread, IsUnwritten};
+ghost use Rattle.command_images.specs.Images.{HasText};
+ghost use Rattle.command_images.specs.UserTold.{IsUnheld, LoadingFails, UpgradeFails};
 ghost use Rattle.command_images.specs.steps.Told.{told_of_image};
 
 use command_failure::{Failure, FileCause};
-use command_files::{Files, cannot_read, cannot_write};
-use image_store::{Image, LoadFault};
+use command_files::{FileFault, Files, cannot_read, cannot_write};
+use image_store::Image;
+use image_text::{ImageText, LoadFault, Source, StreamFault};
 use std::alloc::Global;
 
 /// The argument that names the file of an image.
 pub const IMAGE: &str = "IMAGE";
+
+/// Holds the name of a file that is to be read and replaced.
+fn hold<'a, F: Files>(path: &'a str, files: &mut F) -> Result<(), Failure<'a>>
+    ensures made { F.made files.new ≡ F.made files.old }
+    ensures contents { F.contents files.new ≡ F.contents files.old }
+    ensures modes { F.modes files.new ≡ F.modes files.old }
+    ensures held { OnOk result (F.held files.new ≡ Some path.now) }
+    ensures failed { IfErr result (IsUnheld path.entry) }
+    ensures not_printing { result ≢ Err Failure.CannotPrint }
+{
+    match files.hold(path) {
+        Ok(()) => Ok(()),
+        Err(fault) => Err(cannot_hold(path, fault)),
+    }
+}
+
+/// The failure of holding a file: what keeps it from being replaced is told as that.
+fn cannot_hold<'a>(path: &'a str, fault: FileFault) -> Failure<'a>
+    ensures failed { IsUnheld path.entry result }
+    ensures not_printing { result ≢ Failure.CannotPrint }
+{
+    match fault {
+        FileFault::Failed(FileCause::InUse | FileCause::NotOrdinary) => cannot_write(path, fault),
+        _ => cannot_read(path, fault),
+    }
+}
 
 /// The image that a file holds.
 ///
@@ -28,11 +56,67 @@ pub fn load<'a, F: Files>(alloc: Global, path: &'a str, files: &mut F) -> Result
     ensures failed { IfErr result (LoadingFails F.Reader.tells (F.contents files.old path.now) path.now) }
     ensures not_printing { result ≢ Err Failure.CannotPrint }
 {
-    let mut file = match files.open(path) {
-        Ok(file) => file,
-        Err(fault) => return Err(cannot_read(path, fault)),
-    };
-    match Image::load(alloc, &mut file) {
+    match files.open(path) {
+        Ok(mut file) => load_from(alloc, path, &mut file),
+        Err(fault) => Err(cannot_read(path, fault)),
+    }
+}
+
+/// The image of a file that is to be replaced: its name is held from before the file is read on.
+///
+/// # Errors
+///
+/// Another command holds the file, it is no ordinary one or can't be read, its first fault as an image, or want of memory.
+pub fn load_to_replace<'a, F: Files>(
+    alloc: Global,
+    path: &'a str,
+    files: &mut F,
+) -> Result<Image, Failure<'a>>
+    ensures made { F.made files.new ≡ F.made files.old }
+    ensures contents { F.contents files.new ≡ F.contents files.old }
+    ensures modes { F.modes files.new ≡ F.modes files.old }
+    ensures held { OnOk result (F.held files.new ≡ Some path.now) }
+    ensures image { F.Reader.tells → IfOk result (λ image. IfSome (F.contents files.old path.now) (λ bytes. namespace_in bytes ≡ Ok image)) }
+    ensures failed { IfErr result (UpgradeFails F.Reader.tells (F.contents files.old path.now) path.now) }
+    ensures not_printing { result ≢ Err Failure.CannotPrint }
+{
+    hold(path, files)?;
+    load_held(alloc, path, files)
+}
+
+/// The image of the file whose name is held.
+fn load_held<'a, F: Files>(
+    alloc: Global,
+    path: &'a str,
+    files: &mut F,
+) -> Result<Image, Failure<'a>>
+    requires { F.held files.old ≡ Some path.now }
+    ensures made { F.made files.new ≡ F.made files.old }
+    ensures contents { F.contents files.new ≡ F.contents files.old }
+    ensures modes { F.modes files.new ≡ F.modes files.old }
+    ensures held { F.held files.new ≡ F.held files.old }
+    ensures image { F.Reader.tells → IfOk result (λ image. IfSome (F.contents files.old path.now) (λ bytes. namespace_in bytes ≡ Ok image)) }
+    ensures failed { IfErr result (LoadingFails F.Reader.tells (F.contents files.old path.now) path.now) }
+    ensures not_printing { result ≢ Err Failure.CannotPrint }
+{
+    match files.open_held(path) {
+        Ok(mut file) => load_from(alloc, path, &mut file),
+        Err(fault) => Err(cannot_read(path, fault)),
+    }
+}
+
+/// The image whose text comes from a file that was opened.
+fn load_from<'a, S: Source>(
+    alloc: Global,
+    path: &'a str,
+    file: &mut S,
+) -> Result<Image, Failure<'a>>
+    requires { S.failures file.old ≡ 0 }
+    ensures image { S.tells → IfOk result (λ image. namespace_in (S.rest file.old) ≡ Ok image) }
+    ensures failed { IfErr result (LoadingFails S.tells (Some (S.rest file.old)) path.now) }
+    ensures not_printing { result ≢ Err Failure.CannotPrint }
+{
+    match Image::load(alloc, file) {
         Ok(image) => Ok(image),
         Err(fault) => Err(refused(path, fault)),
     }
@@ -49,17 +133,19 @@ fn refused<'a>(path: &'a str, fault: LoadFault) -> Failure<'a>
     }
 }
 
-/// Makes a file of an image, in place of the one with this name.
+/// Makes a file of an image, in place of the one whose name is held, whose permissions it has then.
 ///
 /// # Errors
 ///
 /// The file can't be written, or memory is wanting. It is as it was then, but for what [`Files::finish`] says.
 pub fn save<'a, F: Files>(image: &Image, path: &'a str, files: &mut F) -> Result<(), Failure<'a>>
+    requires { F.held files.old ≡ Some path.now }
     ensures saved { OnOk result (F.Writer.tells → F.made files.new ≡ then_made (F.made files.old) path.now (text image.now)) }
     ensures made { OnOk result (MakesOne path.now (F.made files.old) (F.made files.new)) }
     ensures others { OnOk result (KeepsOthers path.now (F.contents files.old) (F.contents files.new)) }
     ensures kept { OnErr result (F.made files.new ≡ F.made files.old) }
     ensures contents { OnErr result (F.contents files.new ≡ F.contents files.old) }
+    ensures modes { OnOk result (KeepsModes (F.modes files.old) (F.modes files.new)) }
     ensures unwritten { IfErr result (IsUnwritten path.entry) }
     ensures not_printing { result ≢ Err Failure.CannotPrint }
 {
@@ -74,5 +160,56 @@ pub fn save<'a, F: Files>(image: &Image, path: &'a str, files: &mut F) -> Result
     match files.finish(path, file) {
         Ok(()) => Ok(()),
         Err(fault) => Err(cannot_write(path, fault)),
+    }
+}
+
+/// Makes the file anew, as [`save`] does, unless it has just the image's text already.
+///
+/// # Errors
+///
+/// The file can't be read or written, or memory is wanting. It is as it was then, but for what [`Files::finish`] says.
+pub fn save_changes<'a, F: Files>(
+    image: &Image,
+    path: &'a str,
+    files: &mut F,
+) -> Result<(), Failure<'a>>
+    requires { F.held files.old ≡ Some path.now }
+    ensures saved { OnOk result (HasText F.Reader.tells F.Writer.tells (F.contents files.old path.now) path.now (text image.now) (F.made files.old) (F.made files.new)) }
+    ensures made { OnOk result (MakesAtMost path.now (F.made files.old) (F.made files.new)) }
+    ensures others { OnOk result (KeepsOthers path.now (F.contents files.old) (F.contents files.new)) }
+    ensures kept { OnErr result (F.made files.new ≡ F.made files.old) }
+    ensures contents { OnErr result (F.contents files.new ≡ F.contents files.old) }
+    ensures modes { OnOk result (KeepsModes (F.modes files.old) (F.modes files.new)) }
+    ensures failed { IfErr result (IsUnheld path.entry) }
+    ensures not_printing { result ≢ Err Failure.CannotPrint }
+{
+    if has_text(image, path, files)? {
+        return Ok(());
+    }
+    save(image, path, files)
+}
+
+/// Has the file whose name is held just the text of this image?
+///
+/// # Errors
+///
+/// It can't be read, or memory is wanting.
+fn has_text<'a, F: Files>(image: &Image, path: &'a str, files: &mut F) -> Result<bool, Failure<'a>>
+    requires { F.held files.old ≡ Some path.now }
+    ensures same { F.Reader.tells → IfOk result (λ same. IfSome (F.contents files.old path.now) (λ bytes. IsTrue same ↔ (bytes ≡ text image.now))) }
+    ensures made { F.made files.new ≡ F.made files.old }
+    ensures contents { F.contents files.new ≡ F.contents files.old }
+    ensures modes { F.modes files.new ≡ F.modes files.old }
+    ensures held { F.held files.new ≡ F.held files.old }
+    ensures unread { IfErr result (IsUnread path.entry) }
+    ensures not_printing { result ≢ Err Failure.CannotPrint }
+{
+    let mut file = match files.open_held(path) {
+        Ok(file) => file,
+        Err(fault) => return Err(cannot_read(path, fault)),
+    };
+    match image.is_text_of(&mut file) {
+        Ok(same) => Ok(same),
+        Err(StreamFault) => Err(Failure::CannotRead(path, FileCause::Other)),
     }
 }

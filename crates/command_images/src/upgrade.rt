@@ -2,7 +2,7 @@
 
 ghost use Rattle.std.specs.Prelude.{◌≡◌, IfErr, OnOk, OnErr};
 ghost use Rattle.command_files.specs.Arguments.{value_of};
-ghost use Rattle.command_files.specs.Made.{KeepsOthers, MakesOne};
+ghost use Rattle.command_files.specs.Made.{KeepsModes, KeepsOthers, MakesOne};
 ghost use Rattle.command_images.specs.Images.{MakesAnew};
 ghost use Rattle.command_images.specs.UserTold.{UpgradeFails};
 
@@ -62,8 +62,9 @@ pub fn upgrade<'a, F: Files>(
     ensures others { OnOk result (KeepsOthers (value_of matches.now IMAGE.now) (F.contents files.old) (F.contents files.new)) }
     ensures kept { OnErr result (F.made files.new ≡ F.made files.old) }
     ensures contents { OnErr result (F.contents files.new ≡ F.contents files.old) }
+    ensures modes { OnOk result (KeepsModes (F.modes files.old) (F.modes files.new)) }
 {
     let path = required(matches, IMAGE);
-    let image = image_file::load(alloc, path, files)?;
+    let image = image_file::load_to_replace(alloc, path, files)?;
     image_file::save(&image, path, files)
 }

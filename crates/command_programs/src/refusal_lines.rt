@@ -56,7 +56,7 @@ impl RefusedInstruction<'_> {
         }
     }
 
-    /// Where the register of an address may point so that all bytes of the access lie in its area.
+    /// Where the register of an address has to point so that all bytes of the access lie in its area.
     fn print_access<O: Write>(&self, out: &mut O) -> io::Result<()> {
         match self.instruction.access() {
             Some(access) => self.print_accessed(access, out),
@@ -87,7 +87,7 @@ impl RefusedInstruction<'_> {
         self.print_allowed(access.base, access.offset, access.size, out)
     }
 
-    /// Where a register may point, so that so many bytes at an offset from there lie in its area.
+    /// Where a register has to point, so that so many bytes at an offset from there lie in its area.
     fn print_allowed<O: Write>(
         &self,
         base: Register,
@@ -101,10 +101,10 @@ impl RefusedInstruction<'_> {
         };
         let allowed = offsets_allowed(area, self.length(area), offset, size);
         if size == 0 {
-            writeln!(out, "r{number} may be {allowed}")
+            writeln!(out, "r{number} must be {allowed}")
         } else {
             let bytes = Counted(u64::from(size), "byte");
-            writeln!(out, "for {bytes} r{number} may be {allowed}")
+            writeln!(out, "for {bytes} r{number} must be {allowed}")
         }
     }
 
@@ -117,7 +117,7 @@ impl RefusedInstruction<'_> {
         if most < 1 {
             writeln!(out, "no byte is known to lie at r1")
         } else {
-            writeln!(out, "r2 may be 1 to {most}")
+            writeln!(out, "r2 must be 1 to {most}")
         }
     }
 

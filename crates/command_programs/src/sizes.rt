@@ -1,39 +1,41 @@
 //! The sizes of a run that a user asks for.
 
-ghost use Rattle.std.specs.Prelude.{◌≤◌, codes, IfOk, IfErr};
+ghost use Rattle.std.specs.Prelude.{◌≡◌, ◌<◌, codes, IfErr, IfOk, OnErr, Some};
 ghost use Rattle.clap.specs.Matches.{found_of, first_value};
-ghost use Rattle.command_programs.specs.steps.Sizes.{AreAskedFor, IsLimit, SpellsNoLimit};
+ghost use Rattle.program_interface.specs.RunSizes.{sizes_with};
+ghost use Rattle.command_programs.specs.steps.Sizes.{IsLimit, SpellsNoLimit};
 
 use clap::ArgMatches;
 use command_failure::Failure;
-use command_files::arguments::{EMIT_OPTION, not_in_range, number_in_range};
+use command_files::arguments::{EMIT_OPTION, number};
 use program_interface::{BlockSize, RunSizes};
 
-/// Blocks of this size, for each of which at most as many bytes may be emitted as `--emit` says, or all of a block's where
-/// it says nothing.
-pub(crate) fn run_sizes<'a>(
-    matches: &ArgMatches<'a>,
-    block: BlockSize,
-) -> Result<RunSizes, Failure<'a>>
-    ensures asked { IfOk result (AreAskedFor matches.now block) }
-    ensures told { IfErr result (SpellsNoLimit matches.now block) }
+/// As many bytes as `--emit` says, or 0 where it says nothing.
+pub(crate) fn limit<'a>(matches: &ArgMatches<'a>) -> Result<u32, Failure<'a>>
+    ensures asked { IfOk result (IsLimit matches.now (first_value (found_of matches.now) (codes "emit"))) }
+    ensures told { IfErr result (SpellsNoLimit matches.now) }
 {
-    let most = block.bytes();
-    let limit = limit(matches, most)?;
-    match RunSizes::new(block, limit) {
-        Some(sizes) => Ok(sizes),
-        None => Err(not_in_range(matches, EMIT_OPTION, 0, u64::from(most))),
+    match matches.get_str(EMIT_OPTION) {
+        Some(_) => number(matches, EMIT_OPTION),
+        None => Ok(0),
     }
 }
 
-/// As many bytes as `--emit` says, or `most` where it says nothing.
-fn limit<'a>(matches: &ArgMatches<'a>, most: u32) -> Result<u32, Failure<'a>>
-    ensures asked { IfOk result (IsLimit matches.now most (first_value (found_of matches.now) (codes "emit"))) }
-    ensures within { IfOk result (λ limit. limit ≤ most) }
-    ensures told { IfErr result (SpellsNoLimit matches.now most) }
+/// Blocks of this size, for each of which at most so many bytes may be emitted.
+///
+/// # Errors
+///
+/// [`Failure::EmitExceedsBlock`] where a block has fewer.
+pub(crate) fn run_sizes<'a>(block: BlockSize, limit: u32) -> Result<RunSizes, Failure<'a>>
+    ensures sizes { IfOk result (λ sizes. sizes_with block limit ≡ Some sizes) }
+    ensures told { IfErr result (λ failure. failure ≡ Failure.EmitExceedsBlock limit block) }
+    ensures exceeds { OnErr result (block < limit) }
 {
-    match matches.get_str(EMIT_OPTION) {
-        Some(_) => Ok(number_in_range(matches, EMIT_OPTION, 0, u64::from(most))? as u32),
-        None => Ok(most),
+    match RunSizes::new(block, limit) {
+        Some(sizes) => Ok(sizes),
+        None => Err(Failure::EmitExceedsBlock {
+            emit: limit,
+            block: block.bytes(),
+        }),
     }
 }

@@ -6,7 +6,7 @@ ghost use Rattle.interp.specs.Machine.{machine_slot, steps_of, group_length};
 ghost use Rattle.program_interface.specs.Context.{context_bytes};
 
 use crate::program::program_in_file;
-use crate::sizes::run_sizes;
+use crate::sizes::{limit, run_sizes};
 use crate::step_lines::{Emitting, print_cause, print_changes};
 use clap::{Arg, ArgAction, ArgMatches, Command};
 use command_failure::{Failure, printed};
@@ -54,7 +54,7 @@ With --registers each slot has its instruction behind it, and what that changed:
 writes, with its word, or for emit how many bytes were emitted, and from where; or why it cannot be done.
 
 The block is at LBA 0, the first and only one of its run. Its size is the file's length: a power of 2 \
-from 512 to 16384 bytes. As many may be emitted, where --emit says nothing.";
+from 512 to 16384 bytes. Where --emit says nothing, no byte may be emitted: an emit is a trap then.";
 
 const EXAMPLE: &str = "\
 Example: the program of `asm --help`, on a block that begins with a 7.
@@ -100,8 +100,8 @@ pub fn subcommand<'a>(alloc: Global) -> Result<Command<'a>, AllocError> {
 ///
 /// # Errors
 ///
-/// A word is no number, a file can't be read or is refused, the limit exceeds the block, standard output fails, or memory
-/// is wanting.
+/// A word is no number, a file can't be read, is no program or no block, the limit exceeds the block, standard output
+/// fails, or memory is wanting.
 pub fn trace<'a, F: Files, O: Write>(
     alloc: Global,
     matches: &ArgMatches<'a>,
@@ -115,13 +115,15 @@ pub fn trace<'a, F: Files, O: Write>(
     let program = program_in_file(alloc, required(matches, PROGRAM), files)?;
     let path = required(matches, BLOCK);
     let block = read(path, files)?;
-    let sizes = run_sizes(matches, size_as_block(path, block.len())?)?;
+    let sizes = run_sizes(size_as_block(path, block.len())?, asked.limit)?;
     run_asked(alloc, &program, block.as_slice(), sizes, asked, out)
 }
 
 /// What a user asks for.
 #[derive(Clone, Copy)]
 struct TraceOptions {
+    /// The most bytes that may be emitted.
+    limit: u32,
     argument: u32,
     fuel: u32,
     /// Each instruction, and the register that it changed.
@@ -130,6 +132,7 @@ struct TraceOptions {
 
 fn asked_for<'a>(matches: &ArgMatches<'a>) -> Result<TraceOptions, Failure<'a>> {
     Ok(TraceOptions {
+        limit: limit(matches)?,
         argument: number(matches, ARGUMENT_OPTION)?,
         fuel: number(matches, FUEL)?,
         registers: matches.get_flag(REGISTERS),

@@ -64,10 +64,10 @@ pub fn unpack<'a, F: Files, O: Write>(
     ensures made { F.made files.new ≡ F.made files.old }
     ensures contents { F.contents files.new ≡ F.contents files.old }
 {
-    let block = block_size(number(matches, BLOCK_OPTION)?)?;
+    let block = number(matches, BLOCK_OPTION)?;
     let path = required(matches, FILE);
     let file = read(path, files)?;
-    let text = text_of(alloc, path, file.as_slice(), block)?;
+    let text = text_of(alloc, path, file.as_slice(), block_size(block)?)?;
     printed(out.write_all(text.as_bytes()))
 }
 

@@ -4,7 +4,7 @@ ghost use Rattle.std.specs.Prelude.{◌≡◌};
 
 use crate::program::program_in_file;
 use crate::refusal_lines::RefusedInstruction;
-use crate::sizes::run_sizes;
+use crate::sizes::{limit, run_sizes};
 use accepted_programs::{Facts, Refusal};
 use clap::{Arg, ArgAction, ArgMatches, Command};
 use command_failure::{Failure, printed};
@@ -89,9 +89,9 @@ pub fn verify<'a, F: Files, O: Write>(
     ensures made { F.made files.new ≡ F.made files.old }
     ensures contents { F.contents files.new ≡ F.contents files.old }
 {
-    let block = number(matches, BLOCK_OPTION)?;
+    let (block, limit) = (number(matches, BLOCK_OPTION)?, limit(matches)?);
     let program = program_in_file(alloc, required(matches, PROGRAM), files)?;
-    let sizes = run_sizes(matches, block_size(block)?)?;
+    let sizes = run_sizes(block_size(block)?, limit)?;
     let judgement = judge::<Intervals>(alloc, &program, sizes)?;
     let instructions = program.instruction_count();
     match judgement {

@@ -2,7 +2,7 @@
 
 ghost use Rattle.std.specs.Prelude.{◌≡◌, ◌+◌, ◌<◌, ◌^◌, ℕ, List, [], ◌∷◌, OnOk, OnErr};
 ghost use Rattle.device_events.specs.Replies.{ReplyWithData, Joins};
-ghost use Rattle.program_interface.specs.Failures.{CountsFailure};
+ghost use Rattle.common_definitions.specs.Failures.{CountsFailure};
 
 use crate::reply::Reply;
 

@@ -1,9 +1,11 @@
 //! Calls the files of the system, one after another, in the folder that the program runs in, and prints what each gives.
 #![tactic(auto)]
 
+ghost use Rattle.std.specs.Prelude.{◌≡◌, OnOk, Some};
+
 use command_failure::FileCause;
 use command_files::{Disk, FileFault, Files};
-use image_store::{Sink, Source};
+use image_text::{Sink, Source};
 use std::io::{self, Write};
 use std::str;
 
@@ -19,11 +21,15 @@ fn main(rt: HostRuntime) -> io::Result<()> {
     write(&mut files, "missing/made", "third", &mut out)?;
     finish(&mut files, "made", &mut out)?;
     finish(&mut files, "missing/made", &mut out)?;
+    finish(&mut files, "new", &mut out)?;
+    finish(&mut files, ".", &mut out)?;
     discard(&mut files, "made", &mut out)
 }
 
 /// Reads a whole file.
-fn read<F: Files, W: Write>(files: &mut F, path: &str, out: &mut W) -> io::Result<()> {
+fn read<F: Files, W: Write>(files: &mut F, path: &str, out: &mut W) -> io::Result<()>
+    ensures { F.held files.new ≡ F.held files.old }
+{
     match files.read(path) {
         Ok(bytes) => {
             let text = str::from_utf8(bytes.as_slice()).unwrap_or("no text");
@@ -93,8 +99,11 @@ fn discard<F: Files, W: Write>(files: &mut F, path: &str, out: &mut W) -> io::Re
     }
 }
 
-/// A file that two pieces are written to.
-fn begun<F: Files>(files: &mut F, path: &str) -> Result<F::Writer, FileFault> {
+/// Holds a name, and begins a file that two pieces are written to.
+fn begun<F: Files>(files: &mut F, path: &str) -> Result<F::Writer, FileFault>
+    ensures { OnOk result (F.held files.new ≡ Some path.now) }
+{
+    files.hold(path)?;
     let mut file = files.begin(path)?;
     match file.write(b"in ") {
         Ok(_) => {}

@@ -25,7 +25,7 @@ use Rattle.ebpf_asm.proofs.Fitting.{Fills, LineFits, lines_fit, resolved_fits}
 use Rattle.ebpf_asm.proofs.Jumps.{Jumps, LineJumps, lines_jump}
 use Rattle.ebpf_asm.proofs.LowestFaults.{own_none}
 use Rattle.ebpf_asm.proofs.Passes.{slot_count-cons}
-use Rattle.program_interface.proofs.Proved.{no_fault}
+use Rattle.common_definitions.proofs.Proved.{no_fault}
 
 length-spelling : (i : Instruction) → length (spelling i) ≡ 8 * slots_taken i
 length-spelling (LoadImmediate dst value) = refl

@@ -16,8 +16,8 @@ use Rattle.instruction_set.specs.Spelling.{Fits, spelling, instructions_of, prog
 use Rattle.ebpf_asm.specs.declared.mnemonic.Mnemonic.{Mnemonic}
 use Rattle.ebpf_asm.specs.declared.fault.FaultKind.{FaultKind}
 use Rattle.ebpf_asm.specs.declared.fault.FaultKind.TheVariants.{UnknownMnemonic, NotAscii, TooLong}
-use Rattle.program_interface.proofs.Proved.{all_from}
-use Rattle.program_interface.specs.Readings.{◌>>=◌, unless_fault}
+use Rattle.common_definitions.proofs.Proved.{all_from}
+use Rattle.common_definitions.specs.Readings.{◌>>=◌, unless_fault}
 use Rattle.ebpf_asm.specs.Mnemonic.{mnemonic_text, mnemonic_named}
 use Rattle.ebpf_asm.specs.Operand.{source_told, short_of, long_of}
 use Rattle.text_lines.specs.Cut.{is_blank_byte, trimmed, uncommented, without_end_blanks}

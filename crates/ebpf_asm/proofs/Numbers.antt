@@ -7,7 +7,7 @@ use Rattle.std.specs.Str.Parse.{digits_value}
 use Rattle.std.proofs.lemmas.Bool.{lt-ltb}
 use Rattle.std.proofs.lemmas.List.Folds.{list_all_more}
 use Rattle.std.proofs.lemmas.Int.Digits.{digits_value_more}
-use Rattle.program_interface.specs.Below.{below}
+use Rattle.common_definitions.specs.Below.{below}
 
 -- what an option that might have been missing had
 pub found : {E : Type 0} (o : Option ℕ) (P : Type 0) (v d : ℕ) (e : E) → SomeIff o P v → Ok d ≡ ok_or o e → P × (d ≡ v)

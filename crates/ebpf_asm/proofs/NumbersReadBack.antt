@@ -16,7 +16,7 @@ use Rattle.std.proofs.lemmas.Fmt.{decimal_is_IsNumeral, digits_is_IsNumeral, dec
 use Rattle.std.proofs.lemmas.Str.Parse.{digit_from_value}
 use Rattle.text_lines.proofs.Proved.{all_digits}
 use Rattle.ebpf_asm.specs.declared.fault.FaultKind.TheVariants.{Operand, OutOfRange}
-use Rattle.program_interface.specs.Readings.{◌>>=◌}
+use Rattle.common_definitions.specs.Readings.{◌>>=◌}
 use Rattle.ebpf_asm.specs.Operand.{numeral_of, magnitude_of, literal_of, immediate_told, wide_of, in_range, register_of}
 use Rattle.ebpf_asm.specs.Listing.{register_text, wide_text}
 

@@ -3,7 +3,7 @@ use Rattle.std.proofs.Common.{◌≡◌, ℕ, cond, eqb, List, [], ◌∷◌, le
 use Rattle.std.proofs.Math.Dec.{eqb-suc-zero}
 use Rattle.ebpf_asm.specs.declared.fault.FaultKind.{FaultKind}
 use Rattle.ebpf_asm.specs.declared.fault.FaultKind.TheVariants.{Operand}
-use Rattle.program_interface.specs.Readings.{◌>>=◌}
+use Rattle.common_definitions.specs.Readings.{◌>>=◌}
 use Rattle.text_lines.specs.Cut.{cut_at, trimmed}
 use Rattle.text_lines.specs.Laws.{HasFirst}
 use Rattle.text_lines.proofs.Proved.{uncut_is_one_part, cut_is_after_first_part, some_part_is_there}

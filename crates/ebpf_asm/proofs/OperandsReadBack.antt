@@ -18,7 +18,7 @@ use Rattle.instruction_set.specs.declared.instruction.Source.{Source}
 use Rattle.instruction_set.specs.declared.instruction.Source.TheVariants as sources
 use Rattle.ebpf_asm.specs.declared.fault.FaultKind.{FaultKind}
 use Rattle.ebpf_asm.specs.declared.fault.FaultKind.TheVariants.{Operand}
-use Rattle.program_interface.specs.Readings.{◌>>=◌}
+use Rattle.common_definitions.specs.Readings.{◌>>=◌}
 use Rattle.ebpf_asm.specs.Fault.{read_both}
 use Rattle.ebpf_asm.specs.Operand.{register_of, immediate_told, source_told, signed_of, short_of, long_of, offset_of, memory_told, distance_told, label_of, is_label_name, is_sign_byte, inside_brackets}
 use Rattle.ebpf_asm.specs.Laws.{LongDistancesReadBack, ShortDistancesReadBack}

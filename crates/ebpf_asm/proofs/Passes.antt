@@ -9,8 +9,8 @@ use Rattle.std.proofs.lemmas.Bool.{ltb-false}
 use Rattle.std.proofs.lemmas.Slice.Eq.{bytes_eq-Decides}
 use Rattle.instruction_set.specs.declared.instruction.Instruction.{Instruction}
 use Rattle.instruction_set.specs.Spelling.{spelling}
-use Rattle.program_interface.specs.Readings.{with_front}
-use Rattle.program_interface.proofs.Proved.{with_front-more}
+use Rattle.common_definitions.specs.Readings.{with_front}
+use Rattle.common_definitions.proofs.Proved.{with_front-more}
 use Rattle.ebpf_asm.specs.declared.fault.Fault.{Fault}
 use Rattle.ebpf_asm.specs.declared.fault.FaultKind.{FaultKind}
 use Rattle.ebpf_asm.specs.declared.fault.FaultKind.TheVariants.{TooLong}

@@ -6,7 +6,7 @@ use Rattle.std.specs.Str.Lines.{lines}
 use Rattle.instruction_set.specs.declared.instruction.Instruction.{Instruction}
 use Rattle.instruction_set.specs.Program.{IsProgram, is_wide, slots_of, slots_taken}
 use Rattle.instruction_set.specs.Spelling.{Fits, spelling, program_bytes}
-use Rattle.program_interface.proofs.Proved.{no_fault}
+use Rattle.common_definitions.proofs.Proved.{no_fault}
 use Rattle.ebpf_asm.specs.declared.fault.Fault.{Fault}
 use Rattle.ebpf_asm.specs.declared.fault.FaultKind.{FaultKind}
 use Rattle.ebpf_asm.specs.Line.{Line, slots_in, slots_of_instruction}

@@ -7,8 +7,8 @@ use Rattle.std.specs.Str.Lines.{lines}
 use Rattle.instruction_set.specs.declared.instruction.Instruction.{Instruction}
 use Rattle.instruction_set.specs.declared.instruction.Instruction.TheVariants.{Jump, JumpLong, Branch}
 use Rattle.instruction_set.specs.Spelling.{spelling}
+use Rattle.common_definitions.specs.Readings.{unless_fault, with_front}
 use Rattle.program_interface.specs.declared.TheConstants.{MOST_SLOTS}
-use Rattle.program_interface.specs.Readings.{unless_fault, with_front}
 use Rattle.ebpf_asm.specs.declared.fault.Fault.{Fault}
 use Rattle.ebpf_asm.specs.declared.fault.AssembleFault.{AssembleFault}
 use Rattle.ebpf_asm.specs.declared.fault.AssembleFault.TheVariants as errors

@@ -9,7 +9,7 @@ use Rattle.instruction_set.specs.declared.instruction.Source.{Source}
 use Rattle.instruction_set.specs.declared.instruction.Source.TheVariants as sources
 use Rattle.ebpf_asm.specs.declared.fault.FaultKind.{FaultKind}
 use Rattle.ebpf_asm.specs.declared.fault.FaultKind.TheVariants.{Operand, OutOfRange}
-use Rattle.program_interface.specs.Readings.{◌>>=◌}
+use Rattle.common_definitions.specs.Readings.{◌>>=◌}
 use Rattle.ebpf_asm.specs.Fault.{read_both}
 
 -- r0 to r10

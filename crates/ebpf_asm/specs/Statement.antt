@@ -7,7 +7,7 @@ use Rattle.ebpf_asm.specs.declared.mnemonic.Mnemonic.{Mnemonic}
 use Rattle.ebpf_asm.specs.declared.mnemonic.Mnemonic.TheVariants.{LoadImmediate, Load, LoadSigned, StoreImmediate, StoreRegister, Arithmetic, Negate, MoveSigned, SwapBytes, Jump, JumpLong, Branch, Call, Exit}
 use Rattle.ebpf_asm.specs.declared.fault.FaultKind.{FaultKind}
 use Rattle.ebpf_asm.specs.declared.fault.FaultKind.TheVariants.{UnknownMnemonic, Operand}
-use Rattle.program_interface.specs.Readings.{◌>>=◌}
+use Rattle.common_definitions.specs.Readings.{◌>>=◌}
 use Rattle.ebpf_asm.specs.Fault.{read_both}
 use Rattle.ebpf_asm.specs.Mnemonic.{mnemonic_named}
 use Rattle.ebpf_asm.specs.Operand.{register_of, source_told, immediate_told, wide_of, memory_told, distance_told, label_of, short_of, long_of}

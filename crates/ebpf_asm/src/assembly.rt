@@ -2,7 +2,7 @@
 
 ghost use Rattle.std.specs.Prelude.{◌≡◌, ◌≤◌, ◌<◌, ◌+◌, ◌-ℤ◌, ◌^◌, ℕ, pos, List, [], None, IfOk, OnOk, IfErr, IfSome, Some, option_copied};
 ghost use Rattle.ebpf_asm.specs.Assembly.{assembled, first_fault, label_map, line_fault, jump_by as jumping_by, resolved, bytes_of_lines, slot_count, fault_in};
-ghost use Rattle.program_interface.specs.Gives.{Gives};
+ghost use Rattle.common_definitions.specs.Gives.{Gives};
 ghost use Rattle.ebpf_asm.specs.steps.Labels.{label_in};
 ghost use Rattle.ebpf_asm.specs.steps.LineView.{line_views};
 

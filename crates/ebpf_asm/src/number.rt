@@ -2,7 +2,7 @@
 
 ghost use Rattle.std.specs.Prelude.{◌≡◌, ◌+◌, ◌*◌, ◌^◌, ◌≤◌, ℕ};
 ghost use Rattle.ebpf_asm.specs.Operand.{numeral_of, magnitude_of, literal_of, signed_of, short_of, long_of, immediate_told, wide_of};
-ghost use Rattle.program_interface.specs.Below.{below};
+ghost use Rattle.common_definitions.specs.Below.{below};
 
 use crate::fault::FaultKind;
 

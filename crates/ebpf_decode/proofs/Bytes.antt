@@ -6,8 +6,8 @@ use Rattle.std.proofs.lemmas.Int.{ints, of_z-to_z, to_z-of_z}
 use Rattle.std.proofs.lemmas.Nat.{le_bytes_2, le_bytes_4}
 use Rattle.byteorder.specs.Endian.{little_bytes, little_number}
 use Rattle.instruction_set.specs.declared.fields.Fields.{Fields}
-use Rattle.program_interface.specs.Bytes.{AreBytes}
-use Rattle.program_interface.proofs.Proved.{bytes_from, front_fit, length-flat_map-each, rest_fit}
+use Rattle.common_definitions.specs.Bytes.{AreBytes}
+use Rattle.common_definitions.proofs.Proved.{bytes_from, front_fit, length-flat_map-each, rest_fit}
 use Rattle.ebpf_decode.specs.Reading.{fields_at, slots_at}
 use Rattle.instruction_set.specs.Spelling.{slot_bytes}
 use Rattle.ebpf_decode.proofs.ReadAreSpelled.{AreFields, below-32}

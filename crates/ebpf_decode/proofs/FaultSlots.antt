@@ -6,9 +6,9 @@ use Rattle.instruction_set.specs.declared.fields.Fields.{Fields}
 use Rattle.instruction_set.specs.declared.instruction.Instruction.{Instruction}
 use Rattle.ebpf_decode.specs.Laws.{FaultIsInside}
 use Rattle.ebpf_decode.specs.Reading.{at_first_slot, begins_wide, begun, length_fault, read_slots, slots_at, then_read}
+use Rattle.common_definitions.specs.Readings.{unless_fault}
+use Rattle.common_definitions.proofs.Proved.{fault_behind}
 use Rattle.program_interface.specs.declared.TheConstants.{MOST_SLOTS}
-use Rattle.program_interface.specs.Readings.{unless_fault}
-use Rattle.program_interface.proofs.Proved.{fault_behind}
 use Rattle.std.proofs.lemmas.Result.{IfErr-at_err}
 use Rattle.std.specs.List.{slice_get}
 use Rattle.ebpf_decode.proofs.Programs.{few_slots}

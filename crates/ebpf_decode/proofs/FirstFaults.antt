@@ -12,10 +12,10 @@ use Rattle.instruction_set.specs.declared.fields.Fields.{Fields}
 use Rattle.instruction_set.specs.declared.instruction.Instruction.{Instruction}
 use Rattle.instruction_set.specs.Program.{is_wide}
 use Rattle.instruction_set.specs.Spelling.{Fits, slots_spelled}
-use Rattle.program_interface.specs.Bytes.{AreBytes}
-use Rattle.program_interface.specs.Checks.{demand, first_failed}
-use Rattle.program_interface.specs.Readings.{unless_fault}
-use Rattle.program_interface.proofs.Proved.{fault_behind, first_failed_is_first, joined, no_fault_where_none_fails}
+use Rattle.common_definitions.specs.Bytes.{AreBytes}
+use Rattle.common_definitions.specs.Checks.{demand, first_failed}
+use Rattle.common_definitions.specs.Readings.{unless_fault}
+use Rattle.common_definitions.proofs.Proved.{fault_behind, first_failed_is_first, joined, no_fault_where_none_fails}
 use Rattle.ebpf_decode.specs.FirstFault.{Begins, IsFirstFault, IsOfSlot, IsTold, slot_checks}
 use Rattle.ebpf_decode.specs.Laws.{FaultIsFirst}
 use Rattle.ebpf_decode.specs.Opcodes.{opcode_named}

@@ -12,14 +12,14 @@ use Rattle.instruction_set.specs.Program.{IsProgram, is_wide, slots_of}
 use Rattle.ebpf_decode.specs.FirstFault.{Begins}
 use Rattle.ebpf_decode.specs.Reading.{at_first_slot, decoded_program, length_checks, length_fault, read, read_slots, slots_at, then_read}
 use Rattle.instruction_set.specs.Spelling.{Fits, first_slot, instructions_of, program_bytes, second_slot, slot_bytes, slots_spelled, spelling}
+use Rattle.common_definitions.specs.Readings.{unless_fault, with_front}
 use Rattle.program_interface.specs.declared.TheConstants.{MOST_SLOTS}
-use Rattle.program_interface.specs.Readings.{unless_fault, with_front}
 use Rattle.std.proofs.lemmas.Bool.{eq-eqb, eqb-false, eqb-true, le-leb, leb-true, ne_eqb, not-true}
 use Rattle.std.proofs.lemmas.List.Concat.{flat_map-append}
 use Rattle.std.proofs.lemmas.Result.{IfOk-at_ok}
 use Rattle.ebpf_decode.proofs.SpelledAreRead.{read-again}
-use Rattle.program_interface.specs.Bytes.{AreBytes}
-use Rattle.program_interface.proofs.Proved.{demanded, no_fault, no_fault_where_none_fails}
+use Rattle.common_definitions.specs.Bytes.{AreBytes}
+use Rattle.common_definitions.proofs.Proved.{demanded, no_fault, no_fault_where_none_fails}
 use Rattle.ebpf_decode.proofs.Bytes.{FitSlot, fits-32, length-slots_bytes, slots-again, slots-bytes, slots-fields}
 use Rattle.ebpf_decode.proofs.Slots.{length-slots}
 use Rattle.ebpf_decode.proofs.ReadAreSpelled.{AreFields, AreFieldsIn, read-takes}

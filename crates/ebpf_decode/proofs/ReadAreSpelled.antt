@@ -6,7 +6,7 @@ use Rattle.std.specs.Option.{ok_or, option_or}
 use Rattle.std.proofs.lemmas.Bool.{agree_below_at, and_parts, eqb-true, leb-false, not-false, not-true, or_parts}
 use Rattle.std.proofs.lemmas.Bool.Decides.{Decides-int_eq}
 use Rattle.std.proofs.lemmas.Int.{ints, to_z-of_z}
-use Rattle.program_interface.proofs.Proved.{demanded, found_passes, found_where_ok, no_fault, no_fault_where_none_fails}
+use Rattle.common_definitions.proofs.Proved.{demanded, found_passes, found_where_ok, no_fault, no_fault_where_none_fails}
 use Rattle.ebpf_decode.specs.declared.fault.FaultKind.{FaultKind}
 use Rattle.ebpf_decode.specs.declared.fault.FaultKind.TheVariants as kinds
 use Rattle.program_interface.specs.declared.registers.TheConstants.{REGISTERS}

@@ -7,8 +7,8 @@ use Rattle.ebpf_decode.specs.declared.fault.FaultKind.{FaultKind}
 use Rattle.instruction_set.specs.declared.fields.Fields.{Fields}
 use Rattle.instruction_set.specs.declared.instruction.Instruction.{Instruction}
 use Rattle.ebpf_decode.specs.Reading.{begins_wide, begun, fields_at, read_slots, slots_at, then_read}
-use Rattle.program_interface.specs.Readings.{with_front}
-use Rattle.program_interface.proofs.Proved.{with_front-more}
+use Rattle.common_definitions.specs.Readings.{with_front}
+use Rattle.common_definitions.proofs.Proved.{with_front-more}
 
 pub slots-get : (count : ℕ) (bytes : List ℕ) (k : ℕ) → k < count → slice_get (slots_at count bytes) k ≡ Some (fields_at (drop (8 * k) bytes))
 slots-get zero bytes k h = absurd (omega arith)

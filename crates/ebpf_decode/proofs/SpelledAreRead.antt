@@ -33,7 +33,7 @@ use Rattle.instruction_set.specs.Codes.{extension_with, has_variants, swap_size_
 use Rattle.ebpf_decode.specs.Opcodes.{opcode_named, uses}
 use Rattle.instruction_set.specs.Program.{is_wide}
 use Rattle.ebpf_decode.specs.declared.fault.FaultKind.TheVariants as kinds
-use Rattle.program_interface.specs.Readings.{unless_fault}
+use Rattle.common_definitions.specs.Readings.{unless_fault}
 use Rattle.program_interface.specs.declared.registers.TheConstants.{REGISTERS}
 use Rattle.ebpf_decode.specs.Reading.{first_fault, has_more, has_no_register, has_unused, instruction_with, is_left_out, is_load_immediate, read, read_named}
 use Rattle.instruction_set.specs.declared.codes.TheConstants.{LDX, MEM, MEMSX, NEG, ST, STX}

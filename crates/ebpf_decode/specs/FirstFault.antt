@@ -9,8 +9,8 @@ use Rattle.instruction_set.specs.declared.fields.Fields.{Fields}
 use Rattle.instruction_set.specs.declared.instruction.Instruction.{Instruction}
 use Rattle.instruction_set.specs.Program.{is_wide}
 use Rattle.instruction_set.specs.Spelling.{Fits, first_slot, second_slot, slots_spelled}
-use Rattle.program_interface.specs.Checks.{demand}
-use Rattle.program_interface.specs.FirstCheck.{FailsFirst, NoneFails}
+use Rattle.common_definitions.specs.Checks.{demand}
+use Rattle.common_definitions.specs.FirstCheck.{FailsFirst, NoneFails}
 use Rattle.ebpf_decode.specs.Opcodes.{opcode_named}
 use Rattle.ebpf_decode.specs.Reading.{checks, instruction_with, length_checks, slots_at}
 

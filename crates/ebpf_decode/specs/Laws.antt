@@ -6,7 +6,7 @@ use Rattle.instruction_set.specs.Program.{IsProgram}
 use Rattle.ebpf_decode.specs.FirstFault.{IsFirstFault}
 use Rattle.ebpf_decode.specs.Reading.{decoded_program}
 use Rattle.instruction_set.specs.Spelling.{program_bytes}
-use Rattle.program_interface.specs.Bytes.{AreBytes}
+use Rattle.common_definitions.specs.Bytes.{AreBytes}
 use Rattle.program_interface.specs.declared.TheConstants.{MOST_SLOTS}
 
 -- the bytes that spell a program decode as it

@@ -24,11 +24,11 @@ use Rattle.instruction_set.specs.declared.operation.Operation.{Operation}
 use Rattle.instruction_set.specs.Codes.{extension_with, variant_with, swap_size_with}
 use Rattle.ebpf_decode.specs.Opcodes.{opcode_named, uses}
 use Rattle.instruction_set.specs.Program.{is_wide}
+use Rattle.common_definitions.specs.Bytes.{field}
+use Rattle.common_definitions.specs.Readings.{unless_fault, with_front}
+use Rattle.common_definitions.specs.Checks.{demand, first_failed}
 use Rattle.program_interface.specs.declared.TheConstants.{MOST_SLOTS}
 use Rattle.program_interface.specs.declared.registers.TheConstants.{REGISTERS}
-use Rattle.program_interface.specs.Bytes.{field}
-use Rattle.program_interface.specs.Readings.{unless_fault, with_front}
-use Rattle.program_interface.specs.Checks.{demand, first_failed}
 
 -- the fields of the slot at the front of bytes (RFC 9669, 3.1)
 abbrev pub fields_at : List ℕ → Fields

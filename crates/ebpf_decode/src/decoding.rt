@@ -2,7 +2,7 @@
 
 ghost use Rattle.std.specs.Prelude.{◌≡◌, ◌<◌, ◌≤◌, ◌+◌, ◌*◌, ◌/◌, ◌^◌, drop, length, false, None};
 ghost use Rattle.std.specs.Int.{w32, cast_unsigned};
-ghost use Rattle.program_interface.specs.Gives.{Gives};
+ghost use Rattle.common_definitions.specs.Gives.{Gives};
 ghost use Rattle.ebpf_decode.specs.Reading.{begins_wide, decoded_program, begun, fault_in, fields_at, fields_in, first_fault, has_more, has_no_register, has_unused, immediate_of, instruction_with, is_left_out, jump, length_fault, load_or_store, read, read_slots, slots_at, source_of, signed_move};
 
 use crate::fault::{DecodeFault, Fault, FaultKind};

@@ -1,8 +1,8 @@
 -- Lists of bytes by recursion, as lemmas go over them from the first byte on.
 use Rattle.std.proofs.Common.{ℕ, zero, suc, ◌^◌, ◌<◌, List, [], ◌∷◌, lit<}
 use Rattle.std.specs.List.{AllByRecursion}
-use Rattle.program_interface.specs.Bytes.{AreBytes}
-use Rattle.program_interface.proofs.Proved.{all_at}
+use Rattle.common_definitions.specs.Bytes.{AreBytes}
+use Rattle.common_definitions.proofs.Proved.{all_at}
 use Rattle.emit_append.specs.OutputBlocks.{AreAllBytes}
 
 abbrev pub FitsByte : ℕ → Type 0

@@ -4,7 +4,7 @@ use Rattle.std.proofs.lemmas.Bool.{cases_lt}
 use Rattle.std.proofs.lemmas.List.{map-append}
 use Rattle.std.specs.List.{AllByRecursion}
 use Rattle.emit_append.specs.GoingOn.{PackingGoesOn}
-use Rattle.program_interface.specs.Bytes.{padded}
+use Rattle.common_definitions.specs.Bytes.{padded}
 use Rattle.emit_append.specs.Packing.{Layout, behind, beginning, laid_out, block_fillings, packed, released, pending_of, all_but_last, last_or_empty}
 use Rattle.emit_append.proofs.Layouts.{filled-first, laid-behind, laid-beginning, laid-empty}
 

@@ -4,8 +4,8 @@ use Rattle.std.proofs.Math.Nat.{add-div_right}
 use Rattle.std.proofs.lemmas.Bool.{cases_lt}
 use Rattle.std.proofs.lemmas.Bool.Decides.{nat_tests}
 use Rattle.std.proofs.lemmas.List.{drop-take, length-take-le, take-take}
-use Rattle.program_interface.specs.Readings.{◌>>=◌, with_front}
-use Rattle.program_interface.proofs.Proved.{with_front-more}
+use Rattle.common_definitions.specs.Readings.{◌>>=◌, with_front}
+use Rattle.common_definitions.proofs.Proved.{with_front-more}
 use Rattle.emit_append.specs.Unpacking.{Reading, after_frame, output_block_at, output_blocks_at, frame_length, frame_record, frames_at, zeros_at}
 
 -- one step, by what stands in front

@@ -3,7 +3,7 @@ use Rattle.std.proofs.Common.{◌≡◌, ℕ, ◌+◌, ◌-◌, ◌≤◌, ◌<�
 use Rattle.std.specs.List.{AllByRecursion, concat, flat_map}
 use Rattle.std.proofs.lemmas.List.{append-nil}
 use Rattle.std.proofs.lemmas.Bool.{cases_lt}
-use Rattle.program_interface.specs.Bytes.{padded}
+use Rattle.common_definitions.specs.Bytes.{padded}
 use Rattle.emit_append.specs.Packing.{Layout, behind, beginning, block_fillings, laid_out, packed}
 use Rattle.emit_append.specs.PackedLaw.{ArePacked, EachNextIsLonger, FitBlock, NextIsLonger, PackedAsDescribed, without_empty}
 use Rattle.emit_append.proofs.Layouts.{laid-behind, laid-beginning, laid-empty}

@@ -5,9 +5,9 @@ use Rattle.std.proofs.Math.Nat.{div-add-mod', suc-mul}
 use Rattle.std.proofs.Math.Seq.{take-add}
 use Rattle.std.proofs.lemmas.Bool.{cases_lt}
 use Rattle.std.proofs.lemmas.List.{append-nil, drop-take, length-take, length-take-le, take-append-le, take-take, take_all, take_at}
-use Rattle.program_interface.proofs.Proved.{agree_before, agree_behind, all_drop, all_take, fault_behind}
+use Rattle.common_definitions.proofs.Proved.{agree_before, agree_behind, all_drop, all_take, fault_behind}
 use Rattle.emit_append.proofs.ByteLists.{AllBytes, FitsByte, by_recursion}
-use Rattle.program_interface.specs.Readings.{◌>>=◌, with_front}
+use Rattle.common_definitions.specs.Readings.{◌>>=◌, with_front}
 use Rattle.emit_append.specs.Unpacking.{AreFrames, CanBegin, Reading, RefusedIsLowest, frames_at, output_block_at, output_blocks_at}
 use Rattle.emit_append.proofs.UnpackedFrames.{block_before, no_blocks, only-frames}
 use Rattle.emit_append.proofs.ReadBack.{blocks-counted, frames-read, length-blocks}

@@ -8,8 +8,8 @@ use Rattle.std.proofs.lemmas.List.{length-map, length-replicate}
 use Rattle.std.proofs.lemmas.Nat.{le-div}
 use Rattle.std.proofs.lemmas.Bool.Decides.{nat_tests}
 use Rattle.std.proofs.lemmas.Grind.{div_ceil_times}
-use Rattle.program_interface.specs.Bytes.{padded}
-use Rattle.program_interface.proofs.Proved.{all_same}
+use Rattle.common_definitions.specs.Bytes.{padded}
+use Rattle.common_definitions.proofs.Proved.{all_same}
 use Rattle.emit_append.specs.Packing.{laid_out, block_fillings, packed}
 use Rattle.emit_append.specs.Need.{NeedGrows, NeedIsEnough, NeedIsMet, ReachNeed, need}
 use Rattle.emit_append.proofs.Layouts.{laid-behind, laid-beginning, laid-empty}

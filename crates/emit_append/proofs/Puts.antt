@@ -1,7 +1,7 @@
 -- Groups put one after another come to the packing of the whole list.
 use Rattle.std.proofs.Common.{◌≡◌, ℕ, ◌+◌, ◌-◌, ◌<◌, ◌≤◌, List, [], ◌∷◌, ◌++◌, length, map, refl, ap, sym, ◌∙◌, arith}
 use Rattle.std.proofs.lemmas.List.{append-nil}
-use Rattle.program_interface.specs.Bytes.{padded}
+use Rattle.common_definitions.specs.Bytes.{padded}
 use Rattle.emit_append.specs.Packing.{block_fillings, packed, released, pending_of, all_but_last, last_or_empty}
 use Rattle.emit_append.specs.Packer.{LendingIsFinishing, LendingIsPutting, PuttingIsPacking, after_put, after_puts, given_by_puts, new_packer}
 use Rattle.emit_append.proofs.Continuing.{packing_goes_on}

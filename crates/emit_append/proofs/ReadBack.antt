@@ -8,11 +8,11 @@ use Rattle.std.proofs.lemmas.List.{drop-drop, drop_at, take_at}
 use Rattle.std.proofs.Math.Nat.{mul-div_cancel, suc-mul}
 use Rattle.byteorder.specs.Endian.{little_number}
 use Rattle.byteorder.specs.Numbers.{little_number-reads_back}
+use Rattle.common_definitions.specs.Readings.{with_front}
 use Rattle.program_interface.specs.Frame.{frame, frames}
-use Rattle.program_interface.specs.Readings.{with_front}
 use Rattle.emit_append.specs.PackedLaw.{FitBlock}
-use Rattle.program_interface.specs.Bytes.{padded}
-use Rattle.program_interface.proofs.Proved.{all_append, length-padded}
+use Rattle.common_definitions.specs.Bytes.{padded}
+use Rattle.common_definitions.proofs.Proved.{all_append, length-padded}
 use Rattle.emit_append.specs.Packing.{Layout, behind, beginning, laid_out, packed}
 use Rattle.emit_append.specs.Unpacking.{AreFrames, PackedFramesReadBack, output_block_at, output_blocks_at, frame_length, unpacked, zeros_at}
 use Rattle.emit_append.proofs.Layouts.{laid-behind, laid-beginning}

@@ -2,8 +2,8 @@
 use Rattle.std.proofs.Common.{◌≡◌, ℕ, ◌+◌, ◌/◌, ◌≤◌, ◌<◌, List, [], length, take, drop, Result, Ok, Err, IfSome, ap, sym, ◌∙◌, arith}
 use Rattle.std.proofs.lemmas.List.{append-nil, nil_from_length}
 use Rattle.std.proofs.Math.Nat.{div-eq_of_lt}
-use Rattle.program_interface.specs.Gives.{Gives}
-use Rattle.program_interface.specs.Readings.{◌>>=◌, with_front}
+use Rattle.common_definitions.specs.Gives.{Gives}
+use Rattle.common_definitions.specs.Readings.{◌>>=◌, with_front}
 use Rattle.emit_append.specs.declared.fault.UnpackFault.{UnpackFault}
 use Rattle.emit_append.specs.declared.fault.UnpackFault.TheVariants.{At, Memory}
 use Rattle.emit_append.specs.Unpacking.{Reading, output_block_at, output_blocks_at, byte_told}

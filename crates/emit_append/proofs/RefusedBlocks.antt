@@ -6,9 +6,9 @@ use Rattle.std.proofs.lemmas.Bool.{cases_lt}
 use Rattle.std.proofs.lemmas.Bool.Decides.{eqb_tells}
 use Rattle.std.proofs.lemmas.List.{length-replicate, length-take-le, replicate-append-replicate}
 use Rattle.byteorder.specs.Endian.{little_number}
+use Rattle.common_definitions.specs.Readings.{with_front}
+use Rattle.common_definitions.proofs.Proved.{agree_before, agree_behind, all_drop, fault_behind}
 use Rattle.program_interface.specs.Frame.{frame}
-use Rattle.program_interface.specs.Readings.{with_front}
-use Rattle.program_interface.proofs.Proved.{agree_before, agree_behind, all_drop, fault_behind}
 use Rattle.emit_append.proofs.ByteLists.{AllBytes, FitsByte}
 use Rattle.emit_append.specs.Unpacking.{after_frame, frame_length, frame_record, frames_at, zeros_at}
 use Rattle.emit_append.proofs.FramesRead.{step-frame, step-short, step-zeros}

@@ -6,10 +6,10 @@ use Rattle.std.proofs.lemmas.Bool.{cases_lt}
 use Rattle.std.proofs.lemmas.Bool.Decides.{eqb_tells}
 use Rattle.std.proofs.lemmas.List.{drop-drop, length-replicate, length-take-le}
 use Rattle.byteorder.specs.Endian.{little_bytes}
+use Rattle.common_definitions.specs.Readings.{◌>>=◌, with_front}
+use Rattle.common_definitions.specs.Bytes.{padded}
+use Rattle.common_definitions.proofs.Proved.{all_drop, all_take, front_spelled}
 use Rattle.program_interface.specs.Frame.{frame, frames}
-use Rattle.program_interface.specs.Readings.{◌>>=◌, with_front}
-use Rattle.program_interface.specs.Bytes.{padded}
-use Rattle.program_interface.proofs.Proved.{all_drop, all_take, front_spelled}
 use Rattle.emit_append.proofs.ByteLists.{AllBytes, FitsByte, by_place, by_recursion}
 use Rattle.emit_append.specs.Unpacking.{AreFrames, Reading, UnpackedIsFrames, after_frame, frame_length, frame_record, frames_at, output_blocks_at, zeros_at}
 use Rattle.emit_append.proofs.FramesRead.{step-frame, step-short, step-zeros}

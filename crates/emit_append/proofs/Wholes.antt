@@ -2,8 +2,8 @@
 use Rattle.std.proofs.Common.{◌≡◌, ℕ, ◌-◌, ◌≤◌, List, [], ◌∷◌, length, map, replicate, arith, lit<, ⊎_elim}
 use Rattle.std.specs.List.{AllByRecursion}
 use Rattle.std.proofs.lemmas.Bool.{cases_lt}
-use Rattle.program_interface.specs.Bytes.{AreBytes, padded}
-use Rattle.program_interface.proofs.Proved.{all_append, all_same, length-padded}
+use Rattle.common_definitions.specs.Bytes.{AreBytes, padded}
+use Rattle.common_definitions.proofs.Proved.{all_append, all_same, length-padded}
 use Rattle.emit_append.specs.OutputBlocks.{AreWhole, OutputBlocksAreBytes, OutputBlocksAreWhole}
 use Rattle.emit_append.specs.PackedLaw.{FitBlock}
 use Rattle.emit_append.specs.Packing.{all_but_last, block_fillings, laid_out, last_or_empty}

@@ -1,7 +1,7 @@
 -- What the packing of groups is, said of its blocks: the groups that have bytes stand in them whole and in order, at least one in each, the rest of a block is zeros, and the next group is longer than that rest.
 use Rattle.std.specs.Prelude.{◌≡◌, ◌↔◌, ℕ, ◌-◌, ◌≤◌, ◌<◌, Bool, true, false, List, [], ◌∷◌, length, map, filter}
 use Rattle.std.specs.List.{AllByRecursion, concat, flat_map}
-use Rattle.program_interface.specs.Bytes.{padded}
+use Rattle.common_definitions.specs.Bytes.{padded}
 use Rattle.emit_append.specs.Packing.{packed}
 
 -- is a group not empty?

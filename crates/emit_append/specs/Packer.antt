@@ -1,8 +1,8 @@
 -- What a packer is seen as, and what putting a group into it gives, in the words of the packing.
 use Rattle.std.specs.Prelude.{◌≡◌, ℕ, ◌+◌, ◌<◌, ◌≤◌, List, [], ◌∷◌, ◌++◌, length}
+use Rattle.common_definitions.specs.Bytes.{padded}
 use Rattle.program_interface.specs.declared.block_size.TheConstants.{LARGEST_BLOCK}
 use Rattle.program_interface.specs.BlockSize.{IsBlockSize}
-use Rattle.program_interface.specs.Bytes.{padded}
 use Rattle.emit_append.specs.Packing.{packed, pending_of, released}
 
 -- the size of its blocks, and the bytes of the block that it hasn't released yet

@@ -1,7 +1,7 @@
 -- How groups of bytes stand in output blocks (profile): whole and in order, each in the block of the group before it where it still fits, the rest of a block zeros.
 use Rattle.std.specs.Prelude.{ℕ, ◌-◌, nat_le, List, [], ◌∷◌, ◌++◌, length, map, None, unwrap_or, if◌then◌else◌}
 use Rattle.std.specs.List.{last_or}
-use Rattle.program_interface.specs.Bytes.{padded}
+use Rattle.common_definitions.specs.Bytes.{padded}
 
 -- what groups add to a block begun, and the bytes of each block after it
 pub record Layout : Type 0 where

@@ -3,12 +3,12 @@ use Rattle.std.specs.Prelude.{ℕ, zero, suc, ◌≡◌, ◌↔◌, ◌+◌, ◌
 use Rattle.std.specs.List.{AllByRecursion, concat, flat_map}
 use Rattle.std.specs.declared.alloc.Global.{Global}
 use Rattle.byteorder.specs.Endian.{little_number}
+use Rattle.common_definitions.specs.Readings.{◌>>=◌, with_front}
 use Rattle.program_interface.specs.Frame.{frames}
 use Rattle.program_interface.specs.declared.frame.TheConstants.{FRAME_LENGTH_BYTES}
-use Rattle.program_interface.specs.Readings.{◌>>=◌, with_front}
 use Rattle.emit_append.specs.declared.fault.UnpackFault.{UnpackFault}
 use Rattle.emit_append.specs.declared.fault.UnpackFault.TheVariants.{At, Memory}
-use Rattle.program_interface.specs.Bytes.{AreBytes, padded}
+use Rattle.common_definitions.specs.Bytes.{AreBytes, padded}
 use Rattle.emit_append.specs.PackedLaw.{FitBlock}
 use Rattle.emit_append.specs.Packing.{packed}
 

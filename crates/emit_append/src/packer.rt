@@ -2,7 +2,7 @@
 
 ghost use Rattle.std.specs.Prelude.{◌≡◌, ◌≤◌, ◌+◌, ◌==◌, [], ◌++◌, length, nat_le, take};
 ghost use Rattle.emit_append.specs.Packer.{after_put, given_by_put, new_packer};
-ghost use Rattle.program_interface.specs.Bytes.{padded};
+ghost use Rattle.common_definitions.specs.Bytes.{padded};
 
 use program_interface::{BlockSize, LARGEST_BLOCK};
 use std::marker::Model;

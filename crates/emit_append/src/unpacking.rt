@@ -1,8 +1,8 @@
 //! Reading output blocks back.
 
 ghost use Rattle.std.specs.Prelude.{◌≡◌, ◌+◌, ◌^◌, ◌<◌, [], length};
-ghost use Rattle.program_interface.specs.Gives.{Gives};
-ghost use Rattle.program_interface.specs.Readings.{with_front};
+ghost use Rattle.common_definitions.specs.Gives.{Gives};
+ghost use Rattle.common_definitions.specs.Readings.{with_front};
 ghost use Rattle.emit_append.specs.Unpacking.{output_block_at, frame_length as length_in_front, byte_told, record_bytes, unpacked, zeros_at};
 
 use crate::fault::UnpackFault;

@@ -3,8 +3,8 @@ use Rattle.std.proofs.Common.{◌≡◌, ℕ, ◌+◌, List, [], ◌∷◌, ◌+
 use Rattle.std.proofs.lemmas.List.{map-append}
 use Rattle.std.specs.Str.Lines.{lines}
 use Rattle.device_events.specs.declared.event.Event.{Event}
-use Rattle.program_interface.specs.Readings.{with_front}
-use Rattle.program_interface.proofs.Proved.{with_front-more}
+use Rattle.common_definitions.specs.Readings.{with_front}
+use Rattle.common_definitions.proofs.Proved.{with_front-more}
 use Rattle.event_text.specs.CommandFile.{ToldEvent, told_of, line_told, line_before, events_from}
 
 behind_nothing : (later : Result (List ToldEvent) ℕ) → with_front [] later ≡ later

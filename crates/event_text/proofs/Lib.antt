@@ -9,3 +9,4 @@ mod SingleLines
 mod SpelledEvents
 mod SubmissionLemmas
 mod WordLemmas
+mod WordedLines

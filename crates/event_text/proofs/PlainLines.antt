@@ -13,7 +13,7 @@ use Rattle.std.proofs.lemmas.List.Sums.{AllPass-from_list_all, list_all-from_All
 use Rattle.std.proofs.lemmas.Str.Parse.{digit_from_value}
 use Rattle.text_lines.specs.Cut.{is_blank_byte, uncommented}
 use Rattle.text_lines.specs.Number.{decimal_of}
-use Rattle.program_interface.specs.Below.{below}
+use Rattle.common_definitions.specs.Below.{below}
 use Rattle.event_text.specs.CommandFile.{ToldEvent, line_told, words_told}
 use Rattle.event_text.specs.Words.{words_of}
 use Rattle.event_text.proofs.WordLemmas.{word_first, word_last}

@@ -1,11 +1,11 @@
 -- Files of replies, one line after the other.
-use Rattle.std.proofs.Common.{◌≡◌, ℕ, List, [], ◌∷◌, ◌++◌, length, map, sym, ap, ◌∙◌, append_assoc, append-nil, arith}
+use Rattle.std.proofs.Common.{◌≡◌, ℕ, true, List, [], ◌∷◌, ◌++◌, length, map, sym, ap, ◌∙◌, append_assoc, append-nil, arith}
 use Rattle.std.proofs.lemmas.List.{map-append}
 use Rattle.std.proofs.lemmas.List.Elements.{All-push}
-use Rattle.std.specs.List.{All}
+use Rattle.std.specs.List.{All, AllPass}
 use Rattle.std.specs.Str.Lines.{lines}
 use Rattle.event_text.specs.declared.reply_file.ToldReply.{ToldReply}
-use Rattle.event_text.specs.ReplyFile.{HasItsData, told_text}
+use Rattle.event_text.specs.ReplyFile.{HasItsData, can_be_given, told_text}
 
 -- one more reply
 pub reply_read : (all rest behind : List (List ℕ)) (before : List ToldReply) (told : ToldReply) (line : List ℕ) → all ≡ map told_text before ++ rest → rest ≡ line ∷ behind → line ≡ told_text told
@@ -24,3 +24,8 @@ replies_read all before (b ∷ rest) read e = absurd (omega (arith, e))
 -- one more reply has its data
 pub one_more_whole : (before : List ToldReply) (told : ToldReply) → All HasItsData before → HasItsData told → All HasItsData (before ++ told ∷ [])
 one_more_whole before told whole has = All-push HasItsData before told whole has
+
+-- one more reply can be given
+pub one_more_given : (before : List ToldReply) (told : ToldReply) → AllPass (λ given. can_be_given given.reply) before → can_be_given told.reply ≡ true
+    → AllPass (λ given. can_be_given given.reply) (before ++ told ∷ [])
+one_more_given before told given is = All-push (λ given. can_be_given given.reply ≡ true) before told given is

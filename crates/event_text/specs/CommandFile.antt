@@ -1,13 +1,13 @@
 -- Command files (profile): a list of events as text, one on a line.
-use Rattle.std.specs.Prelude.{ℕ, ◌+◌, ◌^◌, List, [], ◌∷◌, Option, Some, None, option_and_then, option_map, Result, Ok, Err, codes, if◌then◌else◌}
+use Rattle.std.specs.Prelude.{ℕ, Bool, ◌+◌, ◌^◌, nat_lt, length, List, [], ◌∷◌, Option, Some, None, option_and_then, option_map, Result, Ok, Err, codes, if◌then◌else◌}
 use Rattle.std.specs.List.{list_all}
 use Rattle.std.specs.Char.{is_ascii}
 use Rattle.std.specs.Str.{bytes_eq}
 use Rattle.std.specs.Str.Lines.{lines}
 use Rattle.std.specs.Result.{result_ok}
 use Rattle.hex.specs.Hex.{decode_of, decode_sized}
-use Rattle.program_interface.specs.Below.{below}
-use Rattle.program_interface.specs.Readings.{with_front}
+use Rattle.common_definitions.specs.Below.{below}
+use Rattle.common_definitions.specs.Readings.{with_front}
 use Rattle.zone_state.specs.Words.{fault_word}
 use Rattle.zone_state.specs.declared.state.FaultState.{FaultState}
 use Rattle.zone_state.specs.declared.state.FaultState.TheVariants.{ReadOnly, Offline}
@@ -90,6 +90,20 @@ events_from number (line ∷ rest) = line_before number (line_told line) (events
 -- the events of a file, or its lowest line that is refused
 abbrev pub events_in : List ℕ → Result (List ToldEvent) ℕ
 events_in file = events_from 1 (lines file)
+
+-- a line has words, besides its comment
+abbrev pub has_words : List ℕ → Bool
+has_words line = nat_lt 0 (length (words_of (uncommented line)))
+
+-- the numbers of the lines that have words, of lines that are counted from a number on
+abbrev pub worded_from : ℕ → List (List ℕ) → List ℕ
+worded_from number [] = []
+worded_from number (line ∷ rest) =
+    if has_words line then number ∷ worded_from (number + 1) rest else worded_from (number + 1) rest
+
+-- the numbers of the lines of a file that have words, the first line being 1
+abbrev pub worded_lines : List ℕ → List ℕ
+worded_lines file = worded_from 1 (lines file)
 
 -- the line that a fault tells; none where memory ran out
 abbrev pub refused_line : ParseFault → Option ℕ

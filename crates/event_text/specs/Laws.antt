@@ -1,17 +1,18 @@
 -- Laws of the events of a command file, and of the lines of replies (profile).
-use Rattle.std.specs.Prelude.{◌≡◌, ℕ, ◌+◌, ◌^◌, ◌<◌, ◌==◌, not, List, [], ◌∷◌, ◌++◌, length, Result, Ok, Err, codes}
+use Rattle.std.specs.Prelude.{◌≡◌, ℕ, ◌+◌, ◌-◌, ◌^◌, ◌<◌, ◌==◌, not, List, [], ◌∷◌, ◌++◌, length, map, slice_get, Option, Some, option_and_then, Result, Ok, Err, codes}
+use Rattle.std.specs.Option.{option_flatten}
 use Rattle.std.specs.List.{AllPass}
 use Rattle.std.specs.Char.{is_ascii}
 use Rattle.std.specs.Fmt.{decimal}
 use Rattle.std.specs.Str.Lines.{lines}
-use Rattle.program_interface.specs.Bytes.{AreBytes}
+use Rattle.common_definitions.specs.Bytes.{AreBytes}
 use Rattle.zone_state.specs.Words.{fault_word}
 use Rattle.zone_state.specs.declared.state.FaultState.{FaultState}
 use Rattle.text_lines.specs.Laws.{AreBlanks}
 use Rattle.device_events.specs.Replies.{ReplyWithData, data_length}
 use Rattle.device_events.specs.declared.reply.Reply.{Reply}
 use Rattle.device_events.specs.declared.reply.Reply.TheVariants as reply
-use Rattle.event_text.specs.CommandFile.{ToldEvent, Submitted, Turned, Faulted, line_told, events_in}
+use Rattle.event_text.specs.CommandFile.{ToldEvent, Submitted, Turned, Faulted, line_told, events_in, worded_lines}
 use Rattle.event_text.specs.Lines.{reply_text}
 use Rattle.event_text.specs.Submission.{submission_text}
 
@@ -30,6 +31,15 @@ abbrev pub EventsAreByLine : Type 0
 EventsAreByLine =
     (first second : List ℕ)
     → events_in (ended first ++ second) ≡ told_by_both (length (lines (ended first))) (events_in (ended first)) (events_in second)
+
+-- the event that the line of this number tells, the first line being 1
+abbrev pub told_at : List ℕ → ℕ → Option ToldEvent
+told_at file number = option_flatten (option_and_then line_told (slice_get (lines file) (number - 1)))
+
+-- the events of a file that is read are those that its lines with words tell, in order
+abbrev pub EventsHaveLines : Type 0
+EventsHaveLines =
+    (file : List ℕ) (events : List ToldEvent) → events_in file ≡ Ok events → map (told_at file) (worded_lines file) ≡ map Some events
 
 -- what may stand at the end of a line: nothing, at the end of the file, else `\n` or `\r\n`
 pub data LineEnd : Type 0 where

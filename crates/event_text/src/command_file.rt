@@ -9,8 +9,8 @@
 
 ghost use Rattle.std.specs.Prelude.{◌≡◌, ◌^◌, map, option_and_then};
 ghost use Rattle.std.specs.Str.{bytes_eq};
-ghost use Rattle.program_interface.specs.Below.{below};
-ghost use Rattle.program_interface.specs.Gives.{Gives};
+ghost use Rattle.common_definitions.specs.Below.{below};
+ghost use Rattle.common_definitions.specs.Gives.{Gives};
 ghost use Rattle.zone_state.specs.Words.{fault_word};
 ghost use Rattle.text_lines.specs.Number.{decimal_of};
 ghost use Rattle.event_text.specs.Words.{words_of};

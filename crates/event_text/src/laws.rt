@@ -1,11 +1,16 @@
 //! Laws of the events of a command file, and of the lines of replies. Each function does nothing: what it ensures is the law.
 
-ghost use Rattle.event_text.specs.Laws.{BlankLinesMakeNoEvent, CommentsDontCount, EventsAreByLine, FaultsReadBack, LinesTellReplies, SubmissionsReadBack, TurnsReadBack};
+ghost use Rattle.event_text.specs.Laws.{BlankLinesMakeNoEvent, CommentsDontCount, EventsAreByLine, EventsHaveLines, FaultsReadBack, LinesTellReplies, SubmissionsReadBack, TurnsReadBack};
 
 /// The events of two files joined at a line's end are those of both, and the lowest line that is refused is
 /// that of the first, or else that of the second.
 pub fn events_are_by_line()
     ensures { EventsAreByLine }
+{}
+
+/// The events of a file that is read are those that its lines with words tell, in order.
+pub fn events_have_lines()
+    ensures { EventsHaveLines }
 {}
 
 /// A line of blanks and a comment of ASCII, of which either may be missing, makes no event.

@@ -4,7 +4,7 @@ ghost use Rattle.std.specs.Prelude.{◌≡◌, ◌≤◌, ◌<◌, ◌+◌, ◌^
 ghost use Rattle.std.proofs.Common.{◌∙◌, refl};
 ghost use Rattle.std.specs.Io.KnownBytes.{Appends};
 ghost use Rattle.hex.specs.Hex.{encode_lower};
-ghost use Rattle.program_interface.specs.Failures.{CountsFailure};
+ghost use Rattle.common_definitions.specs.Failures.{CountsFailure};
 ghost use Rattle.device_events.proofs.Proved.{prints_in_parts, prints_none};
 ghost use Rattle.event_text.specs.Lines.{Took, data_text, printed_by, reply_line, line_text, reply_text};
 

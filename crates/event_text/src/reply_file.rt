@@ -1,10 +1,10 @@
 //! Files of replies: the lines that they were printed as, read back.
 
-ghost use Rattle.std.specs.Prelude.{◌≡◌, map, IfOk};
+ghost use Rattle.std.specs.Prelude.{◌≡◌, map, IfOk, true};
 ghost use Rattle.std.specs.Str.Lines.{lines};
-ghost use Rattle.std.specs.List.{All};
+ghost use Rattle.std.specs.List.{All, AllPass};
 ghost use Rattle.device_events.specs.Replies.{data_length};
-ghost use Rattle.event_text.specs.ReplyFile.{HasItsData, told_text};
+ghost use Rattle.event_text.specs.ReplyFile.{HasItsData, can_be_given, tells_success, told_text};
 
 use crate::command_file::{queue_number, run_number};
 use crate::lines::push_reply;
@@ -13,6 +13,7 @@ use hex::{FromHex, FromHexError};
 use std::alloc::{AllocFailed, Global};
 use text_lines::{cut, first_line};
 use thiserror::Error;
+use zone_resources::RUNS;
 
 /// The hexadecimal digits of a completion queue entry.
 const ENTRY_DIGITS: usize = 32;
@@ -20,7 +21,7 @@ const ENTRY_DIGITS: usize = 32;
 /// Why the replies of a file aren't read.
 #[derive(Clone, Copy, Debug, PartialEq, Eq, Error)]
 pub enum RepliesFault {
-    /// A line isn't one that a reply is printed as; the first line is 1.
+    /// A line isn't one that a reply which a device can give is printed as; the first line is 1.
     #[error("line {0}: not one that a reply is printed as")]
     Line(usize),
     /// No memory for the replies.
@@ -48,11 +49,12 @@ pub struct ToldReply {
 ///
 /// # Errors
 ///
-/// The lowest line that isn't the line of a reply, or want of memory before one was found.
-#[tactic(auto, using(crate::proofs::ReplyLemmas::reply_read, crate::proofs::ReplyLemmas::replies_read, crate::proofs::ReplyLemmas::one_more_whole))]
+/// The lowest line that isn't the line of a reply which a device can give, or want of memory before one was found.
+#[tactic(auto, using(crate::proofs::ReplyLemmas::reply_read, crate::proofs::ReplyLemmas::replies_read, crate::proofs::ReplyLemmas::one_more_whole, crate::proofs::ReplyLemmas::one_more_given))]
 pub fn replies(alloc: Global, file: &[u8]) -> Result<Vec<ToldReply>, RepliesFault>
     ensures spelled { IfOk result (λ told. lines file.now ≡ map told_text told.items) }
     ensures whole { IfOk result (λ told. All HasItsData told.items) }
+    ensures given { IfOk result (λ told. AllPass (λ told. can_be_given told.reply) told.items) }
 {
     let mut told = Vec::new(alloc);
     let mut rest = file;
@@ -74,14 +76,36 @@ pub fn replies(alloc: Global, file: &[u8]) -> Result<Vec<ToldReply>, RepliesFaul
 fn told_by(alloc: Global, line: &[u8]) -> Result<ToldReply, ReplyFault>
     ensures spelled { IfOk result (λ told. line.now ≡ told_text told) }
     ensures whole { IfOk result HasItsData }
+    ensures given { IfOk result (λ told. can_be_given told.reply ≡ true) }
 {
     let told = candidate(alloc, line)?;
+    if !can_be_given(told.reply) {
+        return Err(ReplyFault::Refused);
+    }
     let mut again = Vec::new(alloc);
     match push_reply(&mut again, told.reply, told.bytes.as_slice()) {
         Ok(()) if again.as_slice() == line => Ok(told),
         Ok(()) => Err(ReplyFault::Refused),
         Err(_) => Err(ReplyFault::Memory),
     }
+}
+
+/// Can a device give such a reply? A command that it refuses gives no data, and a run that goes on has one of the places for runs.
+fn can_be_given(reply: Reply) -> bool
+    ensures { result ≡ can_be_given reply }
+{
+    match reply {
+        Reply::Complete { entry, length, .. } => length == 0 || tells_success(&entry),
+        Reply::Pending { run } => usize::from(run) < RUNS,
+        Reply::Idle | Reply::FaultTaken | Reply::FaultRefused => true,
+    }
+}
+
+/// Is the status field of a completion's bytes 0, above the phase tag (NVMe Base 2.0, 3.3.3.2)?
+fn tells_success(entry: &[u8; 16]) -> bool
+    ensures { result ≡ tells_success entry.now }
+{
+    entry[14] / 2 == 0 && entry[15] == 0
 }
 
 /// The one reply whose line this can be.

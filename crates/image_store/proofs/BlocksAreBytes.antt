@@ -1,8 +1,8 @@
 -- Blocks of bytes are bytes.
 use Rattle.std.proofs.Common.{ℕ, ◌*◌, zero, suc, List, [], ◌∷◌, get_or, drop, arith}
 use Rattle.zone_state.specs.Zone.{CountedZone}
-use Rattle.program_interface.specs.Bytes.{AreBytes, pieces}
-use Rattle.program_interface.proofs.Proved.{bytes_from, bytes_to}
+use Rattle.common_definitions.specs.Bytes.{AreBytes, pieces}
+use Rattle.common_definitions.proofs.Proved.{bytes_from, bytes_to}
 use Rattle.image_store.specs.ImageInMemory.{zones_of}
 use Rattle.image_store.specs.Namespace.{no_zone}
 

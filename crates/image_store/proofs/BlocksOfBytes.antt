@@ -1,10 +1,13 @@
 -- Bytes cut into blocks, blocks joined, and bytes with others put in their place.
-use Rattle.std.proofs.Common.{◌≡◌, ℕ, ◌+◌, ◌-◌, ◌*◌, ◌≤◌, zero, suc, List, ◌∷◌, ◌++◌, length, take, drop, refl, ap, sym, ◌∙◌, arith, length-take}
-use Rattle.std.specs.List.{concat}
-use Rattle.std.proofs.lemmas.List.{take-take, drop-take, drop-drop, take_at, drop_at, take-append-le, drop-append-le}
+use Rattle.std.proofs.Common.{◌≡◌, ℕ, ◌+◌, ◌-◌, ◌*◌, ◌<◌, ◌≤◌, zero, suc, List, [], ◌∷◌, ◌++◌, length, get_or, take, drop, refl, ap, sym, ◌∙◌, map-id, arith, length-take}
+use Rattle.std.specs.List.{concat, flat_map}
+use Rattle.std.proofs.lemmas.List.{append-nil, take-take, drop-take, drop-drop, take_at, drop_at, take-append-le, drop-append-le}
+use Rattle.std.proofs.lemmas.List.Concat.{concat_is}
+use Rattle.std.proofs.lemmas.List.Elements.{All-from_get_or}
 use Rattle.std.proofs.Math.Seq.{take-add}
 use Rattle.std.proofs.Math.Nat.{suc-mul}
-use Rattle.program_interface.specs.Bytes.{pieces, spliced}
+use Rattle.common_definitions.specs.Bytes.{pieces, spliced}
+use Rattle.common_definitions.proofs.Proved.{length-flat_map-each, pieces-flat_map}
 
 -- a place behind the first piece is one in all
 pub drop-next : (n k : ℕ) (xs : List ℕ) → drop (k * n) (drop n xs) ≡ drop (suc k * n) xs
@@ -50,6 +53,17 @@ blocks_keep_bytes b (suc n) xs =
     let place : b + n * b ≡ suc n * b = omega (arith, suc-mul n b) in
     ap (λ (ys : List ℕ). take b xs ++ ys) (blocks_keep_bytes b n (drop b xs))
     ∙ (sym (take-add b (n * b) xs) ∙ ap (λ (k : ℕ). take k xs) place)
+
+-- whole blocks have so many bytes in all,
+pub blocks_have_bytes : (b : ℕ) (blocks : List (List ℕ)) → ((i : ℕ) → i < length blocks → length (get_or blocks i []) ≡ b) → length (concat blocks) ≡ length blocks * b
+blocks_have_bytes b blocks whole =
+    ap length (concat_is blocks) ∙ length-flat_map-each (λ (x : List ℕ). x) b blocks (All-from_get_or (λ (x : List ℕ). length x ≡ b) blocks [] whole)
+
+-- and are cut from these again
+pub blocks_are_cut_again : (b : ℕ) (blocks : List (List ℕ)) → ((i : ℕ) → i < length blocks → length (get_or blocks i []) ≡ b) → pieces b (length blocks) (concat blocks) ≡ blocks
+blocks_are_cut_again b blocks whole =
+    ap (pieces b (length blocks)) (concat_is blocks ∙ sym (append-nil (flat_map (λ (x : List ℕ). x) blocks)))
+    ∙ (pieces-flat_map (λ (x : List ℕ). x) b blocks [] (All-from_get_or (λ (x : List ℕ). length x ≡ b) blocks [] whole) ∙ map-id blocks)
 
 drop-blocks : (b i n : ℕ) (xs : List ℕ) → drop i (pieces b (i + n) xs) ≡ pieces b n (drop (i * b) xs)
 drop-blocks b i n xs =

@@ -11,7 +11,7 @@ use Rattle.zone_state.proofs.Proved.{is_allowed}
 use Rattle.image_store.specs.Blocks.{as_blocks, block_count}
 use Rattle.image_store.specs.ImageInMemory.{zones_of, zone_seen, no_counted_zone, namespace_of, IsFlat}
 use Rattle.image_store.specs.steps.EmptyZone.{empty_counted_zone}
-use Rattle.program_interface.specs.Bytes.{pieces, spliced}
+use Rattle.common_definitions.specs.Bytes.{pieces, spliced}
 use Rattle.image_store.specs.Geometry.{Shape}
 use Rattle.image_store.specs.Namespace.{ZoneWithBlocks, ZonedNamespace, zone_at, counted, grown, appended, namespace_with, all_empty, shape}
 use Rattle.image_store.proofs.BlocksOfBytes.{blocks_are_counted, bytes-middle}

@@ -5,27 +5,5 @@ mod ImageFields
 mod KeptLimits
 mod ReplacedZones
 mod SoundImages
-mod Sinks
-mod Texts
-mod ReadingCalls
-mod ToldRows
-mod FilledBuffers
-mod ZoneRowsRead
-mod BlocksRead
-mod Headers
 mod Shapes
-mod HeaderParts
-mod BadHeaders
-mod Upgrades
-mod Faults
-mod LoadStages
-mod TextsReadBack
-mod SpelledParts
-mod OnlyTextsLoad
-mod LoadedNamespaces
-mod CutTexts
-mod RowFaults
-mod FaultPlaces
-mod HeaderFaults
-mod FirstFaults
 pub mod Proved

@@ -9,10 +9,10 @@ use Rattle.zone_state.specs.declared.state.ZoneState.TheVariants.{Empty, Implici
 use Rattle.zone_state.specs.State.{is_cleared}
 use Rattle.zone_state.specs.Zone.{CountedZone, IsZone, kept, write_check, after_write, written_state}
 use Rattle.zone_state.proofs.Proved.{is_allowed}
-use Rattle.program_interface.proofs.Proved.{length-spliced}
+use Rattle.common_definitions.proofs.Proved.{length-spliced}
 use Rattle.image_store.specs.Blocks.{block_count}
 use Rattle.image_store.specs.ImageInMemory.{zone_seen, no_counted_zone, namespace_of, IsFlat}
-use Rattle.program_interface.specs.Bytes.{pieces, spliced}
+use Rattle.common_definitions.specs.Bytes.{pieces, spliced}
 use Rattle.image_store.specs.Geometry.{Shape}
 use Rattle.image_store.specs.Namespace.{ZoneWithBlocks, ZonedNamespace, zone_at, with_zone, arrived, with_state, namespace_with}
 use Rattle.image_store.proofs.ZonesInMemory.{zone-at, zones-set}

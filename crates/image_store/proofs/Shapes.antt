@@ -1,6 +1,5 @@
--- The tests of a namespace's numbers, what holds of each shape that passes them, and that each version's blocks and zones are
--- some that there are.
-use Rattle.std.proofs.Common.{◌≡◌, ℕ, ◌*◌, ◌≤◌, true, Ok, refl, arith, lit≤}
+-- The tests of a namespace's numbers, and what holds of each shape that passes them.
+use Rattle.std.proofs.Common.{◌≡◌, ℕ, ◌*◌, ◌≤◌, true, Ok, refl, arith}
 use Rattle.std.proofs.lemmas.Bool.{le-leb, leb-true, and_parts}
 use Rattle.std.proofs.lemmas.Bool.Decides.{nat_tests}
 use Rattle.std.proofs.Math.Nat.{mul_assoc, mul-le-mul_right}
@@ -10,11 +9,8 @@ use Rattle.program_interface.specs.BlockSize.{is_block_size, IsBlockSize}
 use Rattle.program_interface.specs.declared.block_size.TheConstants.{LARGEST_BLOCK}
 use Rattle.image_store.specs.declared.geometry.GeometryRefusal.TheVariants.{BlockSize, ZoneCount, ZoneSize, ZoneCapacity, ResourceLimits, TooLarge}
 use Rattle.image_store.specs.declared.geometry.TheConstants.{MOST_BYTES, MOST_ZONES, MOST_ZONE_BLOCKS}
-use Rattle.program_interface.specs.Checks.{first_failed}
-use Rattle.program_interface.proofs.Proved.{demanded, none_failed, passed}
-use Rattle.image_store.specs.declared.version.Version.TheVariants.{One, Two}
-use Rattle.image_store.specs.Laws.{VersionsAreKnown}
-use Rattle.image_store.specs.Version.{has_block}
+use Rattle.common_definitions.specs.Checks.{first_failed}
+use Rattle.common_definitions.proofs.Proved.{demanded, none_failed, passed}
 use Rattle.image_store.specs.Geometry.{Shape, IsShape, are_limits, shape_checks, tested}
 
 -- the shape with another number of zones
@@ -80,11 +76,3 @@ shape_is s t e =
       active_most = leb-true s.limits.active_limit s.zones limits.1;
       room = omega (arith, mul_assoc s.zones s.capacity s.block);
     }
-
-old_block : (bytes : ℕ) → has_block One bytes ≡ true → IsBlockSize bytes
-old_block bytes e = grind (arith, nat_tests)
-
--- each version's blocks and zones are some that there are
-pub version_known : VersionsAreKnown
-version_known One = (old_block, lit≤ tt)
-version_known Two = (λ bytes e. e, omega arith)

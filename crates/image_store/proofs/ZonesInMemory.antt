@@ -4,7 +4,7 @@ use Rattle.std.proofs.lemmas.List.{take_at, take_all}
 use Rattle.std.proofs.Math.Nat.{suc-mul, mul-le-mul_right, add-mul}
 use Rattle.zone_state.specs.Zone.{CountedZone}
 use Rattle.image_store.specs.ImageInMemory.{zones_of, zone_seen, no_counted_zone}
-use Rattle.program_interface.specs.Bytes.{pieces, spliced}
+use Rattle.common_definitions.specs.Bytes.{pieces, spliced}
 use Rattle.image_store.specs.Namespace.{ZoneWithBlocks, no_zone}
 use Rattle.image_store.proofs.BlocksOfBytes.{blocks-same, blocks-add, drop-next, take-spliced, drop-spliced, drop-spliced-past, drop-spliced-later}
 

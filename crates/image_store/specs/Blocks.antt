@@ -1,6 +1,6 @@
 -- Blocks, as pieces of bytes.
 use Rattle.std.specs.Prelude.{ℕ, ◌/◌, List, length}
-use Rattle.program_interface.specs.Bytes.{pieces}
+use Rattle.common_definitions.specs.Bytes.{pieces}
 
 -- how many whole blocks these bytes are
 abbrev pub block_count : ℕ → List ℕ → ℕ

@@ -7,7 +7,7 @@ use Rattle.image_store.specs.declared.geometry.ZoneBlock.{ZoneBlock}
 use Rattle.image_store.specs.declared.geometry.TheConstants.{MOST_BYTES, MOST_ZONES, MOST_ZONE_BLOCKS}
 use Rattle.image_store.specs.declared.geometry.GeometryRefusal.{GeometryRefusal}
 use Rattle.image_store.specs.declared.geometry.GeometryRefusal.TheVariants.{BlockSize, ZoneCount, ZoneSize, ZoneCapacity, ResourceLimits, TooLarge}
-use Rattle.program_interface.specs.Checks.{demand, first_failed, unless_failed}
+use Rattle.common_definitions.specs.Checks.{demand, first_failed, unless_failed}
 
 -- bytes of a block, number of zones, blocks of a zone (zone size), how many of these can be written
 -- (zone capacity), and how many zones may be open and active (ZNS 1.1, 2.1.1)

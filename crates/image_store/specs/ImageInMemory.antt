@@ -5,7 +5,7 @@ use Rattle.zone_resources.specs.Admission.{IsWithin}
 use Rattle.zone_resources.specs.Counts.{counts_of}
 use Rattle.zone_resources.specs.declared.counts.Counts.{Counts}
 use Rattle.zone_state.specs.Zone.{CountedZone, IsZone}
-use Rattle.program_interface.specs.Bytes.{AreBytes, pieces}
+use Rattle.common_definitions.specs.Bytes.{AreBytes, pieces}
 use Rattle.image_store.specs.Geometry.{Shape, IsShape}
 use Rattle.image_store.specs.Namespace.{ZoneWithBlocks, ZonedNamespace, namespace_with}
 

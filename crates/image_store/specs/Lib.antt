@@ -1,13 +1,6 @@
 pub mod Blocks
 pub mod Geometry
-pub mod Fault
 pub mod Namespace
 pub mod ImageInMemory
-pub mod Version
-pub mod Text
-pub mod Reading
-pub mod Streams
-pub mod Loading
 pub mod Laws
-pub mod FirstFault
 pub mod steps

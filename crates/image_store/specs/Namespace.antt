@@ -6,7 +6,7 @@ use Rattle.zone_state.specs.declared.state.ZoneState.{ZoneState}
 use Rattle.zone_state.specs.declared.state.ZoneState.TheVariants.{Empty, Offline}
 use Rattle.zone_state.specs.State.{is_cleared}
 use Rattle.zone_state.specs.Zone.{CountedZone, after_write, IsZone}
-use Rattle.program_interface.specs.Bytes.{AreBytes}
+use Rattle.common_definitions.specs.Bytes.{AreBytes}
 use Rattle.image_store.specs.Blocks.{as_blocks}
 use Rattle.image_store.specs.Geometry.{Shape, IsShape, zone_block_at}
 

@@ -214,14 +214,14 @@ impl Geometry {
 
     /// Bytes that the blocks of one zone may take.
     #[tactic(auto, using(crate::proofs::Shapes::zone_room_is_bounded))]
-    pub(crate) fn zone_room(self) -> usize
+    pub fn zone_room(self) -> usize
         ensures { result ≡ self.capacity * self.block }
     {
         self.capacity as usize * self.block.bytes() as usize
     }
 
     /// Bytes that the blocks of all zones may take.
-    pub(crate) fn room(self) -> usize
+    pub fn room(self) -> usize
         ensures { result ≡ self.zones * (self.capacity * self.block) }
     {
         self.zones as usize * self.zone_room()

@@ -1,23 +1,18 @@
 //! The image.
 
-ghost use Rattle.std.specs.Prelude.{◌≡◌, ◌≤◌, ◌<◌, ◌+◌, ◌-◌, ◌*◌, ◌^◌, length, IfOk, IsOk, take, drop, Ok};
+ghost use Rattle.std.specs.Prelude.{◌≡◌, ◌≤◌, ◌<◌, ◌+◌, ◌*◌, length, IfOk, take, drop, Ok};
 ghost use Rattle.std.specs.List.{concat};
+ghost use Rattle.zone_resources.specs.Admission.{IsWithin};
 ghost use Rattle.zone_resources.specs.Counts.{counts_of};
 ghost use Rattle.zone_state.specs.Zone.{write_check, IsZone, kept};
 ghost use Rattle.image_store.specs.Geometry.{IsShape};
 ghost use Rattle.image_store.specs.Blocks.{block_count};
-ghost use Rattle.image_store.specs.Streams.{Takes};
-ghost use Rattle.program_interface.specs.Failures.{CountsFailure};
-ghost use Rattle.image_store.specs.Loading.{LoadGives, CountsLoad};
-ghost use Rattle.image_store.specs.Reading.{header_in, namespace_in};
-ghost use Rattle.image_store.specs.Text.{text};
+ghost use Rattle.image_store.specs.ImageInMemory.{IsFlat, namespace_of};
 ghost use Rattle.image_store.specs.Namespace.{appended, with_state, counted, counted_zones, zone_at, all_empty, shape, IsWithinLimits, IsNamespace};
 
 use crate::bytes::are_bytes;
-use crate::fault::LoadFault;
 use crate::geometry::Geometry;
-use crate::streams::{Sink, Source, StreamFault};
-use crate::{image_fields, load, save};
+use crate::image_fields;
 use std::alloc::{AllocError, Global};
 use std::marker::Model;
 use zone_resources::Counts;
@@ -64,39 +59,21 @@ impl Image {
         })
     }
 
-    /// The image whose text comes from a source.
-    ///
-    /// # Errors
-    ///
-    /// The fault of the first test of the text that fails, or [`LoadFault::Stream`] where the source fails, or
-    /// [`LoadFault::Memory`] where memory is refused once the header is accepted.
-    pub fn load<R: Source>(alloc: Global, source: &mut R) -> Result<Image, LoadFault>
-        requires { R.failures source.old < 2 ^ 64 - 1 }
-        ensures image { R.tells → LoadGives (IsOk (header_in (R.rest source.old))) (λ image. image) result (namespace_in (R.rest source.old)) }
-        ensures failures { CountsLoad (R.failures source.old) (R.failures source.new) result }
+    /// The image of these zones, where their blocks lie in one vector: a room of the same size for each zone, at whose
+    /// front its written ones are.
+    pub fn from_parts(geometry: Geometry, zones: Vec<Zone>, blocks: Vec<u8>) -> Image
+        requires flat { IsFlat geometry zones.items blocks.items }
+        requires within { IsWithin zones.items geometry.limits }
+        ensures { result ≡ namespace_of geometry zones.items blocks.items }
     {
-        let (geometry, zones, blocks) = load::load(alloc, source)?;
         let counts = Counts::of(&zones);
         are_bytes(&blocks);
-        Ok(Image {
+        Image {
             geometry,
             zones,
             counts,
             blocks,
-        })
-    }
-
-    /// Hands the image's text to a sink.
-    ///
-    /// # Errors
-    ///
-    /// [`StreamFault`] where the sink fails, which then has a beginning of the text.
-    pub fn save<W: Sink>(&self, sink: &mut W) -> Result<(), StreamFault>
-        requires { W.failures sink.old < 2 ^ 64 - 1 }
-        ensures text { W.tells → Takes (W.taken sink.old) (W.taken sink.new) (text self.now) result }
-        ensures failures { CountsFailure (W.failures sink.old) (W.failures sink.new) result }
-    {
-        save::save(self.geometry, &self.zones, &self.blocks, sink)
+        }
     }
 
     /// The shape of the image's namespace.

@@ -8,7 +8,7 @@ ghost use Rattle.zone_state.specs.Zone.{write_check, IsZone, kept};
 ghost use Rattle.image_store.specs.Blocks.{block_count};
 ghost use Rattle.image_store.specs.ImageInMemory.{IsFlat, IsImage, namespace_of, no_counted_zone};
 ghost use Rattle.image_store.specs.steps.EmptyZone.{empty_counted_zone};
-ghost use Rattle.program_interface.specs.Bytes.{spliced};
+ghost use Rattle.common_definitions.specs.Bytes.{spliced};
 ghost use Rattle.image_store.specs.Namespace.{appended, with_state, zone_at, IsWithinLimits};
 
 use crate::geometry::Geometry;

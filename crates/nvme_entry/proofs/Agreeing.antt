@@ -3,8 +3,8 @@ use Rattle.std.proofs.Common.{◌≡◌, ℕ, ◌==◌, List, [], ◌∷◌, Opt
 use Rattle.std.proofs.lemmas.Option.{same_Some}
 use Rattle.std.specs.Option.{ok_or}
 use Rattle.zone_state.specs.declared.status.TheConstants.Status.{INVALID_FIELD_IN_COMMAND, INVALID_NAMESPACE_OR_FORMAT}
-use Rattle.program_interface.specs.Readings.{unless_fault}
-use Rattle.program_interface.specs.Checks.{demand, first_failed}
+use Rattle.common_definitions.specs.Readings.{unless_fault}
+use Rattle.common_definitions.specs.Checks.{demand, first_failed}
 use Rattle.nvme_entry.specs.Entry.{asked, command_of, decoded_by, entry_checks, fuse_of, namespace_identifier, opcode_of}
 use Rattle.nvme_entry.specs.EntryLaws.{OnlyNamedFieldsCount, Spells}
 use Rattle.nvme_entry.specs.declared.command.Command.{Command}

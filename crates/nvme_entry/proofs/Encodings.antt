@@ -5,10 +5,10 @@ use Rattle.std.proofs.lemmas.Grind.{get_or_after_one}
 use Rattle.byteorder.specs.Endian.{little_bytes, little_number}
 use Rattle.byteorder.specs.Numbers.{little_from-bytes, little_number-reads_back}
 use Rattle.zone_state.specs.declared.status.TheConstants.Status.{INVALID_FIELD_IN_COMMAND, INVALID_NAMESPACE_OR_FORMAT}
-use Rattle.program_interface.specs.Bytes.{field}
-use Rattle.program_interface.specs.Readings.{unless_fault}
-use Rattle.program_interface.proofs.Proved.{byte_is}
-use Rattle.program_interface.specs.Checks.{demand, first_failed}
+use Rattle.common_definitions.specs.Bytes.{field}
+use Rattle.common_definitions.specs.Readings.{unless_fault}
+use Rattle.common_definitions.proofs.Proved.{byte_is}
+use Rattle.common_definitions.specs.Checks.{demand, first_failed}
 use Rattle.nvme_entry.specs.steps.EntryFields.{HasFields}
 use Rattle.nvme_entry.specs.Entry.{asked, decoded, decoded_by, fuse_of, identifier_of, namespace_identifier, opcode_of}
 use Rattle.nvme_entry.specs.declared.command.Opcode.{Opcode}

@@ -4,8 +4,8 @@ use Rattle.std.specs.List.{enumerate_from, flat_map}
 use Rattle.std.proofs.lemmas.Bool.{cases_lt}
 use Rattle.std.proofs.lemmas.List.{take_at, drop_more, length-take, length-take-le}
 use Rattle.zone_state.specs.Zone.{CountedZone}
-use Rattle.program_interface.specs.Bytes.{padded}
-use Rattle.program_interface.proofs.Proved.{length-flat_map-each, length-padded}
+use Rattle.common_definitions.specs.Bytes.{padded}
+use Rattle.common_definitions.proofs.Proved.{length-flat_map-each, length-padded}
 use Rattle.nvme_entry.specs.Filter.{lists}
 use Rattle.nvme_entry.specs.declared.filter.ZoneFilter.{ZoneFilter}
 use Rattle.nvme_entry.specs.Report.{descriptor, descriptor_at, report_header, listed, listed_zones}

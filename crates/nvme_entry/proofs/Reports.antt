@@ -8,8 +8,8 @@ use Rattle.std.proofs.lemmas.List.Sums.{count_by-le-length, length-filter}
 use Rattle.byteorder.specs.Endian.{little_bytes}
 use Rattle.byteorder.specs.Numbers.{little_number-reads_back}
 use Rattle.zone_state.specs.Zone.{CountedZone}
-use Rattle.program_interface.specs.Bytes.{pieces}
-use Rattle.program_interface.proofs.Proved.{length-flat_map-each, pieces-flat_map}
+use Rattle.common_definitions.specs.Bytes.{pieces}
+use Rattle.common_definitions.proofs.Proved.{length-flat_map-each, pieces-flat_map}
 use Rattle.nvme_entry.specs.Filter.{lists}
 use Rattle.nvme_entry.specs.declared.filter.ZoneFilter.{ZoneFilter}
 use Rattle.nvme_entry.specs.Report.{descriptor_at, fitting, report_header, listed, matching, report, listed_zones}

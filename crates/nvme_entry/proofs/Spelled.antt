@@ -6,11 +6,11 @@ use Rattle.std.proofs.lemmas.Option.{cond_some, option_and_then_some}
 use Rattle.zone_state.specs.declared.action.Action.{Action}
 use Rattle.zone_state.specs.declared.status.TheConstants.Status.{INVALID_FIELD_IN_COMMAND, INVALID_NAMESPACE_OR_FORMAT}
 use Rattle.zone_state.specs.Transition.{action_of}
-use Rattle.program_interface.proofs.Proved.{demanded, found_passes, found_where_ok, no_fault, passed as check_passed}
-use Rattle.program_interface.specs.Checks.{first_failed}
+use Rattle.common_definitions.proofs.Proved.{demanded, found_passes, found_where_ok, no_fault, passed as check_passed}
+use Rattle.common_definitions.specs.Checks.{first_failed}
 use Rattle.nvme_entry.specs.Entry.{asked, asked_blocks, command_of, decoded_by, dwords_of, entry_checks, fuse_of, namespace_identifier, opcode_code, opcode_of, opcodes, starting_lba}
 use Rattle.nvme_entry.specs.EntryLaws.{AsksFor, FieldsAreSpelled, SpelledEntriesAreDecoded, Spells}
-use Rattle.program_interface.specs.Bytes.{field}
+use Rattle.common_definitions.specs.Bytes.{field}
 use Rattle.nvme_entry.specs.Dwords.{dword}
 use Rattle.nvme_entry.specs.Filter.{filter_of}
 use Rattle.nvme_entry.specs.ProgramSlot.{program_slot_of}

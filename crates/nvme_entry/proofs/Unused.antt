@@ -1,7 +1,7 @@
 -- The bits of an entry that no field has are 0.
 use Rattle.std.proofs.Common.{◌≡◌, ℕ, ◌^◌, ◌<◌, Bool, List, sym, subst, ◌∙◌, arith}
 use Rattle.nvme_entry.specs.Encoding.{AreZero, unused}
-use Rattle.program_interface.specs.Bytes.{field}
+use Rattle.common_definitions.specs.Bytes.{field}
 use Rattle.nvme_entry.specs.steps.EntryFields.{HasFields}
 use Rattle.nvme_entry.specs.declared.command.Command.TheVariants as command
 use Rattle.nvme_entry.specs.declared.command.LoadCommand.{LoadCommand}

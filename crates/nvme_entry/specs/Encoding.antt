@@ -1,7 +1,7 @@
 -- What an entry made of a command has.
 use Rattle.std.specs.Prelude.{ℕ, ◌^◌, ◌<◌, List, [], ◌∷◌}
 use Rattle.std.specs.List.{AllByRecursion}
-use Rattle.program_interface.specs.Bytes.{field}
+use Rattle.common_definitions.specs.Bytes.{field}
 use Rattle.nvme_entry.specs.declared.command.Command.{Command}
 use Rattle.nvme_entry.specs.declared.command.Command.TheVariants as command
 use Rattle.nvme_entry.specs.declared.command.StandardCommand.TheVariants.{Write, Read, Send, Receive, Append}

@@ -1,11 +1,11 @@
 -- The fields of a submission queue entry and the command that they name.
 use Rattle.std.specs.Prelude.{ℕ, ◌+◌, ◌*◌, ◌%◌, ◌==◌, nat_le, List, [], ◌∷◌, find, Option, Some, None, Result, Err, if◌then◌else◌, slice_index}
 use Rattle.std.specs.Option.{ok_or, option_and_then, option_map}
-use Rattle.program_interface.specs.Readings.{unless_fault}
+use Rattle.common_definitions.specs.Readings.{unless_fault}
 use Rattle.zone_state.specs.declared.action.Action.{Action}
 use Rattle.zone_state.specs.declared.status.Status.{Status}
 use Rattle.zone_state.specs.declared.status.TheConstants.Status.{INVALID_COMMAND_OPCODE, INVALID_FIELD_IN_COMMAND, INVALID_NAMESPACE_OR_FORMAT}
-use Rattle.program_interface.specs.Checks.{demand, first_failed}
+use Rattle.common_definitions.specs.Checks.{demand, first_failed}
 use Rattle.zone_state.specs.Transition.{action_of}
 use Rattle.nvme_entry.specs.declared.command.Opcode.{Opcode}
 use Rattle.nvme_entry.specs.declared.command.Opcode.TheVariants as opcode
@@ -14,7 +14,7 @@ use Rattle.nvme_entry.specs.declared.command.Command.TheVariants as command
 use Rattle.nvme_entry.specs.declared.command.StandardCommand.TheVariants.{Write, Read, Send, Receive, Append}
 use Rattle.nvme_entry.specs.declared.command.TheConstants.{MOST_TRANSFER}
 use Rattle.nvme_entry.specs.declared.filter.ZoneFilter.{ZoneFilter}
-use Rattle.program_interface.specs.Bytes.{field}
+use Rattle.common_definitions.specs.Bytes.{field}
 use Rattle.nvme_entry.specs.Dwords.{dword}
 use Rattle.nvme_entry.specs.Filter.{filter_of}
 use Rattle.nvme_entry.specs.ProgramSlot.{program_slot_of}

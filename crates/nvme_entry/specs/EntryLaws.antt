@@ -2,7 +2,7 @@
 use Rattle.std.specs.Prelude.{ℕ, ◌≡◌, ◌≤◌, ◌<◌, ◌+◌, ◌*◌, ◌%◌, ◌==◌, List, slice_index, Some, Ok}
 use Rattle.zone_state.specs.Transition.{action_of}
 use Rattle.nvme_entry.specs.Entry.{decoded}
-use Rattle.program_interface.specs.Bytes.{field}
+use Rattle.common_definitions.specs.Bytes.{field}
 use Rattle.nvme_entry.specs.Filter.{filter_of}
 use Rattle.nvme_entry.specs.declared.command.Command.{Command}
 use Rattle.nvme_entry.specs.declared.command.Command.TheVariants as command

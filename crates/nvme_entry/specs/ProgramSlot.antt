@@ -1,6 +1,6 @@
 -- The slots for programs (profile).
 use Rattle.std.specs.Prelude.{ℕ, Option}
-use Rattle.program_interface.specs.Below.{below}
+use Rattle.common_definitions.specs.Below.{below}
 use Rattle.nvme_entry.specs.declared.program_slot.TheConstants.{PROGRAM_SLOTS}
 
 -- the slot of this number, if there is one

@@ -3,7 +3,7 @@ use Rattle.std.specs.Prelude.{ℕ, Bool, ◌-◌, ◌*◌, ◌/◌, List, ◌++�
 use Rattle.std.specs.Prelude as prelude
 use Rattle.std.specs.List.{enumerate_from, flat_map}
 use Rattle.byteorder.specs.Endian.{little_bytes}
-use Rattle.program_interface.specs.Bytes.{padded}
+use Rattle.common_definitions.specs.Bytes.{padded}
 use Rattle.zone_state.specs.Zone.{CountedZone}
 use Rattle.nvme_entry.specs.Descriptor.{described, descriptor_bytes}
 use Rattle.nvme_entry.specs.Filter.{lists}

@@ -1,7 +1,7 @@
 -- Laws of reports, in the words of a host that reads them.
 use Rattle.std.specs.Prelude.{ℕ, ◌≡◌, ◌≤◌, ◌<◌, ◌+◌, ◌-◌, ◌*◌, ◌/◌, ◌^◌, min, Bool, List, length, map, take, drop, replicate, if◌then◌else◌}
 use Rattle.byteorder.specs.Endian.{little_number}
-use Rattle.program_interface.specs.Bytes.{pieces}
+use Rattle.common_definitions.specs.Bytes.{pieces}
 use Rattle.zone_state.specs.Zone.{CountedZone}
 use Rattle.nvme_entry.specs.declared.descriptor.TheConstants.{DESCRIPTOR_BYTES}
 use Rattle.nvme_entry.specs.declared.filter.ZoneFilter.{ZoneFilter}

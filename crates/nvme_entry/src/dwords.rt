@@ -1,7 +1,7 @@
 //! Dwords of entries.
 
 ghost use Rattle.std.specs.Prelude.{◌≡◌, ◌≤◌, ◌+◌, ◌*◌, length};
-ghost use Rattle.program_interface.specs.Bytes.{field};
+ghost use Rattle.common_definitions.specs.Bytes.{field};
 ghost use Rattle.nvme_entry.specs.Dwords.{dword};
 
 use byteorder::{ByteOrder, LittleEndian};

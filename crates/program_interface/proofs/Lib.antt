@@ -1,10 +1,1 @@
-mod AllOf
-mod ByteParts
 mod ContextFields
-mod FirstChecks
-mod FirstPassed
-mod Lengths
-pub mod Proved
-mod Readings
-mod SameFronts
-mod SpelledBytes

@@ -2,7 +2,7 @@
 use Rattle.std.specs.Prelude.{ℕ, ◌≡◌, ◌<◌, ◌^◌, List, [], ◌∷◌, ◌++◌, length, drop, replicate}
 use Rattle.std.specs.List.{flat_map}
 use Rattle.byteorder.specs.Endian.{little_bytes}
-use Rattle.program_interface.specs.Bytes.{field}
+use Rattle.common_definitions.specs.Bytes.{field}
 use Rattle.program_interface.specs.declared.area.TheConstants.{CONTEXT_BYTES}
 use Rattle.program_interface.specs.declared.context.Context.{Context}
 

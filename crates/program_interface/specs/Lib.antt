@@ -1,13 +1,6 @@
 pub mod BlockSize
 pub mod RunSizes
 pub mod Area
-pub mod Bytes
 pub mod Context
 pub mod Registers
 pub mod Frame
-pub mod Readings
-pub mod Gives
-pub mod Failures
-pub mod Below
-pub mod Checks
-pub mod FirstCheck

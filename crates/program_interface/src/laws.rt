@@ -1,20 +1,9 @@
 //! Laws of the definitions. Each function does nothing: what it ensures is the law.
 
 ghost use Rattle.program_interface.specs.Context.{ContextsTell};
-ghost use Rattle.program_interface.specs.FirstCheck.{FirstFailedIsFirst, NoFaultWhereNoneFails};
 
 /// A program reads in the bytes of its context the block's LBA, its index, the run's number of
 /// blocks, a block's size and the run's argument, each at its place.
 pub fn contexts_tell()
     ensures { ContextsTell }
-{}
-
-/// Of an ordered list of checks the first that fails decides: the fault that is told is its own.
-pub fn first_failed_is_first<F>()
-    ensures { FirstFailedIsFirst F }
-{}
-
-/// An ordered list of checks has no fault just where none of them fails.
-pub fn no_fault_where_none_fails<F>()
-    ensures { NoFaultWhereNoneFails F }
 {}

@@ -1,7 +1,6 @@
-//! What the device promises a program: the sizes of a block and of what may be emitted for one, the
-//! areas of memory, the context, the registers at the start, the form of what is emitted, and the largest
-//! program. What many crates say of bytes, readings and checks is defined here too.
-//! `examples/pifnjarl.h` says to programs in C what they need of it.
+//! What the device promises a program: the sizes of a block and of what may be emitted for one, the areas
+//! of memory, the context, the registers at the start, the form of what is emitted, and the largest
+//! program. `examples/pifnjarl.h` says to programs in C what they need of it.
 #![tactic(auto)]
 
 mod area;

@@ -2,7 +2,7 @@
 use Rattle.std.proofs.Common.{ℕ, suc, zero, ◌-◌, ◌≡◌, Bool, true, false, List, Option, Some, None, slice_get, refl, ap}
 use Rattle.std.specs.Prelude.{if◌then◌else◌}
 use Rattle.instruction_set.specs.declared.instruction.Instruction.{Instruction}
-use Rattle.program_interface.proofs.Proved.{AreNumbered, all_fail, found_passes, least_found, less_fails}
+use Rattle.common_definitions.proofs.Proved.{AreNumbered, all_fail, found_passes, least_found, less_fails}
 use Rattle.program_meaning.specs.Cause.{causes, hinders, is_exit, least_cause, cause_number}
 use Rattle.program_meaning.specs.Effect.{register}
 use Rattle.program_meaning.specs.Laws.{StuckByLeast}

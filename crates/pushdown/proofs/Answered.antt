@@ -7,13 +7,13 @@ use Rattle.nvme_entry.specs.declared.command.LoadCommand.{LoadCommand}
 use Rattle.word_domain.specs.Domain.{Operations}
 use Rattle.zns_commands.specs.Meaning.{meaning}
 use Rattle.zns_commands.proofs.Proved.{refused_commands_change_nothing}
-use Rattle.pushdown.specs.EventReplies.{Happening, Submission, submission_of}
+use Rattle.device_meaning.specs.EventReplies.{Happening, Submission, submission_of}
 use Rattle.device_events.specs.Replies.{without_data}
-use Rattle.pushdown.specs.Laws.{IsAnswered, IsLoaded, OnlyLoadsChangeSlots, RefusedLeavesState}
-use Rattle.pushdown.specs.State.{State, holds_at, with_namespace}
+use Rattle.device_meaning.specs.Laws.{IsAnswered}
+use Rattle.pushdown.specs.Laws.{IsLoaded, OnlyLoadsChangeSlots, RefusedLeavesState}
+use Rattle.device_meaning.specs.State.{State, holds_at, with_namespace}
 use Rattle.device_events.specs.declared.reply.Reply.TheVariants as reply
-use Rattle.pushdown.proofs.Changes.{HoldsOfEach, of_entry}
-use Rattle.pushdown.proofs.Loads.{IsLoad}
+use Rattle.device_meaning.proofs.Proved.{HoldsOfEach, of_entry, IsLoad}
 
 module _ {D : Type 0} (operations : Operations D) (sub : Submission) (s : State) where
   -- a run has begun, or the entry is answered

@@ -7,18 +7,17 @@ use Rattle.std.proofs.lemmas.Bool.Decides.{eqb_tells}
 use Rattle.std.proofs.lemmas.List.{append-nil}
 use Rattle.word_domain.specs.Domain.{Operations}
 use Rattle.accepted_programs.specs.Laws.{AcceptedNeverTraps}
-use Rattle.pushdown.specs.Admission.{Loaded}
-use Rattle.pushdown.specs.EventReplies.{Happening}
+use Rattle.device_meaning.specs.Admission.{Loaded}
+use Rattle.device_meaning.specs.EventReplies.{Happening}
 use Rattle.device_events.specs.Replies.{ReplyWithData}
 use Rattle.pushdown.specs.AnyOrder.{AreSameTurns, ComeToTheSame, IsUnshared, TurnsInAnyOrder, own_replies}
-use Rattle.pushdown.specs.Draining.{replies_to_turns, state_after_turns}
-use Rattle.pushdown.specs.Happenings.{slots_left, take_turn, turned, turned_at}
-use Rattle.pushdown.specs.Outcome.{Ending, Turn}
-use Rattle.pushdown.specs.State.{Place, State, loaded_at, place_at}
+use Rattle.device_meaning.specs.Draining.{replies_to_turns, state_after_turns}
+use Rattle.device_meaning.specs.Happenings.{slots_left, take_turn, turned, turned_at}
+use Rattle.device_meaning.specs.Outcome.{Ending, Turn}
+use Rattle.device_meaning.specs.State.{Place, State, loaded_at, place_at}
 use Rattle.pushdown.proofs.Commuting.{Empty, OwnAll, kept, reply_after, state_of_both, stays_own, turns_keep}
-use Rattle.pushdown.proofs.Places.{AreApart}
+use Rattle.device_meaning.proofs.Proved.{AreApart, reached_fine}
 use Rattle.pushdown.proofs.SameTurns.{in_any_order}
-use Rattle.pushdown.proofs.States.{reached_fine}
 
 -- ---- slots of which all are emptied but one
 

@@ -4,15 +4,13 @@ use Rattle.std.specs.Prelude.{is_some}
 use Rattle.std.proofs.lemmas.Bool.Decides.{eqb_tells}
 use Rattle.std.proofs.lemmas.List.{set_comm, set-get_or}
 use Rattle.image_store.specs.Namespace.{ZoneWithBlocks, ZonedNamespace, grown, no_zone}
-use Rattle.pushdown.specs.Admission.{Loaded, SameProgram}
-use Rattle.pushdown.specs.Draining.{state_after_turns}
-use Rattle.pushdown.specs.Happenings.{added, keeping, place_left, slots_left, take_turn, turn_state, turned, turned_at}
-use Rattle.pushdown.specs.Outcome.{Ending, Turn}
-use Rattle.pushdown.specs.State.{Place, State, loaded_at, place_at}
-use Rattle.pushdown.proofs.Changes.{after_turn}
+use Rattle.device_meaning.specs.Admission.{Loaded, SameProgram}
+use Rattle.device_meaning.specs.Draining.{state_after_turns}
+use Rattle.device_meaning.specs.Happenings.{added, keeping, place_left, slots_left, take_turn, turn_state, turned, turned_at}
+use Rattle.device_meaning.specs.Outcome.{Ending, Turn}
+use Rattle.device_meaning.specs.State.{Place, State, loaded_at, place_at}
+use Rattle.device_meaning.proofs.Proved.{after_turn, left_program, same_program, AreApart, turned_apart, turned_older}
 use Rattle.pushdown.proofs.OthersEvents.{turned_leaves}
-use Rattle.pushdown.proofs.KeptForRuns.{left_program, same_program}
-use Rattle.pushdown.proofs.Places.{AreApart, turned_apart, turned_older}
 
 -- ---- two elements of a list are changed
 

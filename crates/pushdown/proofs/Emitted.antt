@@ -11,13 +11,11 @@ use Rattle.emit_append.specs.Unpacking.{unpacked}
 use Rattle.emit_append.specs.PackedLaw.{FitBlock}
 use Rattle.emit_append.specs.Packing.{packed}
 use Rattle.emit_append.proofs.Proved.{packed_frames_read_back}
-use Rattle.pushdown.specs.Admission.{source_blocks, task_of}
-use Rattle.pushdown.specs.BlockRuns.{Task, block_runs_of, groups_of}
+use Rattle.device_meaning.specs.Admission.{source_blocks, task_of}
+use Rattle.device_meaning.specs.BlockRuns.{Task, block_runs_of, groups_of}
 use Rattle.pushdown.specs.Laws.{AreEmitted, OutcomeUnpacks}
-use Rattle.pushdown.specs.State.{loaded_at}
-use Rattle.pushdown.proofs.BlockRuns.{IsDone}
-use Rattle.pushdown.proofs.Outcomes.{outcome_is_packed}
-use Rattle.pushdown.proofs.States.{all_exit, groups_within, reached_fine, ready, block_runs_all_done}
+use Rattle.device_meaning.specs.State.{loaded_at}
+use Rattle.device_meaning.proofs.Proved.{IsDone, outcome_is_packed, all_exit, groups_within, reached_fine, ready, block_runs_all_done}
 
 record Emits (block_runs : List BlockRun) : Type 0 where
   records : List (List (List ℕ))

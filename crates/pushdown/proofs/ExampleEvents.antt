@@ -8,12 +8,12 @@ use Rattle.instruction_set.specs.declared.instruction.Instruction.{Instruction}
 use Rattle.program_meaning.specs.BlockRun.{block_run_of}
 use Rattle.word_domain.specs.Domain.{Operations}
 use Rattle.image_store.specs.Namespace.{ZoneWithBlocks, ZonedNamespace, zone_at}
-use Rattle.pushdown.specs.EventReplies.{Happening, submission_of}
+use Rattle.device_meaning.specs.EventReplies.{Happening, submission_of}
 use Rattle.device_events.specs.Replies.{ReplyWithData, without_data}
-use Rattle.pushdown.specs.Draining.{replies_to_turns, state_after_turns}
-use Rattle.pushdown.specs.Happenings.{faulting, submitted, turned}
+use Rattle.device_meaning.specs.Draining.{replies_to_turns, state_after_turns}
+use Rattle.device_meaning.specs.Happenings.{faulting, submitted, turned}
 use Rattle.pushdown.specs.Pushdown.{blocks_at}
-use Rattle.pushdown.specs.State.{State, new_state}
+use Rattle.device_meaning.specs.State.{State, new_state}
 use Rattle.device_events.specs.declared.reply.Reply.TheVariants.{Complete, FaultRefused, Idle, Pending}
 use Rattle.pushdown.proofs.Examples.{block_of, entry_of, four_zones, frame, passes, run_entry, sevens, slots_with, twelve_zones, two_zones}
 

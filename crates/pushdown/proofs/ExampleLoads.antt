@@ -4,11 +4,11 @@ use Rattle.zone_state.specs.declared.state.ZoneState.TheVariants as zone
 use Rattle.nvme_entry.specs.Entry.{decoded}
 use Rattle.program_meaning.specs.BlockRun.{block_run_of}
 use Rattle.word_domain.specs.Domain.{Operations}
-use Rattle.pushdown.specs.EventReplies.{Happening, submission_of}
+use Rattle.device_meaning.specs.EventReplies.{Happening, submission_of}
 use Rattle.device_events.specs.Replies.{ReplyWithData}
-use Rattle.pushdown.specs.Draining.{state_after_turns}
-use Rattle.pushdown.specs.Happenings.{submitted}
-use Rattle.pushdown.specs.State.{State, new_state}
+use Rattle.device_meaning.specs.Draining.{state_after_turns}
+use Rattle.device_meaning.specs.Happenings.{submitted}
+use Rattle.device_meaning.specs.State.{State, new_state}
 use Rattle.device_events.specs.declared.reply.Reply.TheVariants.{Complete}
 use Rattle.pushdown.proofs.ExampleEvents.{asks, completes, completes_with, device, zone_of}
 use Rattle.pushdown.proofs.Examples.{block_of, entry_of, four_zones, leave, move, passes, run_entry, sums, two_zones}

@@ -5,17 +5,17 @@ use Rattle.std.specs.declared.alloc.Global.{Global}
 use Rattle.zone_state.specs.declared.state.ZoneState.TheVariants as zone
 use Rattle.nvme_entry.specs.declared.command.RunCommand.{RunCommand}
 use Rattle.word_domain.specs.Domain.{Operations}
-use Rattle.program_interface.proofs.Proved.{all_append, all_same}
+use Rattle.common_definitions.proofs.Proved.{all_append, all_same}
 use Rattle.emit_append.proofs.Proved.{AllBytes, FitsByte, by_place}
 use Rattle.image_store.specs.Geometry.{IsShape, Shape}
 use Rattle.image_store.specs.Namespace.{all_empty, shape}
-use Rattle.program_interface.specs.Bytes.{AreBytes}
+use Rattle.common_definitions.specs.Bytes.{AreBytes}
 use Rattle.zns_commands.proofs.Proved.{empty_is_namespace, no_bytes}
-use Rattle.pushdown.specs.EventReplies.{submission_of}
-use Rattle.pushdown.specs.Events.{Occurrence, state_after}
+use Rattle.device_meaning.specs.EventReplies.{submission_of}
+use Rattle.device_meaning.specs.Events.{Occurrence, state_after}
 use Rattle.pushdown.specs.Pushdown.{IsAdmitted}
-use Rattle.pushdown.specs.Reached.{IsReached}
-use Rattle.pushdown.specs.State.{State, new_state}
+use Rattle.device_meaning.specs.Reached.{IsReached}
+use Rattle.device_meaning.specs.State.{State, new_state}
 use Rattle.device_events.specs.declared.event.Event.TheVariants as event
 use Rattle.pushdown.proofs.ExampleEvents.{zone_of}
 use Rattle.pushdown.proofs.ExampleLoads.{load_entry}

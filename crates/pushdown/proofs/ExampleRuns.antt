@@ -4,8 +4,8 @@ use Rattle.std.specs.List.{concat}
 use Rattle.instruction_set.specs.declared.instruction.Instruction.{Instruction}
 use Rattle.emit_append.specs.Need.{need}
 use Rattle.program_meaning.specs.BlockRun.{BlockRun, block_run_of}
-use Rattle.pushdown.specs.BlockRuns.{Task, block_runs_of, no_scratch}
-use Rattle.pushdown.specs.Outcome.{Turn, outcome, success, trapped}
+use Rattle.device_meaning.specs.BlockRuns.{Task, block_runs_of, no_scratch}
+use Rattle.device_meaning.specs.Outcome.{Turn, outcome, success, trapped}
 use Rattle.pushdown.specs.Pushdown.{no_turn}
 use Rattle.pushdown.proofs.Examples.{block_of, frame, loops, passes, sevens, sums, tells, traps, twice}
 

@@ -4,8 +4,8 @@ use Rattle.ebpf_decode.specs.Reading.{decoded_program}
 use Rattle.ebpf_decode.specs.declared.fault.Fault.{Fault}
 use Rattle.instruction_set.specs.declared.instruction.Instruction.{Instruction}
 use Rattle.image_store.specs.Namespace.{ZoneWithBlocks, ZonedNamespace}
-use Rattle.pushdown.specs.Admission.{Loaded}
-use Rattle.pushdown.specs.BlockRuns.{no_scratch}
+use Rattle.device_meaning.specs.Admission.{Loaded}
+use Rattle.device_meaning.specs.BlockRuns.{no_scratch}
 
 -- a block that begins with this byte, the others zeros
 abbrev pub block_of : ℕ → List ℕ

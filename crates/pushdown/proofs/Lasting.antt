@@ -5,13 +5,12 @@ use Rattle.image_store.specs.Namespace.{ZonedNamespace, shape, zone_at}
 use Rattle.zone_state.specs.State.{is_cleared}
 use Rattle.zns_commands.specs.Laws.{NamespaceEvent, after}
 use Rattle.zns_commands.proofs.Proved.{KeepsZone, events_keep_zones, grows_on, shapes_are_kept, uncleared_is_readable}
-use Rattle.pushdown.specs.Events.{Occurrence, state_after}
-use Rattle.pushdown.specs.Happenings.{added, happens}
+use Rattle.device_meaning.specs.Events.{Occurrence, state_after}
+use Rattle.device_meaning.specs.Happenings.{added, happens}
 use Rattle.pushdown.specs.ReadBack.{EventsKeepShapes, NoEventClears, UnclearedZonesKeepBlocks}
-use Rattle.pushdown.specs.State.{State}
+use Rattle.device_meaning.specs.State.{State}
 use Rattle.device_events.specs.declared.event.Event.{Event}
-use Rattle.pushdown.proofs.Added.{added_grows, added_shape}
-use Rattle.pushdown.proofs.Changes.{after_event}
+use Rattle.device_meaning.proofs.Proved.{added_grows, added_shape, after_event}
 
 -- the state of a zone isn't that of one that was reset or lost
 abbrev Uncleared : ZonedNamespace → ℕ → Type 0

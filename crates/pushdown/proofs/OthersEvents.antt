@@ -5,15 +5,15 @@ use Rattle.std.proofs.lemmas.Bool.{eqb-false}
 use Rattle.std.proofs.lemmas.List.Quantifiers.{position-Some}
 use Rattle.word_domain.specs.Domain.{Operations}
 use Rattle.zone_resources.proofs.Proved.{there}
-use Rattle.pushdown.specs.EventReplies.{Happening}
+use Rattle.device_meaning.specs.EventReplies.{Happening}
 use Rattle.pushdown.specs.Laws.{ForeignLeavesTurns, TurnTakesFirst}
-use Rattle.pushdown.specs.Happenings.{admitted_place, happens, place_left, take_turn, turned, turned_at}
-use Rattle.pushdown.specs.Outcome.{Turn}
+use Rattle.device_meaning.specs.Happenings.{admitted_place, happens, place_left, turned}
+use Rattle.device_meaning.specs.Outcome.{Turn}
 use Rattle.pushdown.specs.Pushdown.{is_turn_of}
-use Rattle.pushdown.specs.State.{Place, State, place_at}
+use Rattle.device_meaning.specs.State.{Place, State, place_at}
 use Rattle.device_events.specs.declared.event.Event.{Event}
 use Rattle.device_events.specs.declared.event.Event.TheVariants as event
-use Rattle.pushdown.proofs.Changes.{after_event, after_turn}
+use Rattle.device_meaning.proofs.Proved.{after_event, after_turn, turned_is}
 
 -- ---- lists of places
 
@@ -60,12 +60,6 @@ module _ {D : Type 0} (operations : Operations D) where
   foreign_leaves_turns s o run place foreign at = foreign_event s o.starved o.event run place foreign at
 
 -- ---- a turn of the run itself
-
--- the turn of a run whose turns these are
-pub turned_is : (s : State) (run : ℕ) (place : Place) (turn : Turn) (later : List Turn)
-    → place_at s run ≡ Some place → place.turns ≡ turn ∷ later → turned s run ≡ take_turn s run place (turn ∷ later)
-turned_is s run place turn later at first =
-    ap (λ (p : Option Place). turned_at s run p) at ∙ ap (λ (turns : List Turn). take_turn s run place turns) first
 
 pub turn_takes_first : TurnTakesFirst
 turn_takes_first s run place turn later at first =

@@ -2,15 +2,14 @@
 use Rattle.std.proofs.Common.{◌≡◌, ℕ, true, false, Some, refl, ap, ◌∙◌}
 use Rattle.nvme_entry.specs.declared.command.RunCommand.{RunCommand}
 use Rattle.word_domain.specs.Domain.{Operations}
-use Rattle.pushdown.specs.EventReplies.{Happening, Submission, submission_of}
+use Rattle.device_meaning.specs.EventReplies.{Happening, Submission, submission_of}
 use Rattle.device_events.specs.Replies.{ReplyWithData, without_data}
 use Rattle.pushdown.specs.Laws.{PendingIsAdmitted}
 use Rattle.pushdown.specs.Pushdown.{IsAdmitted}
-use Rattle.pushdown.specs.State.{State}
+use Rattle.device_meaning.specs.State.{State}
 use Rattle.device_events.specs.declared.reply.Reply.{Reply}
 use Rattle.device_events.specs.declared.reply.Reply.TheVariants as reply
-use Rattle.pushdown.proofs.Changes.{HoldsOfEach, of_entry}
-use Rattle.pushdown.proofs.Loads.{is_pending}
+use Rattle.device_meaning.proofs.Proved.{HoldsOfEach, of_entry, is_pending}
 
 abbrev run_in : Reply → ℕ
 run_in (reply.Pending run) = run

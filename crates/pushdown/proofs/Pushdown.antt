@@ -7,7 +7,7 @@ use Rattle.zone_state.specs.State.{is_open}
 use Rattle.zone_state.specs.declared.state.ZoneState.TheVariants.{Offline}
 use Rattle.zone_state.specs.declared.status.Status.{Status}
 use Rattle.zone_state.specs.declared.status.TheConstants.Status.{DESTINATION_NOT_OPEN}
-use Rattle.program_interface.proofs.Proved.{demanded, passed}
+use Rattle.common_definitions.proofs.Proved.{demanded, passed}
 use Rattle.nvme_entry.specs.declared.command.Command.TheVariants as commands
 use Rattle.nvme_entry.specs.declared.command.RunCommand.{RunCommand}
 use Rattle.instruction_set.specs.Program.{instruction_count}
@@ -16,27 +16,22 @@ use Rattle.word_domain.specs.Domain.{Operations}
 use Rattle.accepted_programs.specs.Laws.{AcceptedNeverTraps}
 use Rattle.image_store.specs.Namespace.{ZonedNamespace, shape, zone_at}
 use Rattle.image_store.proofs.Proved.{blocks_lie_in_zones, written_is_within, zone_room_is_bounded}
-use Rattle.pushdown.specs.Admission.{admission_checks, source_blocks, task_of}
-use Rattle.pushdown.specs.EventReplies.{Happening, Submission, submission_of}
+use Rattle.device_meaning.specs.Admission.{admission_checks, source_blocks, task_of}
+use Rattle.device_meaning.specs.EventReplies.{Happening, Submission, submission_of}
 use Rattle.device_events.specs.Replies.{without_data}
-use Rattle.pushdown.specs.BlockRuns.{block_runs_of, no_scratch}
-use Rattle.pushdown.specs.Events.{Occurrence, state_after}
+use Rattle.device_meaning.specs.BlockRuns.{block_runs_of, no_scratch}
+use Rattle.device_meaning.specs.Events.{Occurrence, state_after}
 use Rattle.pushdown.specs.Laws.{AdmittedStarts, StartsRun}
-use Rattle.pushdown.specs.Happenings.{admitted_place, happens, start_by, submitted}
-use Rattle.pushdown.specs.Outcome.{Turn, outcome}
-use Rattle.pushdown.specs.Pushdown.{ChangesDestinationAlone, DoesItsTurns, EndsWithLast, IsAdmitted, Pushdown, TellsFramesAndBlocks, blocks_at, no_turn, own_turns}
-use Rattle.pushdown.specs.State.{Place, State, free_place, holds_at, loaded_at, place_at, with_place}
+use Rattle.device_meaning.specs.Happenings.{admitted_place, happens, start_by, submitted}
+use Rattle.device_meaning.specs.Outcome.{EndsWithLast, Turn, outcome}
+use Rattle.pushdown.specs.Pushdown.{ChangesDestinationAlone, DoesItsTurns, IsAdmitted, Pushdown, TellsFramesAndBlocks, blocks_at, no_turn, own_turns}
+use Rattle.device_meaning.specs.State.{Place, State, free_place, holds_at, loaded_at, place_at, with_place}
 use Rattle.device_events.specs.declared.event.Event.TheVariants as event
 use Rattle.device_events.specs.declared.reply.Reply.TheVariants as reply
-use Rattle.pushdown.proofs.Added.{added_leaves, added_shape, open_on}
-use Rattle.pushdown.proofs.BlockRuns.{IsDone, few_frames, few_block_runs}
-use Rattle.program_interface.proofs.Proved.{all_from}
+use Rattle.device_meaning.proofs.Proved.{added_leaves, added_shape, open_on, IsDone, few_frames, few_block_runs, outcome_is_packed, AreApart, event_apart, decoded_has, IsFine, admitted_room, all_exit, few_source, reached_fine, ready as is_ready, block_runs_all_done, some_block_run, turns_are, written}
+use Rattle.common_definitions.proofs.Proved.{all_from}
 use Rattle.pushdown.proofs.TurnsDone.{Next, Ready, Stands, next_is, stand}
 use Rattle.pushdown.proofs.OthersEvents.{free_within}
-use Rattle.pushdown.proofs.Outcomes.{outcome_is_packed}
-use Rattle.pushdown.proofs.Places.{AreApart, event_apart}
-use Rattle.pushdown.proofs.Spelled.{decoded_has}
-use Rattle.pushdown.proofs.States.{IsFine, admitted_room, all_exit, few_source, reached_fine, ready as is_ready, block_runs_all_done, some_block_run, turns_are, written}
 
 -- ---- a run that is admitted, and the events after it
 

@@ -22,16 +22,16 @@ use Rattle.zns_commands.specs.Effect.{Effect}
 use Rattle.zns_commands.specs.Meaning.{meaning}
 use Rattle.zns_commands.specs.Laws.{AreRead}
 use Rattle.zns_commands.proofs.Proved.{BlocksLieAt, KeepsZone, appended_stays, lying_is_read, uncleared_is_readable, written_stays}
-use Rattle.pushdown.specs.EventReplies.{Happening, submission_of}
-use Rattle.pushdown.specs.Events.{Occurrence, state_after}
-use Rattle.pushdown.specs.Happenings.{commanded, happens, submitted}
+use Rattle.device_meaning.specs.EventReplies.{Happening, submission_of}
+use Rattle.device_meaning.specs.Events.{Occurrence, state_after}
+use Rattle.device_meaning.specs.Happenings.{commanded, happens, submitted}
 use Rattle.pushdown.specs.Pushdown.{blocks_at}
 use Rattle.pushdown.specs.ReadBack.{AppendedBlocksReadBack, BlocksAreRead, IsCompleted, NoEventClears, ReadsGive, Submits, WrittenBlocksReadBack, WrittenIsRead}
-use Rattle.pushdown.specs.State.{State, holds_at}
+use Rattle.device_meaning.specs.State.{State, holds_at}
 use Rattle.device_events.specs.declared.event.Event.{Event}
 use Rattle.device_events.specs.declared.event.Event.TheVariants as event
 use Rattle.pushdown.proofs.Lasting.{events_keep}
-use Rattle.pushdown.proofs.Spelled.{HasBlocks, decoded_has}
+use Rattle.device_meaning.proofs.Proved.{HasBlocks, decoded_has}
 
 -- ---- written blocks of a namespace
 

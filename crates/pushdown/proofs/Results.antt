@@ -6,8 +6,8 @@ use Rattle.std.specs.declared.alloc.Global.{Global}
 use Rattle.std.proofs.lemmas.Bool.Decides.{eqb_tells}
 use Rattle.zone_state.specs.declared.status.Status.{Status}
 use Rattle.zone_state.specs.declared.status.TheConstants.Status.{SUCCESS, NO_SUCH_PROGRAM}
-use Rattle.program_interface.specs.Checks.{first_failed}
-use Rattle.program_interface.proofs.Proved.{demanded, passed}
+use Rattle.common_definitions.specs.Checks.{first_failed}
+use Rattle.common_definitions.proofs.Proved.{demanded, passed}
 use Rattle.nvme_entry.specs.declared.command.Command.{Command}
 use Rattle.nvme_entry.specs.declared.command.Command.TheVariants as commands
 use Rattle.nvme_entry.specs.declared.command.RunCommand.{RunCommand}
@@ -18,25 +18,21 @@ use Rattle.program_meaning.specs.BlockRun.{BlockRun}
 use Rattle.zns_commands.specs.Effect.{success_effect}
 use Rattle.zns_commands.specs.Transfer.{transfer_checks}
 use Rattle.zone_resources.proofs.Proved.{there}
-use Rattle.pushdown.specs.Admission.{Loaded, admission_checks}
-use Rattle.pushdown.specs.BlockRuns.{Task, last_scratch}
-use Rattle.pushdown.specs.EventReplies.{Submission, completed, submission_of}
-use Rattle.pushdown.specs.Events.{Occurrence, state_after}
-use Rattle.pushdown.specs.Happenings.{happens, just_loaded, keeping, place_left, result_by, slots_left, submitted, take_turn}
-use Rattle.pushdown.specs.Outcome.{Ending, Turn, ending_of}
+use Rattle.device_meaning.specs.Admission.{Loaded, admission_checks}
+use Rattle.device_meaning.specs.BlockRuns.{Task, last_scratch}
+use Rattle.device_meaning.specs.EventReplies.{Submission, completed, submission_of}
+use Rattle.device_meaning.specs.Events.{Occurrence, state_after}
+use Rattle.device_meaning.specs.Happenings.{happens, just_loaded, keeping, place_left, result_by, slots_left, submitted, take_turn}
+use Rattle.device_meaning.specs.Outcome.{Ending, Turn, ending_of}
 use Rattle.pushdown.specs.Pushdown.{IsAdmitted, block_runs, no_turn, now, own_turns, place, task}
 use Rattle.pushdown.specs.ReadBack.{IsCompleted, LoadSucceeds, NoEventReplaces, NoRunEnds, ResultGives, ResultsReadBack, Submits, after_turn}
-use Rattle.pushdown.specs.Reached.{IsReached}
-use Rattle.pushdown.specs.State.{Place, State, free_place, holds_at, loaded_at, place_at, uses}
+use Rattle.device_meaning.specs.Reached.{IsReached}
+use Rattle.device_meaning.specs.State.{Place, State, free_place, holds_at, loaded_at, place_at, uses}
 use Rattle.device_events.specs.declared.event.Event.{Event}
 use Rattle.device_events.specs.declared.event.Event.TheVariants as event
 use Rattle.pushdown.proofs.Answered.{only_loads_change_slots}
-use Rattle.pushdown.proofs.BlockRuns.{IsDone}
-use Rattle.pushdown.proofs.Changes.{after_event, after_turn as turn_changes}
+use Rattle.device_meaning.proofs.Proved.{IsDone, after_event, after_turn as turn_changes, left_program, decoded_has, reached_fine, block_runs_all_done, some_block_run}
 use Rattle.pushdown.proofs.Pushdown.{pushdown}
-use Rattle.pushdown.proofs.KeptForRuns.{left_program}
-use Rattle.pushdown.proofs.Spelled.{decoded_has}
-use Rattle.pushdown.proofs.States.{reached_fine, block_runs_all_done, some_block_run}
 use Rattle.pushdown.proofs.TurnsDone.{left_other}
 
 -- ---- a slot that has a program has one

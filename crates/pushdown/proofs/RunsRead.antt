@@ -6,30 +6,30 @@ use Rattle.std.specs.declared.alloc.Global.{Global}
 use Rattle.std.proofs.lemmas.Bool.{eqb-true}
 use Rattle.std.proofs.lemmas.List.{take_all, nil_from_length}
 use Rattle.zone_state.specs.declared.status.TheConstants.Status.{INVALID_FIELD_IN_COMMAND}
-use Rattle.program_interface.proofs.Proved.{demanded, passed}
+use Rattle.common_definitions.proofs.Proved.{demanded, passed}
 use Rattle.nvme_entry.specs.declared.command.RunCommand.{RunCommand}
 use Rattle.nvme_entry.specs.declared.command.TheConstants.{MOST_TRANSFER}
 use Rattle.word_domain.specs.Domain.{Operations}
 use Rattle.accepted_programs.specs.Laws.{AcceptedNeverTraps}
-use Rattle.program_interface.specs.Bytes.{AreBytes}
+use Rattle.common_definitions.specs.Bytes.{AreBytes}
 use Rattle.image_store.specs.Geometry.{Shape}
 use Rattle.image_store.specs.Namespace.{shape, IsNamespace}
 use Rattle.image_store.proofs.Proved.{block_most}
 use Rattle.zns_commands.proofs.Proved.{no_bytes}
-use Rattle.pushdown.specs.Admission.{admission_checks}
-use Rattle.pushdown.specs.EventReplies.{Submission, submission_of}
-use Rattle.pushdown.specs.Events.{AreEvents, Occurrence, state_after}
-use Rattle.pushdown.specs.Outcome.{Turn, appended_by}
+use Rattle.device_meaning.specs.Admission.{admission_checks}
+use Rattle.device_meaning.specs.EventReplies.{Submission, submission_of}
+use Rattle.device_meaning.specs.Events.{AreEvents, Occurrence, state_after}
+use Rattle.device_meaning.specs.Outcome.{Turn, appended_by}
 use Rattle.pushdown.specs.Pushdown.{IsAdmitted, blocks_at, own_turns}
 use Rattle.pushdown.specs.ReadBack.{AppendedAreRead, AppendedByRunsReadsBack, EmittedAreRead, NoEventClears, ReadsGive, after_turn, destination, pointer, turns}
-use Rattle.pushdown.specs.Reached.{IsReached}
-use Rattle.pushdown.specs.State.{State, free_place, holds_at, loaded_at}
+use Rattle.device_meaning.specs.Reached.{IsReached}
+use Rattle.device_meaning.specs.State.{State, free_place, holds_at, loaded_at}
 use Rattle.device_events.specs.declared.event.Event.TheVariants as event
 use Rattle.pushdown.proofs.Emitted.{outcome_unpacks}
 use Rattle.pushdown.proofs.Pushdown.{pushdown}
 use Rattle.pushdown.proofs.Lasting.{events_keep, events_keep_shapes}
 use Rattle.pushdown.proofs.ReadBack.{each_is_read, part_is_read}
-use Rattle.pushdown.proofs.States.{IsFine, events_fine, reached_fine, turn_fine}
+use Rattle.device_meaning.proofs.Proved.{IsFine, events_fine, reached_fine, turn_fine}
 
 -- no data stands beside a Run
 admitted_bytes : (s : State) (sub : Submission) (command : RunCommand) (run : ℕ) → IsAdmitted s sub command run → AreBytes sub.input

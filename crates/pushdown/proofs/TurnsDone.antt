@@ -10,21 +10,18 @@ use Rattle.word_domain.specs.Domain.{Operations}
 use Rattle.image_store.specs.Namespace.{ZoneWithBlocks, ZonedNamespace, zone_at}
 use Rattle.zns_commands.proofs.Proved.{held_destinations_are_left}
 use Rattle.zone_resources.proofs.Proved.{there}
-use Rattle.pushdown.specs.Admission.{SameProgram}
-use Rattle.pushdown.specs.EventReplies.{Happening}
-use Rattle.pushdown.specs.Events.{Occurrence, state_after}
-use Rattle.pushdown.specs.Happenings.{added, happens, keeping, place_left, slots_left, turn_reply, turned}
-use Rattle.pushdown.specs.Outcome.{Ending, Turn, appended_by}
+use Rattle.device_meaning.specs.Admission.{SameProgram}
+use Rattle.device_meaning.specs.EventReplies.{Happening}
+use Rattle.device_meaning.specs.Events.{Occurrence, state_after}
+use Rattle.device_meaning.specs.Happenings.{added, happens, keeping, place_left, slots_left, turn_reply, turned}
+use Rattle.device_meaning.specs.Outcome.{EndsWithLast, Ending, Turn, appended_by}
 use Rattle.zone_resources.specs.Counts.{one_if}
-use Rattle.pushdown.specs.Pushdown.{EndsWithLast, blocks_at, is_turn_of, no_turn, own_turns}
-use Rattle.pushdown.specs.State.{Place, State, loaded_at, place_at}
+use Rattle.pushdown.specs.Pushdown.{blocks_at, is_turn_of, no_turn, own_turns}
+use Rattle.device_meaning.specs.State.{Place, State, loaded_at, place_at}
 use Rattle.device_events.specs.declared.event.Event.{Event}
 use Rattle.device_events.specs.declared.event.Event.TheVariants as event
-use Rattle.pushdown.proofs.Added.{added_leaves, is_added}
-use Rattle.pushdown.proofs.Changes.{after_event}
-use Rattle.pushdown.proofs.OthersEvents.{foreign_event, not_own, turn_takes_first, turned_is, turned_leaves}
-use Rattle.pushdown.proofs.KeptForRuns.{left_program}
-use Rattle.pushdown.proofs.Places.{AreApart, event_apart, held_at}
+use Rattle.device_meaning.proofs.Proved.{added_leaves, is_added, after_event, left_program, AreApart, event_apart, held_at, turned_is}
+use Rattle.pushdown.proofs.OthersEvents.{foreign_event, not_own, turn_takes_first, turned_leaves}
 
 -- ---- a foreign event leaves the destination
 

@@ -2,11 +2,11 @@
 use Rattle.std.specs.Prelude.{ℕ, ◌≡◌, ◌==◌, List, map, count_by, Some}
 use Rattle.std.specs.List.{filter, zip}
 use Rattle.word_domain.specs.Domain.{Operations}
-use Rattle.pushdown.specs.Admission.{SameProgram}
+use Rattle.device_meaning.specs.Admission.{SameProgram}
 use Rattle.device_events.specs.Replies.{ReplyWithData}
-use Rattle.pushdown.specs.Draining.{replies_to_turns, state_after_turns}
-use Rattle.pushdown.specs.Reached.{IsReached}
-use Rattle.pushdown.specs.State.{Place, State, loaded_at, place_at}
+use Rattle.device_meaning.specs.Draining.{replies_to_turns, state_after_turns}
+use Rattle.device_meaning.specs.Reached.{IsReached}
+use Rattle.device_meaning.specs.State.{Place, State, loaded_at, place_at}
 
 -- each run has as many turns in the one list as in the other
 abbrev pub AreSameTurns : List ℕ → List ℕ → Type 0

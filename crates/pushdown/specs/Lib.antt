@@ -1,16 +1,4 @@
-pub mod BlockRuns
-pub mod Admission
-pub mod Outcome
-pub mod State
-pub mod EventReplies
-pub mod Happenings
-pub mod Draining
-pub mod Events
-pub mod Reached
-pub mod WantOfMemory
 pub mod Pushdown
 pub mod AnyOrder
-pub mod JoinedEvents
-pub mod View
 pub mod Laws
 pub mod ReadBack

@@ -7,10 +7,9 @@
 -- 4. each turn is the one that is fixed at admission: the blocks that it appends, the completion, and all that
 --    it leaves: the namespace, the run's place and the slots;
 -- 5. the completion tells how many frames were emitted and how many blocks were appended; both fit into its 32 bits.
-use Rattle.std.specs.Prelude.{ℕ, Bool, false, ◌≡◌, ◌≢◌, ◌≤◌, ◌<◌, ◌+◌, ◌^◌, ◌==◌, List, [], ◌∷◌, ◌++◌, length, take, drop, get_or, Option, Some, None, IsSomeAnd, Ok, Vec}
+use Rattle.std.specs.Prelude.{ℕ, Bool, false, ◌≡◌, ◌≢◌, ◌≤◌, ◌<◌, ◌+◌, ◌^◌, ◌==◌, List, [], ◌∷◌, ◌++◌, length, take, drop, get_or, Option, Some, None, Ok, Vec}
 use Rattle.std.specs.List.{AllByRecursion, count_by}
 use Rattle.std.specs.declared.alloc.Global.{Global}
-use Rattle.zone_state.specs.declared.status.TheConstants.Status.{SUCCESS}
 use Rattle.nvme_entry.specs.Entry.{decoded}
 use Rattle.nvme_entry.specs.declared.command.Command.TheVariants as commands
 use Rattle.nvme_entry.specs.declared.command.RunCommand.{RunCommand}
@@ -19,14 +18,14 @@ use Rattle.program_meaning.specs.BlockRun.{BlockRun}
 use Rattle.program_meaning.specs.TrapFree.{IsExit}
 use Rattle.word_domain.specs.Domain.{Operations}
 use Rattle.image_store.specs.Namespace.{ZonedNamespace, zone_at, shape}
-use Rattle.pushdown.specs.Admission.{SameProgram, source_blocks, task_of}
-use Rattle.pushdown.specs.EventReplies.{Happening, Submission, submission_of}
-use Rattle.pushdown.specs.BlockRuns.{Task, block_runs_of, frames_of, last_scratch}
-use Rattle.pushdown.specs.Events.{Occurrence, state_after}
-use Rattle.pushdown.specs.Happenings.{added, admitted_place, place_left, slots_left, turn_reply, turned, why_not_run}
-use Rattle.pushdown.specs.Outcome.{Ending, Turn, appended_by, ending_of, outcome, success}
-use Rattle.pushdown.specs.Reached.{IsReached}
-use Rattle.pushdown.specs.State.{Place, State, free_place, loaded_at, place_at}
+use Rattle.device_meaning.specs.Admission.{SameProgram, source_blocks, task_of}
+use Rattle.device_meaning.specs.EventReplies.{Happening, Submission, submission_of}
+use Rattle.device_meaning.specs.BlockRuns.{Task, block_runs_of, frames_of}
+use Rattle.device_meaning.specs.Events.{Occurrence, state_after}
+use Rattle.device_meaning.specs.Happenings.{added, admitted_place, place_left, slots_left, turn_reply, turned, why_not_run}
+use Rattle.device_meaning.specs.Outcome.{EndsWithLast, Turn, appended_by, ending_of, outcome, success_of}
+use Rattle.device_meaning.specs.Reached.{IsReached}
+use Rattle.device_meaning.specs.State.{Place, State, free_place, loaded_at, place_at}
 use Rattle.device_events.specs.declared.event.Event.{Event}
 use Rattle.device_events.specs.declared.event.Event.TheVariants as event
 
@@ -57,21 +56,6 @@ blocks_at s z = (zone_at s.namespace z).blocks
 -- a turn that appends nothing and ends no run
 abbrev pub no_turn : Turn
 no_turn = record { blocks = []; ending = None }
-
--- the ending is a success
-abbrev pub Succeeds : Option Ending → Type 0
-Succeeds ending = IsSomeAnd ending (λ e. e.status ≡ SUCCESS)
-
--- the last turn ends the run with success, and no other does
-abbrev pub EndsWithLast : List Turn → Type 0
-EndsWithLast [] = ⊥
-EndsWithLast (turn ∷ []) = Succeeds turn.ending
-EndsWithLast (turn ∷ next ∷ turns) = (turn.ending ≡ None) × EndsWithLast (next ∷ turns)
-
--- a success that tells the frames of these block runs and the blocks of these turns; the scratch bytes that
--- the last block run left are the result
-abbrev pub success_of : List BlockRun → List Turn → Ending
-success_of block_runs turns = success (frames_of block_runs) (length (appended_by turns)) (last_scratch block_runs)
 
 -- ---- the five parts
 

@@ -19,15 +19,15 @@ use Rattle.zns_commands.specs.Address.{write_pointer, zone_number}
 use Rattle.zns_commands.specs.Effect.{Effect, success_effect}
 use Rattle.zns_commands.specs.Left.{Grows}
 use Rattle.zns_commands.specs.Meaning.{meaning}
-use Rattle.pushdown.specs.EventReplies.{Happening, completion, submission_of}
-use Rattle.pushdown.specs.BlockRuns.{last_scratch}
-use Rattle.pushdown.specs.Events.{AreEvents, Occurrence, state_after}
+use Rattle.device_meaning.specs.EventReplies.{Happening, completion, submission_of}
+use Rattle.device_meaning.specs.BlockRuns.{last_scratch}
+use Rattle.device_meaning.specs.Events.{AreEvents, Occurrence, state_after}
 use Rattle.pushdown.specs.Laws.{AreEmitted}
-use Rattle.pushdown.specs.Happenings.{commanded, happens}
-use Rattle.pushdown.specs.Outcome.{Turn, appended_by}
+use Rattle.device_meaning.specs.Happenings.{commanded, happens}
+use Rattle.device_meaning.specs.Outcome.{Turn, appended_by}
 use Rattle.pushdown.specs.Pushdown.{IsAdmitted, block_runs, blocks_at, next, own_turns, place}
-use Rattle.pushdown.specs.Reached.{IsReached}
-use Rattle.pushdown.specs.State.{State, holds_at, place_at, uses}
+use Rattle.device_meaning.specs.Reached.{IsReached}
+use Rattle.device_meaning.specs.State.{State, holds_at, place_at, uses}
 use Rattle.device_events.specs.Replies.{ReplyWithData}
 use Rattle.device_events.specs.declared.event.Event.{Event}
 use Rattle.device_events.specs.declared.event.Event.TheVariants as event

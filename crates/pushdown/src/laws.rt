@@ -1,42 +1,11 @@
-//! Laws of the definitions. Each function does nothing: what it ensures is the law.
+//! The theorem, and laws beside it. Each function does nothing: what it ensures is the law.
 
 ghost use Rattle.pushdown.specs.AnyOrder.{TurnsInAnyOrder};
-ghost use Rattle.pushdown.specs.Laws.{AdmittedStarts, BlocksLeaveOthers, DrainingEnds, EventsKeepForRuns, ForeignLeavesTurns, OnlyLoadsChangeSlots, OutcomeIsPacked, OutcomeUnpacks, PendingIsAdmitted, RefusedLeavesState, RestAtAdmission, RestEnds, RestGoesOn, RestIsFew, RoomIsOpen, RoomStays, StatesAreSound, TurnTakesFirst, TurnsLeaveFewer};
-ghost use Rattle.pushdown.specs.WantOfMemory.{OnlyLoadsWantMemory};
-ghost use Rattle.pushdown.specs.JoinedEvents.{DrainedByTurns, DrainedInOneWay, EventsInParts, EventsJoin, OneReplyEach, ServedAndDrained, ServedInParts};
+ghost use Rattle.pushdown.specs.Laws.{AdmittedStarts, ForeignLeavesTurns, OnlyLoadsChangeSlots, OutcomeUnpacks, PendingIsAdmitted, RefusedLeavesState, TurnTakesFirst};
 ghost use Rattle.pushdown.specs.Pushdown.{Pushdown};
-ghost use Rattle.pushdown.specs.Reached.{EventsKeepReached, NewIsReached, TurnsKeepReached};
 ghost use Rattle.pushdown.specs.ReadBack.{AppendedBlocksReadBack, AppendedByRunsReadsBack, EventsKeepShapes, ResultsReadBack, UnclearedZonesKeepBlocks, WrittenBlocksReadBack, WrittenIsRead};
-ghost use Rattle.pushdown.specs.View.{SeenAtAdmission, SeenStays};
 
-use device_events::Out;
 use word_domain::Domain;
-
-/// The rest of a run at its admission is its outcome.
-pub fn rest_at_admission()
-    ensures { RestAtAdmission }
-{}
-
-/// The rest of a run that goes on is its next turn, and the rest after that.
-pub fn rest_goes_on()
-    ensures { RestGoesOn }
-{}
-
-/// Where a run ends with a block, its last turn alone is left.
-pub fn rest_ends()
-    ensures { RestEnds }
-{}
-
-/// A run has no more turns than source blocks are left.
-pub fn rest_is_few()
-    ensures { RestIsFew }
-{}
-
-/// Where each block run of a run ends by EXIT, the run has as many turns as block runs, all that it appends is the
-/// packing of their groups, and its completion tells their frames and blocks.
-pub fn outcome_is_packed()
-    ensures { OutcomeIsPacked }
-{}
 
 /// In each state that events leave, what a Run that is admitted there appends to its destination, unpacked, is the records
 /// that its program emitted, in order.
@@ -65,64 +34,6 @@ pub fn turn_takes_first()
     ensures { TurnTakesFirst }
 {}
 
-/// What is seen of a run at its admission is its place.
-pub fn seen_at_admission()
-    ensures { SeenAtAdmission }
-{}
-
-/// What is seen of a run whose source blocks are written stays, whatever is written behind these, and whatever result its
-/// slot is given.
-pub fn seen_stays()
-    ensures { SeenStays }
-{}
-
-/// Every event keeps, for each active run, the blocks of its source, its program and the namespace's shape.
-pub fn events_keep_for_runs<D: Domain>()
-    ensures { EventsKeepForRuns D.operations }
-{}
-
-/// A device that was just made is in a state that events leave.
-pub fn new_is_reached<D: Domain>()
-    ensures { NewIsReached D.operations }
-{}
-
-/// From each state that events leave, events lead to another.
-pub fn events_keep_reached<D: Domain>()
-    ensures { EventsKeepReached D.operations }
-{}
-
-/// So do turns, since they are events.
-pub fn turns_keep_reached<D: Domain>()
-    ensures { TurnsKeepReached D.operations }
-{}
-
-/// In each state that events leave, the namespace is sound, each loaded program is accepted, and what is left of
-/// each run fits into its destination, which is open as long as it isn't filled: a turn's blocks come there as by
-/// a Zone Append that meets no hold, and no check refuses that.
-pub fn states_are_sound<D: Domain>()
-    ensures { StatesAreSound D.operations }
-{}
-
-/// The blocks of a turn leave each other zone and the namespace's shape.
-pub fn blocks_leave_others()
-    ensures { BlocksLeaveOthers }
-{}
-
-/// A zone with room for turns, of which the first appends, is open.
-pub fn room_is_open()
-    ensures { RoomIsOpen }
-{}
-
-/// After the first of these turns it has room for the others.
-pub fn room_stays()
-    ensures { RoomStays }
-{}
-
-/// Only a Load asks for memory: that it is refused changes nothing of what any other event comes to.
-pub fn only_loads_want_memory<D: Domain>()
-    ensures { OnlyLoadsWantMemory D.operations }
-{}
-
 /// The reply to an entry is Pending, or its completion with a status. One whose status isn't success leaves the
 /// state as it was, whatever its command is.
 pub fn refused_leaves_state<D: Domain>()
@@ -133,52 +44,6 @@ pub fn refused_leaves_state<D: Domain>()
 /// else, to the program that its data is decoded to, which no reason refuses, with zeros as its result.
 pub fn only_loads_change_slots<D: Domain>()
     ensures { OnlyLoadsChangeSlots D.operations }
-{}
-
-/// Each event has one reply.
-pub fn one_reply_each<D: Domain>()
-    ensures { OneReplyEach D.operations }
-{}
-
-/// Two lists of events whose data is bytes are such a list together.
-pub fn events_join()
-    ensures { EventsJoin }
-{}
-
-/// The later of two lists of events happens to what the earlier leaves.
-pub fn events_in_parts<D: Domain>()
-    ensures { EventsInParts D.operations }
-{}
-
-/// A device that is served one list of events and then another has been served both joined.
-pub fn served_in_parts<D: Domain, O: Out>()
-    ensures { ServedInParts D.operations O.took }
-{}
-
-/// A device that is drained does turns that are events like any other.
-pub fn drained_by_turns<D: Domain>()
-    ensures { DrainedByTurns D.operations }
-{}
-
-/// No two lists of turns drain one state.
-pub fn drained_in_one_way()
-    ensures { DrainedInOneWay }
-{}
-
-/// A device that is served events and then drained has done both, and no run is left.
-pub fn served_and_drained<D: Domain, O: Out>()
-    ensures { ServedAndDrained D.operations O.took }
-{}
-
-/// In each state that events leave, a turn of an active run leaves fewer turns.
-pub fn turns_leave_fewer<D: Domain>()
-    ensures { TurnsLeaveFewer D.operations }
-{}
-
-/// In each state that events leave, turns of the lowest active run come to an end: no run is left, after at
-/// most as many turns as are left of all.
-pub fn draining_ends<D: Domain>()
-    ensures { DrainingEnds D.operations }
 {}
 
 /// No event changes the shape of the namespace.

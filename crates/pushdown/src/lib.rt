@@ -1,5 +1,5 @@
-//! What a run is: when it is admitted, what it comes to, and what events do to a device that has runs.
-//! The pushdown theorem stands here, over these definitions alone; the device is proved to do what they say.
+//! The pushdown theorem, and what else holds of a device's runs, entries and reads, whatever events come. It stands over
+//! the definitions of `device_meaning` alone; the device is proved to do what they say.
 #![tactic(auto)]
 
 pub mod laws;

@@ -6,18 +6,18 @@ use Rattle.std.proofs.Math.ListN.{get_or-map}
 use Rattle.zone_state.specs.declared.status.Status.{Status}
 use Rattle.zone_state.specs.declared.status.TheConstants.Status.{INVALID_FIELD_IN_COMMAND, NO_SUCH_PROGRAM, NO_RUN_FREE}
 use Rattle.zone_resources.specs.declared.holds.Holds.{Holds}
-use Rattle.program_interface.specs.Checks.{demand, first_failed}
-use Rattle.program_interface.proofs.Proved.{joined}
+use Rattle.common_definitions.specs.Checks.{demand, first_failed}
+use Rattle.common_definitions.proofs.Proved.{joined}
 use Rattle.nvme_entry.specs.declared.command.RunCommand.{RunCommand}
 use Rattle.image_store.specs.Namespace.{ZonedNamespace}
 use Rattle.image_store.specs.declared.geometry.ZoneBlock.{ZoneBlock}
 use Rattle.emit_append.specs.Need.{need}
 use Rattle.verifier.specs.Verified.{sizes_of}
 use Rattle.zns_commands.specs.Address.{zone_block_in}
-use Rattle.pushdown.specs.Admission.{Loaded, address_checks, destination_checks, destination_zone, run_refusal, sizes_in, source_checks}
-use Rattle.pushdown.specs.EventReplies.{Submission}
-use Rattle.pushdown.specs.Happenings.{why_not_run}
-use Rattle.pushdown.specs.State.{loaded_at}
+use Rattle.device_meaning.specs.Admission.{Loaded, address_checks, destination_checks, destination_zone, run_refusal, sizes_in, source_checks}
+use Rattle.device_meaning.specs.EventReplies.{Submission}
+use Rattle.device_meaning.specs.Happenings.{why_not_run}
+use Rattle.device_meaning.specs.State.{loaded_at}
 use Rattle.runner.specs.steps.Admitting.{AreZonesOf}
 use Rattle.runner.specs.DeviceState.{loaded_slot, device_state}
 use Rattle.runner.specs.steps.ActiveRuns.{held_by}

@@ -7,11 +7,11 @@ use Rattle.zone_state.specs.Zone.{written_state}
 use Rattle.zone_state.proofs.Proved.{written_twice}
 use Rattle.zone_state.specs.declared.state.ZoneState.{ZoneState}
 use Rattle.zone_state.specs.declared.state.ZoneState.TheVariants.{Full}
-use Rattle.program_interface.specs.Bytes.{pieces}
+use Rattle.common_definitions.specs.Bytes.{pieces}
 use Rattle.image_store.specs.Blocks.{as_blocks}
 use Rattle.image_store.specs.Namespace.{ZoneWithBlocks, ZonedNamespace, appended, grown, no_zone, with_zone, zone_at}
 use Rattle.zns_commands.proofs.Proved.{count_of}
-use Rattle.pushdown.specs.Happenings.{added}
+use Rattle.device_meaning.specs.Happenings.{added}
 
 -- ---- one block
 

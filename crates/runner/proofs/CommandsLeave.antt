@@ -14,9 +14,9 @@ use Rattle.zns_commands.specs.Laws.{Commanded, Faulted, NamespaceEvent, after}
 use Rattle.zns_commands.specs.Meaning.{meaning}
 use Rattle.zns_commands.specs.declared.answer.Answer.{Answer}
 use Rattle.zns_commands.proofs.Proved.{held_sources_keep_blocks, shapes_are_kept}
-use Rattle.pushdown.specs.EventReplies.{Submission}
-use Rattle.pushdown.specs.Happenings.{commanded, faulting}
-use Rattle.pushdown.specs.State.{Place, holds_at, with_namespace}
+use Rattle.device_meaning.specs.EventReplies.{Submission}
+use Rattle.device_meaning.specs.Happenings.{commanded, faulting}
+use Rattle.device_meaning.specs.State.{Place, holds_at, with_namespace}
 use Rattle.zone_resources.proofs.Proved.{runs_name_zones}
 use Rattle.runner.specs.steps.Answered.{answered}
 use Rattle.runner.specs.DeviceState.{loaded_slot, device_state}

@@ -16,21 +16,21 @@ use Rattle.image_store.proofs.Proved.{block_some}
 use Rattle.zns_commands.specs.Address.{zone_number}
 use Rattle.zns_commands.specs.Left.{Grows}
 use Rattle.zns_commands.specs.declared.answer.Answer.{Answer}
-use Rattle.pushdown.specs.Admission.{Loaded, SameProgram, task_of}
-use Rattle.pushdown.specs.EventReplies.{Happening, idle}
-use Rattle.pushdown.specs.Laws.{KeepsFor, RoomIn}
-use Rattle.pushdown.specs.Happenings.{added, keeping, place_left, slots_left, take_turn, turn_reply, turned, turned_at}
-use Rattle.pushdown.specs.Outcome.{Turn, rest}
-use Rattle.pushdown.specs.State.{Place, State, place_at}
-use Rattle.pushdown.specs.View.{place_of, seen, to_come, turns_of}
+use Rattle.device_meaning.specs.Admission.{Loaded, SameProgram, task_of}
+use Rattle.device_meaning.specs.EventReplies.{Happening, idle}
+use Rattle.device_meaning.specs.Laws.{KeepsFor, RoomIn}
+use Rattle.device_meaning.specs.Happenings.{added, keeping, place_left, slots_left, take_turn, turn_reply, turned, turned_at}
+use Rattle.device_meaning.specs.Outcome.{Turn, rest}
+use Rattle.device_meaning.specs.State.{Place, State, place_at}
+use Rattle.device_meaning.specs.View.{place_of, seen, to_come, turns_of}
 use Rattle.device_events.specs.declared.event.Event.TheVariants as event
 use Rattle.device_events.specs.declared.reply.Reply.{Reply}
 use Rattle.device_events.specs.declared.reply.Reply.TheVariants as reply
-use Rattle.pushdown.proofs.Proved.{events_keep_for_runs, turned_is}
+use Rattle.device_meaning.proofs.Proved.{events_keep_for_runs, turned_is}
 use Rattle.runner.specs.steps.Answered.{complete_reply}
 use Rattle.runner.specs.DeviceState.{active_of, loaded_slot, loaded_of, running, device_state}
 use Rattle.runner.specs.steps.Ready.{FitsNamespace, IsForBlocks, IsReady, IsRunning}
-use Rattle.pushdown.specs.Reached.{IsReached}
+use Rattle.device_meaning.specs.Reached.{IsReached}
 use Rattle.runner.specs.steps.Turning.{FitsAt, FitsIn, FitsOn, TurnGoesOn, HasEnded, IsTurned, Keeps, SlotTurned}
 use Rattle.runner.specs.declared.active_run.ActiveRun.{ActiveRun}
 use Rattle.runner.specs.declared.loaded_program.LoadedProgram.{LoadedProgram}

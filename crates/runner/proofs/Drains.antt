@@ -8,16 +8,16 @@ use Rattle.interval_domain.specs.Intervals.{intervals}
 use Rattle.nvme_entry.specs.declared.command.TheConstants.{MOST_BLOCKS}
 use Rattle.image_store.specs.Namespace.{ZonedNamespace, zone_at}
 use Rattle.zns_commands.specs.Address.{zone_number}
-use Rattle.pushdown.specs.Admission.{task_of}
+use Rattle.device_meaning.specs.Admission.{task_of}
 use Rattle.device_events.specs.Replies.{Joins, ReplyWithData}
-use Rattle.pushdown.specs.Draining.{AreLowest, HasStoppedDraining, lowest_run, replies_to_turns, state_after_turns, turns_left, turns_left_at}
-use Rattle.pushdown.specs.Happenings.{turned}
-use Rattle.pushdown.specs.State.{State}
-use Rattle.pushdown.specs.View.{seen, to_come}
-use Rattle.pushdown.proofs.Proved.{rest_is_few, turns_leave_fewer}
+use Rattle.device_meaning.specs.Draining.{AreLowest, HasStoppedDraining, lowest_run, replies_to_turns, state_after_turns, turns_left, turns_left_at}
+use Rattle.device_meaning.specs.Happenings.{turned}
+use Rattle.device_meaning.specs.State.{State}
+use Rattle.device_meaning.specs.View.{seen, to_come}
+use Rattle.device_meaning.proofs.Proved.{rest_is_few, turns_leave_fewer}
 use Rattle.runner.specs.DeviceState.{active_of, loaded_slot, device_state}
 use Rattle.runner.specs.steps.Ready.{FitsNamespace}
-use Rattle.pushdown.specs.Reached.{IsReached}
+use Rattle.device_meaning.specs.Reached.{IsReached}
 use Rattle.runner.specs.declared.active_run.ActiveRun.{ActiveRun}
 use Rattle.runner.specs.declared.loaded_program.LoadedProgram.{LoadedProgram}
 use Rattle.runner.proofs.Reached.{never}

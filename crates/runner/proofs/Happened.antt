@@ -4,16 +4,16 @@ use Rattle.std.specs.Prelude.{Vec}
 use Rattle.std.specs.declared.alloc.Global.{Global}
 use Rattle.nvme_entry.specs.Entry.{decoded}
 use Rattle.interval_domain.specs.Intervals.{intervals}
-use Rattle.pushdown.specs.EventReplies.{Happening, Submission, submission_of}
+use Rattle.device_meaning.specs.EventReplies.{Happening, Submission, submission_of}
 use Rattle.device_events.specs.Replies.{ReplyWithData}
-use Rattle.pushdown.specs.Events.{CarriesBytes, HasHappened, Occurrence}
-use Rattle.pushdown.specs.Happenings.{happens, submitted}
-use Rattle.pushdown.specs.State.{State}
+use Rattle.device_meaning.specs.Events.{CarriesBytes, HasHappened, Occurrence}
+use Rattle.device_meaning.specs.Happenings.{happens, submitted}
+use Rattle.device_meaning.specs.State.{State}
 use Rattle.device_events.specs.declared.event.Event.{Event}
 use Rattle.device_events.specs.declared.event.Event.TheVariants as event
-use Rattle.pushdown.proofs.Proved.{events_keep_reached}
+use Rattle.device_meaning.proofs.Proved.{events_keep_reached}
 use Rattle.runner.specs.steps.Answered.{HasSubmitted}
-use Rattle.pushdown.specs.Reached.{IsReached}
+use Rattle.device_meaning.specs.Reached.{IsReached}
 
 -- one more event leaves a state that events leave
 pub reached_more : (s t : State) (o : Occurrence) → IsReached intervals s → CarriesBytes o.event → t ≡ (happens intervals s o.starved o.event).state → IsReached intervals t

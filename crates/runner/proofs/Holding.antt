@@ -2,9 +2,9 @@
 use Rattle.std.proofs.Common.{◌≡◌, ℕ, zero, suc, List, [], ◌∷◌, map, get_or, Option, Some, None, refl, ap, ◌∙◌}
 use Rattle.image_store.specs.declared.geometry.ZoneBlock.{ZoneBlock}
 use Rattle.image_store.specs.Namespace.{ZonedNamespace}
-use Rattle.pushdown.specs.Admission.{Loaded}
-use Rattle.pushdown.specs.State.{Place, destination_of, holds_at, source_of}
-use Rattle.pushdown.specs.View.{seen}
+use Rattle.device_meaning.specs.Admission.{Loaded}
+use Rattle.device_meaning.specs.State.{Place, destination_of, holds_at, source_of}
+use Rattle.device_meaning.specs.View.{seen}
 use Rattle.runner.specs.DeviceState.{loaded_slot, running, device_state}
 use Rattle.runner.specs.steps.ActiveRuns.{destination_held, held_by, source_held}
 use Rattle.runner.specs.steps.Ready.{FitsNamespace, IsReady}

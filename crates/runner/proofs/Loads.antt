@@ -5,7 +5,7 @@ use Rattle.std.specs.List.{list_any}
 use Rattle.std.proofs.lemmas.List.{map-set}
 use Rattle.zone_state.specs.declared.status.Status.{Status}
 use Rattle.zone_state.specs.declared.status.TheConstants.Status.{SUCCESS}
-use Rattle.program_interface.specs.Checks.{first_failed}
+use Rattle.common_definitions.specs.Checks.{first_failed}
 use Rattle.nvme_entry.specs.declared.command.LoadCommand.{LoadCommand}
 use Rattle.program_interface.specs.RunSizes.{Sizes}
 use Rattle.accepted_programs.proofs.Proved.{set_known}
@@ -15,13 +15,13 @@ use Rattle.image_store.specs.Namespace.{ZonedNamespace, zone_at}
 use Rattle.zns_commands.specs.Answer.{refused_answer, success_answer}
 use Rattle.zns_commands.specs.declared.answer.Answer.{Answer}
 use Rattle.zns_commands.proofs.Proved.{grows_by_none}
-use Rattle.pushdown.specs.Admission.{Loaded, SameProgram}
-use Rattle.pushdown.specs.EventReplies.{completed, submission_of}
-use Rattle.pushdown.specs.BlockRuns.{no_scratch}
-use Rattle.pushdown.specs.Happenings.{judged, just_loaded, load_checks, load_unless, read_program, sizes_for}
-use Rattle.pushdown.specs.State.{Place, State, in_use, loaded_at, with_slot}
-use Rattle.pushdown.specs.View.{place_of}
-use Rattle.pushdown.proofs.Proved.{not_loaded, same_program}
+use Rattle.device_meaning.specs.Admission.{Loaded, SameProgram}
+use Rattle.device_meaning.specs.EventReplies.{completed, submission_of}
+use Rattle.device_meaning.specs.BlockRuns.{no_scratch}
+use Rattle.device_meaning.specs.Happenings.{judged, just_loaded, load_checks, load_unless, read_program, sizes_for}
+use Rattle.device_meaning.specs.State.{Place, State, in_use, loaded_at, with_slot}
+use Rattle.device_meaning.specs.View.{place_of}
+use Rattle.device_meaning.proofs.Proved.{not_loaded, same_program}
 use Rattle.runner.specs.steps.Answered.{HasLoaded}
 use Rattle.runner.specs.DeviceState.{active_of, loaded_slot, device_state}
 use Rattle.runner.specs.steps.Loading.{IsLoadable, IsNotAccepted, uses_slot}

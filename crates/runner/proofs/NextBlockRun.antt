@@ -4,8 +4,8 @@ use Rattle.instruction_set.specs.declared.instruction.Instruction.{Instruction}
 use Rattle.program_interface.specs.Context.{context_bytes}
 use Rattle.program_interface.specs.declared.context.Context.{Context}
 use Rattle.image_store.specs.Namespace.{ZonedNamespace}
-use Rattle.pushdown.specs.View.{Active}
-use Rattle.pushdown.specs.BlockRuns.{block_run_over}
+use Rattle.device_meaning.specs.View.{Active}
+use Rattle.device_meaning.specs.BlockRuns.{block_run_over}
 use Rattle.runner.specs.steps.Turning.{next_block, next_block_run}
 
 -- what a run is told of the block that is next

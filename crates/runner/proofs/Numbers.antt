@@ -4,9 +4,9 @@ use Rattle.std.specs.Prelude.{not, nat_lt, is_none, is_some, option_map, positio
 use Rattle.std.specs.List.{position_or_len}
 use Rattle.std.proofs.lemmas.List.{length-map}
 use Rattle.image_store.specs.Namespace.{ZonedNamespace}
-use Rattle.pushdown.specs.Draining.{lowest_run}
-use Rattle.pushdown.specs.State.{free_place}
-use Rattle.pushdown.specs.View.{place_of, seen}
+use Rattle.device_meaning.specs.Draining.{lowest_run}
+use Rattle.device_meaning.specs.State.{free_place}
+use Rattle.device_meaning.specs.View.{place_of, seen}
 use Rattle.runner.specs.DeviceState.{active_of, loaded_slot, running, device_state}
 use Rattle.runner.specs.declared.active_run.ActiveRun.{ActiveRun}
 use Rattle.runner.specs.declared.loaded_program.LoadedProgram.{LoadedProgram}

@@ -8,10 +8,10 @@ use Rattle.nvme_entry.specs.declared.command.Command.{Command}
 use Rattle.interval_domain.specs.Intervals.{intervals}
 use Rattle.zns_commands.specs.Answer.{refused_answer}
 use Rattle.zns_commands.specs.declared.answer.Answer.{Answer}
-use Rattle.pushdown.specs.EventReplies.{Happening, Submission, completed, refused}
+use Rattle.device_meaning.specs.EventReplies.{Happening, Submission, completed, refused}
 use Rattle.device_events.specs.Replies.{data_length, without_data}
-use Rattle.pushdown.specs.Happenings.{submitted}
-use Rattle.pushdown.specs.State.{State}
+use Rattle.device_meaning.specs.Happenings.{submitted}
+use Rattle.device_meaning.specs.State.{State}
 use Rattle.device_events.specs.declared.reply.Reply.{Reply}
 use Rattle.device_events.specs.declared.reply.Reply.TheVariants as reply
 use Rattle.runner.specs.steps.Answered.{HasSubmitted, answered, complete_reply}

@@ -3,12 +3,12 @@ use Rattle.std.proofs.Common.{◌≡◌, ℕ, ◌+◌, ◌-◌, ◌<◌, List, [
 use Rattle.std.proofs.lemmas.List.{length-map, length-take-le, map_push, take_at, take_more}
 use Rattle.interval_domain.specs.Intervals.{intervals}
 use Rattle.device_events.specs.Replies.{Joins, ReplyWithData, data_length}
-use Rattle.pushdown.specs.Events.{AreOccurrencesOf, HasHappened, HasServed, HasStopped, Occurrence, replies_to, state_after}
-use Rattle.pushdown.specs.Happenings.{happens}
-use Rattle.pushdown.specs.State.{State}
+use Rattle.device_meaning.specs.Events.{AreOccurrencesOf, HasHappened, HasServed, HasStopped, Occurrence, replies_to, state_after}
+use Rattle.device_meaning.specs.Happenings.{happens}
+use Rattle.device_meaning.specs.State.{State}
 use Rattle.device_events.specs.declared.event.Event.{Event}
 use Rattle.device_events.specs.declared.reply.Reply.{Reply}
-use Rattle.pushdown.proofs.Proved.{events_in_parts}
+use Rattle.device_meaning.proofs.Proved.{events_in_parts}
 
 -- a reply with the bytes that go with it
 pub with_data : (r : Reply) (n : ℕ) (xs : List ℕ) → n ≡ data_length r

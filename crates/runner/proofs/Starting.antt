@@ -8,15 +8,15 @@ use Rattle.program_meaning.proofs.Proved.{the_value}
 use Rattle.accepted_programs.proofs.Proved.{set_known}
 use Rattle.image_store.specs.Namespace.{ZonedNamespace}
 use Rattle.image_store.specs.declared.geometry.ZoneBlock.{ZoneBlock}
-use Rattle.pushdown.specs.Admission.{run_refusal}
-use Rattle.pushdown.specs.EventReplies.{submission_of}
+use Rattle.device_meaning.specs.Admission.{run_refusal}
+use Rattle.device_meaning.specs.EventReplies.{submission_of}
 use Rattle.device_events.specs.Replies.{without_data}
-use Rattle.pushdown.specs.Happenings.{start_by}
-use Rattle.pushdown.specs.Outcome.{at_admission}
-use Rattle.pushdown.specs.State.{Place, State, free_place, with_place}
-use Rattle.pushdown.specs.View.{begun, place_of, seen}
+use Rattle.device_meaning.specs.Happenings.{start_by}
+use Rattle.device_meaning.specs.Outcome.{at_admission}
+use Rattle.device_meaning.specs.State.{Place, State, free_place, with_place}
+use Rattle.device_meaning.specs.View.{begun, place_of, seen}
 use Rattle.device_events.specs.declared.reply.Reply.TheVariants as reply
-use Rattle.pushdown.proofs.Proved.{seen_at_admission}
+use Rattle.device_meaning.proofs.Proved.{seen_at_admission}
 use Rattle.runner.specs.steps.Admitting.{IsAdmission}
 use Rattle.runner.specs.steps.Answered.{Refuses, Starts}
 use Rattle.runner.specs.DeviceState.{active_of, loaded_slot, running, device_state}

@@ -6,10 +6,10 @@ use Rattle.image_store.specs.Namespace.{ZonedNamespace, shape, zone_at}
 use Rattle.image_store.specs.declared.geometry.ZoneBlock.{ZoneBlock}
 use Rattle.zns_commands.specs.Address.{zone_number}
 use Rattle.zns_commands.specs.Left.{Grows}
-use Rattle.pushdown.specs.Admission.{SameProgram}
-use Rattle.pushdown.specs.State.{Place, place_at}
-use Rattle.pushdown.specs.View.{KeepsSource, place_of, seen}
-use Rattle.pushdown.proofs.Proved.{seen_stays}
+use Rattle.device_meaning.specs.Admission.{SameProgram}
+use Rattle.device_meaning.specs.State.{Place, place_at}
+use Rattle.device_meaning.specs.View.{KeepsSource, place_of, seen}
+use Rattle.device_meaning.proofs.Proved.{seen_stays}
 use Rattle.runner.specs.DeviceState.{active_of, loaded_slot, running, device_state}
 use Rattle.runner.specs.steps.Ready.{FitsNamespace}
 use Rattle.runner.specs.declared.active_run.ActiveRun.{ActiveRun}

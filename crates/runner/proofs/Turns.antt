@@ -16,13 +16,13 @@ use Rattle.image_store.specs.Namespace.{ZoneWithBlocks, ZonedNamespace, zone_at}
 use Rattle.image_store.specs.declared.geometry.ZoneBlock.{ZoneBlock}
 use Rattle.zns_commands.specs.Address.{zone_number}
 use Rattle.zns_commands.proofs.Proved.{open_is_there}
-use Rattle.pushdown.specs.Admission.{task_by}
-use Rattle.pushdown.specs.BlockRuns.{Task, goes_on, scratch_after}
-use Rattle.pushdown.specs.Laws.{Ends, RoomIn, further, next_turn}
-use Rattle.pushdown.specs.Happenings.{added}
-use Rattle.pushdown.specs.Outcome.{Ending, Progress, Turn, appended_by, coming_to, last_turn, last_turn_by, emitted_by, rest, success}
-use Rattle.pushdown.specs.View.{Active, to_come, turns_of}
-use Rattle.pushdown.proofs.Proved.{blocks_leave_others, rest_ends, rest_goes_on, room_is_open, room_stays}
+use Rattle.device_meaning.specs.Admission.{task_by}
+use Rattle.device_meaning.specs.BlockRuns.{Task, goes_on, scratch_after}
+use Rattle.device_meaning.specs.Laws.{Ends, RoomIn, further, next_turn}
+use Rattle.device_meaning.specs.Happenings.{added}
+use Rattle.device_meaning.specs.Outcome.{Ending, Progress, Turn, appended_by, coming_to, last_turn, last_turn_by, emitted_by, rest, success}
+use Rattle.device_meaning.specs.View.{Active, to_come, turns_of}
+use Rattle.device_meaning.proofs.Proved.{blocks_leave_others, rest_ends, rest_goes_on, room_is_open, room_stays}
 use Rattle.runner.specs.DeviceState.{active_of}
 use Rattle.runner.specs.steps.Ran.{HasRun}
 use Rattle.runner.specs.steps.Turning.{FitsOn, TurnGoesOn, HasEnded, HasRoom, next_block, next_block_run, with_packer, with_scratch}

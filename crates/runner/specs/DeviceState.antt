@@ -2,9 +2,9 @@
 use Rattle.std.specs.Prelude.{List, map, option_map, Option}
 use Rattle.image_store.specs.Namespace.{ZonedNamespace}
 use Rattle.verifier.specs.Verified.{program_of, sizes_of}
-use Rattle.pushdown.specs.Admission.{Loaded}
-use Rattle.pushdown.specs.State.{State}
-use Rattle.pushdown.specs.View.{Active, view_of}
+use Rattle.device_meaning.specs.Admission.{Loaded}
+use Rattle.device_meaning.specs.State.{State}
+use Rattle.device_meaning.specs.View.{Active, view_of}
 use Rattle.runner.specs.declared.active_run.ActiveRun.{ActiveRun}
 use Rattle.runner.specs.declared.loaded_program.LoadedProgram.{LoadedProgram}
 

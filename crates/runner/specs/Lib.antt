@@ -1,3 +1,2 @@
 pub mod DeviceState
-pub mod Laws
 pub mod steps

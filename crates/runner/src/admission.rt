@@ -2,8 +2,8 @@
 
 ghost use Rattle.std.specs.Prelude.{◌≡◌, ◌<◌, ◌+◌, ◌^◌, length, get_or, position, is_some, is_none, None, IfOk, IfErr, OnOk, OnErr};
 ghost use Rattle.std.specs.Result.{result_err};
-ghost use Rattle.program_interface.specs.Checks.{first_failed};
-ghost use Rattle.pushdown.specs.Admission.{address_checks, destination_checks, run_refusal, source_checks};
+ghost use Rattle.common_definitions.specs.Checks.{first_failed};
+ghost use Rattle.device_meaning.specs.Admission.{address_checks, destination_checks, run_refusal, source_checks};
 ghost use Rattle.runner.specs.steps.Admitting.{AreZonesOf, IsAdmission};
 ghost use Rattle.runner.specs.steps.Answered.{Refuses, Starts};
 ghost use Rattle.runner.specs.DeviceState.{loaded_slot, device_state};

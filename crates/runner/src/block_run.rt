@@ -1,7 +1,7 @@
 //! One block run: a program over one block.
 
 ghost use Rattle.std.specs.Prelude.{◌≡◌, ◌<◌, ◌≤◌, ◌^◌, length, take};
-ghost use Rattle.pushdown.specs.BlockRuns.{block_run_over};
+ghost use Rattle.device_meaning.specs.BlockRuns.{block_run_over};
 ghost use Rattle.runner.specs.steps.Ran.{HasRun};
 
 use interp::Machine;

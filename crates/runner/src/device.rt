@@ -4,12 +4,12 @@ ghost use Rattle.std.specs.Prelude.{◌≡◌, ◌≤◌, ◌<◌, ◌+◌, ◌*
 ghost use Rattle.interval_domain.specs.Intervals.{intervals};
 ghost use Rattle.nvme_entry.specs.declared.command.TheConstants.{MOST_BLOCKS};
 ghost use Rattle.device_events.specs.Replies.{data_length};
-ghost use Rattle.pushdown.specs.Draining.{HasDrained, HasStoppedDraining, lowest_run, turns_left};
-ghost use Rattle.pushdown.specs.Events.{HasHappened, HasServed, HasStopped};
-ghost use Rattle.pushdown.specs.Happenings.{faulting};
-ghost use Rattle.pushdown.specs.State.{new_state};
-ghost use Rattle.pushdown.specs.Reached.{IsReached};
-ghost use Rattle.program_interface.specs.Failures.{CountsFailure};
+ghost use Rattle.device_meaning.specs.Draining.{HasDrained, HasStoppedDraining, lowest_run, turns_left};
+ghost use Rattle.device_meaning.specs.Events.{HasHappened, HasServed, HasStopped};
+ghost use Rattle.device_meaning.specs.Happenings.{faulting};
+ghost use Rattle.device_meaning.specs.State.{new_state};
+ghost use Rattle.device_meaning.specs.Reached.{IsReached};
+ghost use Rattle.common_definitions.specs.Failures.{CountsFailure};
 ghost use Rattle.runner.specs.steps.ServedOne.{HasServedOne};
 
 use crate::active_run::ActiveRun;
@@ -46,7 +46,7 @@ pub struct Device {
 }
 
 impl Model for Device {
-    ghost use Rattle.pushdown.specs.State.{State};
+    ghost use Rattle.device_meaning.specs.State.{State};
     ghost use Rattle.runner.specs.DeviceState.{device_state};
     ghost use Rattle.runner.specs.steps.Ready.{IsDevice};
 

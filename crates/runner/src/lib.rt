@@ -6,7 +6,6 @@ mod admission;
 mod block_run;
 mod completion;
 mod device;
-pub mod laws;
 mod load;
 mod loaded_program;
 mod places;

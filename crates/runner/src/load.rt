@@ -3,8 +3,8 @@
 ghost use Rattle.std.specs.Prelude.{◌≡◌, ◌<◌, List, Option, IfOk, IfErr};
 ghost use Rattle.std.specs.List.{list_any};
 ghost use Rattle.std.specs.Result.{result_err};
-ghost use Rattle.program_interface.specs.Checks.{first_failed};
-ghost use Rattle.pushdown.specs.Happenings.{load_checks};
+ghost use Rattle.common_definitions.specs.Checks.{first_failed};
+ghost use Rattle.device_meaning.specs.Happenings.{load_checks};
 ghost use Rattle.runner.specs.steps.Answered.{HasLoaded};
 ghost use Rattle.runner.specs.DeviceState.{device_state};
 ghost use Rattle.runner.specs.steps.Loading.{uses_slot, refused_program, IsAccepted, IsLoadable, IsNotAccepted};

@@ -1,7 +1,7 @@
 //! Programs in their slots.
 
 ghost use Rattle.std.specs.Prelude.{◌≡◌};
-ghost use Rattle.pushdown.specs.BlockRuns.{no_scratch};
+ghost use Rattle.device_meaning.specs.BlockRuns.{no_scratch};
 
 use interval_domain::Intervals;
 use program_interface::SCRATCH_BYTES;

@@ -1,7 +1,7 @@
 //! Entries that hosts submit.
 
 ghost use Rattle.std.specs.Prelude.{◌≡◌, ◌≤◌, drop, length, take, List, Ok, Option};
-ghost use Rattle.program_interface.specs.Bytes.{AreBytes};
+ghost use Rattle.common_definitions.specs.Bytes.{AreBytes};
 ghost use Rattle.nvme_entry.specs.Entry.{decoded, identifier_of};
 ghost use Rattle.nvme_entry.specs.declared.command.Command.TheVariants as commands;
 ghost use Rattle.device_events.specs.Replies.{data_length, without_data};

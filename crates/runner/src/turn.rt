@@ -4,14 +4,14 @@ ghost use Rattle.std.specs.Prelude.{◌≡◌, ◌<◌, ◌≤◌, ◌+◌, ◌^
 ghost use Rattle.interval_domain.specs.Intervals.{intervals};
 ghost use Rattle.program_interface.specs.declared.block_size.TheConstants.{LARGEST_BLOCK};
 ghost use Rattle.emit_append.specs.Packer.{after_put, given_by_finish, given_by_put, new_packer};
-ghost use Rattle.program_interface.specs.Bytes.{padded};
+ghost use Rattle.common_definitions.specs.Bytes.{padded};
 ghost use Rattle.device_events.specs.Replies.{data_length};
-ghost use Rattle.pushdown.specs.BlockRuns.{scratch_after};
-ghost use Rattle.pushdown.specs.Happenings.{added};
+ghost use Rattle.device_meaning.specs.BlockRuns.{scratch_after};
+ghost use Rattle.device_meaning.specs.Happenings.{added};
 ghost use Rattle.runner.specs.DeviceState.{active_of, device_state};
 ghost use Rattle.runner.specs.steps.Ran.{HasRun};
 ghost use Rattle.runner.specs.steps.Ready.{FitsNamespace, IsReady};
-ghost use Rattle.pushdown.specs.Reached.{IsReached};
+ghost use Rattle.device_meaning.specs.Reached.{IsReached};
 ghost use Rattle.runner.specs.steps.Turning.{FitsAt, FitsIn, FitsOn, HasRoom, IsTaking, IsTurned, Keeps, PlaceTurned, SlotTurned, Turned, next_block, next_block_run, with_packer, with_scratch};
 
 use crate::active_run::ActiveRun;

@@ -9,8 +9,8 @@ use Rattle.zone_state.specs.declared.state.ZoneState.{ZoneState}
 use Rattle.zone_state.specs.declared.status.Status.{Status}
 use Rattle.zone_state.specs.declared.status.TheConstants.Status.{ZONE_HELD}
 use Rattle.zone_resources.specs.declared.holds.Holds.{Holds}
-use Rattle.program_interface.specs.Checks.{demand, unless_failed, first_failed}
-use Rattle.program_interface.proofs.Proved.{demanded, passed}
+use Rattle.common_definitions.specs.Checks.{demand, unless_failed, first_failed}
+use Rattle.common_definitions.proofs.Proved.{demanded, passed}
 use Rattle.image_store.specs.Namespace.{ZonedNamespace, zone_at, IsNamespace}
 use Rattle.zns_commands.specs.Address.{zone_number, block_total}
 use Rattle.zns_commands.specs.Resources.{room_for, closing_of}

@@ -12,7 +12,7 @@ use Rattle.zone_state.specs.declared.state.ZoneState.{ZoneState}
 use Rattle.zone_state.specs.declared.state.ZoneState.TheVariants.{Empty, ImplicitlyOpened, ExplicitlyOpened, Closed, ReadOnly, Full, Offline}
 use Rattle.zone_resources.specs.Admission.{HoldsNoMore, IsWithin}
 use Rattle.zone_resources.proofs.Proved.{release_keeps_limits}
-use Rattle.program_interface.specs.Bytes.{AreBytes}
+use Rattle.common_definitions.specs.Bytes.{AreBytes}
 use Rattle.image_store.specs.Geometry.{IsShape}
 use Rattle.image_store.specs.Namespace.{ZoneWithBlocks, ZonedNamespace, no_zone, zone_at, with_zone, counted, shape, counted_zones, IsNamespace, IsWithinLimits}
 use Rattle.image_store.proofs.Proved.{blocks_lie_in_zones, each_set, resized}

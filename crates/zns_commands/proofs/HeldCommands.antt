@@ -4,7 +4,7 @@ use Rattle.std.specs.Prelude.{not, unwrap_or}
 use Rattle.zone_state.specs.declared.status.Status.{Status}
 use Rattle.zone_state.specs.declared.status.TheConstants.Status.{ZONE_HELD}
 use Rattle.zone_resources.specs.Holds.{is_destination, refuses}
-use Rattle.program_interface.specs.Checks.{demand, first_failed}
+use Rattle.common_definitions.specs.Checks.{demand, first_failed}
 use Rattle.nvme_entry.specs.declared.command.StandardCommand.TheVariants.{Write, Read, Send, Receive, Append}
 use Rattle.image_store.specs.Namespace.{ZonedNamespace, counted_zones}
 use Rattle.zns_commands.specs.Address.{zone_number}

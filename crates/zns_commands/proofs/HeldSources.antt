@@ -13,12 +13,12 @@ use Rattle.zone_state.specs.declared.state.ZoneState.TheVariants.{Empty, Offline
 use Rattle.zone_state.specs.declared.zone.FaultRefused.{FaultRefused}
 use Rattle.zone_resources.specs.Holds.{is_destination, is_source, is_held, refuses, forgets}
 use Rattle.zone_resources.specs.declared.holds.Holds.{Holds}
-use Rattle.program_interface.specs.Checks.{first_failed}
+use Rattle.common_definitions.specs.Checks.{first_failed}
 use Rattle.nvme_entry.specs.declared.command.StandardCommand.{StandardCommand}
 use Rattle.nvme_entry.specs.declared.command.StandardCommand.TheVariants.{Write, Read, Send, Receive, Append}
 use Rattle.image_store.specs.Namespace.{ZoneWithBlocks, ZonedNamespace, zone_at, with_zone, arrived, with_state}
 use Rattle.zone_state.specs.State.{is_cleared}
-use Rattle.program_interface.proofs.Proved.{passed}
+use Rattle.common_definitions.proofs.Proved.{passed}
 use Rattle.zns_commands.specs.Address.{zone_number}
 use Rattle.zns_commands.specs.Fault.{zone_fault_refusal, faulted_by}
 use Rattle.zns_commands.specs.Left.{Grows, HeldSourcesKeepBlocks}

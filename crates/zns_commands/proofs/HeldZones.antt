@@ -15,8 +15,8 @@ use Rattle.zone_resources.specs.Holds.{names, is_destination, is_source, refuses
 use Rattle.zone_resources.specs.declared.admission.Wanted.{Wanted}
 use Rattle.zone_resources.specs.declared.holds.Holds.{Holds}
 use Rattle.zone_resources.proofs.Proved.{admitted_closable}
-use Rattle.program_interface.specs.Checks.{first_failed}
-use Rattle.program_interface.proofs.Proved.{demanded, passed}
+use Rattle.common_definitions.specs.Checks.{first_failed}
+use Rattle.common_definitions.proofs.Proved.{demanded, passed}
 use Rattle.nvme_entry.specs.declared.command.StandardCommand.{StandardCommand}
 use Rattle.nvme_entry.specs.declared.command.StandardCommand.TheVariants.{Write, Read, Send, Receive, Append}
 use Rattle.image_store.specs.Namespace.{ZoneWithBlocks, ZonedNamespace, no_zone, zone_at, counted, counted_zones}

@@ -2,9 +2,9 @@
 use Rattle.std.proofs.Common.{◌≡◌, ℕ, ◌+◌, ◌*◌, ◌≤◌, ◌<◌, true, List, length, get_or, Option, None, Result, Ok, refl, ap, sym, subst, ◌∙◌, arith}
 use Rattle.std.specs.Result.{result_err}
 use Rattle.std.proofs.lemmas.Bool.{eq-eqb, le-leb, lt-ltb}
-use Rattle.program_interface.specs.Checks.{first_failed}
-use Rattle.program_interface.specs.FirstCheck.{NoneFails}
-use Rattle.program_interface.proofs.Proved.{met, no_fault_where_none_fails}
+use Rattle.common_definitions.specs.Checks.{first_failed}
+use Rattle.common_definitions.specs.FirstCheck.{NoneFails}
+use Rattle.common_definitions.proofs.Proved.{met, no_fault_where_none_fails}
 use Rattle.zone_state.specs.State.{is_open}
 use Rattle.zone_state.specs.Zone.{write_check, write_refusal}
 use Rattle.zone_state.specs.declared.state.ZoneState.{ZoneState}

@@ -22,10 +22,10 @@ use Rattle.zone_resources.specs.declared.admission.Wanted.TheVariants.{OpenOnly,
 use Rattle.zone_resources.specs.declared.holds.Holds.{Holds}
 use Rattle.nvme_entry.specs.declared.command.StandardCommand.TheVariants.{Write, Read, Append}
 use Rattle.nvme_entry.specs.declared.command.TheConstants.{MOST_TRANSFER}
-use Rattle.program_interface.specs.Checks.{demand, first_failed, unless_failed}
-use Rattle.program_interface.proofs.Proved.{demanded, guarded, passed}
+use Rattle.common_definitions.specs.Checks.{demand, first_failed, unless_failed}
+use Rattle.common_definitions.proofs.Proved.{demanded, guarded, passed}
 use Rattle.zone_state.proofs.Proved.{is_allowed}
-use Rattle.program_interface.proofs.Proved.{all_append}
+use Rattle.common_definitions.proofs.Proved.{all_append}
 use Rattle.image_store.specs.Namespace.{ZonedNamespace, zone_at, counted_zones, IsNamespace}
 use Rattle.zns_commands.specs.Address.{counted_zone_at, zone_number, block_total, lowest_checks, range_checks}
 use Rattle.zns_commands.specs.Effect.{Effect, concluded}

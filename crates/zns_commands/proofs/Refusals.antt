@@ -5,8 +5,8 @@ use Rattle.zone_state.specs.declared.status.TheConstants.Status.{SUCCESS}
 use Rattle.zone_resources.specs.declared.holds.Holds.{Holds}
 use Rattle.nvme_entry.specs.declared.command.StandardCommand.{StandardCommand}
 use Rattle.nvme_entry.specs.declared.command.StandardCommand.TheVariants.{Write, Read, Send, Receive, Append}
-use Rattle.program_interface.specs.Checks.{first_failed}
-use Rattle.program_interface.proofs.Proved.{first_failed_is_first, no_fault_where_none_fails}
+use Rattle.common_definitions.specs.Checks.{first_failed}
+use Rattle.common_definitions.proofs.Proved.{first_failed_is_first, no_fault_where_none_fails}
 use Rattle.image_store.specs.Namespace.{ZonedNamespace}
 use Rattle.zns_commands.specs.Effect.{Effect, concluded}
 use Rattle.zns_commands.specs.Meaning.{checks_of, effect_of}

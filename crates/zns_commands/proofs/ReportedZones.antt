@@ -14,8 +14,8 @@ use Rattle.nvme_entry.specs.declared.command.StandardCommand.TheVariants.{Receiv
 use Rattle.nvme_entry.specs.declared.command.TheConstants.{MOST_TRANSFER}
 use Rattle.nvme_entry.specs.declared.report.TheConstants.{REPORT_HEADER_BYTES}
 use Rattle.nvme_entry.specs.declared.filter.ZoneFilter.TheVariants as filters
-use Rattle.program_interface.specs.Checks.{demand, first_failed}
-use Rattle.program_interface.proofs.Proved.{met, no_fault_where_none_fails}
+use Rattle.common_definitions.specs.Checks.{demand, first_failed}
+use Rattle.common_definitions.proofs.Proved.{met, no_fault_where_none_fails}
 use Rattle.nvme_entry.specs.ReportLaws.{ReportsZones, number_in, descriptors_in, descriptor_room}
 use Rattle.nvme_entry.specs.Report.{report, descriptor_at, matching, listed_zones}
 use Rattle.image_store.specs.Namespace.{ZonedNamespace, counted, counted_zones, IsNamespace}

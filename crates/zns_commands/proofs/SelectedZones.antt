@@ -4,7 +4,7 @@ use Rattle.std.specs.Prelude.{nat_eq, nat_le, nat_lt, not, ◌&&◌, ◌||◌}
 use Rattle.std.specs.Result.{result_err, result_unwrap_or}
 use Rattle.std.proofs.lemmas.Bool.{eq-eqb, leb-true, le-leb, lt-ltb}
 use Rattle.std.proofs.lemmas.List.{get_or-map, get_or-set_same}
-use Rattle.program_interface.specs.Checks.{demand, first_failed}
+use Rattle.common_definitions.specs.Checks.{demand, first_failed}
 use Rattle.zone_state.specs.Transition.{transition}
 use Rattle.zone_state.specs.declared.action.Action.{Action}
 use Rattle.zone_state.specs.declared.action.Action.TheVariants as action

@@ -9,8 +9,8 @@ use Rattle.zone_state.specs.declared.state.ZoneState.TheVariants.{Empty, Implici
 use Rattle.zone_state.proofs.Proved.{is_allowed}
 use Rattle.zone_resources.specs.Admission.{wanted_of, HoldsNoMore}
 use Rattle.zone_resources.specs.declared.holds.Holds.{Holds}
-use Rattle.program_interface.specs.Bytes.{AreBytes}
-use Rattle.program_interface.proofs.Proved.{each_behind}
+use Rattle.common_definitions.specs.Bytes.{AreBytes}
+use Rattle.common_definitions.proofs.Proved.{each_behind}
 use Rattle.image_store.specs.Blocks.{as_blocks, block_count}
 use Rattle.image_store.specs.Namespace.{ZoneWithBlocks, ZonedNamespace, zone_at, counted, grown, IsNamespace, IsWithinLimits}
 use Rattle.image_store.proofs.Proved.{block_some, blocks_are_bytes, blocks_are_counted, blocks_are_whole, writes_keep_zones}

@@ -3,7 +3,7 @@ use Rattle.std.specs.Prelude.{ℕ, ◌≡◌, ◌<◌, ◌+◌, ◌*◌, ◌^◌
 use Rattle.zone_state.specs.Zone.{CountedZone}
 use Rattle.zone_state.specs.declared.status.Status.{Status}
 use Rattle.zone_state.specs.declared.status.TheConstants.Status.{INVALID_FIELD_IN_COMMAND, LBA_OUT_OF_RANGE, ZONE_BOUNDARY_ERROR}
-use Rattle.program_interface.specs.Checks.{demand}
+use Rattle.common_definitions.specs.Checks.{demand}
 use Rattle.image_store.specs.Geometry.{zone_block_at}
 use Rattle.image_store.specs.declared.geometry.ZoneBlock.{ZoneBlock}
 use Rattle.image_store.specs.Namespace.{ZonedNamespace, zone_at, counted}

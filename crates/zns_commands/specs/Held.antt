@@ -2,7 +2,7 @@
 use Rattle.std.specs.Prelude.{ℕ, ◌≡◌, ◌++◌, Bool, true, false, List, [], Option, unwrap_or}
 use Rattle.zone_state.specs.declared.status.Status.{Status}
 use Rattle.zone_state.specs.declared.status.TheConstants.Status.{ZONE_HELD}
-use Rattle.program_interface.specs.Checks.{first_failed}
+use Rattle.common_definitions.specs.Checks.{first_failed}
 use Rattle.zone_resources.specs.Holds.{is_destination, refuses}
 use Rattle.zone_resources.specs.declared.holds.Holds.{Holds}
 use Rattle.nvme_entry.specs.declared.command.StandardCommand.{StandardCommand}

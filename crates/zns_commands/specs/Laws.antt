@@ -14,11 +14,11 @@ use Rattle.nvme_entry.specs.declared.filter.ZoneFilter.{ZoneFilter}
 use Rattle.nvme_entry.specs.declared.filter.ZoneFilter.TheVariants as filters
 use Rattle.nvme_entry.specs.ReportLaws.{ReportsZones, number_in, descriptors_in, descriptor_room}
 use Rattle.nvme_entry.specs.Report.{descriptor_at, matching}
-use Rattle.program_interface.specs.Bytes.{AreBytes}
+use Rattle.common_definitions.specs.Bytes.{AreBytes}
 use Rattle.image_store.specs.Blocks.{block_count}
 use Rattle.image_store.specs.Geometry.{Shape, IsShape}
 use Rattle.image_store.specs.Namespace.{ZonedNamespace, zone_at, appended, block_at, IsNamespace, all_empty, counted_zones}
-use Rattle.program_interface.specs.FirstCheck.{FailsFirst, NoneFails}
+use Rattle.common_definitions.specs.FirstCheck.{FailsFirst, NoneFails}
 use Rattle.zone_state.specs.State.{is_cleared}
 use Rattle.zns_commands.specs.Address.{block_total, zone_number, zone_offset}
 use Rattle.zns_commands.specs.Effect.{Effect, success_effect, refused_effect}

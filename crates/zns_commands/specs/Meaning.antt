@@ -1,7 +1,7 @@
 -- The meaning of a command: what it comes to on a namespace, with the data beside its entry.
 use Rattle.std.specs.Prelude.{ℕ, List, [], Option}
 use Rattle.zone_state.specs.declared.status.Status.{Status}
-use Rattle.program_interface.specs.Checks.{first_failed}
+use Rattle.common_definitions.specs.Checks.{first_failed}
 use Rattle.zone_resources.specs.declared.holds.Holds.{Holds}
 use Rattle.nvme_entry.specs.declared.command.StandardCommand.{StandardCommand}
 use Rattle.nvme_entry.specs.declared.command.StandardCommand.TheVariants.{Write, Read, Send, Receive, Append}

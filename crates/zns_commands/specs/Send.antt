@@ -14,7 +14,7 @@ use Rattle.zone_state.specs.declared.status.TheConstants.Status.{TOO_MANY_OPEN_Z
 use Rattle.zone_resources.specs.Counts.{count_in, open_count}
 use Rattle.zone_resources.specs.Holds.{refuses}
 use Rattle.zone_resources.specs.declared.holds.Holds.{Holds}
-use Rattle.program_interface.specs.Checks.{demand}
+use Rattle.common_definitions.specs.Checks.{demand}
 use Rattle.image_store.specs.Namespace.{ZoneWithBlocks, ZonedNamespace, zone_at, counted_zones, arrived, with_state}
 use Rattle.zns_commands.specs.Address.{zone_number, lowest_checks}
 use Rattle.zns_commands.specs.Resources.{room_for, closing_of, closed}

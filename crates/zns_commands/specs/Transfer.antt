@@ -3,7 +3,7 @@ use Rattle.std.specs.Prelude.{ℕ, ◌==◌, nat_le, List, [], ◌∷◌, length
 use Rattle.zone_state.specs.declared.status.Status.{Status}
 use Rattle.zone_state.specs.declared.status.TheConstants.Status.{INVALID_FIELD_IN_COMMAND}
 use Rattle.nvme_entry.specs.declared.command.TheConstants.{MOST_TRANSFER}
-use Rattle.program_interface.specs.Checks.{demand}
+use Rattle.common_definitions.specs.Checks.{demand}
 
 -- of a transfer of so many bytes, where so many are to stand beside the entry, and these do
 abbrev pub transfer_checks : ℕ → ℕ → List ℕ → List (Option Status)

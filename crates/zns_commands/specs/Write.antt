@@ -6,7 +6,7 @@ use Rattle.zone_state.specs.declared.status.Status.{Status}
 use Rattle.zone_state.specs.declared.status.TheConstants.Status.{ZONE_HELD}
 use Rattle.zone_resources.specs.Holds.{is_destination}
 use Rattle.zone_resources.specs.declared.holds.Holds.{Holds}
-use Rattle.program_interface.specs.Checks.{demand}
+use Rattle.common_definitions.specs.Checks.{demand}
 use Rattle.image_store.specs.Namespace.{ZonedNamespace, zone_at, appended}
 use Rattle.zns_commands.specs.Address.{zone_number, zone_offset, counted_zone_at, range_checks}
 use Rattle.zns_commands.specs.Effect.{Effect, success_effect}

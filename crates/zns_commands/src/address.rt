@@ -2,7 +2,7 @@
 
 ghost use Rattle.std.specs.Prelude.{◌≡◌, IfOk};
 ghost use Rattle.std.specs.Result.{result_err};
-ghost use Rattle.program_interface.specs.Checks.{first_failed, unless_failed};
+ghost use Rattle.common_definitions.specs.Checks.{first_failed, unless_failed};
 ghost use Rattle.zns_commands.specs.Address.{address_check, boundary_check, lowest_checks, range_check, range_checks, zone_number, zone_block_in, IsZoneBlock};
 
 use image_store::{Image, ZoneBlock};

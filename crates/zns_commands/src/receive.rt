@@ -1,7 +1,7 @@
 //! Zone Management Receive.
 
 ghost use Rattle.std.specs.Prelude.{◌≡◌, ◌≤◌, ◌*◌, ◌++◌, ◌^◌, length, take, drop};
-ghost use Rattle.program_interface.specs.Checks.{first_failed, unless_failed};
+ghost use Rattle.common_definitions.specs.Checks.{first_failed, unless_failed};
 ghost use Rattle.zone_resources.specs.declared.holds.Holds.{Holds};
 ghost use Rattle.nvme_entry.specs.Report.{report};
 ghost use Rattle.nvme_entry.specs.declared.command.StandardCommand.TheVariants.{Receive};

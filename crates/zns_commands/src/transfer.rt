@@ -1,7 +1,7 @@
 //! The checks of a command's data.
 
 ghost use Rattle.std.specs.Prelude.{◌≡◌, ◌≤◌, ◌*◌, length, OnOk};
-ghost use Rattle.program_interface.specs.Checks.{first_failed, unless_failed};
+ghost use Rattle.common_definitions.specs.Checks.{first_failed, unless_failed};
 ghost use Rattle.zns_commands.specs.Transfer.{transfer_checks};
 
 use image_store::Image;

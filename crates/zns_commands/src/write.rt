@@ -3,7 +3,7 @@
 ghost use Rattle.std.specs.Prelude.{◌≡◌, ◌<◌, ◌*◌, length, List, ℕ, IfOk, OnOk, OnErr};
 ghost use Rattle.nvme_entry.specs.declared.command.StandardCommand.TheVariants.{Write};
 ghost use Rattle.image_store.specs.Namespace.{zone_at};
-ghost use Rattle.program_interface.specs.Checks.{first_failed, unless_failed};
+ghost use Rattle.common_definitions.specs.Checks.{first_failed, unless_failed};
 ghost use Rattle.zns_commands.specs.Address.{zone_number};
 ghost use Rattle.zns_commands.specs.Effect.{effect_of_answer};
 ghost use Rattle.zns_commands.specs.Meaning.{meaning};

@@ -10,7 +10,7 @@ use Rattle.zone_state.specs.Zone.{CountedZone, in_state}
 use Rattle.zone_state.specs.declared.state.ZoneState.{ZoneState}
 use Rattle.zone_state.specs.declared.state.ZoneState.TheVariants.{Empty, ImplicitlyOpened, ExplicitlyOpened, Closed, ReadOnly, Full, Offline}
 use Rattle.zone_state.specs.declared.status.TheConstants.Status.{TOO_MANY_ACTIVE_ZONES}
-use Rattle.program_interface.proofs.Proved.{guarded}
+use Rattle.common_definitions.proofs.Proved.{guarded}
 use Rattle.zone_resources.proofs.AdmissionLemmas.{closes_at}
 use Rattle.zone_resources.proofs.CountLemmas.{counts_follow_one}
 use Rattle.zone_resources.specs.Admission.{admission, open_admission, closing_or_refusal, zone_to_close, wanted_of, IsClosable, IsWithin, after_closing, AdmissionKeepsLimits, ReleaseKeepsLimits, IdleHoldsNoMore}

@@ -2,11 +2,11 @@
 use Rattle.std.proofs.Common.{◌≡◌, ℕ, ◌+◌, ◌≤◌, Bool, true, [], ◌∷◌, Option, None, Ok, refl, ap}
 use Rattle.std.specs.Prelude.{nat_eq, nat_le}
 use Rattle.std.proofs.lemmas.Bool.{eq-eqb, eqb-true, le-leb, leb-true}
-use Rattle.program_interface.specs.Checks.{demand, first_failed, unless_failed}
+use Rattle.common_definitions.specs.Checks.{demand, first_failed, unless_failed}
 use Rattle.zone_state.specs.Zone.{CountedZone, checks_of_write, write_check, write_refusal}
 use Rattle.zone_state.specs.declared.status.Status.{Status}
 use Rattle.zone_state.specs.declared.status.TheConstants.Status.{ZONE_BOUNDARY_ERROR, ZONE_INVALID_WRITE}
-use Rattle.program_interface.proofs.Proved.{demanded, none_failed, passed}
+use Rattle.common_definitions.proofs.Proved.{demanded, none_failed, passed}
 
 -- a write of n blocks from block `at` of the zone on fails no check
 pub record IsAllowed (z : CountedZone) (at n : ℕ) : Type 0 where

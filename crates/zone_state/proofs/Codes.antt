@@ -2,7 +2,7 @@
 use Rattle.std.proofs.Common.{◌≡◌, ℕ, Option, Some, None, refl}
 use Rattle.std.proofs.lemmas.Bool.{eqb-true}
 use Rattle.std.specs.Prelude.{◌==◌, IfSome}
-use Rattle.program_interface.proofs.Proved.{found_passes}
+use Rattle.common_definitions.proofs.Proved.{found_passes}
 use Rattle.zone_state.specs.State.{CodesAreDistinct, code_of, state_of}
 use Rattle.zone_state.specs.declared.state.TheConstants.ZoneState.{ALL}
 use Rattle.zone_state.specs.declared.state.ZoneState.{ZoneState}

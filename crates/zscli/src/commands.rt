@@ -8,7 +8,7 @@ use clap::{ArgMatches, Command};
 use command_entry::entry;
 use command_exec::exec;
 use command_explain::explain;
-use command_failure::{Failure, printed};
+use command_failure::{Failure, Shown, printed};
 use command_files::Files;
 use command_files::arguments::{and_command, no_command};
 use command_images::{format, upgrade, zones};
@@ -35,16 +35,46 @@ pub fn command<'a, F: Files, O: Write>(
     let mut line = command_line(alloc)?;
     match line.try_get_matches_from_mut(words) {
         Ok(matches) => perform(alloc, &mut line, &matches, files, out),
-        Err(error) => print_help(error, out),
+        Err(error) => print_help(alloc, words, error, out),
     }
 }
 
 /// Prints the help that was asked for; of wrong words it gives the failure.
-fn print_help<'a, O: Write>(error: clap::Error, out: &mut O) -> Result<(), Failure<'a>> {
+fn print_help<'a, O: Write>(
+    alloc: Global,
+    words: &[String],
+    error: clap::Error,
+    out: &mut O,
+) -> Result<(), Failure<'a>> {
     if error.kind() == ErrorKind::DisplayHelp {
         return printed(write!(out, "{error}"));
     }
+    read_shown(alloc, words)?;
     Err(Failure::from(error))
+}
+
+/// Reads words as a terminal shows them. Those that are wrong are wrong in the same way then, since no name of a command or
+/// of an option has a character that is shown otherwise; and what is told of them shows no character that a terminal obeys.
+///
+/// # Errors
+///
+/// Why they are no command's.
+fn read_shown<'a>(alloc: Global, words: &[String]) -> Result<(), Failure<'a>> {
+    let shown = shown_words(alloc, words)?;
+    let mut line = command_line(alloc)?;
+    match line.try_get_matches_from_mut(shown.as_slice()) {
+        Ok(_) => Ok(()),
+        Err(error) => Err(Failure::from(error)),
+    }
+}
+
+/// Words as a terminal shows them.
+fn shown_words(alloc: Global, words: &[String]) -> Result<Vec<String>, AllocError> {
+    let mut shown = Vec::new(alloc);
+    for word in words {
+        shown.push(format!(in alloc; "{}", Shown(word.as_str()))?)?;
+    }
+    Ok(shown)
 }
 
 /// Does the command that a command line has.

@@ -6,6 +6,7 @@ mod event_lines;
 mod explain;
 mod help;
 mod images;
+mod last_lines;
 mod programs;
 mod readme;
 mod refusals;

@@ -3,9 +3,9 @@ use Rattle.std.specs.Prelude.{ℕ, List}
 use Rattle.std.specs.Borrow.{Bor}
 use Rattle.command_failure.specs.declared.failure.Failure.{Failure}
 use Rattle.command_failure.specs.declared.failure.Failure.TheVariants.{CannotPrint}
-use Rattle.command_files.specs.UserTold.{IsUnwritten}
+use Rattle.command_images.specs.UserTold.{IsUnheld}
 
--- standard output fails, the file with this name can't be written, or memory is wanting, and nothing else
+-- standard output fails, the file with this name can't be read again or written, or memory is wanting, and nothing else
 abbrev pub SavingFails : Bor (List ℕ) → Failure → Type 0
 SavingFails path CannotPrint = Unit {0}
-SavingFails path failure = IsUnwritten path failure
+SavingFails path failure = IsUnheld path failure

@@ -1,8 +1,8 @@
 -- The failure that a fault of loading an image becomes.
 use Rattle.std.specs.Prelude.{ℕ, List}
 use Rattle.std.specs.Borrow.{Bor}
-use Rattle.image_store.specs.declared.fault.LoadFault.{LoadFault}
-use Rattle.image_store.specs.declared.fault.LoadFault.TheVariants.{Stream, Memory}
+use Rattle.image_text.specs.declared.fault.LoadFault.{LoadFault}
+use Rattle.image_text.specs.declared.fault.LoadFault.TheVariants.{Stream, Memory}
 use Rattle.command_failure.specs.declared.failure.Failure.{Failure}
 use Rattle.command_failure.specs.declared.file_cause.FileCause.TheVariants.{Other}
 use Rattle.command_failure.specs.declared.failure.Failure.TheVariants.{CannotRead, ImageRefused, NoMemory}

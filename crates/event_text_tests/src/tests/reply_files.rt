@@ -22,19 +22,21 @@ const REPLIES: &[(&str, Reply)] = &[
         },
     ),
     (
-        "cpl 65535 0000000000000000000002000800000f abcd\n",
+        "cpl 65535 00000000000000000000020008000100 abcd\n",
         Reply::Complete {
             queue: 65535,
-            entry: [0, 0, 0, 0, 0, 0, 0, 0, 0, 0, 2, 0, 8, 0, 0, 0x0f],
+            entry: [0, 0, 0, 0, 0, 0, 0, 0, 0, 0, 2, 0, 8, 0, 1, 0],
             length: 2,
         },
     ),
 ];
 
-/// Files, and the first of their lines that no reply has.
+/// Files, and the first of their lines that no reply of a device has: it holds 8 runs, and a command that fails gives no data.
 const REFUSED: &[(&str, usize)] = &[
     ("idle\ndone\nturn 0\nrefused 1\n", 3),
     ("pending 03\n", 1),
+    ("pending 7\npending 8\n", 2),
+    ("cpl 65535 0000000000000000000002000800000f abcd\n", 1),
     ("cpl 1 0000000000000000000001000300000", 1),
 ];
 

@@ -22,7 +22,7 @@ impl Machine<'_> {
     ghost use Rattle.program_interface.specs.Area.{length_of};
     ghost use Rattle.interp.specs.Machine.{state_at, memory_of, group_length, Extends};
     ghost use Rattle.interp.specs.StepEnds.{emit_cause};
-    ghost use Rattle.program_interface.specs.Readings.{unless_fault};
+    ghost use Rattle.common_definitions.specs.Readings.{unless_fault};
 
     /// Adds the frame that R1 and R2 tell to the group and clears R0 to R5, unless a cause hinders it; then nothing changes.
     /// `limit` and `group` are as for `step`.

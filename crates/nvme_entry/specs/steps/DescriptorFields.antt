@@ -3,7 +3,7 @@ use Rattle.std.specs.Prelude.{ℕ, ◌*◌, ◌/◌, ◌%◌, ◌^◌, List, Opt
 use Rattle.std.specs.Option.{option_map}
 use Rattle.zone_state.specs.State.{state_of}
 use Rattle.zone_state.specs.declared.state.ZoneState.{ZoneState}
-use Rattle.program_interface.specs.Bytes.{field}
+use Rattle.common_definitions.specs.Bytes.{field}
 use Rattle.nvme_entry.specs.declared.descriptor.ZoneDescriptor.{ZoneDescriptor}
 
 -- the number in the 8 bytes with this index

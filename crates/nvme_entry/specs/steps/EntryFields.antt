@@ -1,7 +1,7 @@
 -- The fields that an entry is given.
 use Rattle.std.specs.Prelude.{◌≡◌, ℕ, ◌+◌, ◌*◌, ◌/◌, ◌%◌, ◌^◌, List, Some, slice_index}
 use Rattle.nvme_entry.specs.Entry.{identifier_of, namespace_identifier, opcode_of}
-use Rattle.program_interface.specs.Bytes.{field}
+use Rattle.common_definitions.specs.Bytes.{field}
 use Rattle.nvme_entry.specs.Dwords.{dword}
 use Rattle.nvme_entry.specs.declared.command.Opcode.{Opcode}
 use Rattle.nvme_entry.specs.declared.encoding.CommandDwords.{CommandDwords}

@@ -3,7 +3,7 @@ use Rattle.std.specs.Prelude.{ℕ, List, map, option_map, Option}
 use Rattle.nvme_entry.specs.declared.command.RunCommand.{RunCommand}
 use Rattle.emit_append.specs.Packer.{new_packer}
 use Rattle.image_store.specs.declared.geometry.ZoneBlock.{ZoneBlock}
-use Rattle.pushdown.specs.BlockRuns.{no_scratch}
+use Rattle.device_meaning.specs.BlockRuns.{no_scratch}
 use Rattle.zone_resources.specs.declared.holds.Holds.{Holds}
 use Rattle.runner.specs.declared.active_run.ActiveRun.{ActiveRun}
 

@@ -10,10 +10,10 @@ use Rattle.interval_domain.specs.Intervals.{intervals}
 use Rattle.image_store.specs.Namespace.{ZonedNamespace}
 use Rattle.zns_commands.specs.Meaning.{meaning}
 use Rattle.zns_commands.specs.declared.answer.Answer.{Answer}
-use Rattle.pushdown.specs.EventReplies.{Happening, Submission, completed, completion_reply, refused, submission_of}
+use Rattle.device_meaning.specs.EventReplies.{Happening, Submission, completed, completion_reply, refused, submission_of}
 use Rattle.device_events.specs.Replies.{ReplyWithData, without_data}
-use Rattle.pushdown.specs.Happenings.{commanded, giving_result, loading, starting, submitted}
-use Rattle.pushdown.specs.State.{State, holds_at}
+use Rattle.device_meaning.specs.Happenings.{commanded, giving_result, loading, starting, submitted}
+use Rattle.device_meaning.specs.State.{State, holds_at}
 use Rattle.device_events.specs.declared.reply.Reply.{Reply}
 use Rattle.device_events.specs.declared.reply.Reply.TheVariants as reply
 use Rattle.runner.specs.DeviceState.{device_state}

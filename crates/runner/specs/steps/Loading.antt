@@ -1,7 +1,7 @@
 -- Which slots are used, and what the bytes of a program come to.
 use Rattle.std.specs.Prelude.{ℕ, Bool, false, ◌≡◌, ◌==◌, List, [], Option, Some, None, Ok}
 use Rattle.zone_state.specs.declared.status.TheConstants.Status.{PROGRAM_REFUSED}
-use Rattle.program_interface.specs.Checks.{first_failed}
+use Rattle.common_definitions.specs.Checks.{first_failed}
 use Rattle.nvme_entry.specs.declared.command.LoadCommand.{LoadCommand}
 use Rattle.ebpf_decode.specs.Reading.{decoded_program}
 use Rattle.instruction_set.specs.declared.instruction.Instruction.{Instruction}
@@ -9,9 +9,9 @@ use Rattle.program_interface.specs.RunSizes.{Sizes}
 use Rattle.interval_domain.specs.Intervals.{intervals}
 use Rattle.accepted_programs.specs.Accepted.{refusal}
 use Rattle.zns_commands.specs.declared.answer.Answer.{Answer}
-use Rattle.pushdown.specs.EventReplies.{submission_of}
-use Rattle.pushdown.specs.Happenings.{load_checks, load_unless, sizes_for}
-use Rattle.pushdown.specs.State.{State}
+use Rattle.device_meaning.specs.EventReplies.{submission_of}
+use Rattle.device_meaning.specs.Happenings.{load_checks, load_unless, sizes_for}
+use Rattle.device_meaning.specs.State.{State}
 use Rattle.runner.specs.steps.Answered.{answered}
 use Rattle.runner.specs.declared.active_run.ActiveRun.{ActiveRun}
 

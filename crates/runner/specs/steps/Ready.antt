@@ -7,7 +7,7 @@ use Rattle.nvme_entry.specs.declared.command.TheConstants.{MOST_BLOCKS}
 use Rattle.image_store.specs.Namespace.{ZonedNamespace, zone_at}
 use Rattle.image_store.specs.declared.geometry.ZoneBlock.{ZoneBlock}
 use Rattle.zns_commands.specs.Address.{zone_number, zone_block_in}
-use Rattle.pushdown.specs.Reached.{IsReached}
+use Rattle.device_meaning.specs.Reached.{IsReached}
 use Rattle.runner.specs.DeviceState.{device_state}
 use Rattle.runner.specs.declared.active_run.ActiveRun.{ActiveRun}
 use Rattle.runner.specs.declared.loaded_program.LoadedProgram.{LoadedProgram}

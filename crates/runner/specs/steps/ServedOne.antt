@@ -4,8 +4,8 @@ use Rattle.interval_domain.specs.Intervals.{intervals}
 use Rattle.device_events.specs.Replies.{ReplyWithData}
 use Rattle.device_events.specs.declared.event.Event.{Event}
 use Rattle.device_events.specs.declared.out.NotTaken.{NotTaken}
-use Rattle.pushdown.specs.Events.{HasHappened}
-use Rattle.pushdown.specs.State.{State}
+use Rattle.device_meaning.specs.Events.{HasHappened}
+use Rattle.device_meaning.specs.State.{State}
 
 -- the event led from one state to the other; `took` says of replies that they were taken, which are the reply
 -- to it, or none where that was refused

@@ -8,12 +8,12 @@ use Rattle.verifier.specs.Verified.{program_of, sizes_of}
 use Rattle.image_store.specs.Namespace.{ZonedNamespace, zone_at}
 use Rattle.zns_commands.specs.Address.{zone_offset}
 use Rattle.zns_commands.specs.declared.answer.Answer.{Answer}
-use Rattle.pushdown.specs.Admission.{source_zone, task_by}
-use Rattle.pushdown.specs.BlockRuns.{block_run}
-use Rattle.pushdown.specs.Laws.{RoomIn}
-use Rattle.pushdown.specs.Happenings.{added, turned}
-use Rattle.pushdown.specs.State.{State}
-use Rattle.pushdown.specs.View.{Active, turns_of}
+use Rattle.device_meaning.specs.Admission.{source_zone, task_by}
+use Rattle.device_meaning.specs.BlockRuns.{block_run}
+use Rattle.device_meaning.specs.Laws.{RoomIn}
+use Rattle.device_meaning.specs.Happenings.{added, turned}
+use Rattle.device_meaning.specs.State.{State}
+use Rattle.device_meaning.specs.View.{Active, turns_of}
 use Rattle.device_events.specs.declared.reply.Reply.{Reply}
 use Rattle.runner.specs.DeviceState.{active_of, device_state}
 use Rattle.runner.specs.steps.Ready.{FitsNamespace, IsForBlocks, IsReady}

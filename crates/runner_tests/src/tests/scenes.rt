@@ -4,7 +4,7 @@ ghost use Rattle.std.specs.Prelude.{◌≤◌, length};
 
 use super::steps::{Case, Expected, bytes_of};
 use super::{Kept, room};
-use image_store::{Buffer, Version};
+use image_text::{Buffer, ImageText, Version};
 use runner::{Device, Event, Reply};
 use std::alloc::Global;
 use std::process::Abort;

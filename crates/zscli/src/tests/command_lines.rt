@@ -6,12 +6,7 @@ use std::test::Fail;
 const ENDS: &[Act] = &[
     Act::Start(b"turn 0"),
     Act::Prints(EXEC, "idle\n"),
-    Act::Fails(
-        "zscli exec gone missing",
-        1,
-        "",
-        "cannot read gone: no such file or folder\n",
-    ),
+    Act::Fails("zscli exec gone missing", 1, "", "cannot read gone\n"),
 ];
 
 const USAGE: &[Act] = &[
@@ -29,7 +24,7 @@ const USAGE: &[Act] = &[
 const STOPS: &[Act] = &[
     Act::Start(b"turn 0\nturn 1\nturn 2"),
     Act::Stops(EXEC, 3, 0, ""),
-    Act::Stops("zscli --help", 0, 1, "cannot write to standard output\n"),
+    Act::Stops("zscli --help", 0, 1, "cannot write -\n"),
 ];
 
 const SCENES: &[Scene] = &[

@@ -129,6 +129,57 @@ cpl 1 00000000000000000000010005000000
     ),
 ];
 
+/// Lines that are added to a command file. Their identifiers count up by themselves for each queue, and behind 65535 the lowest is
+/// taken that the queue's submissions don't have.
+const INTO: &[Act] = &[
+    Act::Start(b"turn 0 ; no line end"),
+    Act::Prints("zscli entry open --lba 0 --into events", ""),
+    Act::Prints("zscli entry close --lba 0 --into events", ""),
+    Act::Prints("zscli entry open --lba 0 --into events --cid 9", ""),
+    Act::Prints("zscli entry reset --lba 0 --queue 2 --into events", ""),
+    Act::Prints("zscli entry close --lba 0 --into events", ""),
+    Act::Prints("zscli entry open --lba 0 --cid 65535 --into events", ""),
+    Act::Prints("zscli entry close --lba 0 --into events", ""),
+    Act::Prints("zscli entry open --lba 0 --into events", ""),
+    Act::Prints(
+        EXEC,
+        "\
+idle
+cpl 1 00000000000000000000010001000000
+cpl 1 00000000000000000000010002000000
+cpl 1 00000000000000000000010009000000
+cpl 2 00000000000000000000020001000000
+cpl 1 0000000000000000000001000a007e03
+cpl 1 000000000000000000000100ffff0000
+cpl 1 00000000000000000000010000000000
+cpl 1 00000000000000000000010003000000
+",
+    ),
+];
+
+/// A command file that is begun, one with a refused line, which stays as it is, and one that can't be written.
+const INTO_FILES: &[Act] = &[
+    Act::Prints("zscli entry result --slot 0 --into made", ""),
+    Act::Has("made", &[(RESULT, 1), (b"0", 118), (b"\n", 1)]),
+    Act::Put("bad", &[(b"turn 0\nturn 256\n", 1)]),
+    Act::Refuses(
+        "zscli entry result --slot 0 --into bad",
+        "bad, line 2: \"256\": no run; a number from 0 to 255 is expected\nline 2 refused\n",
+    ),
+    Act::Has("bad", &[(b"turn 0\nturn 256\n", 1)]),
+    Act::Room(200),
+    Act::Fails(
+        "zscli entry result --slot 0 --into made",
+        1,
+        "",
+        "cannot write made\n",
+    ),
+    Act::Has("made", &[(RESULT, 1), (b"0", 118), (b"\n", 1)]),
+];
+
+/// The line of a Result of slot 0 to queue 1 with identifier 1, up to the last of its digits that isn't 0.
+const RESULT: &[u8] = b"submit 1 c200010001";
+
 /// Files with data: none, too many bytes, no whole blocks, one that isn't there, and the most that a command moves; of that
 /// also with a block size that there isn't, and where standard output fails.
 const FILES: &[Act] = &[
@@ -162,13 +213,13 @@ const FILES: &[Act] = &[
         "zscli entry append --lba 8 --data gone",
         1,
         "",
-        "cannot read gone: no such file or folder\n",
+        "cannot read gone\n",
     ),
     Act::Stops(
         "zscli entry append --lba 8 --data most",
         0,
         1,
-        "cannot write to standard output\n",
+        "cannot write -\n",
     ),
     Act::Stops(
         "zscli entry append --lba 8 --data most --block 4096",
@@ -262,6 +313,14 @@ const SCENES: &[Scene] = &[
     Scene {
         name: "a command file of lines",
         acts: WORK,
+    },
+    Scene {
+        name: "lines that are added to a command file",
+        acts: INTO,
+    },
+    Scene {
+        name: "command files to which a line is added",
+        acts: INTO_FILES,
     },
     Scene {
         name: "files with data",

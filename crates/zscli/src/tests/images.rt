@@ -15,7 +15,7 @@ const FORMATTED: &[Act] = &[
         "0 empty 0\n1 empty 0\n2 empty 0\n3 empty 0\n",
     ),
     Act::Prints(
-        "zscli format again --block 0x200 --zones 4 --size 0x8 --capacity 0x06 --open 2 --active 3",
+        "zscli format again --block 0512 --zones 4 --size 008 --capacity 06 --open 2 --active 3",
         "",
     ),
     Act::Has("again", EMPTY_IMAGE),
@@ -111,12 +111,7 @@ const LEFT: &[Act] = &[
     Act::Start(b"fault 0 offline\nturn 256"),
     Act::Fails(EXEC, 3, "", "line 2 refused\n"),
     Act::Has("image", EMPTY_IMAGE),
-    Act::Fails(
-        "zscli exec image missing",
-        1,
-        "",
-        "cannot read missing: no such file or folder\n",
-    ),
+    Act::Fails("zscli exec image missing", 1, "", "cannot read missing\n"),
     Act::Has("image", EMPTY_IMAGE),
 ];
 
@@ -162,10 +157,58 @@ const FAILING: &[Act] = &[
     Act::Fails("zscli zones image", 1, "", "cannot read image\n"),
 ];
 
-const MADE: &[Scene] = &[Scene {
-    name: "format makes an image",
-    acts: FORMATTED,
-}];
+/// A file that is no image is replaced by force alone, an image and a file of no bytes without it.
+const REPLACED: &[Act] = &[
+    Act::Text("notes", "ZNSIMG0"),
+    Act::Ends(
+        "zscli format notes --block 512 --zones 4 --size 8 --capacity 6 --open 2 --active 3",
+        1,
+        "notes: it has bytes that are no image; `--force` replaces it\ncannot write notes\n",
+    ),
+    Act::Has("notes", &[(b"ZNSIMG0", 1)]),
+    Act::Prints(
+        "zscli format notes --block 512 --zones 4 --size 8 --capacity 6 --open 2 --active 3 --force",
+        "",
+    ),
+    Act::Has("notes", EMPTY_IMAGE),
+    Act::Put("old", OLD_IMAGE),
+    Act::Prints(
+        "zscli format old --block 512 --zones 4 --size 8 --capacity 6 --open 2 --active 3",
+        "",
+    ),
+    Act::Has("old", EMPTY_IMAGE),
+    Act::Put("empty", &[]),
+    Act::Prints(
+        "zscli format empty --block 512 --zones 4 --size 8 --capacity 6 --open 2 --active 3",
+        "",
+    ),
+    Act::Has("empty", EMPTY_IMAGE),
+];
+
+/// No file can be made, and none is wanted where the image stays as it was, but for one of version 1.
+const UNCHANGED: &[Act] = &[
+    Act::Start(b"fault 4 offline\nturn 0"),
+    Act::Put("old", OLD_IMAGE),
+    Act::Put("none", &[]),
+    Act::Room(0),
+    Act::Prints(EXEC, "refused\nidle\n"),
+    Act::Has("image", EMPTY_IMAGE),
+    Act::Stops(EXEC, 1, 1, "cannot write -\n"),
+    Act::Has("image", EMPTY_IMAGE),
+    Act::Fails("zscli exec old none", 1, "", "cannot write old\n"),
+    Act::Has("old", OLD_IMAGE),
+];
+
+const MADE: &[Scene] = &[
+    Scene {
+        name: "format makes an image",
+        acts: FORMATTED,
+    },
+    Scene {
+        name: "format replaces images, and other files by force",
+        acts: REPLACED,
+    },
+];
 
 #[test]
 fn images_that_are_made(rt: HostRuntime) -> Result<(), Fail> {
@@ -180,6 +223,10 @@ const CHANGED: &[Scene] = &[
     Scene {
         name: "exec writes an image of version 1 as one of version 2",
         acts: OLD,
+    },
+    Scene {
+        name: "exec writes nothing where the image stays as it was",
+        acts: UNCHANGED,
     },
     Scene {
         name: "an image that is upgraded",

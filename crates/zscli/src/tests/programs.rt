@@ -11,12 +11,7 @@ const FRAMED: Parts = &[(b"\x03\0abc", 1), (b"\0", 507)];
 const LISTED: &[Act] = &[
     Act::Slots("program", &slots::MATCHING),
     Act::Lists("zscli disasm program", programs::MATCHING),
-    Act::Fails(
-        "zscli disasm none",
-        1,
-        "",
-        "cannot read none: no such file or folder\n",
-    ),
+    Act::Fails("zscli disasm none", 1, "", "cannot read none\n"),
 ];
 
 /// A wide instruction takes slots 0 and 1.
@@ -71,7 +66,7 @@ const VERIFIED: &[Act] = &[
         "zscli verify program --block 512 --emit 513",
         2,
         "",
-        "error: '513' for --emit is not a number from 0 to 512\n",
+        "emit exceeds block\n",
     ),
     Act::Put("program", &[]),
     Act::Fails(
@@ -90,12 +85,7 @@ const ASSEMBLED: &[Act] = &[
     Act::Prints("zscli asm listing made", ""),
     Act::HasSlots("made", &slots::MATCHING),
     Act::Room(55),
-    Act::Fails(
-        "zscli asm listing made",
-        1,
-        "",
-        "cannot write made: no room is left\n",
-    ),
+    Act::Fails("zscli asm listing made", 1, "", "cannot write made\n"),
 ];
 
 const TRACED: &[Act] = &[
@@ -103,16 +93,17 @@ const TRACED: &[Act] = &[
     Act::Put("short", &[(b"a", 100)]),
     Act::Refuses(
         "zscli trace program short",
-        "short: 100 bytes; a block has a power of 2 from 512 to 16384\ndata refused 4\n",
+        "short: 100 bytes; a block has a power of 2 from 512 to 16384\ngeometry refused 1\n",
     ),
     Act::Put("block", &[(b"\x07", 1), (b"\0", 511)]),
     Act::Prints(
         "zscli trace program block --emit 10",
         "0\n1\n2\n3\n4\n5\n6\nexit 0 7 08000700000000000000\n",
     ),
-    // With no limit said, it is the block's size.
+    // With no limit said, it is 0.
+    Act::Prints("zscli trace program block", "0\n1\n2\n3\ntrap 4 8\n"),
     Act::Prints(
-        "zscli trace program block",
+        "zscli trace program block --emit 512",
         "0\n1\n2\n3\n4\n5\n6\nexit 0 7 08000700000000000000\n",
     ),
     // 8 bytes and their length are 10.

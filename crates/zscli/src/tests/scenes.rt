@@ -68,6 +68,8 @@ pub(super) enum Act {
     AddSubmission(&'static str, Dwords),
     /// A command line ends with this status, standard output and last line on standard error.
     Fails(&'static str, u8, &'static str, &'static str),
+    /// A command line ends with this status, and prints nothing but this to standard error.
+    Ends(&'static str, u8, &'static str),
     /// A command line refuses its input: it prints nothing, and this to standard error.
     Refuses(&'static str, &'static str),
     /// A command line whose standard output takes so many writes ends with this status and last line on standard error.
@@ -136,7 +138,10 @@ fn judge(rt: &impl Abort, stage: &mut Stage, scene: &str, act: Act) -> Result<()
         Act::Fails(line, status, out, err) => {
             stage.check(rt, &At { scene, what: line }, status, out, err)?;
         }
-        Act::Refuses(line, err) => stage.check_refusal(rt, &At { scene, what: line }, err)?,
+        Act::Ends(line, status, err) => {
+            stage.check_all(rt, &At { scene, what: line }, status, err)?;
+        }
+        Act::Refuses(line, err) => stage.check_all(rt, &At { scene, what: line }, 3, err)?,
         Act::Stops(line, writes, status, err) => {
             stage.run(line, writes)?;
             stage.check_end(rt, &At { scene, what: line }, status, err);
@@ -173,11 +178,7 @@ fn check_saved(
     status: u8,
     zones: &str,
 ) -> Result<(), Fail> {
-    let err = if status == 0 {
-        ""
-    } else {
-        "cannot write to standard output\n"
-    };
+    let err = if status == 0 { "" } else { "cannot write -\n" };
     stage.put("image", image)?;
     stage.run(EXEC, writes)?;
     stage.check_end(rt, &At { scene, what: EXEC }, status, err);

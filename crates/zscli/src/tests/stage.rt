@@ -160,17 +160,18 @@ impl Stage {
         assert_eq!(rt; self.status, status, "{at:?}");
     }
 
-    /// Runs a command line whose input is refused, and compares all that it prints to standard error.
-    pub(super) fn check_refusal(
+    /// Runs a command line that prints to standard error alone, and compares all of that, and its status.
+    pub(super) fn check_all(
         &mut self,
         rt: &impl Abort,
         at: &At,
+        status: u8,
         err: &str,
     ) -> Result<(), AllocError> {
         self.run(at.what, usize::MAX)?;
         assert_printed(rt, at, self.err.as_slice(), err);
         assert_printed(rt, at, self.out.bytes.as_slice(), "");
-        assert_eq!(rt; self.status, 3, "{at:?}");
+        assert_eq!(rt; self.status, status, "{at:?}");
         Ok(())
     }
 

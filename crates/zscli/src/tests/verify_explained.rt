@@ -69,28 +69,28 @@ const LOADS: &[Act] = &[
     Verify(
         "ldxh r1, [r2+0]\nadd r2, r1\nldxb r0, [r2+0]\nexit",
         0,
-        "refused 2 5\n   2  ldxb r0, [r2+0]\na load outside: for 1 byte r2 may be block + 0 to 511\n\
+        "refused 2 5\n   2  ldxb r0, [r2+0]\na load outside: for 1 byte r2 must be block + 0 to 511\n\
 r2 is block + 0 to 65535",
     ),
     // 98 + 412 is 510, where the last 2 bytes begin.
     Verify(
         "ldxb r6, [r2+0]\nadd r2, r6\nldxh r0, [r2+412]\nexit",
         0,
-        "refused 2 5\n   2  ldxh r0, [r2+412]\na load outside: for 2 bytes r2 may be block - 412 to block + 98\n\
+        "refused 2 5\n   2  ldxh r0, [r2+412]\na load outside: for 2 bytes r2 must be block - 412 to block + 98\n\
 r2 is block + 0 to 255",
     ),
     // -256 to -1, and 255 more: from the byte before the block on.
     Verify(
         "ldxb r6, [r2+0]\nsub r6, 256\nadd r2, r6\nldxb r0, [r2+255]\nexit",
         0,
-        "refused 3 5\n   3  ldxb r0, [r2+255]\na load outside: for 1 byte r2 may be block - 255 to block + 256\n\
+        "refused 3 5\n   3  ldxb r0, [r2+255]\na load outside: for 1 byte r2 must be block - 255 to block + 256\n\
 r2 is block - 256 to block - 1",
     ),
     // The sign is of the word that is loaded.
     Verify(
         "ldxsw r0, [r1+29]\nexit",
         0,
-        "refused 0 5\n   0  ldxsw r0, [r1+29]\na load outside: for 4 bytes r1 may be context - 29 to context - 1\n\
+        "refused 0 5\n   0  ldxsw r0, [r1+29]\na load outside: for 4 bytes r1 must be context - 29 to context - 1\n\
 r1 is context + 0",
     ),
     Verify(
@@ -110,14 +110,14 @@ const STORES: &[Act] = &[
         "stxdw [r10-7], r0\nexit",
         0,
         "refused 0 6\n   0  stxdw [r10-7], r0\n\
-a store outside, or into the context or the block: for 8 bytes r10 may be stack + 7 to 511\nr10 is stack + 512\n\
+a store outside, or into the context or the block: for 8 bytes r10 must be stack + 7 to 511\nr10 is stack + 512\n\
 r0 is 0",
     ),
     Verify(
         "stw [r3+1021], 1\nexit",
         0,
         "refused 0 6\n   0  stw [r3+1021], 1\n\
-a store outside, or into the context or the block: for 4 bytes r3 may be scratch - 1021 to scratch - 1\n\
+a store outside, or into the context or the block: for 4 bytes r3 must be scratch - 1021 to scratch - 1\n\
 r3 is scratch + 0",
     ),
     Verify(
@@ -132,7 +132,7 @@ const EMITS: &[Act] = &[
     Verify(
         "sub r1, 1\nmov r2, 1\ncall 1\nexit",
         3,
-        "refused 2 8\n   2  call 1\nan emit from an unknown address: r1 may be context + 0 to 32\nr1 is context - 1\n\
+        "refused 2 8\n   2  call 1\nan emit from an unknown address: r1 must be context + 0 to 32\nr1 is context - 1\n\
 r2 is 1",
     ),
     Verify(
@@ -144,13 +144,13 @@ r2 is 1",
     Verify(
         "ldxb r6, [r2+0]\nmov r1, r2\nmov r2, r6\ncall 1\nexit",
         512,
-        "refused 3 9\n   3  call 1\nan emit of an unknown length: r2 may be 1 to 512\nr1 is block + 0\nr2 is 0 to 255",
+        "refused 3 9\n   3  call 1\nan emit of an unknown length: r2 must be 1 to 512\nr1 is block + 0\nr2 is 0 to 255",
     ),
     // An address bounds no length.
     Verify(
         "call 1\nexit",
         512,
-        "refused 0 9\n   0  call 1\nan emit of an unknown length: r2 may be 1 to 32\nr1 is context + 0\n\
+        "refused 0 9\n   0  call 1\nan emit of an unknown length: r2 must be 1 to 32\nr1 is context + 0\n\
 r2 is block + 0",
     ),
     Verify(

@@ -1,4 +1,4 @@
-use Rattle.std.proofs.Common.{◌∙◌, rules}
+use Rattle.std.proofs.Common.{ℕ, List, Option, ap, ◌∙◌, rules}
 use Rattle.std.specs.Prelude.{codes}
 use Rattle.std.proofs.lemmas.Result.{err_from_is_err_and, IfErr-weaker, on_ok_weaker}
 use Rattle.command_files.specs.Arguments.{value_of}
@@ -9,21 +9,21 @@ use Rattle.command_exec.proofs.exec.exec.Goals as goal
 
 pub returns-in-Ok-clause-executed : goal.returns-in-Ok-clause-executed
 returns-in-Ok-clause-executed g c =
-    executes g.F.Reader.Source.tells g.F.Writer.Sink.tells (g.F.Files.contents c.args.files.now) (g.F.Files.contents c.load.new.files)
+    executes g.F.Reader.Source.tells g.F.Writer.Sink.tells (g.F.Files.contents c.args.files.now) (g.F.Files.contents c.load_to_replace.new.files)
     c.required-path.result.now _ c.required-commands.result.now _
     c.in_ok-file.file.items c.as_slice.result.now c.in_ok-image.image c.in-Ok.events.items
     (g.F.Files.made c.args.files.now) (g.F.Files.made c.read.new.files) (g.F.Files.made c.run.new.files)
-    c.load.ensures.contents c.required-path.ensures c.required-commands.ensures (search rules) c.in_ok-file.ensures.bytes c.as_slice.ensures.value c.in-Ok.ensures
-    _ _ _ c.run.result c.in_ok-image.ensures.image c.run.ensures.saved (search rules)
+    c.load_to_replace.ensures.contents c.required-path.ensures c.required-commands.ensures (search rules) c.in_ok-file.ensures.bytes c.as_slice.ensures.value c.in-Ok.ensures
+    _ _ _ _ c.run.result c.in_ok-image.ensures.image (ap (λ (contents : List ℕ → Option (List ℕ)). contents c.required-path.result.now) (c.read.ensures.contents ∙ c.load_to_replace.ensures.contents)) c.run.ensures.saved (search rules)
 
 pub returns-in-Ok-clause-stopped : goal.returns-in-Ok-clause-stopped
 returns-in-Ok-clause-stopped g c = λ stops.
-    executes_first g.F.Reader.Source.tells g.F.Writer.Sink.tells (g.F.Files.contents c.args.files.now) (g.F.Files.contents c.load.new.files)
+    executes_first g.F.Reader.Source.tells g.F.Writer.Sink.tells (g.F.Files.contents c.args.files.now) (g.F.Files.contents c.load_to_replace.new.files)
     c.required-path.result.now _ c.required-commands.result.now _
     c.in_ok-file.file.items c.as_slice.result.now c.in_ok-image.image c.in-Ok.events.items
     (g.F.Files.made c.args.files.now) (g.F.Files.made c.read.new.files) (g.F.Files.made c.run.new.files)
-    c.load.ensures.contents c.required-path.ensures c.required-commands.ensures (search rules) c.in_ok-file.ensures.bytes c.as_slice.ensures.value c.in-Ok.ensures
-    _ c.in_ok-image.ensures.image (c.run.ensures.stopped stops) (search rules)
+    c.load_to_replace.ensures.contents c.required-path.ensures c.required-commands.ensures (search rules) c.in_ok-file.ensures.bytes c.as_slice.ensures.value c.in-Ok.ensures
+    _ _ c.in_ok-image.ensures.image (ap (λ (contents : List ℕ → Option (List ℕ)). contents c.required-path.result.now) (c.read.ensures.contents ∙ c.load_to_replace.ensures.contents)) (c.run.ensures.stopped stops) (search rules)
 
 pub returns-in_err-image-clause-failed : goal.returns-in_err-image-clause-failed
 returns-in_err-image-clause-failed g c =
@@ -40,7 +40,7 @@ returns-in_err-file-clause-failed g c =
 pub returns-clause-failed : goal.returns-clause-failed
 returns-clause-failed g c =
     rw c.of_commands.ensures.told (exec_of_commands g.F.Reader.Source.tells (g.F.Files.contents c.args.files.now) (value_of c.args.matches.now (codes "IMAGE")) (value_of c.args.matches.now (codes "COMMANDS"))
-    c.required-commands.result c.required-commands.ensures (g.F.Files.contents c.load.new.files) c.load.ensures.contents
+    c.required-commands.result c.required-commands.ensures (g.F.Files.contents c.load_to_replace.new.files) c.load_to_replace.ensures.contents
     c.in_ok-file.file.items c.as_slice.result.now c.as_slice.ensures.value c.in_ok-file.ensures.bytes c.in-Err.fault c.in-Err.ensures)
 
 pub returns-in-Ok-clause-failed : goal.returns-in-Ok-clause-failed
@@ -52,9 +52,9 @@ returns-in-Ok-clause-failed g c =
 pub returns-in-Ok-clause-others : goal.returns-in-Ok-clause-others
 returns-in-Ok-clause-others g c =
     on_ok_weaker c.run.result
-    (others_kept c.required-path.result.now _ _ _ _ c.required-path.ensures (c.read.ensures.contents ∙ c.load.ensures.contents)) c.run.ensures.others
+    (others_kept c.required-path.result.now _ _ _ _ c.required-path.ensures (c.read.ensures.contents ∙ c.load_to_replace.ensures.contents)) c.run.ensures.others
 
 pub returns-in-Ok-clause-others_stopped : goal.returns-in-Ok-clause-others_stopped
 returns-in-Ok-clause-others_stopped g c = λ stops.
-    others_kept c.required-path.result.now _ _ _ _ c.required-path.ensures (c.read.ensures.contents ∙ c.load.ensures.contents)
+    others_kept c.required-path.result.now _ _ _ _ c.required-path.ensures (c.read.ensures.contents ∙ c.load_to_replace.ensures.contents)
     (c.run.ensures.others_stopped stops)

@@ -1,20 +1,20 @@
 use Rattle.std.proofs.Common.{List, ℕ, subst}
 use Rattle.std.proofs.lemmas.Result.{err_from_is_err_and, IfErr-weaker, on_ok_weaker}
-use Rattle.command_files.proofs.Proved.{others_kept}
+use Rattle.command_files.proofs.Proved.{modes_kept, others_kept}
 use Rattle.command_images.specs.UserTold.{UpgradeFails}
-use Rattle.command_images.proofs.Making.{makes_anew, upgrade_of_loading, upgrade_of_writing}
+use Rattle.command_images.proofs.Making.{makes_anew, upgrade_of_writing}
 use Rattle.command_images.proofs.upgrade.upgrade.Goals as goal
 
 pub returns-clause-same : goal.returns-clause-same
 returns-clause-same g c =
-    makes_anew g.F.Reader.Source.tells g.F.Writer.Sink.tells c.save.result (g.F.Files.contents c.args.files.now) c.in_ok-image.image c.required-path.result.now _ _ _ _ c.required-path.ensures c.load.ensures.made
+    makes_anew g.F.Reader.Source.tells g.F.Writer.Sink.tells c.save.result (g.F.Files.contents c.args.files.now) c.in_ok-image.image c.required-path.result.now _ _ _ _ c.required-path.ensures c.load_to_replace.ensures.made
     c.in_ok-image.ensures.image c.save.ensures.saved
 
 pub returns-in_err-image-clause-failed : goal.returns-in_err-image-clause-failed
 returns-in_err-image-clause-failed g c =
     let p = err_from_is_err_and c.from_residual.result c.from_residual.ensures.1 in
     rw (p.1, p.2) (subst (λ (path : List ℕ). UpgradeFails g.F.Reader.Source.tells (g.F.Files.contents c.args.files.now path) path c.in_err-image.field-0.0) c.required-path.ensures
-    (upgrade_of_loading _ _ _ _ c.in_err-image.ensures.failed))
+    c.in_err-image.ensures.failed)
 
 pub returns-clause-failed : goal.returns-clause-failed
 returns-clause-failed g c =
@@ -22,4 +22,7 @@ returns-clause-failed g c =
 
 pub returns-clause-others : goal.returns-clause-others
 returns-clause-others g c =
-    on_ok_weaker c.save.result (others_kept c.required-path.result.now _ _ _ _ c.required-path.ensures c.load.ensures.contents) c.save.ensures.others
+    on_ok_weaker c.save.result (others_kept c.required-path.result.now _ _ _ _ c.required-path.ensures c.load_to_replace.ensures.contents) c.save.ensures.others
+
+pub returns-clause-modes : goal.returns-clause-modes
+returns-clause-modes g c = on_ok_weaker c.save.result (modes_kept _ _ _ c.load_to_replace.ensures.modes) c.save.ensures.modes

@@ -1,6 +1,6 @@
 use Rattle.std.proofs.Common.{◌≡◌, ◌/◌, false, drop, length}
 use Rattle.ebpf_decode.specs.Reading.{read_slots, slots_at}
-use Rattle.program_interface.specs.Readings.{with_front}
+use Rattle.common_definitions.specs.Readings.{with_front}
 use Rattle.ebpf_decode.proofs.decoding.decode_slots.Given as goal
 
 abbrev pub invariant-loop-slot : goal.invariant-loop-slot

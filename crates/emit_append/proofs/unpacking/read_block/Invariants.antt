@@ -1,5 +1,5 @@
 use Rattle.std.proofs.Common.{◌≡◌, ◌+◌, ◌<◌, ◌^◌, length}
-use Rattle.program_interface.specs.Readings.{with_front}
+use Rattle.common_definitions.specs.Readings.{with_front}
 use Rattle.emit_append.specs.Unpacking.{output_block_at, frame_length, record_bytes}
 use Rattle.emit_append.proofs.unpacking.read_block.Given as goal
 

@@ -1,6 +1,6 @@
 use Rattle.std.proofs.Common.{◌≡◌, ◌≤◌, ◌+◌, length, map}
 use Rattle.std.specs.Str.Lines.{lines}
-use Rattle.program_interface.specs.Readings.{with_front}
+use Rattle.common_definitions.specs.Readings.{with_front}
 use Rattle.event_text.specs.CommandFile.{told_of, events_in, events_from}
 use Rattle.event_text.proofs.command_file.parse.Given as goal
 

@@ -1,7 +1,7 @@
 use Rattle.std.proofs.Common.{◌∙◌}
 use Rattle.std.proofs.lemmas.List.{get_or_default}
 use Rattle.image_store.specs.ImageInMemory.{no_counted_zone, IsFlat}
-use Rattle.program_interface.proofs.Proved.{spliced_fit}
+use Rattle.common_definitions.proofs.Proved.{spliced_fit}
 use Rattle.image_store.proofs.ImageFields.{write_fits, append_seen}
 use Rattle.image_store.proofs.KeptLimits.{limits_seen}
 use Rattle.image_store.proofs.ReplacedZones.{flat_append}

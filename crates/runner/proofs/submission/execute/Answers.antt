@@ -1,4 +1,4 @@
-use Rattle.pushdown.specs.EventReplies.{submission_of}
+use Rattle.device_meaning.specs.EventReplies.{submission_of}
 use Rattle.runner.proofs.CommandsLeave.{command_leaves}
 use Rattle.runner.proofs.submission.execute.Goals as goal
 

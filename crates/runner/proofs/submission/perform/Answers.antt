@@ -1,8 +1,8 @@
 use Rattle.std.proofs.Common.{false, Ok, ap, ◌∙◌}
 use Rattle.nvme_entry.specs.declared.command.Command.{Command}
 use Rattle.interval_domain.specs.Intervals.{intervals}
-use Rattle.pushdown.specs.EventReplies.{Happening}
-use Rattle.pushdown.specs.Happenings.{submitted}
+use Rattle.device_meaning.specs.EventReplies.{Happening}
+use Rattle.device_meaning.specs.Happenings.{submitted}
 use Rattle.runner.specs.steps.Answered.{as_submission}
 use Rattle.runner.specs.DeviceState.{device_state}
 use Rattle.runner.proofs.Replies.{replied, replied_alone}

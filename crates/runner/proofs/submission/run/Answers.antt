@@ -1,6 +1,6 @@
 use Rattle.std.proofs.Common.{false, List, Option, Ok, ap}
 use Rattle.nvme_entry.specs.declared.command.Command.TheVariants as commands
-use Rattle.pushdown.specs.State.{State}
+use Rattle.device_meaning.specs.State.{State}
 use Rattle.runner.specs.steps.Answered.{as_submission}
 use Rattle.runner.specs.DeviceState.{device_state}
 use Rattle.runner.specs.declared.active_run.ActiveRun.{ActiveRun}

@@ -1,5 +1,5 @@
 use Rattle.std.proofs.Common.{List, [], ◌∷◌, ℕ, ap, ◌∙◌}
-use Rattle.pushdown.specs.Happenings.{added}
+use Rattle.device_meaning.specs.Happenings.{added}
 use Rattle.runner.proofs.Appends.{one_appended}
 use Rattle.runner.proofs.turn.release.Goals as goal
 

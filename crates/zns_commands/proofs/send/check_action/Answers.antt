@@ -3,8 +3,8 @@ use Rattle.zone_state.specs.Transition.{transition}
 use Rattle.zone_state.specs.Zone.{CountedZone}
 use Rattle.zone_state.specs.declared.state.ZoneState.{ZoneState}
 use Rattle.zone_resources.specs.Holds.{refuses}
-use Rattle.program_interface.specs.Checks.{first_failed}
-use Rattle.program_interface.proofs.Proved.{value_given}
+use Rattle.common_definitions.specs.Checks.{first_failed}
+use Rattle.common_definitions.proofs.Proved.{value_given}
 use Rattle.image_store.specs.Namespace.{zone_at}
 use Rattle.zns_commands.specs.Address.{zone_number, address_check, lowest_check, lowest_checks}
 use Rattle.zns_commands.specs.Send.{room_of, zone_checks}

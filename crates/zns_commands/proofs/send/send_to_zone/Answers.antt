@@ -1,11 +1,11 @@
 use Rattle.std.proofs.Common.{ap, ◌∙◌}
 use Rattle.image_store.specs.Namespace.{with_state}
-use Rattle.program_interface.specs.Checks.{first_failed}
+use Rattle.common_definitions.specs.Checks.{first_failed}
 use Rattle.zns_commands.specs.Resources.{closed}
 use Rattle.zns_commands.specs.Send.{zone_checks}
 use Rattle.zns_commands.specs.declared.send.ZonePlan.{ZonePlan}
 use Rattle.zns_commands.specs.steps.Plans.{zone_plan}
-use Rattle.program_interface.proofs.Proved.{value_given}
+use Rattle.common_definitions.proofs.Proved.{value_given}
 use Rattle.zns_commands.proofs.send.send_to_zone.Goals as goal
 
 pub returns-clause-ok : goal.returns-clause-ok

@@ -1,11 +1,11 @@
 use Rattle.std.proofs.Common.{ap, ◌∙◌}
-use Rattle.program_interface.specs.Checks.{first_failed}
+use Rattle.common_definitions.specs.Checks.{first_failed}
 use Rattle.image_store.specs.declared.geometry.ZoneBlock.{ZoneBlock}
 use Rattle.zns_commands.specs.Address.{range_checks, zone_block_in}
 use Rattle.zns_commands.specs.Write.{zone_write_checks}
 use Rattle.zns_commands.specs.declared.write.WritePlan.{WritePlan}
 use Rattle.zns_commands.specs.steps.Plans.{write_plan, written_by}
-use Rattle.program_interface.proofs.Proved.{value_given}
+use Rattle.common_definitions.proofs.Proved.{value_given}
 use Rattle.zns_commands.proofs.write.try_write.Goals as goal
 
 pub returns-clause-ok : goal.returns-clause-ok

@@ -31,7 +31,7 @@ const BLOCKS: &[Act] = &[
          frame refused 512\n",
     ),
     Act::Refuses(
-        "zscli unpack gone --block 513",
+        "zscli unpack b --block 513",
         "a block of 513 bytes: the block size is no power of 2 from 512 to 16384\n\
          geometry refused 1\n",
     ),

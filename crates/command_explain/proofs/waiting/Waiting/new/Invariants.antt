@@ -1,5 +1,5 @@
-use Rattle.std.proofs.Common.{◌≡◌}
+use Rattle.std.proofs.Common.{◌≡◌, take}
 use Rattle.command_explain.proofs.waiting.Waiting.new.Given as goal
 
 abbrev pub invariant-loop-submission : goal.invariant-loop-submission
-invariant-loop-submission l = l.submissions.items ≡ l.yielded
+invariant-loop-submission l = l.submissions.items ≡ take l.submission-index l.all

@@ -1,6 +1,6 @@
 use Rattle.std.proofs.Common.{take, refl, ap, ◌∙◌}
 use Rattle.emit_append.specs.Packer.{PackerState}
-use Rattle.program_interface.specs.Bytes.{padded}
+use Rattle.common_definitions.specs.Bytes.{padded}
 use Rattle.emit_append.proofs.packer.Packer.padded.Goals as goal
 
 pub returns : goal.returns

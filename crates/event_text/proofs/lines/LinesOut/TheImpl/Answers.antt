@@ -1,7 +1,7 @@
 use Rattle.std.proofs.Common.{◌≡◌, ℕ, [], ◌∷◌, append-nil, Result, Ok, Err, OnOk, OnErr, subst, sym, arith}
 use Rattle.std.specs.Io.KnownBytes.{Appends}
 use Rattle.device_events.specs.Printed.{Printed}
-use Rattle.program_interface.specs.Failures.{CountsFailure}
+use Rattle.common_definitions.specs.Failures.{CountsFailure}
 use Rattle.device_events.specs.Replies.{ReplyWithData}
 use Rattle.event_text.specs.Lines.{Took, printed_by, reply_line}
 use Rattle.event_text.proofs.lines.LinesOut.TheImpl.Goals as goal

@@ -1,9 +1,9 @@
 use Rattle.std.proofs.Common.{false, take, subst, sym, ◌∙◌}
-use Rattle.program_interface.specs.Bytes.{AreBytes}
+use Rattle.common_definitions.specs.Bytes.{AreBytes}
 use Rattle.interval_domain.specs.Intervals.{intervals}
 use Rattle.device_events.specs.Replies.{ReplyWithData, data_length}
-use Rattle.pushdown.specs.Events.{HasHappened}
-use Rattle.pushdown.specs.State.{State}
+use Rattle.device_meaning.specs.Events.{HasHappened}
+use Rattle.device_meaning.specs.State.{State}
 use Rattle.device_events.specs.declared.event.Event.{Event}
 use Rattle.device_events.specs.declared.event.Event.TheVariants as event
 use Rattle.runner.specs.steps.Answered.{as_submission}

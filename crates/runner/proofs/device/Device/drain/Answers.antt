@@ -1,8 +1,8 @@
 use Rattle.std.proofs.Common.{◌*◌, inl, inr, refl, ap, sym, ◌∙◌, arith}
 use Rattle.nvme_entry.specs.declared.command.TheConstants.{MOST_BLOCKS}
 use Rattle.zone_resources.specs.declared.holds.TheConstants.{RUNS}
-use Rattle.pushdown.specs.Draining.{turns_left}
-use Rattle.pushdown.specs.State.{State}
+use Rattle.device_meaning.specs.Draining.{turns_left}
+use Rattle.device_meaning.specs.State.{State}
 use Rattle.runner.proofs.Drains.{drained_more, drained_none, drained_stops, few_at_first, turn_less}
 use Rattle.runner.proofs.device.Device.drain.Goals as goal
 

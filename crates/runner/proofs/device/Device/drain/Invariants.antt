@@ -1,7 +1,7 @@
 use Rattle.std.proofs.Common.{◌≡◌, ◌≤◌, ◌*◌, ◌⊎◌}
 use Rattle.nvme_entry.specs.declared.command.TheConstants.{MOST_BLOCKS}
 use Rattle.zone_resources.specs.declared.holds.TheConstants.{RUNS}
-use Rattle.pushdown.specs.Draining.{turns_left}
+use Rattle.device_meaning.specs.Draining.{turns_left}
 use Rattle.runner.proofs.Drains.{IsDraining}
 use Rattle.runner.proofs.device.Device.drain.Given as goal
 

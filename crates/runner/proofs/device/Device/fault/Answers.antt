@@ -1,8 +1,8 @@
 use Rattle.std.proofs.Common.{false, ap, sym, ◌∙◌}
 use Rattle.zone_resources.specs.declared.holds.Holds.{Holds}
 use Rattle.zns_commands.specs.Fault.{zone_fault_refusal}
-use Rattle.pushdown.specs.Happenings.{faulting, fault_reply}
-use Rattle.pushdown.specs.State.{State, holds_at}
+use Rattle.device_meaning.specs.Happenings.{faulting, fault_reply}
+use Rattle.device_meaning.specs.State.{State, holds_at}
 use Rattle.device_events.specs.declared.event.Event.TheVariants as event
 use Rattle.runner.specs.DeviceState.{device_state}
 use Rattle.runner.proofs.Holding.{holds_are}

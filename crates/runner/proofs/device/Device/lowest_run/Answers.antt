@@ -1,8 +1,8 @@
 use Rattle.std.proofs.Common.{◌*◌, ◌≤◌, ap, subst, sym, ◌∙◌, arith}
 use Rattle.nvme_entry.specs.declared.command.TheConstants.{MOST_BLOCKS}
 use Rattle.zone_resources.specs.declared.holds.TheConstants.{RUNS}
-use Rattle.pushdown.specs.Draining.{lowest_run, turns_left}
-use Rattle.pushdown.specs.State.{State}
+use Rattle.device_meaning.specs.Draining.{lowest_run, turns_left}
+use Rattle.device_meaning.specs.State.{State}
 use Rattle.runner.proofs.Drains.{few_left}
 use Rattle.runner.proofs.Numbers.{lowest_is}
 use Rattle.runner.proofs.device.Device.lowest_run.Goals as goal

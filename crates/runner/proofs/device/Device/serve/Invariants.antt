@@ -1,6 +1,6 @@
 use Rattle.std.proofs.Common.{◌≡◌, take}
 use Rattle.interval_domain.specs.Intervals.{intervals}
-use Rattle.pushdown.specs.Events.{HasServed}
+use Rattle.device_meaning.specs.Events.{HasServed}
 use Rattle.runner.proofs.device.Device.serve.Given as goal
 
 abbrev pub invariant-loop-index : goal.invariant-loop-index

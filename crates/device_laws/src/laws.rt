@@ -1,0 +1,100 @@
+//! Laws of a device, which judges programs by intervals, in the states that events leave from an image on.
+//! Each function does nothing: what it ensures is the law. Three are of its own: where a device begins, and that what
+//! is saved loads again. The others are those laws of `pushdown` that a device's user asks for, of intervals; the rest
+//! hold of a device too, by the trait `Domain`.
+
+ghost use Rattle.interval_domain.specs.Intervals.{intervals};
+ghost use Rattle.pushdown.specs.AnyOrder.{TurnsInAnyOrder};
+ghost use Rattle.device_meaning.specs.Laws.{DrainingEnds, StatesAreSound};
+ghost use Rattle.pushdown.specs.Laws.{OnlyLoadsChangeSlots, RefusedLeavesState};
+ghost use Rattle.pushdown.specs.Pushdown.{Pushdown};
+ghost use Rattle.device_meaning.specs.Reached.{EventsKeepReached, TurnsKeepReached};
+ghost use Rattle.pushdown.specs.ReadBack.{AppendedBlocksReadBack, AppendedByRunsReadsBack, ResultsReadBack, WrittenBlocksReadBack};
+ghost use Rattle.device_laws.specs.Laws.{EmptyIsReached, LoadedIsReached, SavedStatesLoad};
+
+/// A device begins with an empty image, in a state that events leave.
+pub fn empty_is_reached()
+    ensures { EmptyIsReached }
+{}
+
+/// So it does with an image that was loaded.
+pub fn loaded_is_reached()
+    ensures { LoadedIsReached }
+{}
+
+/// From each state that events leave, events lead to another.
+pub fn events_keep_reached()
+    ensures { EventsKeepReached intervals }
+{}
+
+/// So do turns, as those that drain a device are.
+pub fn turns_keep_reached()
+    ensures { TurnsKeepReached intervals }
+{}
+
+/// In every state that events leave, the open and active zones are within the limits, each zone's state fits its
+/// written blocks, each block is whole and of bytes, each loaded program is accepted, what is left of each run fits
+/// into its destination, which is open as long as it isn't filled, and no append of a run's turns can be refused.
+pub fn states_are_sound()
+    ensures { StatesAreSound intervals }
+{}
+
+/// In every state that events leave, turns of the lowest active run come to an end.
+pub fn draining_ends()
+    ensures { DrainingEnds intervals }
+{}
+
+/// What is saved loads again as the same namespace, whatever events happened before.
+pub fn saved_states_load()
+    ensures { SavedStatesLoad }
+{}
+
+/// The reply to an entry is Pending, or its completion with a status. One whose status isn't success leaves the
+/// state as it was, whatever its command is.
+pub fn refused_leaves_state()
+    ensures { RefusedLeavesState intervals }
+{}
+
+/// An entry leaves the slots as they were, unless it is a Load that succeeds: it changes its own slot and nothing
+/// else, to the program that its data is decoded to, which no reason refuses, with zeros as its result.
+pub fn only_loads_change_slots()
+    ensures { OnlyLoadsChangeSlots intervals }
+{}
+
+/// What an Append that succeeds puts in is what a Read of the assigned address gives, whatever events happen
+/// in between, until the zone is reset or goes offline. It holds in every state with a sound
+/// namespace, as those are that events leave.
+pub fn appended_blocks_read_back()
+    ensures { AppendedBlocksReadBack intervals }
+{}
+
+/// The same of a Write, at its own address.
+pub fn written_blocks_read_back()
+    ensures { WrittenBlocksReadBack intervals }
+{}
+
+/// What a run appends is read back so from where its destination ended at admission. After its last turn the
+/// blocks that are read unpack to the records that its program emitted, in order.
+pub fn appended_by_runs_reads_back()
+    ensures { AppendedByRunsReadsBack intervals }
+{}
+
+/// After a run's last turn a Result of its slot gives the 1024 scratch bytes that its last block run left,
+/// whatever events happen then, until a run of the slot ends or a Load of it succeeds.
+pub fn results_read_back()
+    ensures { ResultsReadBack intervals }
+{}
+
+/// Turns come to the same in any order, but for the result of a slot that two active runs share.
+pub fn turns_in_any_order()
+    ensures { TurnsInAnyOrder intervals }
+{}
+
+/// The pushdown theorem, as the law of this name of `pushdown` says it, holds of each Run that a device admits: no
+/// turn traps; each takes at most as many steps as the program has instructions; each changes no zone but its
+/// destination, and that one by blocks at its end, leaves other runs' places and other slots, and reads nothing but
+/// source blocks; the appended blocks, the completion, and what a turn leaves at the run's place and in the slots are
+/// those that are fixed at admission; and the numbers that the completion tells fit into its 32 bits.
+pub fn pushdown()
+    ensures { Pushdown intervals }
+{}

@@ -1,0 +1,20 @@
+mod Added
+mod BlockRuns
+mod Bytes
+mod Changes
+mod Drained
+mod FewBlocks
+mod JoinedEvents
+mod KeptForRuns
+mod Loads
+mod Outcomes
+mod Places
+pub mod Proved
+mod Reached
+mod Rests
+mod RunsFit
+mod Spelled
+mod States
+mod TurnsFit
+mod Views
+mod WantOfMemory

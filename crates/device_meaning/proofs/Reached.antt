@@ -1,0 +1,32 @@
+-- The states that events leave: where they begin, and how events lead on from them.
+use Rattle.std.proofs.Common.{ℕ, List, [], ◌∷◌, ◌++◌, refl, ap, sym, subst, ◌∙◌}
+use Rattle.word_domain.specs.Domain.{Operations}
+use Rattle.device_meaning.specs.Events.{AreEvents, state_after}
+use Rattle.device_meaning.specs.JoinedEvents.{turn_events}
+use Rattle.device_meaning.specs.Reached.{EventsKeepReached, IsReached, NewIsReached, TurnsKeepReached}
+use Rattle.device_meaning.specs.State.{new_state}
+use Rattle.device_meaning.proofs.JoinedEvents.{drained_by_turns, events_in_parts, events_join}
+
+turns_are : (runs : List ℕ) → AreEvents (turn_events runs)
+turns_are [] = tt
+turns_are (run ∷ runs) = (tt, turns_are runs)
+
+module _ {D : Type 0} (operations : Operations D) where
+  pub new_is_reached : NewIsReached operations
+  new_is_reached ns is = record { first = ns; events = []; namespace = is; bytes = tt; leaves = refl }
+
+  pub events_keep_reached : EventsKeepReached operations
+  events_keep_reached s events reached are = record {
+    first = reached.first;
+    events = reached.events ++ events;
+    namespace = reached.namespace;
+    bytes = events_join reached.events events reached.bytes are;
+    leaves =
+        ap (state_after operations events) reached.leaves
+        ∙ sym ((events_in_parts operations reached.events events (new_state reached.first)).state);
+  }
+
+  pub turns_keep_reached : TurnsKeepReached operations
+  turns_keep_reached s runs reached =
+      subst (IsReached operations) (sym ((drained_by_turns operations runs s).state))
+      (events_keep_reached s (turn_events runs) reached (turns_are runs))

@@ -1,0 +1,50 @@
+-- That a Write, an Append and a Run that an entry is decoded to have at least one block, and that a command which has so,
+-- with bytes beside it, is one that entries can spell.
+use Rattle.std.proofs.Common.{◌≡◌, ℕ, ◌+◌, ◌≤◌, List, Ok, arith}
+use Rattle.zone_resources.specs.declared.holds.Holds.{Holds}
+use Rattle.nvme_entry.specs.Entry.{decoded}
+use Rattle.nvme_entry.specs.declared.command.Command.{Command}
+use Rattle.nvme_entry.specs.declared.command.Command.TheVariants as commands
+use Rattle.nvme_entry.specs.declared.command.StandardCommand.{StandardCommand}
+use Rattle.nvme_entry.specs.declared.command.StandardCommand.TheVariants.{Write, Read, Send, Receive, Append}
+use Rattle.nvme_entry.proofs.Proved.{fields_are_spelled}
+use Rattle.common_definitions.specs.Bytes.{AreBytes, field}
+use Rattle.zns_commands.specs.Laws.{Commanded, IsSpelled}
+
+abbrev pub HasBlocks : Command → Type 0
+HasBlocks (commands.Standard (Write lba blocks)) = 1 ≤ blocks
+HasBlocks (commands.Standard (Append lba blocks)) = 1 ≤ blocks
+HasBlocks (commands.Standard (Read lba blocks)) = Unit {0}
+HasBlocks (commands.Standard (Send lba action select_all)) = Unit {0}
+HasBlocks (commands.Standard (Receive lba dwords filter partial)) = Unit {0}
+HasBlocks (commands.Run command) = 1 ≤ command.blocks
+HasBlocks (commands.Load load) = Unit {0}
+HasBlocks (commands.Result slot) = Unit {0}
+
+-- a number that stands zero-based is at least 1
+at_least_one : (n k : ℕ) → n ≡ k + 1 → 1 ≤ n
+at_least_one n k e = omega (arith, e)
+
+pub decoded_has : (entry : List ℕ) (c : Command) → decoded entry ≡ Ok c → HasBlocks c
+decoded_has entry (commands.Standard (Write lba blocks)) e =
+    let told = fields_are_spelled entry (commands.Standard (Write lba blocks)) e in
+    at_least_one blocks (field entry 48 2) told.2.2
+decoded_has entry (commands.Standard (Append lba blocks)) e =
+    let told = fields_are_spelled entry (commands.Standard (Append lba blocks)) e in
+    at_least_one blocks (field entry 48 2) told.2.2
+decoded_has entry (commands.Standard (Read lba blocks)) e = tt
+decoded_has entry (commands.Standard (Send lba action select_all)) e = tt
+decoded_has entry (commands.Standard (Receive lba dwords filter partial)) e = tt
+decoded_has entry (commands.Run command) e =
+    let told = fields_are_spelled entry (commands.Run command) e in
+    at_least_one command.blocks (field entry 48 2) told.2.2
+decoded_has entry (commands.Load load) e = tt
+decoded_has entry (commands.Result slot) e = tt
+
+pub spelled : (holds : Holds) (c : StandardCommand) (input : List ℕ) → HasBlocks (commands.Standard c) → AreBytes input
+    → IsSpelled (Commanded holds c input)
+spelled holds (Write lba blocks) input some fit = (some, fit)
+spelled holds (Append lba blocks) input some fit = (some, fit)
+spelled holds (Read lba blocks) input some fit = tt
+spelled holds (Send lba action select_all) input some fit = tt
+spelled holds (Receive lba dwords filter partial) input some fit = tt

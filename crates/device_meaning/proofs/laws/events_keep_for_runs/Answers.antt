@@ -1,0 +1,5 @@
+use Rattle.device_meaning.proofs.KeptForRuns.{events_keep_for_runs}
+use Rattle.device_meaning.proofs.laws.events_keep_for_runs.Goals as goal
+
+pub returns : goal.returns
+returns g c = events_keep_for_runs g.D.Domain.operations

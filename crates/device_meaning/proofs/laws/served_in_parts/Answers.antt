@@ -1,0 +1,5 @@
+use Rattle.device_meaning.proofs.JoinedEvents.{served_in_parts}
+use Rattle.device_meaning.proofs.laws.served_in_parts.Goals as goal
+
+pub returns : goal.returns
+returns g c = served_in_parts g.D.Domain.operations g.O.Out.took g.met.O.Out.joins

@@ -1,0 +1,13 @@
+pub mod BlockRuns
+pub mod Admission
+pub mod Outcome
+pub mod State
+pub mod EventReplies
+pub mod Happenings
+pub mod Draining
+pub mod Events
+pub mod Reached
+pub mod WantOfMemory
+pub mod JoinedEvents
+pub mod View
+pub mod Laws

@@ -1,0 +1,31 @@
+-- Which events ask for memory.
+use Rattle.std.specs.Prelude.{Bool, true, false, ◌≡◌, Result, Ok, Err}
+use Rattle.zone_state.specs.declared.status.Status.{Status}
+use Rattle.nvme_entry.specs.Entry.{decoded}
+use Rattle.nvme_entry.specs.declared.command.Command.{Command}
+use Rattle.nvme_entry.specs.declared.command.Command.TheVariants as commands
+use Rattle.word_domain.specs.Domain.{Operations}
+use Rattle.device_meaning.specs.Happenings.{happens}
+use Rattle.device_meaning.specs.State.{State}
+use Rattle.device_events.specs.declared.event.Event.{Event}
+use Rattle.device_events.specs.declared.event.Event.TheVariants as event
+
+-- is it a Load that an entry names?
+abbrev pub is_load : Result Command Status → Bool
+is_load (Ok (commands.Load load)) = true
+is_load (Ok (commands.Standard c)) = false
+is_load (Ok (commands.Run command)) = false
+is_load (Ok (commands.Result slot)) = false
+is_load (Err status) = false
+
+-- does the event ask for memory? A Load alone does
+abbrev pub wants_memory : Event → Bool
+wants_memory (event.Submit queue entry input) = is_load (decoded entry)
+wants_memory (event.Turn run) = false
+wants_memory (event.Fault zone state) = false
+
+-- Whether memory is refused changes nothing of what any other event comes to: Run, turns, Write, Zone Append
+-- and all the others ask for none.
+abbrev pub OnlyLoadsWantMemory : {D : Type 0} → Operations D → Type 0
+OnlyLoadsWantMemory operations =
+    (s : State) (e : Event) → wants_memory e ≡ false → happens operations s true e ≡ happens operations s false e

@@ -1,5 +1,0 @@
-use Rattle.image_store.proofs.FaultPlaces.{faults_are_by_prefix}
-use Rattle.image_store.proofs.laws.faults_are_by_prefix.Goals as goal
-
-pub returns : goal.returns
-returns c = faults_are_by_prefix

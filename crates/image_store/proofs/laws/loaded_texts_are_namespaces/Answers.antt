@@ -1,5 +1,0 @@
-use Rattle.image_store.proofs.LoadedNamespaces.{loaded_texts_are_namespaces}
-use Rattle.image_store.proofs.laws.loaded_texts_are_namespaces.Goals as goal
-
-pub returns : goal.returns
-returns c = loaded_texts_are_namespaces

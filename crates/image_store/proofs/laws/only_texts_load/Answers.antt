@@ -1,5 +1,0 @@
-use Rattle.image_store.proofs.OnlyTextsLoad.{only_texts_load}
-use Rattle.image_store.proofs.laws.only_texts_load.Goals as goal
-
-pub returns : goal.returns
-returns c = only_texts_load

@@ -1,0 +1,25 @@
+mod SameTexts
+mod Sinks
+mod Texts
+mod ReadingCalls
+mod ToldRows
+mod FilledBuffers
+mod ZoneRowsRead
+mod BlocksRead
+mod Headers
+mod HeaderParts
+mod BadHeaders
+mod Versions
+mod Upgrades
+mod Faults
+mod LoadStages
+mod TextsReadBack
+mod SpelledParts
+mod OnlyTextsLoad
+mod LoadedNamespaces
+mod CutTexts
+mod RowFaults
+mod FaultPlaces
+mod HeaderFaults
+mod FirstFaults
+pub mod Proved

@@ -1,0 +1,10 @@
+pub mod Fault
+pub mod Version
+pub mod Text
+pub mod Reading
+pub mod Streams
+pub mod SameText
+pub mod Loading
+pub mod Laws
+pub mod FirstFault
+pub mod steps

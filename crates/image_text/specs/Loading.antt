@@ -1,0 +1,27 @@
+-- What a call gives that reads from a source, over what reading the source's bytes gives.
+use Rattle.std.specs.Prelude.{ℕ, ◌≡◌, ◌+◌, Result, Ok, Err}
+use Rattle.image_text.specs.declared.fault.LoadFault.{LoadFault}
+use Rattle.image_text.specs.declared.fault.LoadFault.TheVariants.{Stream, Memory}
+
+-- The fault is the one that reading gives. A stream that fails says nothing of the bytes, and memory
+-- is wanted only where `wanted` holds.
+abbrev pub LoadFails : {Y : Type 0} → Type 0 → LoadFault → Result Y LoadFault → Type 0
+LoadFails wanted Stream reading = Unit {0}
+LoadFails wanted Memory reading = wanted
+LoadFails wanted fault reading = reading ≡ Err fault
+
+-- A call whose result is seen by `view` gives what reading gives, unless the stream failed, or memory was
+-- wanted, which it is only where `wanted` holds.
+abbrev pub LoadGives : {X Y : Type 0} → Type 0 → (X → Y) → Result X LoadFault → Result Y LoadFault → Type 0
+LoadGives wanted view (Ok x) reading = reading ≡ Ok (view x)
+LoadGives wanted view (Err fault) reading = LoadFails wanted fault reading
+
+-- the count of failures is one more with the fault of a stream, and stays with each other fault
+abbrev pub CountsFault : ℕ → ℕ → LoadFault → Type 0
+CountsFault before after Stream = after ≡ before + 1
+CountsFault before after _ = after ≡ before
+
+-- a load counts one failure of its source where the stream failed, and else none
+abbrev pub CountsLoad : {X : Type 0} → ℕ → ℕ → Result X LoadFault → Type 0
+CountsLoad before after (Ok x) = after ≡ before
+CountsLoad before after (Err fault) = CountsFault before after fault

@@ -1,5 +1,0 @@
-use Rattle.program_interface.proofs.FirstChecks.{no_fault_where_none_fails}
-use Rattle.program_interface.proofs.laws.no_fault_where_none_fails.Goals as goal
-
-pub returns : goal.returns
-returns g c = no_fault_where_none_fails _

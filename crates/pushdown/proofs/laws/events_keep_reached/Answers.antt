@@ -1,5 +1,0 @@
-use Rattle.pushdown.proofs.Reached.{events_keep_reached}
-use Rattle.pushdown.proofs.laws.events_keep_reached.Goals as goal
-
-pub returns : goal.returns
-returns g c = events_keep_reached g.D.Domain.operations

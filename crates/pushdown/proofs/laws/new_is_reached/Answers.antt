@@ -1,5 +1,0 @@
-use Rattle.pushdown.proofs.Reached.{new_is_reached}
-use Rattle.pushdown.proofs.laws.new_is_reached.Goals as goal
-
-pub returns : goal.returns
-returns g c = new_is_reached g.D.Domain.operations

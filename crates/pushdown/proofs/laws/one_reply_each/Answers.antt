@@ -1,5 +1,0 @@
-use Rattle.pushdown.proofs.JoinedEvents.{one_reply_each}
-use Rattle.pushdown.proofs.laws.one_reply_each.Goals as goal
-
-pub returns : goal.returns
-returns g c = one_reply_each g.D.Domain.operations

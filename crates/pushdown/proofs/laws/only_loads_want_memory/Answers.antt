@@ -1,5 +1,0 @@
-use Rattle.pushdown.proofs.WantOfMemory.{only_loads_want_memory}
-use Rattle.pushdown.proofs.laws.only_loads_want_memory.Goals as goal
-
-pub returns : goal.returns
-returns g c = only_loads_want_memory g.D.Domain.operations

@@ -1,5 +1,0 @@
-use Rattle.pushdown.proofs.TurnsFit.{room_is_open}
-use Rattle.pushdown.proofs.laws.room_is_open.Goals as goal
-
-pub returns : goal.returns
-returns c = room_is_open

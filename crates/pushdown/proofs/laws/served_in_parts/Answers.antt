@@ -1,5 +1,0 @@
-use Rattle.pushdown.proofs.JoinedEvents.{served_in_parts}
-use Rattle.pushdown.proofs.laws.served_in_parts.Goals as goal
-
-pub returns : goal.returns
-returns g c = served_in_parts g.D.Domain.operations g.O.Out.took g.met.O.Out.joins

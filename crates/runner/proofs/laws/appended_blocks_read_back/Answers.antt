@@ -1,6 +1,0 @@
-use Rattle.interval_domain.specs.Intervals.{intervals}
-use Rattle.pushdown.proofs.Proved.{appended_blocks_read_back}
-use Rattle.runner.proofs.laws.appended_blocks_read_back.Goals as goal
-
-pub returns : goal.returns
-returns c = appended_blocks_read_back intervals

@@ -1,7 +1,0 @@
-use Rattle.interval_domain.specs.Intervals.{intervals}
-use Rattle.pushdown.proofs.Proved.{appended_by_runs_reads_back}
-use Rattle.runner.proofs.Reached.{never}
-use Rattle.runner.proofs.laws.appended_by_runs_reads_back.Goals as goal
-
-pub returns : goal.returns
-returns c = appended_by_runs_reads_back intervals never

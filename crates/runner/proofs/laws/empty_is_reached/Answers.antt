@@ -1,5 +1,0 @@
-use Rattle.runner.proofs.Reached.{empty_is_reached}
-use Rattle.runner.proofs.laws.empty_is_reached.Goals as goal
-
-pub returns : goal.returns
-returns c = empty_is_reached

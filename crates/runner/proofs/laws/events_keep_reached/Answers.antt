@@ -1,6 +1,0 @@
-use Rattle.interval_domain.specs.Intervals.{intervals}
-use Rattle.pushdown.proofs.Proved.{events_keep_reached}
-use Rattle.runner.proofs.laws.events_keep_reached.Goals as goal
-
-pub returns : goal.returns
-returns c = events_keep_reached intervals

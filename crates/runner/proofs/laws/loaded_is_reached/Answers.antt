@@ -1,5 +1,0 @@
-use Rattle.runner.proofs.Reached.{loaded_is_reached}
-use Rattle.runner.proofs.laws.loaded_is_reached.Goals as goal
-
-pub returns : goal.returns
-returns c = loaded_is_reached

@@ -1,6 +1,0 @@
-use Rattle.interval_domain.specs.Intervals.{intervals}
-use Rattle.pushdown.proofs.Proved.{only_loads_change_slots}
-use Rattle.runner.proofs.laws.only_loads_change_slots.Goals as goal
-
-pub returns : goal.returns
-returns c = only_loads_change_slots intervals

@@ -1,7 +1,0 @@
-use Rattle.interval_domain.specs.Intervals.{intervals}
-use Rattle.pushdown.proofs.Proved.{results_read_back}
-use Rattle.runner.proofs.Reached.{never}
-use Rattle.runner.proofs.laws.results_read_back.Goals as goal
-
-pub returns : goal.returns
-returns c = results_read_back intervals never
