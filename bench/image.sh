@@ -1,7 +1,7 @@
 #!/bin/sh
-# Loading and saving an image of 256 MiB beside copies of it, all between files in memory, and
-# formatting the largest image beside one fill of its room, by a C program in memory and by head
-# into a file in memory. Prints five ratios, each of the least of ROUNDS rounds.
+# Loading and saving an image of 256 MiB beside copies of it, all between files in memory, reading one block of it by
+# `exec`, which saves nothing, and formatting the largest image beside one fill of its room, by a C program in memory and
+# by head into a file in memory. Prints six ratios, each of the least of ROUNDS rounds.
 set -eu
 cd "$(dirname "$0")/.."
 . bench/best.sh
@@ -23,14 +23,15 @@ zscli=crates/zscli/out/zscli
     for _ in $(seq 16); do printf '\016\0\0\0\0\020\0\0'; done
     head -c "$bytes" /dev/urandom
 } > "$work/full.img"
-: > "$work/none.cmd"
+"$zscli" entry read --lba 0 --blocks 1 > "$work/read.cmd"
 
 cc -O2 -o "$work/fill" bench/fill.c
 fill_file() { head -c "$bytes" /dev/zero > "$work/filled"; }
 
 copy=$(best cp "$work/full.img" "$work/copy.img")
 load=$(best "$zscli" zones "$work/full.img")
-both=$(best "$zscli" exec "$work/full.img" "$work/none.cmd")
+both=$(best "$zscli" upgrade "$work/full.img")
+read=$(best "$zscli" exec "$work/full.img" "$work/read.cmd")
 cmp "$work/full.img" "$work/copy.img"
 fill=$(best "$work/fill" "$bytes")
 file=$(best fill_file)
@@ -39,6 +40,7 @@ awk "BEGIN {
     printf \"load of 256 MiB: copy/zscli %.2f\n\", $copy / $load
     printf \"save of 256 MiB: copy/zscli %.2f\n\", $copy / ($both - $load)
     printf \"load and save of 256 MiB: two copies/zscli %.2f\n\", 2 * $copy / $both
+    printf \"exec of a Read on 256 MiB: load/exec %.2f\n\", $load / $read
     printf \"format of 256 MiB: fill/zscli %.2f\n\", $fill / $format
     printf \"format of 256 MiB: fill of a file/zscli %.2f\n\", $file / $format
 }"

@@ -7,7 +7,7 @@ test=crates/zscli/src/tests/readme.rt
 # a line that ends with a backslash goes on in the next
 joined=$(sed -e ':more' -e '/\\$/{N;s/\\\n//;b more' -e '}' "$test")
 # without what the shell does: where output goes
-example=$(sed -n '/^## A worked example/,/^## How to use it/s/^    //p' README.md | sed 's/ [|>].*//')
+example=$(sed -n '/^## A worked example/,/^## [^A]/s/^    //p' README.md | sed 's/ [|>].*//')
 status=0
 while read -r line; do
     case $line in

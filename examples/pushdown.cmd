@@ -5,7 +5,7 @@
 ; Zone 0 has orders, one in each block. Zone 1 gets what the filter emits. Zone 2 is for others.
 ;
 ; An entry has 64 bytes, little-endian: Command Dword 0 with the opcode and the command identifier, the
-; namespace identifier 1, 32 bytes that aren't used, and Command Dwords 10 to 15. docs/formats.md has them.
+; namespace identifier 1, 32 bytes that aren't used, and Command Dwords 10 to 15. docs/device.md has them.
 ;
 ; An order has its number in bytes 0 to 7, its kind in 8 to 11, a quantity in 16 to 19, a price in 24 to 27,
 ; and a name from 32 on. Of the 52 orders 9 are of kind 3: 3, 9, 15, 21, 27, 33, 39, 45 and 51.

@@ -1,0 +1,49 @@
+#!/usr/bin/env python3
+"""Looks whether must-fail edits can still be applied: the text of each `old:` stands exactly once in its file.
+
+    .ci/edits.py CRATE..    the edits of these crates; prints one line for each that can't be applied, and then ends with 1
+"""
+
+import sys
+from pathlib import Path
+from typing import Dict, Optional
+
+CRATES = Path(__file__).resolve().parent.parent / "crates"
+
+
+def fault(edit: Path) -> Optional[str]:
+    """Why the edit can't be applied; a later pair applies to what the earlier ones made of the file."""
+    crate = edit.parent.parent
+    texts: Dict[str, str] = {}
+    path = old = ""
+    for line in edit.read_text().splitlines():
+        kind, _, text = line.partition(": ")
+        if kind == "file":
+            path = text.strip()
+            if not (crate / path).is_file():
+                return f"there is no {path}"
+            texts.setdefault(path, (crate / path).read_text())
+        elif kind == "old":
+            old = text
+            count = texts.get(path, "").count(old)
+            if count != 1:
+                return f"{path} has {count} times: {old.strip()}"
+        elif line.startswith("new:") and old:
+            texts[path] = texts[path].replace(old, text)
+    return None if old else "it has no `old:`"
+
+
+def main() -> int:
+    """Looks at the edits of the crates that are named."""
+    status = 0
+    for crate in sys.argv[1:]:
+        for edit in sorted((CRATES / crate / "must-fail").glob("*.edit")):
+            why = fault(edit)
+            if why:
+                print(f"{crate}: {edit.name} can't be applied: {why}")
+                status = 1
+    return status
+
+
+if __name__ == "__main__":
+    sys.exit(main())
