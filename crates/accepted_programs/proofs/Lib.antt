@@ -5,6 +5,7 @@ mod Fitting
 mod Flow
 mod KnownFacts
 mod Moves
+mod OneProof
 mod Progress
 pub mod Proved
 mod Refusals

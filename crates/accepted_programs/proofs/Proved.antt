@@ -2,15 +2,15 @@
 use Rattle.std.specs.Prelude.{ℕ}
 use Rattle.word_domain.specs.Domain.{IsSound, Operations}
 use Rattle.accepted_programs.specs.Laws.{AcceptedNeverTraps, RefusalIsInside}
-use Rattle.accepted_programs.proofs.Statements.{AcceptedSlotsNeverTrap, NoReasonHolds, OffsetsAreShort, RefusalIsAtItsSlot}
+use Rattle.accepted_programs.proofs.Statements.{NeverTrapsIsProp, NoReasonHolds, RefusalIsAtItsSlot}
 pub use Rattle.accepted_programs.proofs.CellLaws.{none_known, set_known, set_some}
 use Rattle.accepted_programs.proofs.FirstRefusals as first_refusals
-use Rattle.accepted_programs.proofs.Fitting as fitting
+use Rattle.accepted_programs.proofs.OneProof as one_proof
 use Rattle.accepted_programs.proofs.Refusals as refusals
 use Rattle.accepted_programs.proofs.Soundness as soundness
 
-pub offsets_are_short : OffsetsAreShort
-offsets_are_short = fitting.short_offsets
+pub never_traps_is_prop : NeverTrapsIsProp
+never_traps_is_prop = one_proof.never_traps_is_prop
 
 module _ {D : Type 0} (operations : Operations D) where
   pub refusal_is_inside : RefusalIsInside operations
@@ -26,6 +26,3 @@ module _ {D : Type 0} {IsFact : D → Type 0} {contains : D → ℕ → Type 0} 
     (sound : IsSound IsFact contains operations) where
   pub accepted_never_traps : AcceptedNeverTraps operations
   accepted_never_traps = soundness.accepted_never_traps sound
-
-  pub accepted_slots_never_trap : AcceptedSlotsNeverTrap operations
-  accepted_slots_never_trap = soundness.never_traps sound

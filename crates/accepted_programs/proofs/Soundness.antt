@@ -17,11 +17,10 @@ use Rattle.program_interface.specs.declared.area.Area.TheVariants.{Context, Bloc
 use Rattle.program_interface.specs.RunSizes.{AreSizes, Sizes}
 use Rattle.word_domain.specs.Domain.{IsSound, Operations}
 use Rattle.accepted_programs.specs.Accepted.{refusal}
-use Rattle.accepted_programs.specs.steps.ShortOffsets.{HasShortOffsets}
 use Rattle.accepted_programs.proofs.CellLaws.{none_known}
 use Rattle.accepted_programs.specs.Facts.{facts_at_start, facts_at}
 use Rattle.accepted_programs.proofs.Flow.{arrives}
-use Rattle.accepted_programs.proofs.Fitting.{short_offsets}
+use Rattle.accepted_programs.proofs.Fitting.{HasShortOffsets, short_offsets}
 use Rattle.accepted_programs.specs.Emitted.{group_in, most_below, most_emitted}
 use Rattle.accepted_programs.proofs.KnownFacts.{known_facts}
 use Rattle.accepted_programs.specs.Laws.{AcceptedEmitsNoMore, AcceptedNeverTraps, FactsAreMet}
@@ -32,7 +31,6 @@ use Rattle.accepted_programs.proofs.FirstRefusals.{accepted_fails_nowhere}
 use Rattle.accepted_programs.proofs.Moves.{moved}
 use Rattle.accepted_programs.proofs.Progress.{fewer, some_left}
 use Rattle.program_meaning.specs.TrapFree.{Exits}
-use Rattle.accepted_programs.proofs.Statements.{AcceptedSlotsNeverTrap}
 use Rattle.accepted_programs.proofs.Unhindered.{unhindered}
 use Rattle.accepted_programs.specs.declared.facts.Facts.{Facts}
 use Rattle.accepted_programs.specs.declared.facts.TheConstants.{CELLS}
@@ -219,13 +217,9 @@ module _ {D : Type 0} {IsFact : D → Type 0} {contains : D → ℕ → Type 0} 
     group_most s None inside known meets = absurd meets
 
   -- ---- the theorems
-  pub never_traps : AcceptedSlotsNeverTrap operations
-  never_traps program sizes here short are_sizes accepted =
-      starts program short sizes are_sizes accepted sizes.limit (λ s holds. holds.group) here
-
   pub accepted_never_traps : AcceptedNeverTraps operations
   accepted_never_traps program is sizes are_sizes accepted =
-      never_traps program sizes (begins program is) (short_offsets program is) are_sizes accepted
+      starts program (short_offsets program is) sizes are_sizes accepted sizes.limit (λ s holds. holds.group) (begins program is)
 
   pub accepted_emits_no_more : AcceptedEmitsNoMore operations
   accepted_emits_no_more program is sizes are_sizes accepted bytes context scratch long starting =

@@ -5,4 +5,3 @@ pub mod Accepted
 pub mod Emitted
 pub mod FirstRefusal
 pub mod Laws
-pub mod steps

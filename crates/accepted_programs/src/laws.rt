@@ -9,12 +9,16 @@ use word_domain::Domain;
 /// many steps as it has instructions, with a group within the limit.
 pub fn accepted_never_traps<D: Domain>()
     ensures { AcceptedNeverTraps D.operations }
-{}
+{
+    D::sound();
+}
 
 /// A block run of a program that is accepted emits no more than its group is known to have at some slot.
 pub fn accepted_emits_no_more<D: Domain>()
     ensures { AcceptedEmitsNoMore D.operations }
-{}
+{
+    D::sound();
+}
 
 /// The slot of a refusal is one of the program's, and so below the most slots that a program has.
 pub fn refusal_is_inside<D: Domain>()
@@ -37,4 +41,6 @@ pub fn accepted_fails_nowhere<D: Domain>()
 /// slot is refused itself, as the first of a program that is refused.
 pub fn facts_are_met<D: Domain>()
     ensures { FactsAreMet D.contains D.operations }
-{}
+{
+    D::sound();
+}

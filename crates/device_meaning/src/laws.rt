@@ -6,6 +6,7 @@ ghost use Rattle.device_meaning.specs.Reached.{EventsKeepReached, NewIsReached, 
 ghost use Rattle.device_meaning.specs.View.{SeenAtAdmission, SeenStays};
 ghost use Rattle.device_meaning.specs.WantOfMemory.{OnlyLoadsWantMemory};
 
+use accepted_programs::laws::accepted_never_traps;
 use device_events::Out;
 use word_domain::Domain;
 
@@ -71,7 +72,9 @@ pub fn turns_keep_reached<D: Domain>()
 /// a Zone Append that meets no hold, and no check refuses that.
 pub fn states_are_sound<D: Domain>()
     ensures { StatesAreSound D.operations }
-{}
+{
+    accepted_never_traps::<D>();
+}
 
 /// The blocks of a turn leave each other zone and the namespace's shape.
 pub fn blocks_leave_others()
@@ -131,10 +134,14 @@ pub fn served_and_drained<D: Domain, O: Out>()
 /// In each state that events leave, a turn of an active run leaves fewer turns.
 pub fn turns_leave_fewer<D: Domain>()
     ensures { TurnsLeaveFewer D.operations }
-{}
+{
+    accepted_never_traps::<D>();
+}
 
 /// In each state that events leave, turns of the lowest active run come to an end: no run is left, after at
 /// most as many turns as are left of all.
 pub fn draining_ends<D: Domain>()
     ensures { DrainingEnds D.operations }
-{}
+{
+    accepted_never_traps::<D>();
+}

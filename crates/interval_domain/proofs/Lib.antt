@@ -1,1 +1,10 @@
-pub use Rattle.interval_facts.proofs.Proved
+mod Numbers
+mod FactSound
+mod RangeSound
+mod PointerSound
+mod ArithmeticSound
+mod EdgeSound
+mod FactsGiven
+mod IntervalsSound
+mod ConstantsSound
+pub mod Proved

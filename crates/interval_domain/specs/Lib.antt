@@ -1,3 +1,7 @@
-pub use Rattle.interval_facts.specs.Fact
-pub use Rattle.interval_facts.specs.Intervals
-pub use Rattle.interval_facts.specs.Constants
+pub mod Fact
+pub mod Range
+pub mod Arithmetic
+pub mod Edge
+pub mod Intervals
+pub mod Constants
+pub mod steps

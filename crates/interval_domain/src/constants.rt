@@ -1,10 +1,9 @@
 //! The domain of constants.
 
+use crate::arithmetic::arithmetic_on;
+use crate::edge::refine;
+use crate::fact::{Fact, access, join, load, offsets, pointer_between, single, widen, words_of};
 use instruction_set::{Relation, SignedSize, Size, Width};
-use interval_facts::{
-    Fact, access, arithmetic_on, join, load, offsets, pointer_between, refine, single, widen,
-    words_of,
-};
 use program_interface::{Area, BlockSize};
 use program_meaning::Arithmetic;
 use std::marker::Model;
@@ -17,8 +16,8 @@ pub struct Constants {
 }
 
 impl Model for Constants {
-    ghost use Rattle.interval_facts.specs.Fact.{IsFact};
-    ghost use Rattle.interval_facts.specs.declared.fact.Fact.{Fact};
+    ghost use Rattle.interval_domain.specs.Fact.{IsFact};
+    ghost use Rattle.interval_domain.specs.declared.fact.Fact.{Fact};
 
     ghost Value = { Fact };
 
@@ -30,9 +29,8 @@ impl Model for Constants {
 }
 
 impl Domain for Constants {
-    ghost use Rattle.interval_facts.proofs.Proved.{constants_sound};
-    ghost use Rattle.interval_facts.specs.Fact.{ContainsWord, IsFact};
-    ghost use Rattle.interval_facts.specs.Constants.{constants};
+    ghost use Rattle.interval_domain.specs.Fact.{ContainsWord, IsFact};
+    ghost use Rattle.interval_domain.specs.Constants.{constants};
 
     ghost is_fact = { IsFact };
 
@@ -40,9 +38,10 @@ impl Domain for Constants {
 
     ghost operations = { constants };
 
-    ghost sound = { constants_sound };
-
     fn fact_fits() {}
+
+    #[tactic(auto, using(crate::proofs::Proved::constants_sound))]
+    fn sound() {}
 
     fn constant(word: u64) -> Constants {
         Constants {

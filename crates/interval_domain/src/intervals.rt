@@ -2,10 +2,10 @@
 
 ghost use Rattle.std.specs.Prelude.{◌≡◌};
 
+use crate::arithmetic::arithmetic_on;
+use crate::edge::refine;
+use crate::fact::{Fact, access, join, load, offsets, pointer_between, single, words_of};
 use instruction_set::{Relation, SignedSize, Size, Width};
-use interval_facts::{
-    Fact, access, arithmetic_on, join, load, offsets, pointer_between, refine, single, words_of,
-};
 use program_interface::{Area, BlockSize};
 use program_meaning::Arithmetic;
 use std::marker::Model;
@@ -18,8 +18,8 @@ pub struct Intervals {
 }
 
 impl Model for Intervals {
-    ghost use Rattle.interval_facts.specs.Fact.{IsFact};
-    ghost use Rattle.interval_facts.specs.declared.fact.Fact.{Fact};
+    ghost use Rattle.interval_domain.specs.Fact.{IsFact};
+    ghost use Rattle.interval_domain.specs.declared.fact.Fact.{Fact};
 
     ghost Value = { Fact };
 
@@ -41,9 +41,8 @@ impl Intervals {
 }
 
 impl Domain for Intervals {
-    ghost use Rattle.interval_facts.proofs.Proved.{intervals_sound};
-    ghost use Rattle.interval_facts.specs.Fact.{ContainsWord, IsFact};
-    ghost use Rattle.interval_facts.specs.Intervals.{intervals};
+    ghost use Rattle.interval_domain.specs.Fact.{ContainsWord, IsFact};
+    ghost use Rattle.interval_domain.specs.Intervals.{intervals};
 
     ghost is_fact = { IsFact };
 
@@ -51,9 +50,10 @@ impl Domain for Intervals {
 
     ghost operations = { intervals };
 
-    ghost sound = { intervals_sound };
-
     fn fact_fits() {}
+
+    #[tactic(auto, using(crate::proofs::Proved::intervals_sound))]
+    fn sound() {}
 
     fn constant(word: u64) -> Intervals {
         Intervals {

@@ -5,13 +5,16 @@ ghost use Rattle.pushdown.specs.Laws.{AdmittedStarts, ForeignLeavesTurns, OnlyLo
 ghost use Rattle.pushdown.specs.Pushdown.{Pushdown};
 ghost use Rattle.pushdown.specs.ReadBack.{AppendedBlocksReadBack, AppendedByRunsReadsBack, EventsKeepShapes, ResultsReadBack, UnclearedZonesKeepBlocks, WrittenBlocksReadBack, WrittenIsRead};
 
+use accepted_programs::laws::accepted_never_traps;
 use word_domain::Domain;
 
 /// In each state that events leave, what a Run that is admitted there appends to its destination, unpacked, is the records
 /// that its program emitted, in order.
 pub fn outcome_unpacks<D: Domain>()
     ensures { OutcomeUnpacks D.operations }
-{}
+{
+    accepted_never_traps::<D>();
+}
 
 /// The reply to a Run that is admitted is Pending with its number. It takes that place, with its whole outcome,
 /// and all else is as it was.
@@ -78,20 +81,26 @@ pub fn written_blocks_read_back<D: Domain>()
 /// After its last turn the blocks that are read there unpack to the records that its program emitted, in order.
 pub fn appended_by_runs_reads_back<D: Domain>()
     ensures { AppendedByRunsReadsBack D.operations }
-{}
+{
+    accepted_never_traps::<D>();
+}
 
 /// After the last turn of a run that was admitted in a state that events leave, a Result of its slot gives the 1024 scratch
 /// bytes that its last block run left, whatever events happen then, until a run of the slot ends or a Load of it succeeds.
 pub fn results_read_back<D: Domain>()
     ensures { ResultsReadBack D.operations }
-{}
+{
+    accepted_never_traps::<D>();
+}
 
 /// In each state that events leave, turns come to the same in any order, but for the result of a slot that two
 /// active runs share: the same namespace, runs, programs and replies to each run, and in every other slot the
 /// same result.
 pub fn turns_in_any_order<D: Domain>()
     ensures { TurnsInAnyOrder D.operations }
-{}
+{
+    accepted_never_traps::<D>();
+}
 
 /// The pushdown theorem, for every domain: in each state that events leave, whatever Run is admitted there, and
 /// whatever events follow, no turn traps; each takes at most as many steps as the program has instructions;
@@ -101,4 +110,6 @@ pub fn turns_in_any_order<D: Domain>()
 /// are fixed at admission; and the numbers of frames and of blocks that the completion tells fit into its 32 bits.
 pub fn pushdown<D: Domain>()
     ensures { Pushdown D.operations }
-{}
+{
+    accepted_never_traps::<D>();
+}

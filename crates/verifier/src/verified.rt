@@ -1,11 +1,13 @@
 //! A program that was accepted.
 
-ghost use Rattle.std.specs.Prelude.{◌≡◌, is_some, true, None};
-ghost use Rattle.instruction_set.specs.Program.{instruction_at};
+ghost use Rattle.std.specs.Prelude.{◌≡◌, None};
+ghost use Rattle.instruction_set.specs.Program.{IsProgram};
 ghost use Rattle.program_interface.specs.RunSizes.{AreSizes};
+ghost use Rattle.program_meaning.specs.TrapFree.{NeverTraps};
 ghost use Rattle.accepted_programs.specs.Accepted.{refusal};
-ghost use Rattle.accepted_programs.specs.steps.ShortOffsets.{HasShortOffsets};
+ghost use Rattle.accepted_programs.proofs.Proved.{never_traps_is_prop};
 
+use accepted_programs::laws::accepted_never_traps;
 use instruction_set::Program;
 use program_interface::RunSizes;
 use program_meaning::TrapFree;
@@ -18,10 +20,8 @@ pub struct Verified<D: Domain> {
     program: Program,
     sizes: RunSizes,
     domain: PhantomData<D>,
-    ghost begins: { is_some (instruction_at program 0) ≡ true },
-    ghost short_offsets: { HasShortOffsets program },
-    ghost are_sizes: { AreSizes sizes },
     ghost accepted: { refusal D.operations program sizes ≡ None },
+    ghost never_traps: { NeverTraps program sizes.limit sizes.block } by { never_traps_is_prop program sizes.limit sizes.block },
 }
 
 impl<D: Domain> Verified<D> {
@@ -29,13 +29,13 @@ impl<D: Domain> Verified<D> {
 
     /// Keeps a program that is accepted.
     pub(crate) fn new(program: Program, sizes: RunSizes) -> Verified<D>
-        requires begins { is_some (instruction_at program 0) ≡ true }
-        requires short_offsets { HasShortOffsets program }
+        requires is_program { IsProgram program }
         requires are_sizes { AreSizes sizes }
         requires accepted { refusal D.operations program sizes ≡ None }
         ensures program { program_of result ≡ program }
         ensures sizes { sizes_of result ≡ sizes }
     {
+        accepted_never_traps::<D>();
         Verified {
             program,
             sizes,
@@ -59,8 +59,6 @@ impl<D: Domain> Verified<D> {
 }
 
 impl<D: Domain> TrapFree for Verified<D> {
-    ghost use Rattle.accepted_programs.proofs.Proved.{accepted_slots_never_trap};
-
     ghost code = { λ v. v.program };
 
     ghost limit = { λ v. v.sizes.limit };
@@ -75,5 +73,5 @@ impl<D: Domain> TrapFree for Verified<D> {
         Verified::sizes(self).limit() as usize
     }
 
-    ghost never_traps = { λ v. accepted_slots_never_trap D.sound v.program v.sizes v.begins v.short_offsets v.are_sizes v.accepted };
+    ghost never_traps = { λ v. v.never_traps };
 }

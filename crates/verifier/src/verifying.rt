@@ -19,7 +19,6 @@ use word_domain::Domain;
 ///
 /// [`VerifyFault::Refused`] with the lowest slot that is refused and its least reason; [`VerifyFault::Memory`] where there was
 /// none for the facts.
-#[tactic(auto, using(accepted_programs::proofs::Proved::offsets_are_short))]
 pub fn verify<D: Domain>(
     alloc: Global,
     program: Program,
@@ -28,7 +27,7 @@ pub fn verify<D: Domain>(
     ensures accepted { IfOk result (λ v. (program_of v ≡ program) × (sizes_of v ≡ sizes) × (refusal D.operations program sizes ≡ None)) }
     ensures refused { IfErr result (IsFaultOf (refusal D.operations program sizes)) }
 {
-    // an instruction begins at the first slot
+    // its slots are a program
     let _slots = program.slots();
     // a group fits a block
     let (_block, _limit) = (sizes.block().bytes(), sizes.limit());

@@ -28,6 +28,10 @@ pub trait Domain: Copy {
         ensures size { type_size Self.row < 2 ^ 32 }
         ensures align { type_align Self.row < 2 ^ 32 };
 
+    /// The operations are sound. A proof about every domain calls this, which has no code.
+    fn sound()
+        ensures { IsSound is_fact contains operations };
+
     /// One word.
     fn constant(word: u64) -> Self
         ensures { result ≡ operations.constant word };
@@ -84,7 +88,4 @@ pub trait Domain: Copy {
     /// distance, or wider. None where that isn't known.
     fn offsets(self) -> Option<Offsets>
         ensures { result ≡ operations.offsets self };
-
-    /// The operations are sound.
-    ghost sound: { IsSound is_fact contains operations };
 }

@@ -1,6 +1,5 @@
-use Rattle.accepted_programs.proofs.Proved.{accepted_never_traps}
 use Rattle.device_meaning.proofs.Drained.{turns_leave_fewer}
 use Rattle.device_meaning.proofs.laws.turns_leave_fewer.Goals as goal
 
 pub returns : goal.returns
-returns g c = turns_leave_fewer g.D.Domain.operations (accepted_never_traps g.met.D.Domain.sound)
+returns g c = turns_leave_fewer g.D.Domain.operations c.accepted_never_traps.ensures

@@ -3,9 +3,9 @@
 use Rattle.std.specs.Prelude.{Option}
 use Rattle.std.specs.Option.{option_map}
 use Rattle.word_domain.specs.Domain.{Operations}
-use Rattle.interval_facts.specs.Fact.{widened}
-use Rattle.interval_facts.specs.Intervals.{intervals}
-use Rattle.interval_facts.specs.declared.fact.Fact.{Fact}
+use Rattle.interval_domain.specs.Fact.{widened}
+use Rattle.interval_domain.specs.Intervals.{intervals}
+use Rattle.interval_domain.specs.declared.fact.Fact.{Fact}
 
 -- both facts widened, if there are two
 abbrev pub both_widened : Option (Fact × Fact) → Option (Fact × Fact)

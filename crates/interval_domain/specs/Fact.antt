@@ -10,8 +10,8 @@ use Rattle.program_interface.specs.declared.area.Area.{Area}
 use Rattle.word_domain.specs.Domain.{IsAtOffset}
 use Rattle.word_domain.specs.declared.bounds.Bounds.{Bounds}
 use Rattle.word_domain.specs.declared.offsets.Offsets.{Offsets}
-use Rattle.interval_facts.specs.declared.fact.Fact.{Fact}
-use Rattle.interval_facts.specs.declared.fact.Fact.TheVariants.{Words, Pointer}
+use Rattle.interval_domain.specs.declared.fact.Fact.{Fact}
+use Rattle.interval_domain.specs.declared.fact.Fact.TheVariants.{Words, Pointer}
 
 -- the numbers from the lowest to the greatest
 abbrev pub IsInBounds : Bounds → ℕ → Type 0

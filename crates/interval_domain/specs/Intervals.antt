@@ -1,11 +1,11 @@
 -- What the rules for facts come to: the operations of the domain of intervals (profile).
 use Rattle.std.specs.Prelude.{pos}
 use Rattle.word_domain.specs.Domain.{Operations}
-use Rattle.interval_facts.specs.Arithmetic.{alu_of}
-use Rattle.interval_facts.specs.Edge.{refine_of}
-use Rattle.interval_facts.specs.Fact.{area_accessed, bounds_of, full, join_of, loaded_of, loaded_signed_of, offsets_of, pointer_to, single}
-use Rattle.interval_facts.specs.declared.fact.Fact.{Fact}
-use Rattle.interval_facts.specs.declared.fact.Fact.TheVariants.{Words}
+use Rattle.interval_domain.specs.Arithmetic.{alu_of}
+use Rattle.interval_domain.specs.Edge.{refine_of}
+use Rattle.interval_domain.specs.Fact.{area_accessed, bounds_of, full, join_of, loaded_of, loaded_signed_of, offsets_of, pointer_to, single}
+use Rattle.interval_domain.specs.declared.fact.Fact.{Fact}
+use Rattle.interval_domain.specs.declared.fact.Fact.TheVariants.{Words}
 
 -- the operations of the domain of intervals
 abbrev pub intervals : Operations Fact

@@ -13,9 +13,9 @@ use Rattle.instruction_set.specs.declared.operation.Width.{Width}
 use Rattle.instruction_set.specs.declared.operation.Width.TheVariants.{Bits32, Bits64}
 use Rattle.program_meaning.specs.Word.{bits, count, result_of, signed}
 use Rattle.program_meaning.proofs.Proved.{operations_keep_width}
-use Rattle.interval_facts.proofs.Numbers.{quotient_grows, wraps_once}
-use Rattle.interval_facts.specs.Fact.{IsInBounds, is_single, range, single}
-use Rattle.interval_facts.specs.Range.{number_count, half, top, sum, difference, product, quotient, remainder, if_unsigned, conjunction, shifted_left, shifted_left_by, shifted_right, shifted_right_by, combined}
+use Rattle.interval_domain.proofs.Numbers.{quotient_grows, wraps_once}
+use Rattle.interval_domain.specs.Fact.{IsInBounds, is_single, range, single}
+use Rattle.interval_domain.specs.Range.{number_count, half, top, sum, difference, product, quotient, remainder, if_unsigned, conjunction, shifted_left, shifted_left_by, shifted_right, shifted_right_by, combined}
 use Rattle.word_domain.specs.declared.bounds.Bounds.{Bounds}
 
 -- the bounds that a test chooses are right where both are

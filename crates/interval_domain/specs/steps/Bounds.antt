@@ -2,7 +2,7 @@
 use Rattle.std.specs.Prelude.{◌≤◌, ◌<◌}
 use Rattle.instruction_set.specs.declared.operation.Width.{Width}
 use Rattle.word_domain.specs.declared.bounds.Bounds.{Bounds}
-use Rattle.interval_facts.specs.Range.{number_count}
+use Rattle.interval_domain.specs.Range.{number_count}
 
 -- both bounds are in order
 abbrev pub OrderedPair : Bounds × Bounds → Type 0

@@ -1,9 +1,9 @@
 //! What an edge of a compare tells of its operands.
 
 ghost use Rattle.std.specs.Prelude.{◌≡◌, ◌≤◌, ◌&&◌, IfSome, false};
-ghost use Rattle.interval_facts.specs.Fact.{IsFact, is_single as is_single_number};
-ghost use Rattle.interval_facts.specs.Edge.{FactPair, edge_of, equal, without, different, less, at_most, exchanged, narrowed, fits, refine_words, refine_of};
-ghost use Rattle.interval_facts.specs.steps.Bounds.{OrderedPair};
+ghost use Rattle.interval_domain.specs.Fact.{IsFact, is_single as is_single_number};
+ghost use Rattle.interval_domain.specs.Edge.{FactPair, edge_of, equal, without, different, less, at_most, exchanged, narrowed, fits, refine_words, refine_of};
+ghost use Rattle.interval_domain.specs.steps.Bounds.{OrderedPair};
 
 use crate::fact::{Fact, is_single};
 use instruction_set::{Relation, Width};

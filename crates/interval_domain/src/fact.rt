@@ -2,7 +2,7 @@
 
 ghost use Rattle.std.specs.Prelude.{◌≡◌, ◌≤◌, ◌≤ℤ◌, ◌+ℤ◌, int_le, pos};
 ghost use Rattle.std.specs.Int.{int_min, int_max};
-ghost use Rattle.interval_facts.specs.Fact.{IsFact, is_single as is_single_number, single as single_number, pointer_to, loaded_of, join_of, bounds_of, area_accessed, offsets_of, widened};
+ghost use Rattle.interval_domain.specs.Fact.{IsFact, is_single as is_single_number, single as single_number, pointer_to, loaded_of, join_of, bounds_of, area_accessed, offsets_of, widened};
 
 use instruction_set::Size;
 use program_interface::{Area, BlockSize};

@@ -7,10 +7,10 @@ use Rattle.instruction_set.specs.declared.operation.Relation.TheVariants.{Equal,
 use Rattle.instruction_set.specs.declared.operation.Width.{Width}
 use Rattle.instruction_set.specs.declared.operation.Width.TheVariants.{Bits32, Bits64}
 use Rattle.program_meaning.specs.Word.{is_taken}
-use Rattle.interval_facts.specs.Fact.{IsFact, is_single, range}
+use Rattle.interval_domain.specs.Fact.{IsFact, is_single, range}
 use Rattle.word_domain.specs.declared.bounds.Bounds.{Bounds}
-use Rattle.interval_facts.specs.declared.fact.Fact.{Fact}
-use Rattle.interval_facts.specs.declared.fact.Fact.TheVariants.{Words}
+use Rattle.interval_domain.specs.declared.fact.Fact.{Fact}
+use Rattle.interval_domain.specs.declared.fact.Fact.TheVariants.{Words}
 
 -- both are facts
 abbrev pub FactPair : Fact × Fact → Type 0

@@ -27,17 +27,17 @@ use Rattle.program_meaning.specs.declared.word.Arithmetic.{Arithmetic}
 use Rattle.program_meaning.specs.declared.word.Arithmetic.TheVariants.{Binary, Negate, MoveSigned, SwapBytes}
 use Rattle.word_domain.specs.Domain.{GiveFacts}
 use Rattle.word_domain.specs.declared.bounds.Bounds.{Bounds}
-use Rattle.interval_facts.specs.Arithmetic.{sum_of, alu_of, are_known, combined_64, combined_of, cut, estimated, extended_of, moved_back, moved_on, operand_of, signed_bounds, difference_of, swapped_of, unsigned_below}
-use Rattle.interval_facts.specs.Constants.{both_widened, constants}
-use Rattle.interval_facts.specs.Edge.{FactPair, as_facts, at_most, different, edge_of, equal, exchanged, fits, is_empty, less, narrowed, refine_of, refine_words, without}
-use Rattle.interval_facts.specs.Fact.{IsFact, bounds_of, farthest, full, is_single, join_of, loaded_of, pointer_to, range, widened}
-use Rattle.interval_facts.specs.Intervals.{intervals}
-use Rattle.interval_facts.specs.Range.{combined, difference, half, if_unsigned, number_count, product, quotient, remainder, shifted_left, shifted_left_by, shifted_right, sum}
-use Rattle.interval_facts.specs.declared.fact.Fact.{Fact}
-use Rattle.interval_facts.specs.declared.fact.Fact.TheVariants.{Words, Pointer}
-use Rattle.interval_facts.specs.steps.Bounds.{OrderedPair}
-use Rattle.interval_facts.proofs.Numbers.{quotient_grows}
-use Rattle.interval_facts.proofs.PointerSound.{int_le-true, negative_is}
+use Rattle.interval_domain.specs.Arithmetic.{sum_of, alu_of, are_known, combined_64, combined_of, cut, estimated, extended_of, moved_back, moved_on, operand_of, signed_bounds, difference_of, swapped_of, unsigned_below}
+use Rattle.interval_domain.specs.Constants.{both_widened, constants}
+use Rattle.interval_domain.specs.Edge.{FactPair, as_facts, at_most, different, edge_of, equal, exchanged, fits, is_empty, less, narrowed, refine_of, refine_words, without}
+use Rattle.interval_domain.specs.Fact.{IsFact, bounds_of, farthest, full, is_single, join_of, loaded_of, pointer_to, range, widened}
+use Rattle.interval_domain.specs.Intervals.{intervals}
+use Rattle.interval_domain.specs.Range.{combined, difference, half, if_unsigned, number_count, product, quotient, remainder, shifted_left, shifted_left_by, shifted_right, sum}
+use Rattle.interval_domain.specs.declared.fact.Fact.{Fact}
+use Rattle.interval_domain.specs.declared.fact.Fact.TheVariants.{Words, Pointer}
+use Rattle.interval_domain.specs.steps.Bounds.{OrderedPair}
+use Rattle.interval_domain.proofs.Numbers.{quotient_grows}
+use Rattle.interval_domain.proofs.PointerSound.{int_le-true, negative_is}
 
 abbrev IsOrdered : Bounds → Type 0
 IsOrdered b = b.low ≤ b.high

@@ -20,15 +20,15 @@ use Rattle.instruction_set.specs.Spelling.{extension_width}
 use Rattle.program_meaning.specs.Word.{computed, extended, low_bits, reordered, reversed}
 use Rattle.program_meaning.specs.declared.word.Arithmetic.{Arithmetic}
 use Rattle.program_meaning.specs.declared.word.Arithmetic.TheVariants.{Binary, Negate, MoveSigned, SwapBytes}
-use Rattle.interval_facts.proofs.FactSound.{any_law, bounds_law, constant_law, either_fact, is_word}
-use Rattle.interval_facts.proofs.PointerSound.{moved_back_law, moved_on_law}
-use Rattle.interval_facts.proofs.RangeSound.{combined_law, either, known, top_law, wrapped_law}
-use Rattle.interval_facts.specs.Arithmetic.{sum_of, alu_of, are_known, combined_64, combined_of, cut, estimated, extended_of, is_known, operand_of, difference_of, swapped_of, unsigned_below}
-use Rattle.interval_facts.specs.Fact.{ContainsWord, IsInBounds, bounds_of, is_single, single}
-use Rattle.interval_facts.specs.Range.{combined, number_count}
+use Rattle.interval_domain.proofs.FactSound.{any_law, bounds_law, constant_law, either_fact, is_word}
+use Rattle.interval_domain.proofs.PointerSound.{moved_back_law, moved_on_law}
+use Rattle.interval_domain.proofs.RangeSound.{combined_law, either, known, top_law, wrapped_law}
+use Rattle.interval_domain.specs.Arithmetic.{sum_of, alu_of, are_known, combined_64, combined_of, cut, estimated, extended_of, is_known, operand_of, difference_of, swapped_of, unsigned_below}
+use Rattle.interval_domain.specs.Fact.{ContainsWord, IsInBounds, bounds_of, is_single, single}
+use Rattle.interval_domain.specs.Range.{combined, number_count}
 use Rattle.word_domain.specs.declared.bounds.Bounds.{Bounds}
-use Rattle.interval_facts.specs.declared.fact.Fact.{Fact}
-use Rattle.interval_facts.specs.declared.fact.Fact.TheVariants.{Words, Pointer}
+use Rattle.interval_domain.specs.declared.fact.Fact.{Fact}
+use Rattle.interval_domain.specs.declared.fact.Fact.TheVariants.{Words, Pointer}
 
 -- ---- operands
 

@@ -2,9 +2,9 @@
 
 ghost use Rattle.std.specs.Prelude.{◌≡◌, ◌<◌, ◌+◌, nat_lt};
 ghost use Rattle.program_meaning.specs.Word.{count};
-ghost use Rattle.interval_facts.specs.Fact.{range};
-ghost use Rattle.interval_facts.specs.Range.{number_count, top as top_of_width, half, sum, difference, product, quotient, remainder, shifted_left, shifted_right, combined};
-ghost use Rattle.interval_facts.specs.steps.Bounds.{IsRange};
+ghost use Rattle.interval_domain.specs.Fact.{range};
+ghost use Rattle.interval_domain.specs.Range.{number_count, top as top_of_width, half, sum, difference, product, quotient, remainder, shifted_left, shifted_right, combined};
+ghost use Rattle.interval_domain.specs.steps.Bounds.{IsRange};
 
 use crate::fact::{is_single, single};
 use instruction_set::{Operation, Width};

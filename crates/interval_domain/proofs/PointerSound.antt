@@ -11,14 +11,14 @@ use Rattle.program_interface.specs.Area.{address_of, length_of}
 use Rattle.program_interface.specs.declared.area.Area.{Area}
 use Rattle.program_interface.specs.declared.area.Area.TheVariants.{Context, Block, Stack, Scratch}
 use Rattle.program_meaning.proofs.Proved.{areas_are_short}
-use Rattle.interval_facts.proofs.FactSound.{any_law, either_fact}
-use Rattle.interval_facts.specs.Arithmetic.{moved_back, moved_on, signed_bounds}
-use Rattle.interval_facts.specs.Fact.{ContainsWord, area_accessed, farthest, offsets_of, pointer_to}
+use Rattle.interval_domain.proofs.FactSound.{any_law, either_fact}
+use Rattle.interval_domain.specs.Arithmetic.{moved_back, moved_on, signed_bounds}
+use Rattle.interval_domain.specs.Fact.{ContainsWord, area_accessed, farthest, offsets_of, pointer_to}
 use Rattle.word_domain.specs.Domain.{IsAtOffset}
 use Rattle.word_domain.specs.declared.bounds.Bounds.{Bounds}
 use Rattle.word_domain.specs.declared.offsets.Offsets.{Offsets}
-use Rattle.interval_facts.specs.declared.fact.Fact.{Fact}
-use Rattle.interval_facts.specs.declared.fact.Fact.TheVariants.{Words, Pointer}
+use Rattle.interval_domain.specs.declared.fact.Fact.{Fact}
+use Rattle.interval_domain.specs.declared.fact.Fact.TheVariants.{Words, Pointer}
 
 -- an area's address is far from 0 and from the greatest word
 record IsFarIn (address : ℕ) : Type 0 where

@@ -5,7 +5,7 @@ use Rattle.instruction_set.specs.declared.operation.Operation.{Operation}
 use Rattle.instruction_set.specs.declared.operation.Operation.TheVariants.{Add, Subtract, Multiply, Divide, SignedDivide, Or, And, LeftShift, RightShift, Modulo, SignedModulo, Xor, Move, ArithmeticShift}
 use Rattle.instruction_set.specs.declared.operation.Width.{Width}
 use Rattle.program_meaning.specs.Word.{bits, count}
-use Rattle.interval_facts.specs.Fact.{is_single, range, single}
+use Rattle.interval_domain.specs.Fact.{is_single, range, single}
 use Rattle.word_domain.specs.declared.bounds.Bounds.{Bounds}
 
 -- the number of numbers of a width

@@ -13,11 +13,11 @@ use Rattle.program_meaning.specs.Word.{computed, signed}
 use Rattle.program_interface.specs.declared.area.Area.{Area}
 use Rattle.program_meaning.specs.declared.word.Arithmetic.{Arithmetic}
 use Rattle.program_meaning.specs.declared.word.Arithmetic.TheVariants.{Binary, Negate, MoveSigned, SwapBytes}
-use Rattle.interval_facts.specs.Fact.{bounds_of, full, is_single, pointer_to, range, single}
-use Rattle.interval_facts.specs.Range.{combined, difference, sum, top}
+use Rattle.interval_domain.specs.Fact.{bounds_of, full, is_single, pointer_to, range, single}
+use Rattle.interval_domain.specs.Range.{combined, difference, sum, top}
 use Rattle.word_domain.specs.declared.bounds.Bounds.{Bounds}
-use Rattle.interval_facts.specs.declared.fact.Fact.{Fact}
-use Rattle.interval_facts.specs.declared.fact.Fact.TheVariants.{Words, Pointer}
+use Rattle.interval_domain.specs.declared.fact.Fact.{Fact}
+use Rattle.interval_domain.specs.declared.fact.Fact.TheVariants.{Words, Pointer}
 
 -- ---- pointers
 

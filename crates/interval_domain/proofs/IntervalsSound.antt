@@ -1,13 +1,13 @@
 -- The domain of intervals is sound.
 use Rattle.program_meaning.proofs.Proved.{blocks_are_short}
 use Rattle.word_domain.specs.Domain.{IsSound}
-use Rattle.interval_facts.proofs.ArithmeticSound.{alu_law}
-use Rattle.interval_facts.proofs.EdgeSound.{refine_law}
-use Rattle.interval_facts.proofs.FactSound.{any_law, bounds_law, constant_law, join_first, join_second, loaded_law, loaded_signed_law}
-use Rattle.interval_facts.proofs.FactsGiven.{intervals_give}
-use Rattle.interval_facts.proofs.PointerSound.{access_law, offsets_law, pointer_law}
-use Rattle.interval_facts.specs.Fact.{ContainsWord, IsFact}
-use Rattle.interval_facts.specs.Intervals.{intervals}
+use Rattle.interval_domain.proofs.ArithmeticSound.{alu_law}
+use Rattle.interval_domain.proofs.EdgeSound.{refine_law}
+use Rattle.interval_domain.proofs.FactSound.{any_law, bounds_law, constant_law, join_first, join_second, loaded_law, loaded_signed_law}
+use Rattle.interval_domain.proofs.FactsGiven.{intervals_give}
+use Rattle.interval_domain.proofs.PointerSound.{access_law, offsets_law, pointer_law}
+use Rattle.interval_domain.specs.Fact.{ContainsWord, IsFact}
+use Rattle.interval_domain.specs.Intervals.{intervals}
 
 pub intervals_sound : IsSound IsFact ContainsWord intervals
 intervals_sound = record {

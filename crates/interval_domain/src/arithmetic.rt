@@ -2,9 +2,9 @@
 
 ghost use Rattle.std.specs.Prelude.{◌≡◌, ◌≤◌, ◌≤ℤ◌, ◌+ℤ◌, ◌-ℤ◌, IfSome};
 ghost use Rattle.instruction_set.specs.Spelling.{extension_width};
-ghost use Rattle.interval_facts.specs.Fact.{IsFact};
-ghost use Rattle.interval_facts.specs.steps.Bounds.{IsRange};
-ghost use Rattle.interval_facts.specs.Arithmetic.{signed_bounds, moved_on, moved_back, sum_of, difference_of, operand_of, combined_of, extended_of, swapped_of, are_known, estimated, alu_of};
+ghost use Rattle.interval_domain.specs.Fact.{IsFact};
+ghost use Rattle.interval_domain.specs.steps.Bounds.{IsRange};
+ghost use Rattle.interval_domain.specs.Arithmetic.{signed_bounds, moved_on, moved_back, sum_of, difference_of, operand_of, combined_of, extended_of, swapped_of, are_known, estimated, alu_of};
 
 use crate::fact::{Fact, is_single, pointer_between, single, words_of};
 use crate::range::{combine, top};

@@ -11,11 +11,11 @@ use Rattle.instruction_set.specs.declared.operation.Width.{Width}
 use Rattle.instruction_set.specs.declared.operation.Width.TheVariants.{Bits32, Bits64}
 use Rattle.program_meaning.specs.Word.{is_taken, low_bits, relates, signed}
 use Rattle.word_domain.specs.Domain.{BelongAfter}
-use Rattle.interval_facts.specs.Edge.{as_facts, at_most, different, edge_of, equal, exchanged, fits, is_empty, less, narrowed, refine_of, refine_words, without}
-use Rattle.interval_facts.specs.Fact.{ContainsWord, IsInBounds, is_single, range}
+use Rattle.interval_domain.specs.Edge.{as_facts, at_most, different, edge_of, equal, exchanged, fits, is_empty, less, narrowed, refine_of, refine_words, without}
+use Rattle.interval_domain.specs.Fact.{ContainsWord, IsInBounds, is_single, range}
 use Rattle.word_domain.specs.declared.bounds.Bounds.{Bounds}
-use Rattle.interval_facts.specs.declared.fact.Fact.{Fact}
-use Rattle.interval_facts.specs.declared.fact.Fact.TheVariants.{Words, Pointer}
+use Rattle.interval_domain.specs.declared.fact.Fact.{Fact}
+use Rattle.interval_domain.specs.declared.fact.Fact.TheVariants.{Words, Pointer}
 
 -- both numbers are within what is kept
 abbrev Keeps : ℕ → ℕ → Option (Bounds × Bounds) → Type 0

@@ -14,9 +14,9 @@ use Rattle.instruction_set.specs.declared.operation.Size.TheVariants.{Byte, Half
 use Rattle.program_meaning.proofs.Proved.{extensions_are_words}
 use Rattle.program_meaning.specs.Effect.{sign_extended}
 use Rattle.program_interface.specs.Area.{address_of}
-use Rattle.interval_facts.specs.Fact.{ContainsWord, IsInBounds, bounds_of, full, is_single, join_of, loaded_of, loaded_signed_of, single, widened}
-use Rattle.interval_facts.specs.declared.fact.Fact.{Fact}
-use Rattle.interval_facts.specs.declared.fact.Fact.TheVariants.{Words, Pointer}
+use Rattle.interval_domain.specs.Fact.{ContainsWord, IsInBounds, bounds_of, full, is_single, join_of, loaded_of, loaded_signed_of, single, widened}
+use Rattle.interval_domain.specs.declared.fact.Fact.{Fact}
+use Rattle.interval_domain.specs.declared.fact.Fact.TheVariants.{Words, Pointer}
 
 pub is_word : (f : Fact) (w : ℕ) → ContainsWord f w → w < 2 ^ 64
 is_word (Words b) w is = is.1

@@ -3,13 +3,13 @@ use Rattle.std.specs.Prelude.{ℕ, Option, Some, None}
 use Rattle.program_meaning.specs.Effect.{sign_extended}
 use Rattle.program_meaning.specs.Word.{computed}
 use Rattle.word_domain.specs.Domain.{BelongAfter, IsSound}
-use Rattle.interval_facts.proofs.FactSound.{widened_law}
-use Rattle.interval_facts.proofs.FactsGiven.{constants_give}
-use Rattle.interval_facts.proofs.IntervalsSound.{intervals_sound}
-use Rattle.interval_facts.specs.Constants.{both_widened, constants}
-use Rattle.interval_facts.specs.Fact.{ContainsWord, IsFact}
-use Rattle.interval_facts.specs.Intervals.{intervals}
-use Rattle.interval_facts.specs.declared.fact.Fact.{Fact}
+use Rattle.interval_domain.proofs.FactSound.{widened_law}
+use Rattle.interval_domain.proofs.FactsGiven.{constants_give}
+use Rattle.interval_domain.proofs.IntervalsSound.{intervals_sound}
+use Rattle.interval_domain.specs.Constants.{both_widened, constants}
+use Rattle.interval_domain.specs.Fact.{ContainsWord, IsFact}
+use Rattle.interval_domain.specs.Intervals.{intervals}
+use Rattle.interval_domain.specs.declared.fact.Fact.{Fact}
 
 both_widened_law : (o : Option (Fact × Fact)) (x y : ℕ) → BelongAfter ContainsWord x y o
     → BelongAfter ContainsWord x y (both_widened o)

@@ -1,2 +1,0 @@
--- What a verified program keeps for proofs; no public contract speaks of it.
-pub mod ShortOffsets

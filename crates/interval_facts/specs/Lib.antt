@@ -1,7 +1,0 @@
-pub mod Fact
-pub mod Range
-pub mod Arithmetic
-pub mod Edge
-pub mod Intervals
-pub mod Constants
-pub mod steps
