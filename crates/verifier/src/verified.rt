@@ -20,6 +20,7 @@ pub struct Verified<D: Domain> {
     program: Program,
     sizes: RunSizes,
     domain: PhantomData<D>,
+    ghost are_sizes: { AreSizes sizes },
     ghost accepted: { refusal D.operations program sizes ≡ None },
     ghost never_traps: { NeverTraps program sizes.limit sizes.block } by { never_traps_is_prop program sizes.limit sizes.block },
 }
