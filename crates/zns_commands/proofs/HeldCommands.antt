@@ -5,7 +5,7 @@ use Rattle.zone_state.specs.declared.status.Status.{Status}
 use Rattle.zone_state.specs.declared.status.TheConstants.Status.{ZONE_HELD}
 use Rattle.zone_resources.specs.Holds.{is_destination, refuses}
 use Rattle.common_definitions.specs.Checks.{demand, first_failed}
-use Rattle.nvme_entry.specs.declared.command.StandardCommand.TheVariants.{Write, Read, Send, Receive, Append}
+use Rattle.nvme_entry.specs.declared.command.StandardCommand.TheVariants.{Write, Send, Append}
 use Rattle.image_store.specs.Namespace.{ZonedNamespace, counted_zones}
 use Rattle.zns_commands.specs.Address.{zone_number}
 use Rattle.zns_commands.specs.Effect.{Effect, refused_effect, concluded}
@@ -43,5 +43,4 @@ held_commands_are_refused ns holds (Send lba action false) input held =
     let command = Send lba action false in
     held_decides (checks_before_holds ns command input) (drop 5 (checks_of ns holds command input)) (refuses holds action (zone_number ns lba))
     ns (effect_of ns holds command input) held
-held_commands_are_refused ns holds (Read lba blocks) input held = cc
-held_commands_are_refused ns holds (Receive lba dwords filter partial) input held = cc
+held_commands_are_refused ns holds command input held = cc

@@ -14,8 +14,6 @@ use Rattle.zone_state.specs.declared.zone.FaultRefused.{FaultRefused}
 use Rattle.zone_resources.specs.Holds.{is_destination, is_source, is_held, refuses, forgets}
 use Rattle.zone_resources.specs.declared.holds.Holds.{Holds}
 use Rattle.common_definitions.specs.Checks.{first_failed}
-use Rattle.nvme_entry.specs.declared.command.StandardCommand.{StandardCommand}
-use Rattle.nvme_entry.specs.declared.command.StandardCommand.TheVariants.{Write, Read, Send, Receive, Append}
 use Rattle.image_store.specs.Namespace.{ZoneWithBlocks, ZonedNamespace, zone_at, with_zone, arrived, with_state}
 use Rattle.zone_state.specs.State.{is_cleared}
 use Rattle.common_definitions.proofs.Proved.{passed}
@@ -23,16 +21,16 @@ use Rattle.zns_commands.specs.Address.{zone_number}
 use Rattle.zns_commands.specs.Fault.{zone_fault_refusal, faulted_by}
 use Rattle.zns_commands.specs.Left.{Grows, HeldSourcesKeepBlocks}
 use Rattle.zns_commands.specs.Laws.{Commanded, Faulted}
-use Rattle.zns_commands.specs.Meaning.{checks_of, effect_of}
+use Rattle.zns_commands.specs.Change.{Change, Nothing, Writing, Moving, change_of, changed}
 use Rattle.zns_commands.specs.Resources.{closed}
 use Rattle.zns_commands.specs.Send.{send_checks, send_effect, takes, led_to}
 use Rattle.zns_commands.specs.steps.Plans.{write_plan, zone_plan}
 use Rattle.zns_commands.proofs.HeldZones.{not_taken, not_refused}
 use Rattle.zns_commands.proofs.KeptBlocks.{arrived_grows, grows_by_none, grows_on, replaced_grows, closed_grows, written_grows}
 use Rattle.zns_commands.proofs.Meanings.{after_command}
-use Rattle.zns_commands.proofs.PassedChecks.{taken_fault}
+use Rattle.zns_commands.proofs.PassedChecks.{IsPassed, taken_fault}
 use Rattle.zns_commands.proofs.Sweeps.{swept_at}
-use Rattle.zns_commands.proofs.Untouched.{effect_left}
+use Rattle.zns_commands.proofs.Untouched.{change_left}
 
 -- an action that forgets nothing clears no zone that it can be taken on
 leads_to : (a : Action) (from : ZoneState) → forgets a ≡ false → result_err (transition a from) ≡ None → is_cleared (led_to a from) ≡ false
@@ -96,7 +94,7 @@ module _ (ns : ZonedNamespace) (holds : Holds) (d : ℕ) (held : is_source holds
       subst (λ (swept_zone : ZoneWithBlocks). Grows zone.blocks swept_zone.blocks) (sym (swept_at a ns.zones d)) (swept_one a zone (takes a zone.state) is refl)
   all_kept lba a input true is none =
       let refused = refuses_it (is_destination holds d) (forgets a) (is_source holds d) held is in
-      let same = effect_left ns d holds (Send lba a true) input (not_taken ns holds lba a input d none refused) in
+      let same = change_left ns d holds (Moving lba a true) input (not_taken ns holds lba a input d none refused) in
       subst (λ (zone : ZoneWithBlocks). Grows (zone_at ns d).blocks zone.blocks) (sym same) (grows_by_none (zone_at ns d).blocks)
 
   sent_kept : (lba : ℕ) (a : Action) (select_all : Bool) (input : List ℕ) → first_failed (send_checks ns holds lba a select_all input) ≡ None
@@ -104,13 +102,10 @@ module _ (ns : ZonedNamespace) (holds : Holds) (d : ℕ) (held : is_source holds
   sent_kept lba a false input none = one_kept lba a input none
   sent_kept lba a true input none = all_kept lba a input (forgets a) refl none
 
-  effect_kept : (command : StandardCommand) (input : List ℕ) → first_failed (checks_of ns holds command input) ≡ None
-      → Kept (effect_of ns holds command input).namespace
-  effect_kept (Write lba blocks) input none = written_grows ns (write_plan ns holds (zone_number ns lba)) input d
-  effect_kept (Append lba blocks) input none = written_grows ns (write_plan ns holds (zone_number ns lba)) input d
-  effect_kept (Read lba blocks) input none = grows_by_none (zone_at ns d).blocks
-  effect_kept (Receive lba dwords filter partial) input none = grows_by_none (zone_at ns d).blocks
-  effect_kept (Send lba a select_all) input none = sent_kept lba a select_all input none
+  change_kept : (change : Change) (input : List ℕ) → IsPassed ns holds change input → Kept (changed ns holds change input)
+  change_kept (Writing lba blocks) input passes = written_grows ns (write_plan ns holds (zone_number ns lba)) input d
+  change_kept (Moving lba a select_all) input passes = sent_kept lba a select_all input passes
+  change_kept Nothing input passes = grows_by_none (zone_at ns d).blocks
 
   faulted_kept : (z : ℕ) (fault : FaultState) (result : Result Unit FaultRefused)
       → ((done : Unit {0}) → result ≡ Ok done → is_held holds z ≡ false) → Kept (faulted_by result ns z fault)
@@ -125,7 +120,7 @@ module _ (ns : ZonedNamespace) (holds : Holds) (d : ℕ) (held : is_source holds
 pub held_sources_keep_blocks : HeldSourcesKeepBlocks
 held_sources_keep_blocks (Commanded holds command input) ns d held =
     after_command (λ m. Grows (zone_at ns d).blocks (zone_at m d).blocks) ns holds command input (grows_by_none (zone_at ns d).blocks)
-    (effect_kept ns holds d held command input)
+    (change_kept ns holds d held (change_of command) input)
 held_sources_keep_blocks (Faulted holds z fault) ns d held =
     faulted_kept ns holds d held z fault (zone_fault_refusal ns holds z fault)
     (λ done e. (taken_fault ns holds z fault done e).1)

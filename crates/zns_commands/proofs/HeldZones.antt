@@ -17,23 +17,19 @@ use Rattle.zone_resources.specs.declared.holds.Holds.{Holds}
 use Rattle.zone_resources.proofs.Proved.{admitted_closable}
 use Rattle.common_definitions.specs.Checks.{first_failed}
 use Rattle.common_definitions.proofs.Proved.{demanded, passed}
-use Rattle.nvme_entry.specs.declared.command.StandardCommand.{StandardCommand}
-use Rattle.nvme_entry.specs.declared.command.StandardCommand.TheVariants.{Write, Read, Send, Receive, Append}
 use Rattle.image_store.specs.Namespace.{ZoneWithBlocks, ZonedNamespace, no_zone, zone_at, counted, counted_zones}
 use Rattle.zns_commands.specs.Address.{zone_number}
-use Rattle.zns_commands.specs.Append.{append_checks}
+use Rattle.zns_commands.specs.Change.{Change, Nothing, Writing, Moving, change_of}
 use Rattle.zns_commands.specs.Fault.{zone_fault_refusal}
-use Rattle.zns_commands.specs.Left.{is_either, touches, HeldDestinationsAreLeft}
+use Rattle.zns_commands.specs.Left.{is_either, reaches, HeldDestinationsAreLeft}
 use Rattle.zns_commands.specs.Laws.{Commanded, Faulted}
-use Rattle.zns_commands.specs.Meaning.{checks_of}
-use Rattle.zns_commands.specs.Resources.{room_by, room_for, closing_of}
+use Rattle.zns_commands.specs.Resources.{room_by, room_for, closing_of, gives_way}
 use Rattle.zns_commands.specs.Send.{send_checks, room_of, takes, held_among}
-use Rattle.zns_commands.specs.Write.{write_checks}
 use Rattle.zns_commands.specs.steps.Plans.{zone_plan}
 use Rattle.zns_commands.proofs.Meanings.{after_command}
-use Rattle.zns_commands.proofs.PassedChecks.{taken_fault, unrefused}
+use Rattle.zns_commands.proofs.PassedChecks.{IsPassed, Writes, taken_fault, unrefused}
 use Rattle.zns_commands.proofs.Sweeps.{none_offline}
-use Rattle.zns_commands.proofs.Untouched.{effect_left, faulted_left}
+use Rattle.zns_commands.proofs.Untouched.{change_left, faulted_left}
 
 -- the zone that gives way may be closed
 wanted_closable : (ns : ZonedNamespace) (holds : Holds) (wanted : Option Wanted) (gives : Option ℕ)
@@ -111,17 +107,14 @@ module _ (ns : ZonedNamespace) (holds : Holds) (d : ℕ) (held : is_destination 
   neither_is : (z : ℕ) (gives : Option ℕ) → is_destination holds z ≡ false → ForSome gives (IsClosable holds (counted_zones ns)) → is_either z gives d ≡ false
   neither_is z gives free closable = rw (other z free, other_gives gives closable) refl
 
-  free_of : (z : ℕ) (checks : List (Option Status)) → first_failed checks ≡ None
-      → (get_or checks 4 None ≡ None → not (is_destination holds z) ≡ true)
-      → (get_or checks 6 None ≡ None → room_for ns holds (zone_at ns z).state ≡ Ok (closing_of (room_for ns holds (zone_at ns z).state)))
-      → is_either z (closing_of (room_for ns holds (zone_at ns z).state)) d ≡ false
-  free_of z checks none is_free has_room =
+  written_free : (z blocks : ℕ) (input : List ℕ) → Writes ns holds z blocks input → is_either z (gives_way ns holds (zone_at ns z).state) d ≡ false
+  written_free z blocks input writes =
       let state = (zone_at ns z).state in
-      neither_is z (closing_of (room_for ns holds state)) (not-true (is_destination holds z) (is_free (passed checks 4 none)))
-      (wanted_closable ns holds (wanted_of state) (closing_of (room_for ns holds state)) (has_room (passed checks 6 none)))
+      let gives = gives_way ns holds state in
+      neither_is z gives writes.free (wanted_closable ns holds (wanted_of state) gives writes.room)
 
   sent_free : (lba : ℕ) (a : Action) (select_all : Bool) (input : List ℕ) → first_failed (send_checks ns holds lba a select_all input) ≡ None
-      → touches ns (Commanded holds (Send lba a select_all) input) d ≡ false
+      → reaches ns holds (Moving lba a select_all) d ≡ false
   sent_free lba a true input none =
       not_taken ns holds lba a input d none (ap (λ (b : Bool). b || (forgets a && is_source holds d)) held)
   sent_free lba a false input none =
@@ -132,22 +125,15 @@ module _ (ns : ZonedNamespace) (holds : Holds) (d : ℕ) (held : is_destination 
       neither_is plan.zone plan.closing free.0
       (room_closable ns holds a state (unrefused (room_of ns holds a state) None (passed (send_checks ns holds lba a false input) 6 none)))
 
-  free : (command : StandardCommand) (input : List ℕ) → first_failed (checks_of ns holds command input) ≡ None
-      → touches ns (Commanded holds command input) d ≡ false
-  free (Write lba blocks) input none =
-      let z = zone_number ns lba in
-      free_of z (write_checks ns holds lba blocks input) none (demanded (not (is_destination holds z)) ZONE_HELD) (unrefused (room_for ns holds (zone_at ns z).state) None)
-  free (Append lba blocks) input none =
-      let z = zone_number ns lba in
-      free_of z (append_checks ns holds lba blocks input) none (demanded (not (is_destination holds z)) ZONE_HELD) (unrefused (room_for ns holds (zone_at ns z).state) None)
-  free (Read lba blocks) input none = refl
-  free (Receive lba dwords filter partial) input none = refl
-  free (Send lba a select_all) input none = sent_free lba a select_all input none
+  free : (change : Change) (input : List ℕ) → IsPassed ns holds change input → reaches ns holds change d ≡ false
+  free (Writing lba blocks) input passes = written_free (zone_number ns lba) blocks input passes
+  free (Moving lba a select_all) input passes = sent_free lba a select_all input passes
+  free Nothing input passes = refl
 
 pub held_destinations_are_left : HeldDestinationsAreLeft
 held_destinations_are_left (Commanded holds command input) ns d held =
     after_command (λ m. zone_at m d ≡ zone_at ns d) ns holds command input refl
-    (λ none. effect_left ns d holds command input (free ns holds d held command input none))
+    (λ passes. change_left ns d holds (change_of command) input (free ns holds d held (change_of command) input passes))
 held_destinations_are_left (Faulted holds z fault) ns d held =
     faulted_left ns d z fault (zone_fault_refusal ns holds z fault)
     (λ done e.

@@ -8,8 +8,6 @@ use Rattle.zone_state.specs.declared.state.ZoneState.{ZoneState}
 use Rattle.zone_state.specs.declared.state.ZoneState.TheVariants.{Empty, Closed, Offline}
 use Rattle.zone_state.specs.declared.zone.FaultRefused.{FaultRefused}
 use Rattle.zone_resources.specs.declared.holds.Holds.{Holds}
-use Rattle.nvme_entry.specs.declared.command.StandardCommand.{StandardCommand}
-use Rattle.nvme_entry.specs.declared.command.StandardCommand.TheVariants.{Write, Read, Send, Receive, Append}
 use Rattle.image_store.specs.Blocks.{as_blocks}
 use Rattle.image_store.specs.Namespace.{ZoneWithBlocks, ZonedNamespace, no_zone, zone_at, with_zone, grown, shape, arrived, with_state}
 use Rattle.image_store.proofs.Proved.{resized}
@@ -17,7 +15,7 @@ use Rattle.zone_state.specs.State.{is_cleared}
 use Rattle.zns_commands.specs.declared.write.WritePlan.{WritePlan}
 use Rattle.zns_commands.specs.Address.{zone_number}
 use Rattle.zns_commands.specs.Fault.{zone_fault_refusal, faulted_by}
-use Rattle.zns_commands.specs.Meaning.{effect_of}
+use Rattle.zns_commands.specs.Change.{Change, Nothing, Writing, Moving, change_of, changed}
 use Rattle.zns_commands.specs.Read.{read_refusal}
 use Rattle.zns_commands.specs.Resources.{closed}
 use Rattle.zns_commands.specs.Send.{send_effect, takes, swept, led_to}
@@ -110,20 +108,18 @@ faulted_grows : (result : Result Unit FaultRefused) (ns : ZonedNamespace) (y z :
 faulted_grows (Ok done) ns y z fault stays = moved_grows ns None y z (state_of_fault fault) stays
 faulted_grows (Err none) ns y z fault stays = grows_by_none (zone_at ns z).blocks
 
-effect_grows : (ns : ZonedNamespace) (holds : Holds) (command : StandardCommand) (input : List ℕ) (z : ℕ)
-    → is_cleared (zone_at (effect_of ns holds command input).namespace z).state ≡ false
-    → Grows (zone_at ns z).blocks (zone_at (effect_of ns holds command input).namespace z).blocks
-effect_grows ns holds (Write lba blocks) input z stays = written_grows ns (write_plan ns holds (zone_number ns lba)) input z
-effect_grows ns holds (Append lba blocks) input z stays = written_grows ns (write_plan ns holds (zone_number ns lba)) input z
-effect_grows ns holds (Read lba blocks) input z stays = grows_by_none (zone_at ns z).blocks
-effect_grows ns holds (Receive lba dwords filter partial) input z stays = grows_by_none (zone_at ns z).blocks
-effect_grows ns holds (Send lba a select_all) input z stays = send_grows ns holds lba a select_all z stays
+change_grows : (ns : ZonedNamespace) (holds : Holds) (change : Change) (input : List ℕ) (z : ℕ)
+    → is_cleared (zone_at (changed ns holds change input) z).state ≡ false
+    → Grows (zone_at ns z).blocks (zone_at (changed ns holds change input) z).blocks
+change_grows ns holds (Writing lba blocks) input z stays = written_grows ns (write_plan ns holds (zone_number ns lba)) input z
+change_grows ns holds (Moving lba a select_all) input z stays = send_grows ns holds lba a select_all z stays
+change_grows ns holds Nothing input z stays = grows_by_none (zone_at ns z).blocks
 
 event_grows : (event : NamespaceEvent) (ns : ZonedNamespace) (z : ℕ)
     → is_cleared (zone_at (after event ns) z).state ≡ false → Grows (zone_at ns z).blocks (zone_at (after event ns) z).blocks
 event_grows (Commanded holds command input) ns z =
     after_command (λ m. is_cleared (zone_at m z).state ≡ false → Grows (zone_at ns z).blocks (zone_at m z).blocks) ns holds command input
-    (λ stays. grows_by_none (zone_at ns z).blocks) (λ none. effect_grows ns holds command input z)
+    (λ stays. grows_by_none (zone_at ns z).blocks) (λ passes. change_grows ns holds (change_of command) input z)
 event_grows (Faulted holds y fault) ns z = faulted_grows (zone_fault_refusal ns holds y fault) ns y z fault
 
 -- another zone in a zone's place leaves the shape
@@ -153,15 +149,14 @@ faulted_shape : (result : Result Unit FaultRefused) (ns : ZonedNamespace) (z : �
 faulted_shape (Ok done) ns z fault = moved_shape ns None z (state_of_fault fault)
 faulted_shape (Err none) ns z fault = refl
 
-effect_shape : (ns : ZonedNamespace) (holds : Holds) (command : StandardCommand) (input : List ℕ) → shape (effect_of ns holds command input).namespace ≡ shape ns
-effect_shape ns holds (Write lba blocks) input = written_shape ns (write_plan ns holds (zone_number ns lba)) input
-effect_shape ns holds (Append lba blocks) input = written_shape ns (write_plan ns holds (zone_number ns lba)) input
-effect_shape ns holds (Read lba blocks) input = refl
-effect_shape ns holds (Receive lba dwords filter partial) input = refl
-effect_shape ns holds (Send lba a select_all) input = send_shape ns holds lba a select_all
+change_shape : (ns : ZonedNamespace) (holds : Holds) (change : Change) (input : List ℕ) → shape (changed ns holds change input) ≡ shape ns
+change_shape ns holds (Writing lba blocks) input = written_shape ns (write_plan ns holds (zone_number ns lba)) input
+change_shape ns holds (Moving lba a select_all) input = send_shape ns holds lba a select_all
+change_shape ns holds Nothing input = refl
 
 pub event_shape : (event : NamespaceEvent) (ns : ZonedNamespace) → shape (after event ns) ≡ shape ns
-event_shape (Commanded holds command input) ns = after_command (λ m. shape m ≡ shape ns) ns holds command input refl (λ none. effect_shape ns holds command input)
+event_shape (Commanded holds command input) ns =
+    after_command (λ m. shape m ≡ shape ns) ns holds command input refl (λ passes. change_shape ns holds (change_of command) input)
 event_shape (Faulted holds z fault) ns = faulted_shape (zone_fault_refusal ns holds z fault) ns z fault
 
 -- a zone that isn't cleared can be read

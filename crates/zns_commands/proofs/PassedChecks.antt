@@ -20,7 +20,8 @@ use Rattle.zone_resources.specs.declared.admission.Limits.{Limits}
 use Rattle.zone_resources.specs.declared.admission.Wanted.{Wanted}
 use Rattle.zone_resources.specs.declared.admission.Wanted.TheVariants.{OpenOnly, OpenAndActive}
 use Rattle.zone_resources.specs.declared.holds.Holds.{Holds}
-use Rattle.nvme_entry.specs.declared.command.StandardCommand.TheVariants.{Write, Read, Append}
+use Rattle.nvme_entry.specs.declared.command.StandardCommand.{StandardCommand}
+use Rattle.nvme_entry.specs.declared.command.StandardCommand.TheVariants.{Write, Read, Send, Append}
 use Rattle.nvme_entry.specs.declared.command.TheConstants.{MOST_TRANSFER}
 use Rattle.common_definitions.specs.Checks.{demand, first_failed, unless_failed}
 use Rattle.common_definitions.proofs.Proved.{demanded, guarded, passed}
@@ -28,14 +29,16 @@ use Rattle.zone_state.proofs.Proved.{is_allowed}
 use Rattle.common_definitions.proofs.Proved.{all_append}
 use Rattle.image_store.specs.Namespace.{ZonedNamespace, zone_at, counted_zones, IsNamespace}
 use Rattle.zns_commands.specs.Address.{counted_zone_at, zone_number, block_total, lowest_checks, range_checks}
+use Rattle.zns_commands.specs.Change.{Change, Writing, Moving, change_of}
 use Rattle.zns_commands.specs.Effect.{Effect, concluded}
 use Rattle.zns_commands.specs.Append.{append_address_checks, append_checks, append_effect}
 use Rattle.zns_commands.specs.Fault.{zone_fault_refusal}
 use Rattle.zns_commands.specs.Read.{read_refusal, read_checks, read_effect}
 use Rattle.zns_commands.specs.Resources.{room_by, room_for, closing_of}
+use Rattle.zns_commands.specs.Send.{send_checks}
 use Rattle.zns_commands.specs.Write.{write_address_checks, write_checks, write_effect, zone_write_checks}
 use Rattle.zns_commands.specs.Transfer.{transfer_checks}
-use Rattle.zns_commands.specs.Meaning.{meaning}
+use Rattle.zns_commands.specs.Meaning.{checks_of, meaning}
 
 -- what isn't refused is given
 pub unrefused : {X : Type 0} (r : Result X Status) (other : X) → result_err r ≡ None → r ≡ Ok (result_unwrap_or r other)
@@ -77,25 +80,25 @@ lowest_of ns z sound inside =
 
 -- what holds of a write that isn't refused
 pub record Writes (ns : ZonedNamespace) (holds : Holds) (z blocks : ℕ) (input : List ℕ) : Type 0 where
-  pub inside : z < length ns.zones
-  pub some : 1 ≤ blocks
+  pub inside : IsNamespace ns → 1 ≤ blocks → z < length ns.zones
   pub size : length input ≡ blocks * ns.block
   pub transfer : nat_le (blocks * ns.block) MOST_TRANSFER ≡ true
+  pub free : is_destination holds z ≡ false
   pub fits : write_check (counted_zone_at ns z) (length (zone_at ns z).blocks) blocks ≡ Ok tt
   pub room : room_for ns holds (zone_at ns z).state ≡ Ok (closing_of (room_for ns holds (zone_at ns z).state))
 
 -- an Append that isn't refused writes;
-pub append_writes : (ns : ZonedNamespace) (holds : Holds) (lba blocks : ℕ) (input : List ℕ) → IsNamespace ns → 1 ≤ blocks
+pub append_writes : (ns : ZonedNamespace) (holds : Holds) (lba blocks : ℕ) (input : List ℕ)
     → first_failed (append_checks ns holds lba blocks input) ≡ None → Writes ns holds (zone_number ns lba) blocks input
-append_writes ns holds lba blocks input sound some none =
+append_writes ns holds lba blocks input none =
     let checks = append_checks ns holds lba blocks input in
     let z = zone_number ns lba in
     let start = ltb-true lba (block_total ns) (demanded (nat_lt lba (block_total ns)) _ (passed checks 2 none)) in
     record {
-      inside = zone_inside ns lba sound start;
-      some = some;
+      inside = λ sound some. zone_inside ns lba sound start;
       size = eqb-true (length input) (blocks * ns.block) (demanded (nat_eq (length input) (blocks * ns.block)) _ (passed checks 1 none));
       transfer = demanded (nat_le (blocks * ns.block) MOST_TRANSFER) _ (passed checks 0 none);
+      free = not-true (is_destination holds z) (demanded (not (is_destination holds z)) _ (passed checks 4 none));
       fits = unrefused (write_check (counted_zone_at ns z) (length (zone_at ns z).blocks) blocks) tt (passed checks 5 none);
       room = unrefused (room_for ns holds (zone_at ns z).state) None (passed checks 6 none);
     }
@@ -108,23 +111,35 @@ write_begins ns holds lba blocks input none =
     (is_allowed zone (lba % ns.size) blocks (unrefused (write_check zone (lba % ns.size) blocks) tt (passed (write_checks ns holds lba blocks input) 5 none))).at_pointer
 
 -- and writes
-pub write_writes : (ns : ZonedNamespace) (holds : Holds) (lba blocks : ℕ) (input : List ℕ) → IsNamespace ns → 1 ≤ blocks
+pub write_writes : (ns : ZonedNamespace) (holds : Holds) (lba blocks : ℕ) (input : List ℕ)
     → first_failed (write_checks ns holds lba blocks input) ≡ None → Writes ns holds (zone_number ns lba) blocks input
-write_writes ns holds lba blocks input sound some none =
+write_writes ns holds lba blocks input none =
     let checks = write_checks ns holds lba blocks input in
     let z = zone_number ns lba in
     let end = leb-true (lba + blocks) (block_total ns) (demanded (nat_le (lba + blocks) (block_total ns)) _ (passed checks 2 none)) in
-    let start : lba < block_total ns = omega arith in
     record {
-      inside = zone_inside ns lba sound start;
-      some = some;
+      inside = λ sound some. zone_inside ns lba sound (omega (arith, end, some));
       size = eqb-true (length input) (blocks * ns.block) (demanded (nat_eq (length input) (blocks * ns.block)) _ (passed checks 1 none));
       transfer = demanded (nat_le (blocks * ns.block) MOST_TRANSFER) _ (passed checks 0 none);
+      free = not-true (is_destination holds z) (demanded (not (is_destination holds z)) _ (passed checks 4 none));
       fits =
           subst (λ (k : ℕ). write_check (counted_zone_at ns z) k blocks ≡ Ok tt) (write_begins ns holds lba blocks input none)
           (unrefused (write_check (counted_zone_at ns z) (lba % ns.size) blocks) tt (passed checks 5 none));
       room = unrefused (room_for ns holds (zone_at ns z).state) None (passed checks 6 none);
     }
+
+-- what holds of the change of a command of which no check fails
+abbrev pub IsPassed : ZonedNamespace → Holds → Change → List ℕ → Type 0
+IsPassed ns holds (Writing lba blocks) input = Writes ns holds (zone_number ns lba) blocks input
+IsPassed ns holds (Moving lba a select_all) input = first_failed (send_checks ns holds lba a select_all input) ≡ None
+IsPassed ns holds _ input = Unit {0}
+
+pub change_passed : (ns : ZonedNamespace) (holds : Holds) (command : StandardCommand) (input : List ℕ)
+    → first_failed (checks_of ns holds command input) ≡ None → IsPassed ns holds (change_of command) input
+change_passed ns holds (Write lba blocks) input none = write_writes ns holds lba blocks input none
+change_passed ns holds (Append lba blocks) input none = append_writes ns holds lba blocks input none
+change_passed ns holds (Send lba a select_all) input none = none
+change_passed ns holds command input none = tt
 
 -- where a check fails, its status isn't success
 abbrev Fails : Option Status → Type 0

@@ -123,17 +123,18 @@ whole_bytes block blocks input some size =
     let long : length input ≤ n * block = subst (λ (m : ℕ). length input ≤ m * block) (sym is) (omega arith) in
     blocks_keep_bytes block n input ∙ take_all (n * block) input long
 
-written_lie : (ns : ZonedNamespace) (holds : Holds) (z blocks : ℕ) (input : List ℕ) → IsNamespace ns → Writes ns holds z blocks input
+written_lie : (ns : ZonedNamespace) (holds : Holds) (z blocks : ℕ) (input : List ℕ) → IsNamespace ns → 1 ≤ blocks → Writes ns holds z blocks input
     → BlocksLieAt (written_by ns (write_plan ns holds z) input) z (length (zone_at ns z).blocks) blocks input
-written_lie ns holds z blocks input sound writes =
+written_lie ns holds z blocks input sound some writes =
     let zone = zone_at ns z in
     let more = as_blocks ns.block input in
     let plan = write_plan ns holds z in
     let m = written_by ns plan input in
-    let has = has_room ns holds z plan.closing sound writes.inside writes.room in
+    let inside = writes.inside sound some in
+    let has = has_room ns holds z plan.closing sound inside writes.room in
     let wide : 1 ≤ ns.block = omega (arith, block_some sound.shape) in
     let bring = brings ns.block blocks input wide writes.size in
-    let seen = written_zone ns z plan.closing input has.give.other writes.inside in
+    let seen = written_zone ns z plan.closing input has.give.other inside in
     let form = written_shape ns plan input in
     let end : length zone.blocks + blocks ≤ ns.capacity = (is_allowed (counted_zone_at ns z) (length zone.blocks) blocks writes.fits).has_room in
     let reach : length zone.blocks + blocks ≤ ns.size = omega (arith, sound.shape.capacity_most) in
@@ -148,22 +149,22 @@ written_lie ns holds z blocks input sound writes =
       readable =
           subst (λ (x : ZoneWithBlocks). read_refusal x.state ≡ None) (sym seen)
           (readable (nat_eq (length zone.blocks + length more) ns.capacity) zone.state);
-      inside = subst (λ (s : Shape). z < s.zones) (sym form) writes.inside;
+      inside = subst (λ (s : Shape). z < s.zones) (sym form) inside;
       room = subst (λ (s : Shape). length zone.blocks + blocks ≤ s.size) (sym form) reach;
-      some = writes.some;
+      some = some;
       transfer = subst (λ (s : Shape). nat_le (blocks * s.block) MOST_TRANSFER ≡ true) (sym form) writes.transfer;
     }
 
 -- what was written is read of each later namespace that keeps the zone
 reads_later : (ns : ZonedNamespace) (holds : Holds) (z blocks : ℕ) (input : List ℕ) (later : ZonedNamespace) → IsNamespace ns
-    → Writes ns holds z blocks input
+    → 1 ≤ blocks → Writes ns holds z blocks input
     → let m = written_by ns (write_plan ns holds z) input in
     KeepsZone m later z → AreRead later (write_pointer ns z) blocks input
-reads_later ns holds z blocks input later sound writes keeps any =
+reads_later ns holds z blocks input later sound some writes keeps any =
     let w = length (zone_at ns z).blocks in
     let plan = write_plan ns holds z in
     let m = written_by ns plan input in
-    let lie = lie_on m later z w blocks input (written_lie ns holds z blocks input sound writes) keeps in
+    let lie = lie_on m later z w blocks input (written_lie ns holds z blocks input sound some writes) keeps in
     let same_size : later.size ≡ ns.size = ap (λ (s : Shape). s.size) (keeps.same_shape ∙ written_shape ns plan input) in
     let address : z * ns.size + w ≡ z * later.size + w = ap (λ (k : ℕ). z * k + w) (sym same_size) in
     ap (λ (k : ℕ). meaning later any (Read k blocks) []) address ∙ lying_is_read later z w blocks input lie any
@@ -179,11 +180,11 @@ pub appended_stays : (ns : ZonedNamespace) (holds : Holds) (lba blocks : ℕ) (i
 appended_stays ns holds lba blocks input later sound some done =
     let none = append_passed ns holds lba blocks input done in
     let z = zone_number ns lba in
-    let writes = append_writes ns holds lba blocks input sound some none in
+    let writes = append_writes ns holds lba blocks input none in
     let pointer = write_pointer ns z in
     let address : pointer % 2 ^ 32 + pointer / 2 ^ 32 * 2 ^ 32 ≡ pointer = mod-add-div' pointer (2 ^ 32) in
     subst (λ (r : Option Status). ReadsBack z later blocks input (concluded r ns (append_effect ns holds lba input))) (sym none)
-    (λ keeps. subst (λ (k : ℕ). AreRead later k blocks input) (sym address) (reads_later ns holds z blocks input later sound writes keeps))
+    (λ keeps. subst (λ (k : ℕ). AreRead later k blocks input) (sym address) (reads_later ns holds z blocks input later sound some writes keeps))
 
 pub appended_blocks_read_back : AppendedBlocksReadBack
 appended_blocks_read_back ns holds lba blocks input events sound some done stays =
@@ -202,10 +203,10 @@ written_stays ns holds lba blocks input later sound some done =
     let none = write_passed ns holds lba blocks input done in
     let z = zone_number ns lba in
     let at = write_begins ns holds lba blocks input none in
-    let writes = write_writes ns holds lba blocks input sound some none in
+    let writes = write_writes ns holds lba blocks input none in
     let address : write_pointer ns z ≡ lba = omega (arith, at, mod-add-div' lba ns.size) in
     subst (λ (r : Option Status). ReadsAt z lba later blocks input (concluded r ns (write_effect ns holds lba input))) (sym none)
-    (λ keeps. subst (λ (k : ℕ). AreRead later k blocks input) address (reads_later ns holds z blocks input later sound writes keeps))
+    (λ keeps. subst (λ (k : ℕ). AreRead later k blocks input) address (reads_later ns holds z blocks input later sound some writes keeps))
 
 pub written_blocks_read_back : WrittenBlocksReadBack
 written_blocks_read_back ns holds lba blocks input events sound some done stays =

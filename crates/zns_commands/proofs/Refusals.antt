@@ -4,7 +4,7 @@ use Rattle.zone_state.specs.declared.status.Status.{Status}
 use Rattle.zone_state.specs.declared.status.TheConstants.Status.{SUCCESS}
 use Rattle.zone_resources.specs.declared.holds.Holds.{Holds}
 use Rattle.nvme_entry.specs.declared.command.StandardCommand.{StandardCommand}
-use Rattle.nvme_entry.specs.declared.command.StandardCommand.TheVariants.{Write, Read, Send, Receive, Append}
+use Rattle.nvme_entry.specs.declared.command.StandardCommand.TheVariants.{Write}
 use Rattle.common_definitions.specs.Checks.{first_failed}
 use Rattle.common_definitions.proofs.Proved.{first_failed_is_first, no_fault_where_none_fails}
 use Rattle.image_store.specs.Namespace.{ZonedNamespace}
@@ -38,10 +38,7 @@ refused_concluded (Some status) ns effect done not_success = record { namespace 
 
 succeeds : (ns : ZonedNamespace) (holds : Holds) (command : StandardCommand) (input : List ℕ) → (effect_of ns holds command input).status ≡ SUCCESS
 succeeds ns holds (Write lba blocks) input = refl
-succeeds ns holds (Read lba blocks) input = refl
-succeeds ns holds (Send lba action select_all) input = refl
-succeeds ns holds (Receive lba dwords filter partial) input = refl
-succeeds ns holds (Append lba blocks) input = refl
+succeeds ns holds command input = refl
 
 pub refused_commands_change_nothing : RefusedCommandsChangeNothing
 refused_commands_change_nothing ns holds command input =

@@ -1,5 +1,5 @@
 -- That commands and faults keep a namespace sound.
-use Rattle.std.proofs.Common.{◌≡◌, ℕ, suc, ◌<◌, Bool, true, false, List, [], ◌∷◌, length, map, replicate, None, refl, ap, sym, subst, ◌∙◌, arith}
+use Rattle.std.proofs.Common.{◌≡◌, ℕ, suc, ◌<◌, ◌≤◌, Bool, true, false, List, [], ◌∷◌, length, map, replicate, None, refl, ap, sym, subst, ◌∙◌, arith}
 use lib.LanesLaws.{map-replicate}
 use Rattle.std.specs.Prelude.{nat_lt}
 use Rattle.std.proofs.lemmas.Bool.{ltb-true}
@@ -12,8 +12,6 @@ use Rattle.zone_state.specs.declared.state.ZoneState.{ZoneState}
 use Rattle.zone_state.specs.declared.state.ZoneState.TheVariants.{Empty}
 use Rattle.zone_resources.specs.Counts.{count_in, one_if}
 use Rattle.zone_resources.specs.declared.holds.Holds.{Holds}
-use Rattle.nvme_entry.specs.declared.command.StandardCommand.{StandardCommand}
-use Rattle.nvme_entry.specs.declared.command.StandardCommand.TheVariants.{Write, Read, Send, Receive, Append}
 use Rattle.common_definitions.specs.Checks.{first_failed}
 use Rattle.common_definitions.proofs.Proved.{demanded, passed}
 use Rattle.common_definitions.specs.Bytes.{AreBytes}
@@ -21,7 +19,7 @@ use Rattle.image_store.specs.Geometry.{IsShape}
 use Rattle.image_store.specs.Namespace.{ZoneWithBlocks, ZonedNamespace, no_zone, zone_at, counted, IsNamespace, all_empty}
 use Rattle.image_store.proofs.Proved.{resized}
 use Rattle.zns_commands.specs.Address.{zone_number, block_total}
-use Rattle.zns_commands.specs.Meaning.{checks_of, effect_of}
+use Rattle.zns_commands.specs.Change.{CanBeAsked, Change, Nothing, Writing, Moving, change_of, changed}
 use Rattle.zns_commands.specs.Resources.{closing_of, gives_way}
 use Rattle.zns_commands.specs.Send.{send_checks, send_effect, all_fit, room_of}
 use Rattle.zns_commands.specs.Write.{with_written}
@@ -31,12 +29,13 @@ use Rattle.zns_commands.proofs.WrittenZones.{written_sound}
 use Rattle.zns_commands.proofs.MovedZones.{moved_sound, fault_sound}
 use Rattle.zns_commands.proofs.SweptZones.{all_sound}
 use Rattle.zns_commands.proofs.Meanings.{after_command}
-use Rattle.zns_commands.proofs.PassedChecks.{Writes, append_writes, unrefused, write_writes, zone_inside}
+use Rattle.zns_commands.proofs.PassedChecks.{IsPassed, Writes, unrefused, zone_inside}
 
-written : (ns : ZonedNamespace) (holds : Holds) (z blocks : ℕ) (input : List ℕ) → IsNamespace ns → AreBytes input
+written : (ns : ZonedNamespace) (holds : Holds) (z blocks : ℕ) (input : List ℕ) → IsNamespace ns → (1 ≤ blocks) × AreBytes input
     → Writes ns holds z blocks input → IsNamespace (with_written ns holds z input)
-written ns holds z blocks input sound are writes =
-    written_sound ns holds z blocks (gives_way ns holds (zone_at ns z).state) input sound writes.inside writes.some writes.size are writes.fits writes.room
+written ns holds z blocks input sound asked writes =
+    written_sound ns holds z blocks (gives_way ns holds (zone_at ns z).state) input sound (writes.inside sound asked.0) asked.0 writes.size asked.1
+    writes.fits writes.room
 
 send_sound : (ns : ZonedNamespace) (holds : Holds) (lba : ℕ) (a : Action) (select_all : Bool) (input : List ℕ) → IsNamespace ns
     → first_failed (send_checks ns holds lba a select_all input) ≡ None → IsNamespace (send_effect ns holds lba a select_all)
@@ -49,20 +48,16 @@ send_sound ns holds lba a false input sound none =
     let start = ltb-true lba (block_total ns) (demanded (nat_lt lba (block_total ns)) _ (passed checks 2 none)) in
     moved_sound ns holds z a (closing_of room) sound (zone_inside ns lba sound start) (unrefused room None (passed checks 6 none))
 
-effect_sound : (ns : ZonedNamespace) (holds : Holds) (command : StandardCommand) (input : List ℕ) → IsNamespace ns → IsSpelled (Commanded holds command input)
-    → first_failed (checks_of ns holds command input) ≡ None → IsNamespace (effect_of ns holds command input).namespace
-effect_sound ns holds (Write lba blocks) input sound spelled none =
-    written ns holds (zone_number ns lba) blocks input sound spelled.1 (write_writes ns holds lba blocks input sound spelled.0 none)
-effect_sound ns holds (Append lba blocks) input sound spelled none =
-    written ns holds (zone_number ns lba) blocks input sound spelled.1 (append_writes ns holds lba blocks input sound spelled.0 none)
-effect_sound ns holds (Read lba blocks) input sound spelled none = sound
-effect_sound ns holds (Receive lba dwords filter partial) input sound spelled none = sound
-effect_sound ns holds (Send lba a select_all) input sound spelled none = send_sound ns holds lba a select_all input sound none
+change_sound : (ns : ZonedNamespace) (holds : Holds) (change : Change) (input : List ℕ) → IsNamespace ns → CanBeAsked change input
+    → IsPassed ns holds change input → IsNamespace (changed ns holds change input)
+change_sound ns holds (Writing lba blocks) input sound asked passes = written ns holds (zone_number ns lba) blocks input sound asked passes
+change_sound ns holds (Moving lba a select_all) input sound asked passes = send_sound ns holds lba a select_all input sound passes
+change_sound ns holds Nothing input sound asked passes = sound
 
 -- one event
 event_sound : (event : NamespaceEvent) (ns : ZonedNamespace) → IsNamespace ns → IsSpelled event → IsNamespace (after event ns)
 event_sound (Commanded holds command input) ns sound spelled =
-    after_command IsNamespace ns holds command input sound (effect_sound ns holds command input sound spelled)
+    after_command IsNamespace ns holds command input sound (change_sound ns holds (change_of command) input sound spelled)
 event_sound (Faulted holds z fault) ns sound spelled = fault_sound ns holds z fault sound
 
 pub events_keep_namespaces_sound : EventsKeepNamespacesSound

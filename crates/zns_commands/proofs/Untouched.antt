@@ -8,15 +8,13 @@ use Rattle.zone_state.specs.declared.state.ZoneState.{ZoneState}
 use Rattle.zone_state.specs.declared.zone.FaultRefused.{FaultRefused}
 use Rattle.zone_resources.specs.Holds.{names}
 use Rattle.zone_resources.specs.declared.holds.Holds.{Holds}
-use Rattle.nvme_entry.specs.declared.command.StandardCommand.{StandardCommand}
-use Rattle.nvme_entry.specs.declared.command.StandardCommand.TheVariants.{Write, Read, Send, Receive, Append}
 use Rattle.image_store.specs.Blocks.{as_blocks}
 use Rattle.image_store.specs.Namespace.{ZoneWithBlocks, ZonedNamespace, no_zone, zone_at, with_zone, grown, arrived, with_state}
 use Rattle.zns_commands.specs.Address.{zone_number}
 use Rattle.zns_commands.specs.Fault.{zone_fault_refusal, faulted_by}
-use Rattle.zns_commands.specs.Left.{is_either, touches, OtherZonesAreLeft}
+use Rattle.zns_commands.specs.Left.{is_either, reaches, OtherZonesAreLeft}
 use Rattle.zns_commands.specs.Laws.{Commanded, Faulted}
-use Rattle.zns_commands.specs.Meaning.{effect_of}
+use Rattle.zns_commands.specs.Change.{Change, Nothing, Writing, Moving, change_of, changed}
 use Rattle.zns_commands.specs.Resources.{closed}
 use Rattle.zns_commands.specs.Send.{send_effect, takes, led_to}
 use Rattle.zns_commands.specs.declared.write.WritePlan.{WritePlan}
@@ -49,20 +47,17 @@ module _ (ns : ZonedNamespace) (d : ℕ) where
       let none = or_parts (nat_eq z d) (names d gives) other in
       set_left m z (arrived to (zone_at m z)) none.0 (closed_left gives none.1)
 
-  sent_left : (holds : Holds) (lba : ℕ) (a : Action) (select_all : Bool) (input : List ℕ)
-      → touches ns (Commanded holds (Send lba a select_all) input) d ≡ false → Left (send_effect ns holds lba a select_all)
-  sent_left holds lba a true input other =
+  sent_left : (holds : Holds) (lba : ℕ) (a : Action) (select_all : Bool)
+      → reaches ns holds (Moving lba a select_all) d ≡ false → Left (send_effect ns holds lba a select_all)
+  sent_left holds lba a true other =
       let zone = zone_at ns d in swept_at a ns.zones d ∙ cond-false (takes a zone.state) (arrived (led_to a zone.state) zone) zone other
-  sent_left holds lba a false input other =
+  sent_left holds lba a false other =
       let plan = zone_plan ns holds lba a in moved_left plan.closing plan.zone plan.to other
 
-  pub effect_left : (holds : Holds) (command : StandardCommand) (input : List ℕ)
-      → touches ns (Commanded holds command input) d ≡ false → Left (effect_of ns holds command input).namespace
-  effect_left holds (Write lba blocks) input other = written_left (write_plan ns holds (zone_number ns lba)) input other
-  effect_left holds (Append lba blocks) input other = written_left (write_plan ns holds (zone_number ns lba)) input other
-  effect_left holds (Read lba blocks) input other = refl
-  effect_left holds (Receive lba dwords filter partial) input other = refl
-  effect_left holds (Send lba a select_all) input other = sent_left holds lba a select_all input other
+  pub change_left : (holds : Holds) (change : Change) (input : List ℕ) → reaches ns holds change d ≡ false → Left (changed ns holds change input)
+  change_left holds (Writing lba blocks) input other = written_left (write_plan ns holds (zone_number ns lba)) input other
+  change_left holds (Moving lba a select_all) input other = sent_left holds lba a select_all other
+  change_left holds Nothing input other = refl
 
   either_none : (z : ℕ) → nat_eq z d ≡ false → is_either z None d ≡ false
   either_none z other = rw other refl
@@ -74,5 +69,6 @@ module _ (ns : ZonedNamespace) (d : ℕ) where
 
 pub other_zones_are_left : OtherZonesAreLeft
 other_zones_are_left (Commanded holds command input) ns z other =
-    after_command (λ m. zone_at m z ≡ zone_at ns z) ns holds command input refl (λ none. effect_left ns z holds command input other)
+    after_command (λ m. zone_at m z ≡ zone_at ns z) ns holds command input refl
+    (λ passes. change_left ns z holds (change_of command) input other)
 other_zones_are_left (Faulted holds y fault) ns z other = faulted_left ns z y fault (zone_fault_refusal ns holds y fault) (λ done e. other)

@@ -6,9 +6,10 @@ use Rattle.common_definitions.specs.Checks.{first_failed}
 use Rattle.zone_resources.specs.Holds.{is_destination, refuses}
 use Rattle.zone_resources.specs.declared.holds.Holds.{Holds}
 use Rattle.nvme_entry.specs.declared.command.StandardCommand.{StandardCommand}
-use Rattle.nvme_entry.specs.declared.command.StandardCommand.TheVariants.{Write, Read, Send, Receive, Append}
+use Rattle.nvme_entry.specs.declared.command.StandardCommand.TheVariants.{Write, Send, Append}
 use Rattle.image_store.specs.Namespace.{ZonedNamespace, counted_zones}
 use Rattle.zns_commands.specs.Address.{zone_number, lowest_checks}
+use Rattle.zns_commands.specs.Change.{Change, Writing, Moving, change_of}
 use Rattle.zns_commands.specs.Effect.{refused_effect}
 use Rattle.zns_commands.specs.Append.{append_address_checks}
 use Rattle.zns_commands.specs.Meaning.{meaning}
@@ -16,26 +17,24 @@ use Rattle.zns_commands.specs.Send.{held_among}
 use Rattle.zns_commands.specs.Transfer.{transfer_checks}
 use Rattle.zns_commands.specs.Write.{write_address_checks}
 
--- is a zone that the command would change held against it?
-abbrev pub is_held_against : ZonedNamespace → Holds → StandardCommand → Bool
-is_held_against ns holds (Write lba blocks) = is_destination holds (zone_number ns lba)
-is_held_against ns holds (Append lba blocks) = is_destination holds (zone_number ns lba)
-is_held_against ns holds (Send lba action true) = held_among (counted_zones ns) holds action
-is_held_against ns holds (Send lba action false) = refuses holds action (zone_number ns lba)
-is_held_against ns holds (Read lba blocks) = false
-is_held_against ns holds (Receive lba dwords filter partial) = false
+-- is a zone that would be changed held against the change?
+abbrev pub is_held_against : ZonedNamespace → Holds → Change → Bool
+is_held_against ns holds (Writing lba blocks) = is_destination holds (zone_number ns lba)
+is_held_against ns holds (Moving lba action true) = held_among (counted_zones ns) holds action
+is_held_against ns holds (Moving lba action false) = refuses holds action (zone_number ns lba)
+is_held_against ns holds _ = false
 
--- the checks that such a command meets before it meets the holds: those of its data and of its address
+-- the checks that a command which changes zones meets before it meets the holds: those of its data and of its address
 abbrev pub checks_before_holds : ZonedNamespace → StandardCommand → List ℕ → List (Option Status)
 checks_before_holds ns (Write lba blocks) input = write_address_checks ns lba blocks input
 checks_before_holds ns (Append lba blocks) input = append_address_checks ns lba blocks input
 checks_before_holds ns (Send lba action true) input = transfer_checks 0 0 input
 checks_before_holds ns (Send lba action false) input = transfer_checks 0 0 input ++ lowest_checks ns lba
-checks_before_holds ns (Read lba blocks) input = []
-checks_before_holds ns (Receive lba dwords filter partial) input = []
+checks_before_holds ns _ input = []
 
 -- a command on a zone that is held against it is refused, with Zone Held where its data and its address are right
 abbrev pub HeldCommandsAreRefused : Type 0
 HeldCommandsAreRefused =
-    (ns : ZonedNamespace) (holds : Holds) (command : StandardCommand) (input : List ℕ) → is_held_against ns holds command ≡ true
+    (ns : ZonedNamespace) (holds : Holds) (command : StandardCommand) (input : List ℕ)
+    → is_held_against ns holds (change_of command) ≡ true
     → meaning ns holds command input ≡ refused_effect ns (unwrap_or (first_failed (checks_before_holds ns command input)) ZONE_HELD)

@@ -7,7 +7,7 @@ use Rattle.zone_state.specs.declared.status.TheConstants.Status.{SUCCESS}
 use Rattle.zone_resources.specs.Holds.{no_holds}
 use Rattle.zone_resources.specs.declared.holds.Holds.{Holds}
 use Rattle.nvme_entry.specs.declared.command.StandardCommand.{StandardCommand}
-use Rattle.nvme_entry.specs.declared.command.StandardCommand.TheVariants.{Write, Read, Send, Receive, Append}
+use Rattle.nvme_entry.specs.declared.command.StandardCommand.TheVariants.{Write, Read, Receive, Append}
 use Rattle.nvme_entry.specs.declared.command.TheConstants.{MOST_TRANSFER}
 use Rattle.nvme_entry.specs.declared.report.TheConstants.{REPORT_HEADER_BYTES}
 use Rattle.nvme_entry.specs.declared.filter.ZoneFilter.{ZoneFilter}
@@ -21,6 +21,7 @@ use Rattle.image_store.specs.Namespace.{ZonedNamespace, zone_at, appended, block
 use Rattle.common_definitions.specs.FirstCheck.{FailsFirst, NoneFails}
 use Rattle.zone_state.specs.State.{is_cleared}
 use Rattle.zns_commands.specs.Address.{block_total, zone_number, zone_offset}
+use Rattle.zns_commands.specs.Change.{CanBeAsked, change_of}
 use Rattle.zns_commands.specs.Effect.{Effect, success_effect, refused_effect}
 use Rattle.zns_commands.specs.Append.{TakesBlocks}
 use Rattle.zns_commands.specs.Fault.{faulted}
@@ -43,22 +44,21 @@ after_events events ns = fold (λ before event. after event before) ns events
 
 -- what an entry and the bytes beside it can spell: a command that writes at least one block, and bytes
 abbrev pub IsSpelled : NamespaceEvent → Type 0
-IsSpelled (Commanded holds (Write lba blocks) input) = (1 ≤ blocks) × AreBytes input
-IsSpelled (Commanded holds (Append lba blocks) input) = (1 ≤ blocks) × AreBytes input
-IsSpelled (Commanded holds (Read lba blocks) input) = Unit {0}
-IsSpelled (Commanded holds (Send lba action select_all) input) = Unit {0}
-IsSpelled (Commanded holds (Receive lba dwords filter partial) input) = Unit {0}
+IsSpelled (Commanded holds command input) = CanBeAsked (change_of command) input
 IsSpelled (Faulted holds zone fault) = Unit {0}
 
 -- a namespace stays one, its open and active zones within the limits, whatever commands that entries can spell, and
 -- whatever faults, come (ZNS 1.1, 2.1.1)
 abbrev pub EventsKeepNamespacesSound : Type 0
-EventsKeepNamespacesSound = (events : List NamespaceEvent) (ns : ZonedNamespace) → IsNamespace ns → All IsSpelled events → IsNamespace (after_events events ns)
+EventsKeepNamespacesSound =
+    (events : List NamespaceEvent) (ns : ZonedNamespace) → IsNamespace ns → All IsSpelled events
+    → IsNamespace (after_events events ns)
 
 -- and so it does where blocks of bytes are put into an open zone that has room for them,
 abbrev pub AddedBlocksKeepNamespacesSound : Type 0
 AddedBlocksKeepNamespacesSound =
-    (ns : ZonedNamespace) (z : ℕ) (bytes : List ℕ) → IsNamespace ns → TakesBlocks ns z bytes → AreBytes bytes → IsNamespace (appended ns z bytes)
+    (ns : ZonedNamespace) (z : ℕ) (bytes : List ℕ) → IsNamespace ns → TakesBlocks ns z bytes → AreBytes bytes
+    → IsNamespace (appended ns z bytes)
 
 -- as by an Append of them to that zone that meets no hold: it is not refused, where they are no more than a
 -- transfer may be, and this is what it leaves

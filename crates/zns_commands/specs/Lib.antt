@@ -8,6 +8,7 @@ pub mod Write
 pub mod Append
 pub mod Receive
 pub mod Send
+pub mod Change
 pub mod Meaning
 pub mod Fault
 pub mod Held

@@ -2,7 +2,7 @@
 //! it ensures is the law.
 
 ghost use Rattle.zns_commands.specs.Held.{HeldCommandsAreRefused};
-ghost use Rattle.zns_commands.specs.Left.{HeldDestinationsAreLeft, HeldSourcesKeepBlocks, OtherZonesAreLeft, ShapesAreKept};
+ghost use Rattle.zns_commands.specs.Left.{HeldDestinationsAreLeft, HeldSourcesKeepBlocks, OtherZonesAreLeft, QueriesChangeNothing, ShapesAreKept};
 ghost use Rattle.zns_commands.specs.SelectAll.{SelectAllIsEachAlone, SelectAllIsRefusedByHoldsAndLimits, TakenZonesMove};
 ghost use Rattle.zns_commands.specs.Laws.{AddedBlocksAreAppended, AddedBlocksKeepNamespacesSound, AppendedBlocksReadBack, ConsecutiveBlocksAreAPart, EachBlockIsRead, EmptyIsNamespace, EventsKeepNamespacesSound, JustOneCase, RefusedCommandsChangeNothing, ReportsEveryZone, ReportsWhatMatches, WrittenBlocksReadBack};
 
@@ -71,6 +71,11 @@ pub fn reports_list_every_zone()
 /// Select All takes; a fault none but the zone that has it.
 pub fn other_zones_are_left()
     ensures { OtherZonesAreLeft }
+{}
+
+/// A command that only reads, as Read and Zone Management Receive do, leaves the namespace as it was.
+pub fn queries_change_nothing()
+    ensures { QueriesChangeNothing }
 {}
 
 /// No command or fault changes the state or the blocks of a zone that an active run appends to.
