@@ -9,7 +9,6 @@ use Rattle.zone_state.specs.declared.action.Action.{Action}
 use Rattle.zone_state.specs.declared.action.Action.TheVariants as action
 use Rattle.zone_state.specs.declared.state.ZoneState.{ZoneState}
 use Rattle.zone_state.specs.declared.status.TheConstants.Status.{ZONE_HELD}
-use Rattle.zone_state.specs.declared.status.Status.{Status}
 use Rattle.zone_resources.specs.Admission.{wanted_of, IsClosable}
 use Rattle.zone_resources.specs.Holds.{names, is_destination, is_source, refuses, forgets}
 use Rattle.zone_resources.specs.declared.admission.Wanted.{Wanted}

@@ -22,10 +22,13 @@ append_checks ns holds lba blocks input =
     append_address_checks ns lba blocks input
     ++ zone_write_checks ns holds z (length (zone_at ns z).blocks) blocks
 
--- the data is written at the zone's write pointer, which the completion tells
+-- the logical block that an Append's first block goes to
+abbrev pub assigned_lba : ZonedNamespace → ℕ → ℕ
+assigned_lba ns lba = write_pointer ns (zone_number ns lba)
+
+-- the data is written there, and the completion tells where
 abbrev pub append_effect : ZonedNamespace → Holds → ℕ → List ℕ → Effect
-append_effect ns holds lba input =
-    let z = zone_number ns lba in success_effect (with_written ns holds z input) (write_pointer ns z) []
+append_effect ns holds lba input = success_effect (with_written ns holds (zone_number ns lba) input) (assigned_lba ns lba) []
 
 -- a zone takes whole blocks, one or more, without a further check: it is open and has room for them
 pub record TakesBlocks (ns : ZonedNamespace) (z : ℕ) (bytes : List ℕ) : Type 0 where

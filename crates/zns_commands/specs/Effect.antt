@@ -1,5 +1,5 @@
 -- The effect of a command.
-use Rattle.std.specs.Prelude.{ℕ, List, [], length, take, Option, Some, None}
+use Rattle.std.specs.Prelude.{ℕ, ◌≡◌, List, [], length, take, Option, Some, None}
 use Rattle.zone_state.specs.declared.status.Status.{Status}
 use Rattle.image_store.specs.Namespace.{ZonedNamespace}
 use Rattle.zns_commands.specs.Answer.{refused_answer, success_answer}
@@ -26,6 +26,10 @@ effect_with answer ns output = record {
 -- the effect that an answer tells, whose data is the first of these bytes
 abbrev pub effect_of_answer : Answer → ZonedNamespace → List ℕ → Effect
 effect_of_answer answer ns bytes = effect_with answer ns (take answer.length bytes)
+
+-- an answer, with the namespace behind it, tells an effect that gives no data
+abbrev pub Tells : Answer → ZonedNamespace → Effect → Type 0
+Tells answer ns effect = (bytes : List ℕ) → effect_of_answer answer ns bytes ≡ effect
 
 -- a refused command changes nothing and gives nothing
 abbrev pub refused_effect : ZonedNamespace → Status → Effect

@@ -1,7 +1,7 @@
 //! What a command answers.
 
 ghost use Rattle.std.specs.Prelude.{◌≡◌};
-ghost use Rattle.zns_commands.specs.Answer.{refused_answer, success_answer};
+ghost use Rattle.zns_commands.specs.Answer.{answer_without_data, refused_answer, success_answer};
 
 use nvme_entry::Status;
 
@@ -41,6 +41,17 @@ impl Answer {
             dw0: (number % 0x1_0000_0000) as u32,
             dw1: (number / 0x1_0000_0000) as u32,
             length,
+        }
+    }
+
+    /// The answer of a command without data, which gives a number or is refused.
+    pub(crate) fn without_data(done: Result<u64, Status>) -> Answer
+        ensures value { result ≡ answer_without_data done }
+        ensures no_data { result.length ≡ 0 }
+    {
+        match done {
+            Ok(number) => Answer::success(number, 0),
+            Err(status) => Answer::refused(status),
         }
     }
 }

@@ -1,11 +1,11 @@
 //! Zone Append.
 
-ghost use Rattle.std.specs.Prelude.{◌≡◌, length, List, ℕ, OnOk, OnErr};
+ghost use Rattle.std.specs.Prelude.{◌≡◌, length, OnOk, OnErr};
 ghost use Rattle.nvme_entry.specs.declared.command.StandardCommand.TheVariants.{Append};
 ghost use Rattle.common_definitions.specs.Checks.{first_failed, unless_failed};
 ghost use Rattle.zns_commands.specs.Address.{IsZoneBlock, zone_number, write_pointer};
-ghost use Rattle.zns_commands.specs.Effect.{effect_of_answer};
-ghost use Rattle.zns_commands.specs.Append.{append_checks};
+ghost use Rattle.zns_commands.specs.Effect.{Tells};
+ghost use Rattle.zns_commands.specs.Append.{append_checks, assigned_lba};
 ghost use Rattle.zns_commands.specs.Meaning.{meaning};
 ghost use Rattle.zns_commands.specs.Write.{with_written};
 
@@ -25,13 +25,10 @@ pub fn append(
     blocks: BlockCount,
     input: &[u8],
 ) -> Answer
-    ensures answer { (bytes : List ℕ) → effect_of_answer result image.new bytes ≡ meaning image.old holds.now (Append lba blocks) input.now }
+    ensures answer { Tells result image.new (meaning image.old holds.now (Append lba blocks) input.now) }
     ensures no_data { result.length ≡ 0 }
 {
-    match try_append(image, holds, lba, blocks, input) {
-        Ok(assigned) => Answer::success(assigned, 0),
-        Err(status) => Answer::refused(status),
-    }
+    Answer::without_data(try_append(image, holds, lba, blocks, input))
 }
 
 /// What [`append`] does: the block that the first one went to, or the status that refuses it.
@@ -42,7 +39,7 @@ fn try_append(
     blocks: BlockCount,
     input: &[u8],
 ) -> Result<u64, Status>
-    ensures value { let z = zone_number image.old lba in result ≡ unless_failed (first_failed (append_checks image.old holds.now lba blocks input.now)) (write_pointer image.old z) }
+    ensures value { result ≡ unless_failed (first_failed (append_checks image.old holds.now lba blocks input.now)) (assigned_lba image.old lba) }
     ensures ok { OnOk result (image.new ≡ with_written image.old holds.now (zone_number image.old lba) input.now) }
     ensures err { OnErr result (image.new ≡ image.old) }
 {

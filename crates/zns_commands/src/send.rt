@@ -1,11 +1,11 @@
 //! Zone Management Send.
 
-ghost use Rattle.std.specs.Prelude.{true, ◌≡◌, ◌<◌, ◌≤◌, ◌^◌, length, List, ℕ, IfOk, OnOk, OnErr};
+ghost use Rattle.std.specs.Prelude.{true, ◌≡◌, ◌<◌, ◌≤◌, ◌^◌, length, IfOk, OnOk, OnErr};
 ghost use Rattle.nvme_entry.specs.declared.command.StandardCommand.TheVariants.{Send};
 ghost use Rattle.common_definitions.specs.Checks.{first_failed, unless_failed};
 ghost use Rattle.image_store.specs.declared.geometry.TheConstants.{MOST_ZONES};
 ghost use Rattle.image_store.specs.Namespace.{zone_at, with_zone, counted_zones, IsWithinLimits, with_state};
-ghost use Rattle.zns_commands.specs.Effect.{effect_of_answer};
+ghost use Rattle.zns_commands.specs.Effect.{Tells};
 ghost use Rattle.zns_commands.specs.Meaning.{meaning};
 ghost use Rattle.zns_commands.specs.Resources.{closed};
 ghost use Rattle.zns_commands.specs.Send.{send_checks, send_effect, room_of, zone_checks, zone_effect, all_checks, all_effect, all_fit, swept, takes, held_among, taken_among};
@@ -186,16 +186,13 @@ pub fn send(
     select_all: bool,
     input: &[u8],
 ) -> Answer
-    ensures answer { (bytes : List ℕ) → effect_of_answer result image.new bytes ≡ meaning image.old holds.now (Send lba action select_all) input.now }
+    ensures answer { Tells result image.new (meaning image.old holds.now (Send lba action select_all) input.now) }
     ensures no_data { result.length ≡ 0 }
 {
-    match try_send(image, holds, lba, action, select_all, input) {
-        Ok(()) => Answer::success(0, 0),
-        Err(status) => Answer::refused(status),
-    }
+    Answer::without_data(try_send(image, holds, lba, action, select_all, input))
 }
 
-/// What [`send`] does, or the status that refuses it.
+/// What [`send`] does: the number 0, or the status that refuses it.
 fn try_send(
     image: &mut Image,
     holds: &Holds,
@@ -203,16 +200,17 @@ fn try_send(
     action: Action,
     select_all: bool,
     input: &[u8],
-) -> Result<(), Status>
-    ensures value { result ≡ unless_failed (first_failed (send_checks image.old holds.now lba action select_all input.now)) tt }
+) -> Result<u64, Status>
+    ensures value { result ≡ unless_failed (first_failed (send_checks image.old holds.now lba action select_all input.now)) 0 }
     ensures ok { OnOk result (image.new ≡ send_effect image.old holds.now lba action select_all) }
     ensures err { OnErr result (image.new ≡ image.old) }
 {
     check_transfer(0, 0, input)?;
     if !select_all {
-        return send_to_zone(image, holds, lba, action);
+        send_to_zone(image, holds, lba, action)?;
+        return Ok(0);
     }
     check_all(image, holds, action)?;
     sweep(image, action);
-    Ok(())
+    Ok(0)
 }

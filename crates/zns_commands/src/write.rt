@@ -1,11 +1,11 @@
 //! Writing to a zone, and Write.
 
-ghost use Rattle.std.specs.Prelude.{◌≡◌, ◌<◌, ◌*◌, length, List, ℕ, IfOk, OnOk, OnErr};
+ghost use Rattle.std.specs.Prelude.{◌≡◌, ◌<◌, ◌*◌, length, ℕ, IfOk, OnOk, OnErr};
 ghost use Rattle.nvme_entry.specs.declared.command.StandardCommand.TheVariants.{Write};
 ghost use Rattle.image_store.specs.Namespace.{zone_at};
 ghost use Rattle.common_definitions.specs.Checks.{first_failed, unless_failed};
 ghost use Rattle.zns_commands.specs.Address.{zone_number};
-ghost use Rattle.zns_commands.specs.Effect.{effect_of_answer};
+ghost use Rattle.zns_commands.specs.Effect.{Tells};
 ghost use Rattle.zns_commands.specs.Meaning.{meaning};
 ghost use Rattle.zns_commands.specs.Transfer.{transfer_checks};
 ghost use Rattle.zns_commands.specs.Write.{zone_write_checks, write_checks, with_written};
@@ -104,24 +104,21 @@ pub fn put(image: &mut Image, plan: WritePlan, blocks: BlockCount, input: &[u8])
 /// Writes the data from `lba` on, which is the write pointer of its zone. A refused write changes
 /// nothing.
 pub fn write(image: &mut Image, holds: &Holds, lba: u64, blocks: BlockCount, input: &[u8]) -> Answer
-    ensures answer { (bytes : List ℕ) → effect_of_answer result image.new bytes ≡ meaning image.old holds.now (Write lba blocks) input.now }
+    ensures answer { Tells result image.new (meaning image.old holds.now (Write lba blocks) input.now) }
     ensures no_data { result.length ≡ 0 }
 {
-    match try_write(image, holds, lba, blocks, input) {
-        Ok(()) => Answer::success(0, 0),
-        Err(status) => Answer::refused(status),
-    }
+    Answer::without_data(try_write(image, holds, lba, blocks, input))
 }
 
-/// What [`write`] does, or the status that refuses it.
+/// What [`write`] does: the number 0, or the status that refuses it.
 fn try_write(
     image: &mut Image,
     holds: &Holds,
     lba: u64,
     blocks: BlockCount,
     input: &[u8],
-) -> Result<(), Status>
-    ensures value { result ≡ unless_failed (first_failed (write_checks image.old holds.now lba blocks input.now)) tt }
+) -> Result<u64, Status>
+    ensures value { result ≡ unless_failed (first_failed (write_checks image.old holds.now lba blocks input.now)) 0 }
     ensures ok { OnOk result (image.new ≡ with_written image.old holds.now (zone_number image.old lba) input.now) }
     ensures err { OnErr result (image.new ≡ image.old) }
 {
@@ -129,5 +126,5 @@ fn try_write(
     let block = range(image, lba, blocks)?;
     let plan = check_write(image, holds, block.zone, block.offset, blocks)?;
     put(image, plan, blocks, input);
-    Ok(())
+    Ok(0)
 }
