@@ -21,6 +21,10 @@ checks_of ns holds (Send lba action select_all) input = send_checks ns holds lba
 checks_of ns holds (Receive lba dwords filter partial) input = receive_checks ns lba dwords input
 checks_of ns holds (Append lba blocks) input = append_checks ns holds lba blocks input
 
+-- why a command is refused, if it is: the first check that fails
+abbrev pub refusal_of : ZonedNamespace → Holds → StandardCommand → List ℕ → Option Status
+refusal_of ns holds command input = first_failed (checks_of ns holds command input)
+
 -- what a command comes to that is not refused
 abbrev pub effect_of : ZonedNamespace → Holds → StandardCommand → List ℕ → Effect
 effect_of ns holds (Write lba blocks) input = write_effect ns holds lba input
@@ -29,6 +33,6 @@ effect_of ns holds (Send lba action select_all) input = success_effect (send_eff
 effect_of ns holds (Receive lba dwords filter partial) input = receive_effect ns lba dwords filter partial
 effect_of ns holds (Append lba blocks) input = append_effect ns holds lba input
 
--- the first check that fails refuses the command; where none does, it takes effect
+-- a command is refused, or takes effect
 abbrev pub meaning : ZonedNamespace → Holds → StandardCommand → List ℕ → Effect
-meaning ns holds command input = concluded (first_failed (checks_of ns holds command input)) ns (effect_of ns holds command input)
+meaning ns holds command input = concluded (refusal_of ns holds command input) ns (effect_of ns holds command input)

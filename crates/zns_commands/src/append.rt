@@ -2,11 +2,11 @@
 
 ghost use Rattle.std.specs.Prelude.{◌≡◌, length, OnOk, OnErr};
 ghost use Rattle.nvme_entry.specs.declared.command.StandardCommand.TheVariants.{Append};
-ghost use Rattle.common_definitions.specs.Checks.{first_failed, unless_failed};
+ghost use Rattle.common_definitions.specs.Checks.{unless_failed};
 ghost use Rattle.zns_commands.specs.Address.{IsZoneBlock, zone_number, write_pointer};
 ghost use Rattle.zns_commands.specs.Effect.{Tells};
-ghost use Rattle.zns_commands.specs.Append.{append_checks, assigned_lba};
-ghost use Rattle.zns_commands.specs.Meaning.{meaning};
+ghost use Rattle.zns_commands.specs.Append.{assigned_lba};
+ghost use Rattle.zns_commands.specs.Meaning.{meaning, refusal_of};
 ghost use Rattle.zns_commands.specs.Write.{with_written};
 
 use crate::address::lowest;
@@ -39,7 +39,7 @@ fn try_append(
     blocks: BlockCount,
     input: &[u8],
 ) -> Result<u64, Status>
-    ensures value { result ≡ unless_failed (first_failed (append_checks image.old holds.now lba blocks input.now)) (assigned_lba image.old lba) }
+    ensures value { result ≡ unless_failed (refusal_of image.old holds.now (Append lba blocks) input.now) (assigned_lba image.old lba) }
     ensures ok { OnOk result (image.new ≡ with_written image.old holds.now (zone_number image.old lba) input.now) }
     ensures err { OnErr result (image.new ≡ image.old) }
 {

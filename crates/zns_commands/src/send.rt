@@ -6,9 +6,9 @@ ghost use Rattle.common_definitions.specs.Checks.{first_failed, unless_failed};
 ghost use Rattle.image_store.specs.declared.geometry.TheConstants.{MOST_ZONES};
 ghost use Rattle.image_store.specs.Namespace.{zone_at, with_zone, counted_zones, IsWithinLimits, with_state};
 ghost use Rattle.zns_commands.specs.Effect.{Tells};
-ghost use Rattle.zns_commands.specs.Meaning.{meaning};
+ghost use Rattle.zns_commands.specs.Meaning.{meaning, refusal_of};
 ghost use Rattle.zns_commands.specs.Resources.{closed};
-ghost use Rattle.zns_commands.specs.Send.{send_checks, send_effect, room_of, zone_checks, zone_effect, all_checks, all_effect, all_fit, swept, takes, held_among, taken_among};
+ghost use Rattle.zns_commands.specs.Send.{send_effect, room_of, zone_checks, zone_effect, all_checks, all_effect, all_fit, swept, takes, held_among, taken_among};
 ghost use Rattle.zns_commands.specs.steps.Accepted.{CanMove};
 ghost use Rattle.zns_commands.specs.steps.Plans.{zone_plan};
 
@@ -201,7 +201,7 @@ fn try_send(
     select_all: bool,
     input: &[u8],
 ) -> Result<u64, Status>
-    ensures value { result ≡ unless_failed (first_failed (send_checks image.old holds.now lba action select_all input.now)) 0 }
+    ensures value { result ≡ unless_failed (refusal_of image.old holds.now (Send lba action select_all) input.now) 0 }
     ensures ok { OnOk result (image.new ≡ send_effect image.old holds.now lba action select_all) }
     ensures err { OnErr result (image.new ≡ image.old) }
 {

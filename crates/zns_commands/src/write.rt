@@ -6,9 +6,9 @@ ghost use Rattle.image_store.specs.Namespace.{zone_at};
 ghost use Rattle.common_definitions.specs.Checks.{first_failed, unless_failed};
 ghost use Rattle.zns_commands.specs.Address.{zone_number};
 ghost use Rattle.zns_commands.specs.Effect.{Tells};
-ghost use Rattle.zns_commands.specs.Meaning.{meaning};
+ghost use Rattle.zns_commands.specs.Meaning.{meaning, refusal_of};
 ghost use Rattle.zns_commands.specs.Transfer.{transfer_checks};
-ghost use Rattle.zns_commands.specs.Write.{zone_write_checks, write_checks, with_written};
+ghost use Rattle.zns_commands.specs.Write.{zone_write_checks, with_written};
 ghost use Rattle.zns_commands.specs.steps.Accepted.{CanWrite, IsWhole};
 ghost use Rattle.zns_commands.specs.steps.Plans.{write_plan, written_by};
 
@@ -118,7 +118,7 @@ fn try_write(
     blocks: BlockCount,
     input: &[u8],
 ) -> Result<u64, Status>
-    ensures value { result ≡ unless_failed (first_failed (write_checks image.old holds.now lba blocks input.now)) 0 }
+    ensures value { result ≡ unless_failed (refusal_of image.old holds.now (Write lba blocks) input.now) 0 }
     ensures ok { OnOk result (image.new ≡ with_written image.old holds.now (zone_number image.old lba) input.now) }
     ensures err { OnErr result (image.new ≡ image.old) }
 {
