@@ -6,20 +6,21 @@ use Rattle.nvme_entry.specs.Entry.{decoded}
 use Rattle.nvme_entry.specs.declared.command.Command.{Command}
 use Rattle.nvme_entry.specs.declared.command.Command.TheVariants as commands
 use Rattle.nvme_entry.specs.declared.command.StandardCommand.{StandardCommand}
-use Rattle.nvme_entry.specs.declared.command.StandardCommand.TheVariants.{Write, Read, Send, Receive, Append}
+use Rattle.nvme_entry.specs.declared.command.StandardCommand.TheVariants.{Write, Append}
 use Rattle.nvme_entry.proofs.Proved.{fields_are_spelled}
 use Rattle.common_definitions.specs.Bytes.{AreBytes, field}
+use Rattle.zns_commands.specs.Change.{CanBeAsked, Change, Nothing, Writing, Moving, change_of}
 use Rattle.zns_commands.specs.Laws.{Commanded, IsSpelled}
 
+-- what writes blocks writes at least one
+abbrev pub WritesSome : Change → Type 0
+WritesSome (Writing lba blocks) = 1 ≤ blocks
+WritesSome _ = Unit {0}
+
 abbrev pub HasBlocks : Command → Type 0
-HasBlocks (commands.Standard (Write lba blocks)) = 1 ≤ blocks
-HasBlocks (commands.Standard (Append lba blocks)) = 1 ≤ blocks
-HasBlocks (commands.Standard (Read lba blocks)) = Unit {0}
-HasBlocks (commands.Standard (Send lba action select_all)) = Unit {0}
-HasBlocks (commands.Standard (Receive lba dwords filter partial)) = Unit {0}
+HasBlocks (commands.Standard c) = WritesSome (change_of c)
 HasBlocks (commands.Run command) = 1 ≤ command.blocks
-HasBlocks (commands.Load load) = Unit {0}
-HasBlocks (commands.Result slot) = Unit {0}
+HasBlocks _ = Unit {0}
 
 -- a number that stands zero-based is at least 1
 at_least_one : (n k : ℕ) → n ≡ k + 1 → 1 ≤ n
@@ -32,19 +33,16 @@ decoded_has entry (commands.Standard (Write lba blocks)) e =
 decoded_has entry (commands.Standard (Append lba blocks)) e =
     let told = fields_are_spelled entry (commands.Standard (Append lba blocks)) e in
     at_least_one blocks (field entry 48 2) told.2.2
-decoded_has entry (commands.Standard (Read lba blocks)) e = tt
-decoded_has entry (commands.Standard (Send lba action select_all)) e = tt
-decoded_has entry (commands.Standard (Receive lba dwords filter partial)) e = tt
 decoded_has entry (commands.Run command) e =
     let told = fields_are_spelled entry (commands.Run command) e in
     at_least_one command.blocks (field entry 48 2) told.2.2
-decoded_has entry (commands.Load load) e = tt
-decoded_has entry (commands.Result slot) e = tt
+decoded_has entry c e = tt
+
+asked_by : (change : Change) (input : List ℕ) → WritesSome change → AreBytes input → CanBeAsked change input
+asked_by (Writing lba blocks) input some fit = (some, fit)
+asked_by (Moving lba action select_all) input some fit = tt
+asked_by Nothing input some fit = tt
 
 pub spelled : (holds : Holds) (c : StandardCommand) (input : List ℕ) → HasBlocks (commands.Standard c) → AreBytes input
     → IsSpelled (Commanded holds c input)
-spelled holds (Write lba blocks) input some fit = (some, fit)
-spelled holds (Append lba blocks) input some fit = (some, fit)
-spelled holds (Read lba blocks) input some fit = tt
-spelled holds (Send lba action select_all) input some fit = tt
-spelled holds (Receive lba dwords filter partial) input some fit = tt
+spelled holds c input some fit = asked_by (change_of c) input some fit
