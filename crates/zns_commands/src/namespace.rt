@@ -96,30 +96,7 @@ impl Namespace {
         ensures most { result.length ≤ MOST_TRANSFER }
         ensures rest { drop result.length output.new ≡ drop result.length output.old }
     {
-        match *command {
-            StandardCommand::Write { lba, blocks } => {
-                write(&mut self.image, holds, lba, blocks, input)
-            }
-            StandardCommand::Read { lba, blocks } => read(&self.image, lba, blocks, input, output),
-            StandardCommand::Send {
-                lba,
-                action,
-                select_all,
-            } => send(&mut self.image, holds, lba, action, select_all, input),
-            StandardCommand::Receive {
-                lba,
-                dwords,
-                filter,
-                partial,
-            } => receive(&self.image, lba, dwords, filter, partial, input, output),
-            StandardCommand::Append { lba, blocks } => append(
-                &mut self.image,
-                holds,
-                lba,
-                blocks,
-                input,
-            ),
-        }
+        execute(&mut self.image, command, input, output, holds)
     }
 
     /// Takes a zone fault (profile): the zone comes into the fault's state, its resources are
@@ -134,5 +111,36 @@ impl Namespace {
         ensures state { self.new ≡ faulted self.old holds.now zone state }
     {
         fault(&mut self.image, zone, state, holds)
+    }
+}
+
+/// What [`Namespace::execute`] does to the image of a namespace.
+fn execute(
+    image: &mut Image,
+    command: &StandardCommand,
+    input: &[u8],
+    output: &mut [u8],
+    holds: &Holds,
+) -> Answer
+    requires { MOST_TRANSFER ≤ length output.old }
+    ensures meaning { effect_of_answer result image.new output.new ≡ meaning image.old holds.now command.now input.now }
+    ensures most { result.length ≤ MOST_TRANSFER }
+    ensures rest { drop result.length output.new ≡ drop result.length output.old }
+{
+    match *command {
+        StandardCommand::Write { lba, blocks } => { write(image, holds, lba, blocks, input) }
+        StandardCommand::Read { lba, blocks } => read(image, lba, blocks, input, output),
+        StandardCommand::Send {
+            lba,
+            action,
+            select_all,
+        } => send(image, holds, lba, action, select_all, input),
+        StandardCommand::Receive {
+            lba,
+            dwords,
+            filter,
+            partial,
+        } => receive(image, lba, dwords, filter, partial, input, output),
+        StandardCommand::Append { lba, blocks } => append(image, holds, lba, blocks, input),
     }
 }

@@ -3,7 +3,7 @@
 ghost use Rattle.std.specs.Prelude.{◌≡◌, ◌≤◌, ◌<◌, ◌*◌, ◌+◌, ◌++◌, length, take, drop, replicate, IfOk, OnOk};
 ghost use Rattle.std.specs.List.{concat};
 ghost use Rattle.std.specs.Result.{result_err};
-ghost use Rattle.zone_resources.specs.declared.holds.Holds.{Holds};
+ghost use Rattle.zone_resources.specs.Holds.{no_holds};
 ghost use Rattle.nvme_entry.specs.declared.command.StandardCommand.TheVariants.{Read};
 ghost use Rattle.image_store.specs.Namespace.{zone_at};
 ghost use Rattle.common_definitions.specs.Checks.{first_failed, unless_failed};
@@ -90,10 +90,10 @@ fn give_blocks(image: &Image, from: ZoneBlock, blocks: BlockCount, output: &mut 
     blocks.get() as usize * block
 }
 
-/// Gives the data of the blocks from `lba` on. It changes nothing.
+/// Gives the data of the blocks from `lba` on. It changes nothing, and no hold matters to it.
 pub fn read(image: &Image, lba: u64, blocks: BlockCount, input: &[u8], output: &mut [u8]) -> Answer
     requires { MOST_TRANSFER ≤ length output.old }
-    ensures answer { (holds : Holds) → effect_of_answer result image.now output.new ≡ meaning image.now holds (Read lba blocks) input.now }
+    ensures answer { effect_of_answer result image.now output.new ≡ meaning image.now no_holds (Read lba blocks) input.now }
     ensures most { result.length ≤ MOST_TRANSFER }
     ensures rest { drop result.length output.new ≡ drop result.length output.old }
 {

@@ -2,7 +2,7 @@
 
 ghost use Rattle.std.specs.Prelude.{◌≡◌, ◌≤◌, ◌*◌, ◌++◌, ◌^◌, length, take, drop};
 ghost use Rattle.common_definitions.specs.Checks.{first_failed, unless_failed};
-ghost use Rattle.zone_resources.specs.declared.holds.Holds.{Holds};
+ghost use Rattle.zone_resources.specs.Holds.{no_holds};
 ghost use Rattle.nvme_entry.specs.Report.{report};
 ghost use Rattle.nvme_entry.specs.declared.command.StandardCommand.TheVariants.{Receive};
 ghost use Rattle.zns_commands.specs.Address.{zone_number};
@@ -61,7 +61,7 @@ fn give_report(
     bytes
 }
 
-/// Gives a report of the zones from the one that contains `lba` on. It changes nothing.
+/// Gives a report of the zones from the one that contains `lba` on. It changes nothing, and no hold matters to it.
 pub fn receive(
     image: &Image,
     lba: u64,
@@ -72,7 +72,7 @@ pub fn receive(
     output: &mut [u8],
 ) -> Answer
     requires { MOST_TRANSFER ≤ length output.old }
-    ensures answer { (holds : Holds) → effect_of_answer result image.now output.new ≡ meaning image.now holds (Receive lba dwords filter partial) input.now }
+    ensures answer { effect_of_answer result image.now output.new ≡ meaning image.now no_holds (Receive lba dwords filter partial) input.now }
     ensures most { result.length ≤ MOST_TRANSFER }
     ensures rest { drop result.length output.new ≡ drop result.length output.old }
 {
