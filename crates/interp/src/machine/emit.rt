@@ -16,12 +16,13 @@ fn clear_registers(registers: &mut [u64; REGISTERS])
 }
 
 impl Machine<'_> {
-    ghost use Rattle.std.specs.Prelude.{◌≡◌, ◌+◌, ◌<◌, ◌≤◌, ◌^◌, ℕ, Some, Ok, length, take, drop, ◌++◌, is_ok, if◌then◌else◌};
-    ghost use Rattle.program_meaning.specs.Effect.{with_frame, emitted};
-    ghost use Rattle.program_meaning.specs.Memory.{bytes_from};
+    ghost use Rattle.std.specs.Prelude.{◌≡◌, ◌+◌, ◌<◌, ◌≤◌, ◌^◌, ℕ, Ok, length, is_ok};
+    ghost use Rattle.program_meaning.specs.Effect.{emitted};
     ghost use Rattle.program_interface.specs.Area.{length_of};
-    ghost use Rattle.interp.specs.Machine.{state_at, memory_of, group_length, Extends};
+    ghost use Rattle.interp.specs.Changes.{ChangesGroup, if_done};
+    ghost use Rattle.interp.specs.Machine.{state_at, group_length, Extends};
     ghost use Rattle.interp.specs.StepEnds.{emit_cause};
+    ghost use Rattle.interp.specs.steps.Accesses.{after_frame};
     ghost use Rattle.common_definitions.specs.Readings.{unless_fault};
 
     /// Adds the frame that R1 and R2 tell to the group and clears R0 to R5, unless a cause hinders it; then nothing changes.
@@ -36,7 +37,7 @@ impl Machine<'_> {
         requires room { limit ≤ length group.old }
         requires used { group_length self.old ≤ length group.old }
         ensures value { (slot : ℕ) → result ≡ unless_fault (emit_cause limit (state_at self.old slot group.old)) (Ok tt) }
-        ensures state { (slot : ℕ) → state_at self.new slot group.new ≡ (if is_ok result then emitted (state_at self.old slot group.old) else state_at self.old slot group.old) }
+        ensures state { ChangesGroup (if_done (is_ok result) emitted) self.old self.new group.old group.new }
         ensures extends { Extends self.old self.new group.old group.new }
     {
         let size = self.register(Register::R2);
@@ -57,7 +58,7 @@ impl Machine<'_> {
         requires room { area_offset.offset + size ≤ length_of (length self.old.block.now) area_offset.area }
         requires size { size < 2 ^ 16 }
         requires fits { self.old.group_length + FRAME_LENGTH_BYTES + size ≤ length group.old }
-        ensures state { (slot : ℕ) → state_at self.new slot group.new ≡ with_frame (state_at self.old slot group.old) (take size (bytes_from (memory_of self.old) (Some area_offset))) }
+        ensures state { ChangesGroup (after_frame area_offset size) self.old self.new group.old group.new }
         ensures extends { Extends self.old self.new group.old group.new }
     {
         let start = self.group_length;

@@ -7,8 +7,8 @@ use program_meaning::End;
 
 impl Machine<'_> {
     ghost use Rattle.std.specs.Prelude.{◌≡◌, ◌+◌, ◌<◌, ◌≤◌, ◌^◌, drop, length};
-    ghost use Rattle.program_meaning.specs.BlockRun.{block_run_of, ran};
-    ghost use Rattle.interp.specs.Machine.{group_length, scratch_name, machine_slot, machine_state, steps_of};
+    ghost use Rattle.interp.specs.BlockRuns.{machine_run, run_left};
+    ghost use Rattle.interp.specs.Machine.{group_length, scratch_name, machine_slot, steps_of};
     ghost use Rattle.program_meaning.specs.Step.{IsAt};
 
     /// Takes steps from where the machine stands until the block run ends, and at most `fuel` of them;
@@ -26,7 +26,7 @@ impl Machine<'_> {
         requires limit { limit < 2 ^ 16 }
         requires room { limit ≤ length group.old }
         requires used { group_length self.old ≤ length group.old }
-        ensures run { ran result (steps_of self.new) (machine_state self.new group.new) ≡ block_run_of program.now limit fuel (steps_of self.old) (machine_state self.old group.old) }
+        ensures run { run_left result self.new group.new ≡ machine_run program.now limit fuel self.old group.old }
         ensures at { IsAt program.now (machine_slot self.new) }
         ensures grows { group_length self.old ≤ group_length self.new }
         ensures used { group_length self.new ≤ length group.new }

@@ -10,7 +10,7 @@ returns-in-Ok-perform-clause-step_end c =
     let s = state_at c.args.self.now slot c.args.group.now in
     goes program c.args.limit s c.args.instruction.now (sym c.if-is_exit.ensures) c.in-Ok.next
     (state_at c.perform.new.self slot c.perform.new.group) c.in-Ok.ensures.value
-    (c.in-Ok-perform.ensures.value program slot) (c.in-Ok-perform.ensures.state slot)
+    (c.in-Ok-perform.ensures.value slot) (c.in-Ok-perform.ensures.state slot)
 
 pub returns-in-Err-perform-clause-step_end : goal.returns-in-Err-perform-clause-step_end
 returns-in-Err-perform-clause-step_end c =
@@ -19,4 +19,4 @@ returns-in-Err-perform-clause-step_end c =
     let s = state_at c.args.self.now slot c.args.group.now in
     stuck program c.args.limit s c.args.instruction.now (sym c.if-is_exit.ensures) c.in-Ok.next
     (state_at c.perform.new.self slot c.perform.new.group) c.in-Err-perform.cause c.in-Ok.ensures.value
-    (c.in-Err-perform.ensures.value program slot) (c.in-Err-perform.ensures.state slot)
+    (c.in-Err-perform.ensures.value slot) (c.in-Err-perform.ensures.state slot)
