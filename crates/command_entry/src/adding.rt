@@ -16,8 +16,9 @@ use event_text::parse;
 use nvme_entry::MOST_TRANSFER;
 use std::alloc::{AllocError, Global};
 
-/// Adds the line that submits the entry of a command, with data beside it, to the end of the command file with this name. Where there
-/// is none it is begun.
+/// Adds the line that submits the entry of a command, with data beside it, to the end of the command file with this
+/// name. Where there is none it is begun. The identifier is the one that the words name, or else one that no submission
+/// in the file to this queue has.
 pub(crate) fn add<'a, F: Files>(
     alloc: Global,
     command_line: &mut Command<'a>,

@@ -61,7 +61,9 @@ pub fn subcommand<'a>(alloc: Global) -> Result<Command<'a>, AllocError> {
     and_command(command, programs::result_command(alloc))
 }
 
-/// Runs the command.
+/// Prints one line, which is read back as the submission of an entry that is decoded to a command, and makes no file;
+/// or prints nothing, and makes one file, a command file with such a line behind what it had. Every other file has the
+/// bytes that it had, and where this fails, each has.
 ///
 /// # Errors
 ///

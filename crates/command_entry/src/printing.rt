@@ -11,7 +11,8 @@ use nvme_entry::{Command, Entry, MOST_TRANSFER};
 use std::alloc::{AllocError, Global};
 use std::io::Write;
 
-/// Prints the line of a command file that submits the entry of a command, with data beside it.
+/// Prints the line of a command file that submits the entry of a command, with data beside it: it is read back as a
+/// submission to this queue, with this data, of an entry that is decoded to this command and has this identifier.
 pub(crate) fn print<'a, O: Write>(
     alloc: Global,
     queue: u16,

@@ -83,7 +83,12 @@ pub fn subcommand<'a>(alloc: Global) -> Result<Command<'a>, AllocError> {
     and_argument(command, commands)
 }
 
-/// Runs the command. Of the failures, that of standard output alone leaves a new image, but for what [`Files::finish`] says.
+/// Does the events of the command file on the namespace of the image file, and then the turns that end all runs; prints
+/// the line of each reply, in order and nothing else; and makes one file, in the image file's place, unless that has it
+/// already: the text of the namespace that they leave. Where standard output fails, it is the text of what the first of
+/// them leave. On each other failure no file is made, but for what [`Files::finish`] says, and what is told is the
+/// first fault of the image, the lowest line that is refused, or by its name which file can't be read or written. Every
+/// other file has the bytes that it had.
 ///
 /// # Errors
 ///

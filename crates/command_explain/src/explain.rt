@@ -67,7 +67,7 @@ pub fn subcommand<'a>(alloc: Global) -> Result<Command<'a>, AllocError> {
     and_argument(command, commands)
 }
 
-/// Runs the command.
+/// Runs the command, which makes no file: each has the bytes that it had. What is printed isn't said.
 ///
 /// # Errors
 ///
@@ -109,7 +109,8 @@ fn read_submissions<'a, F: Files>(
     Ok(submissions(alloc, events.as_slice(), lines.as_slice())?)
 }
 
-/// What the user is told of a file with this name, with a line that `exec` doesn't print.
+/// What the user is told of a file with this name, with a line that `exec` doesn't print: its name, and the number of
+/// the line.
 fn no_replies<'a>(path: &'a str, fault: RepliesFault) -> Failure<'a>
     ensures { result ≡ told_of_replies path.entry fault }
 {

@@ -29,7 +29,8 @@ impl Waiting {
         Ok(Waiting { submissions })
     }
 
-    /// The first that waits with this identity. It waits no longer.
+    /// The first that waits with this identity, which is its queue and its identifier. It waits no longer; where none
+    /// has the identity, all wait on.
     pub(crate) fn complete(&mut self, identity: u32) -> Option<Submission>
         ensures { TakesFirst identity self.old.submissions.items self.new.submissions.items result }
     {

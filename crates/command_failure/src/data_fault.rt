@@ -21,7 +21,7 @@ pub enum DataFault {
 }
 
 impl DataFault {
-    /// The fault's number (profile).
+    /// The fault's number, from 1 to 3 (profile).
     pub(crate) fn number(self) -> u8
         ensures { result ≡ data_number self }
     {

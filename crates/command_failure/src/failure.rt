@@ -95,7 +95,7 @@ pub enum Failure<'a> {
 }
 
 impl<'a> Failure<'a> {
-    /// That of reading the words of the command line.
+    /// That of reading the words of the command line: one of them is no text, or memory is wanting.
     pub fn of_words(error: io::Error) -> Failure<'a>
         ensures { result ≡ told_of_words (error_kind error) }
     {
@@ -105,7 +105,7 @@ impl<'a> Failure<'a> {
         }
     }
 
-    /// That of a file with this name that is no command file.
+    /// That of a file with this name that is no command file: its name, the line that is refused, and the fault.
     pub fn of_commands(path: &'a str, fault: ParseFault) -> Failure<'a>
         ensures told { result ≡ told_of_commands path.entry fault }
         ensures not_printing { result ≢ Failure.CannotPrint }
@@ -158,7 +158,10 @@ pub struct Conclusion {
     pub told: io::Result<()>,
 }
 
-/// Ends a command line: tells the user why the work wasn't done, where it wasn't.
+/// Ends a command line. Its exit status is that of the failure, and 0 where there is none; then nothing is written to
+/// standard error, and else what the user is told of the failure, unless writing it fails: the file's name, the line or
+/// slot and the number, and some words where the fault has a sentence of its own. Of a wrong command line the text
+/// isn't said.
 pub fn conclude<E: Write>(done: Result<(), Failure<'_>>, err: &mut E) -> Conclusion
     ensures status { result.status ≡ exit_status done.entry }
     ensures quiet { OnOk done.entry ((result.told ≡ Ok tt) × (err.new ≡ err.old)) }
@@ -192,6 +195,7 @@ pub fn printed<'a>(written: io::Result<()>) -> Result<(), Failure<'a>>
 }
 
 impl From<clap::Error> for Failure<'_> {
+    /// That of a command line that is wrong, with what is wrong; or that memory is wanting.
     ghost from_gives = { λ error failure. failure ≡ told_of_command_line error };
 
     fn from(error: clap::Error) -> Self {

@@ -95,7 +95,8 @@ pub fn no_command<'a>(line: &mut Command<'a>) -> Failure<'a> {
     }
 }
 
-/// The value of an argument that is required or has a default. A command line that leaves it without one is refused before this.
+/// The value of an argument that is required or has a default: the first that the command line has for it, or no bytes
+/// where it has none. A command line that leaves it without one is refused before this.
 pub fn required<'a>(matches: &ArgMatches<'a>, id: &str) -> &'a str
     ensures { result.now ≡ value_of matches.now id.now }
 {
@@ -106,7 +107,7 @@ pub fn required<'a>(matches: &ArgMatches<'a>, id: &str) -> &'a str
 }
 
 /// The number that the word of an option spells, which is required or has a default, from 0 to what 32 bits hold: in
-/// decimal digits alone.
+/// decimal digits alone. Where it spells none such, the option, its word, and the least and the most are told.
 ///
 /// # Errors
 ///
@@ -177,7 +178,7 @@ pub fn not_in_range<'a>(
     }
 }
 
-/// The block size of so many bytes.
+/// The block size of so many bytes. Where no block has as many, this number is told.
 ///
 /// # Errors
 ///

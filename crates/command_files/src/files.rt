@@ -55,7 +55,8 @@ pub trait Files {
         ensures held { held self.new ≡ held self.old }
         ensures bytes { IfOk result (λ file. IfSome (contents self.old path.now) (λ bytes. file.items ≡ bytes)) };
 
-    /// Makes a file of these bytes, in place of the one with this name, whose permissions it keeps.
+    /// Makes a file of these bytes, in place of the one with this name, whose permissions it keeps, or makes none.
+    /// Where files tell their bytes, it has just these then, and each other what it had; where this fails, each has.
     ///
     /// # Errors
     ///
@@ -138,8 +139,9 @@ pub trait Files {
         ensures healthy { IfOk result (λ file. Self.Writer.failures file ≡ 0) }
         ensures empty { Self.Writer.tells → IfOk result (λ file. Self.Writer.taken file ≡ []) };
 
-    /// Gives a file that was begun the name that is held, in place of the file with this name, whose permissions it has then.
-    /// The name is held no longer.
+    /// Gives a file that was begun the name that is held, in place of the file with this name, whose permissions it has
+    /// then. Where files tell their bytes, it has just those that were written, and each other what it had; where this
+    /// fails, each has. The name is held no longer.
     ///
     /// # Errors
     ///
@@ -164,6 +166,8 @@ pub trait Files {
 }
 
 impl From<io::Error> for FileFault {
+    /// Why a file fails, as the system tells it: that memory is wanting, a cause that a user is told of, or another
+    /// one.
     ghost from_gives = { λ error fault. fault ≡ told_of_file (error_kind error) };
 
     fn from(error: io::Error) -> FileFault {

@@ -20,7 +20,8 @@ struct NamedFile {
     mode: u32,
 }
 
-/// Files in memory, each with its name.
+/// Files in memory, each with its name. They tell each file that was made, in order, and of each name the bytes of the
+/// last.
 #[derive(Drop)]
 pub struct MemoryFiles {
     alloc: Global,

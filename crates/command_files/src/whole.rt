@@ -9,7 +9,7 @@ use crate::files::{FileFault, Files};
 use command_failure::Failure;
 use program_interface::{BlockSize, LARGEST_BLOCK};
 
-/// All bytes of a file.
+/// All bytes of a file. Where it can't be read, its name is told. No file changes.
 ///
 /// # Errors
 ///
@@ -29,7 +29,8 @@ pub fn read<'a, F: Files>(path: &'a str, files: &mut F) -> Result<Vec<u8>, Failu
     }
 }
 
-/// Makes a file of these bytes, in place of the one with this name.
+/// Makes a file of these bytes, in place of the one with this name, and leaves each other as it was. Where it can't be
+/// written, none is made, each has the bytes that it had, and its name is told.
 ///
 /// # Errors
 ///
@@ -47,7 +48,8 @@ pub fn write<'a, F: Files>(path: &'a str, bytes: &[u8], files: &mut F) -> Result
     }
 }
 
-/// The size of the block that a file of so many bytes is.
+/// The size of the block that a file of so many bytes is. Where no block has as many, this number and the file's name
+/// are told.
 ///
 /// # Errors
 ///
@@ -72,7 +74,7 @@ pub fn size_as_block<'a>(path: &'a str, bytes: usize) -> Result<BlockSize, Failu
     }
 }
 
-/// The failure of reading a file.
+/// The failure of reading a file: its name and the cause, or that memory is wanting.
 pub fn cannot_read<'a>(path: &'a str, fault: FileFault) -> Failure<'a>
     ensures told { result ≡ told_unread path.entry fault }
     ensures unread { IsUnread path.entry result }
@@ -84,7 +86,7 @@ pub fn cannot_read<'a>(path: &'a str, fault: FileFault) -> Failure<'a>
     }
 }
 
-/// The failure of writing a file.
+/// The failure of writing a file: its name and the cause, or that memory is wanting.
 pub fn cannot_write<'a>(path: &'a str, fault: FileFault) -> Failure<'a>
     ensures told { result ≡ told_unwritten path.entry fault }
     ensures unwritten { IsUnwritten path.entry result }

@@ -99,7 +99,10 @@ fn count<'a>(alloc: Global, name: &'a str, letter: &'a str, help: &'a str) -> Ar
     option(alloc, name, letter).required(true).help(help)
 }
 
-/// Runs the command.
+/// Makes one file, in the image file's place: the text of a namespace of which nothing is written, of the shape whose
+/// numbers the options spell, which passes the tests. Bytes that are no image are replaced by force alone. Where it
+/// fails, no file is made, and what is told is the option whose word spells no number, the first test that the numbers
+/// fail, or the file's name. Every other file has the bytes that it had.
 ///
 /// # Errors
 ///

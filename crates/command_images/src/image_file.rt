@@ -44,7 +44,8 @@ fn cannot_hold<'a>(path: &'a str, fault: FileFault) -> Failure<'a>
     }
 }
 
-/// The image that a file holds.
+/// The image that a file holds: where its bytes are known, the one that they stand for, or else their first fault is
+/// told. Each file has the bytes that it had.
 ///
 /// # Errors
 ///
@@ -62,7 +63,7 @@ pub fn load<'a, F: Files>(alloc: Global, path: &'a str, files: &mut F) -> Result
     }
 }
 
-/// The image of a file that is to be replaced: its name is held from before the file is read on.
+/// The image of a file that is to be replaced, as of [`load`]: its name is held from before the file is read on.
 ///
 /// # Errors
 ///
@@ -133,7 +134,8 @@ fn refused<'a>(path: &'a str, fault: LoadFault) -> Failure<'a>
     }
 }
 
-/// Makes a file of an image, in place of the one whose name is held, whose permissions it has then.
+/// Makes a file of an image, which is the image's text, in place of the one whose name is held, whose permissions it
+/// has then. Every other file has the bytes that it had, and where this fails, each has.
 ///
 /// # Errors
 ///

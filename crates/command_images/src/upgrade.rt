@@ -45,7 +45,9 @@ pub fn subcommand<'a>(alloc: Global) -> Result<Command<'a>, AllocError> {
         .arg(image)
 }
 
-/// Runs the command.
+/// Makes one file, in the image file's place: the text of version 2 of the namespace that the image file's bytes stand
+/// for. Where it fails, no file is made, and what is told is the first fault of these bytes, or by the file's name that
+/// it can't be read or written. Every other file has the bytes that it had.
 ///
 /// # Errors
 ///

@@ -42,7 +42,7 @@ pub fn subcommand<'a>(alloc: Global) -> Result<Command<'a>, AllocError> {
         .arg(image)
 }
 
-/// Runs the command.
+/// Runs the command, which makes no file: each has the bytes that it had. What is printed isn't said.
 ///
 /// # Errors
 ///

@@ -58,7 +58,9 @@ pub fn subcommand<'a>(alloc: Global) -> Result<Command<'a>, AllocError> {
     and_argument(command, program)
 }
 
-/// Runs the command.
+/// Makes one file, in the program file's place: the bytes that the text file's assemble to. Where it fails, no file is
+/// made, but for what [`Files::write`] says, and what is told is the fault of the text, or by its name which file can't
+/// be read or written. Every other file has the bytes that it had.
 ///
 /// # Errors
 ///

@@ -22,7 +22,7 @@ pub(crate) fn program_in_file<'a, F: Files>(
     decode(alloc, file.as_slice()).map_err(|fault| refused(path, file.as_slice(), fault))
 }
 
-/// What the user is told of a file of these bytes that is no program.
+/// What the user is told of a file of these bytes that is no program: its name, and the fault with its slot.
 fn refused<'a>(path: &'a str, bytes: &[u8], fault: DecodeFault) -> Failure<'a>
     ensures { result ≡ told_of_program path.entry bytes.now fault }
 {

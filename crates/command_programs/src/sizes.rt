@@ -10,7 +10,8 @@ use command_failure::Failure;
 use command_files::arguments::{EMIT_OPTION, number};
 use program_interface::{BlockSize, RunSizes};
 
-/// As many bytes as `--emit` says, or 0 where it says nothing.
+/// As many bytes as `--emit` says, or 0 where it says nothing. Where its word spells no number of 32 bits, this is
+/// told, with the least and the most.
 pub(crate) fn limit<'a>(matches: &ArgMatches<'a>) -> Result<u32, Failure<'a>>
     ensures asked { IfOk result (IsLimit matches.now (first_value (found_of matches.now) (codes "emit"))) }
     ensures told { IfErr result (SpellsNoLimit matches.now) }
@@ -21,7 +22,8 @@ pub(crate) fn limit<'a>(matches: &ArgMatches<'a>) -> Result<u32, Failure<'a>>
     }
 }
 
-/// Blocks of this size, for each of which at most so many bytes may be emitted.
+/// Blocks of this size, for each of which at most so many bytes may be emitted. Where a block has fewer, both numbers
+/// are told.
 ///
 /// # Errors
 ///

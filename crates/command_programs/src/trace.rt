@@ -96,7 +96,8 @@ pub fn subcommand<'a>(alloc: Global) -> Result<Command<'a>, AllocError> {
     and_argument(command, registers)
 }
 
-/// Runs the command. A trap is no failure.
+/// Runs the command, which makes no file: each has the bytes that it had. What is printed isn't said. A trap is no
+/// failure.
 ///
 /// # Errors
 ///

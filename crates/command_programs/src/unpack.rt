@@ -49,7 +49,7 @@ pub fn subcommand<'a>(alloc: Global) -> Result<Command<'a>, AllocError> {
     and_argument(command, block)
 }
 
-/// Runs the command.
+/// Runs the command, which makes no file: each has the bytes that it had. What is printed isn't said.
 ///
 /// # Errors
 ///
@@ -94,7 +94,8 @@ fn lines_of(alloc: Global, records: &[Vec<u8>]) -> Result<String, AllocError> {
     Ok(text)
 }
 
-/// What the user is told of a file of these bytes, which are no output blocks of this size.
+/// What the user is told of a file of these bytes, which are no output blocks of this size: its name, and the byte that
+/// is refused.
 fn refused<'a>(path: &'a str, bytes: &[u8], block: BlockSize, fault: UnpackFault) -> Failure<'a>
     ensures { IsToldOfFrame path.entry fault result }
 {

@@ -74,7 +74,7 @@ pub fn subcommand<'a>(alloc: Global) -> Result<Command<'a>, AllocError> {
     and_argument(command, explain)
 }
 
-/// Runs the command.
+/// Runs the command, which makes no file: each has the bytes that it had. What is printed isn't said.
 ///
 /// # Errors
 ///

@@ -19,7 +19,8 @@ pub trait Out {
     /// How many replies it refused.
     ghost refusals: { Self → ℕ };
 
-    /// Takes a reply with the bytes of its data.
+    /// Takes a reply with the bytes of its data, this one and no other. One that it refuses is counted, and isn't
+    /// taken.
     ///
     /// # Errors
     ///

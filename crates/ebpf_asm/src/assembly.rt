@@ -17,7 +17,8 @@ use program_interface::MOST_SLOTS;
 use std::alloc::Global;
 use std::collections::BTreeMap;
 
-/// The bytes of the instructions that a text spells, in order; none for a text without instructions.
+/// The bytes of the instructions that a text spells, in order; none for a text without instructions. Else the fault is
+/// told of the lowest line that has one by itself, or where none has, of the lowest that jumps amiss.
 ///
 /// # Errors
 ///

@@ -30,8 +30,8 @@ enum Slots {
     With,
 }
 
-/// The listing of a program: each instruction on a line, its mnemonic, a space, and its operands with
-/// `, ` between them. Immediates are signed decimal numbers, offsets and distances have their sign
+/// The listing of a program, which assembles to its bytes: each instruction on a line, its mnemonic, a space, and its
+/// operands with `, ` between them. Immediates are signed decimal numbers, offsets and distances have their sign
 /// always, a wide value is `0x` and 16 digits, and there are no labels.
 ///
 /// # Errors

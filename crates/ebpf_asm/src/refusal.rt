@@ -17,7 +17,8 @@ pub struct AssemblyRefusal {
 }
 
 impl AssemblyRefusal {
-    /// The refusal that tells this fault of a text.
+    /// The refusal that tells this fault of a text, with an excerpt of the line that has it, without the blanks at its
+    /// ends.
     pub fn of(fault: Fault, text: &[u8]) -> AssemblyRefusal
         ensures { IsRefusalOf fault text.now result }
     {

@@ -326,7 +326,8 @@ fn length_fault(len: usize) -> Option<FaultKind>
     }
 }
 
-/// The program that the bytes spell (RFC 9669, 3).
+/// The program that the bytes spell (RFC 9669, 3). Of other bytes the first fault is told: that of the length, at slot
+/// 0, or else that of the slot that has whole instructions alone before it and at which none begins.
 ///
 /// # Errors
 ///

@@ -243,7 +243,7 @@ fn encode_slots(alloc: Global, slots: &[Option<Instruction>]) -> Result<Vec<u8>,
     Ok(bytes)
 }
 
-/// The bytes of a program (RFC 9669, 3): each has one spelling.
+/// The bytes of a program (RFC 9669, 3): each has one spelling, which decodes to it.
 ///
 /// # Errors
 ///

@@ -24,7 +24,8 @@ pub struct ProgramRefusal {
 }
 
 impl ProgramRefusal {
-    /// What stands in these bytes where [`decode`](crate::decode) finds this fault.
+    /// What stands in these bytes where [`decode`](crate::decode) finds this fault: how many bytes there are, and which
+    /// fields the fault's slot has, where it is there.
     pub fn of(fault: Fault, bytes: &[u8]) -> ProgramRefusal
         ensures { result ≡ program_refusal_of fault bytes.now }
     {

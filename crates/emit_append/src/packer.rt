@@ -86,8 +86,8 @@ impl Packer {
         self.pending = 0;
     }
 
-    /// Packs one more group into the pending block, which has room for it. A group of no bytes
-    /// changes nothing.
+    /// Packs one more group into the pending block, which has room for it, whole and behind what is pending. A group of
+    /// no bytes changes nothing.
     #[inline]
     pub fn add(&mut self, group: &[u8])
         requires { length self.old.pending + length group.now ≤ self.old.block }

@@ -18,7 +18,8 @@ pub enum FrameRefusal {
 }
 
 impl FrameRefusal {
-    /// What stands at byte `at` of these bytes, where [`unpack`](crate::unpack) refuses it.
+    /// What stands at byte `at` of these bytes, where [`unpack`](crate::unpack) refuses it: that byte, or, where it is
+    /// the first behind all whole blocks, how many bytes are left of a block.
     pub fn of(at: usize, bytes: &[u8], block: BlockSize) -> FrameRefusal
         ensures place { refused_byte result ≡ at }
         ensures there { at < length bytes.now → StandsAt block bytes.now at result }

@@ -10,7 +10,8 @@ use byteorder::{ByteOrder, LittleEndian};
 use program_interface::{BlockSize, FRAME_LENGTH_BYTES};
 use std::alloc::Global;
 
-/// The records of the frames in output blocks of this size, in order.
+/// The records of the frames in output blocks of this size, in order. Other bytes are refused, and the lowest that
+/// can't stand there is told, counted from 0, or the first behind all whole blocks.
 ///
 /// Frames stand at the front of a block: two bytes of length, the lower first, and as many bytes.
 /// Where the length is 0, or fewer than two bytes are left, the rest of the block is zeros.

@@ -51,7 +51,7 @@ enum EventFault {
     Memory,
 }
 
-/// The events of a command file, in order.
+/// The events of a command file, in order; or the number of the lowest line that is refused is told, with a fault.
 ///
 /// # Errors
 ///

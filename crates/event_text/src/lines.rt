@@ -65,6 +65,8 @@ impl<W: Write> Out for Lines<'_, W> {
 
     ghost joins = { λ _ _ _ first later early late. (late.0 ∙ early.0, prints_in_parts reply_line _ _ _ first later early.1 late.1) };
 
+    /// Prints the line of a reply and its data, and nothing else. Where it isn't printed, the reply is refused and
+    /// counted.
     fn take(&mut self, reply: Reply, bytes: &[u8]) -> Result<(), NotTaken>
         requires { self.old.refusals + 1 < 2 ^ 64 }
         ensures same_writer { self.new.out.ghost_name ≡ self.old.out.ghost_name }

@@ -45,7 +45,8 @@ pub struct ToldReply {
     pub bytes: Vec<u8>,
 }
 
-/// The replies that the lines of a file were printed for, in order.
+/// The replies that the lines of a file were printed for, in order: each line is the printed one of its reply, which
+/// has as much data as it tells, and which a device can give.
 ///
 /// # Errors
 ///

@@ -7,8 +7,8 @@ ghost use Rattle.event_text.specs.Submission.{submission_text, Tells};
 use crate::lines::{push_data, push_hex};
 use std::alloc::{AllocError, Global};
 
-/// The line of a command file that tells of a submission: a queue, an entry and the data beside it. It ends
-/// with a line end.
+/// The line of a command file that tells of a submission: a queue, an entry and the data beside it. It is one line,
+/// with its end, and is read back as that submission.
 ///
 /// # Errors
 ///

@@ -102,7 +102,8 @@ impl Model for Geometry {
 }
 
 impl Geometry {
-    /// A geometry of these numbers. `size` and `capacity` are in blocks.
+    /// A geometry of these numbers, of which `size` and `capacity` are in blocks. They are tested in order, and the
+    /// first fault is told, with the numbers that have it; just the shapes that a namespace can have pass.
     ///
     /// # Errors
     ///

@@ -60,7 +60,7 @@ impl Image {
     }
 
     /// The image of these zones, where their blocks lie in one vector: a room of the same size for each zone, at whose
-    /// front its written ones are.
+    /// front its written ones are. It stands for the list of the zones, each with the list of its written blocks.
     pub fn from_parts(geometry: Geometry, zones: Vec<Zone>, blocks: Vec<u8>) -> Image
         requires flat { IsFlat geometry zones.items blocks.items }
         requires within { IsWithin zones.items geometry.limits }
@@ -76,7 +76,8 @@ impl Image {
         }
     }
 
-    /// The shape of the image's namespace.
+    /// The shape of the image's namespace. In each image the open and active zones are within the limits, each zone's
+    /// state fits its written blocks, and each block is whole.
     pub fn geometry(&self) -> Geometry
         ensures value { result ≡ shape self.now }
         ensures known { IsShape result }
@@ -92,7 +93,7 @@ impl Image {
         &self.zones
     }
 
-    /// How many zones hold resources.
+    /// How many zones are open, and how many are active.
     pub fn counts(&self) -> Counts
         ensures { result ≡ counts_of (counted_zones self.now) }
     {
@@ -125,9 +126,9 @@ impl Image {
         )
     }
 
-    /// Puts a zone in another state, with the written blocks that it keeps there: none where it comes to be
-    /// Empty or Offline, and else all, which the state has to allow. With that state the open and active
-    /// zones have to be within the limits.
+    /// Puts a zone in another state, with the written blocks that it keeps there: none where it comes to be Empty or
+    /// Offline, and else all, which the state has to allow. With that state the open and active zones have to be within
+    /// the limits. No other zone changes, and no memory is wanted.
     pub fn set_state(&mut self, zone: u32, to: ZoneState)
         requires inside { zone < length self.old.zones }
         requires fits { IsZone to (kept to (length (zone_at self.old zone).blocks)) self.old.capacity }
@@ -144,8 +145,9 @@ impl Image {
         );
     }
 
-    /// Writes whole blocks, one or more, at the write pointer of a zone that takes them. With the
-    /// state in which the zone then is, the open and active zones have to be within the limits.
+    /// Writes whole blocks, one or more, at the write pointer of a zone that takes them. With the state in which the
+    /// zone then is, the open and active zones have to be within the limits. No other zone changes, and no memory is
+    /// wanted.
     pub fn append(&mut self, zone: u32, bytes: &[u8])
         requires inside { zone < length self.old.zones }
         requires some { 1 ≤ block_count self.old.block bytes.now }

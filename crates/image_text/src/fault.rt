@@ -109,6 +109,7 @@ impl LoadFault {
 }
 
 impl From<StreamFault> for LoadFault {
+    /// The stream failed, which says nothing of the text.
     ghost from_gives = { λ _ e. e ≡ load_fault.Stream };
 
     fn from(_fault: StreamFault) -> LoadFault {

@@ -20,7 +20,9 @@ pub trait ImageText {
     /// The namespace that the text is of.
     ghost namespace: { Self → ZonedNamespace };
 
-    /// The image whose text comes from a source.
+    /// The image whose text comes from a source. Where the source tells its bytes, just the texts of the image format
+    /// load, of both versions, each as the namespace that it stands for; of others the first fault is told, with the
+    /// numbers of the header or of the zone row that has it. Memory is wanted only behind a header that is accepted.
     ///
     /// # Errors
     ///
@@ -31,7 +33,7 @@ pub trait ImageText {
         ensures image { R.tells → LoadGives (IsOk (header_in (R.rest source.old))) namespace result (namespace_in (R.rest source.old)) }
         ensures failures { CountsLoad (R.failures source.old) (R.failures source.new) result };
 
-    /// Hands the image's text to a sink.
+    /// Hands the image's text, that of version 2, to a sink. Where the sink fails, it has a beginning of the text.
     ///
     /// # Errors
     ///

@@ -39,7 +39,9 @@ pub fn faults_are_by_prefix()
     ensures { FaultsAreByPrefix }
 {}
 
-/// The fault that a text is refused with is its first: it is there, and no test before its own fails.
+/// The fault that a text is refused with is its first: it is there, and no test before its own fails. These test, in
+/// order, that 64 bytes are there, the magic, the numbers of the header and its zeros, that all zone rows are there,
+/// each row, the number of written blocks, the limits, that all blocks are there, and that nothing follows.
 pub fn fault_is_first()
     ensures { FaultIsFirst }
 {}

@@ -9,7 +9,8 @@ use program_meaning::Arithmetic;
 use std::marker::Model;
 use word_domain::{Bounds, Domain, Offsets};
 
-/// A word that is known, an address at a known distance from an area's, or any word.
+/// A word that is known, an address at a known distance from an area's, or any word. What the operations give is
+/// exactly as written, and sound.
 #[derive(Clone, Copy, Debug, PartialEq, Eq)]
 pub struct Constants {
     fact: Fact,

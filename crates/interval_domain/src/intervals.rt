@@ -11,7 +11,8 @@ use program_meaning::Arithmetic;
 use std::marker::Model;
 use word_domain::{Bounds, Domain, Offsets};
 
-/// The words between two bounds, or the addresses between two distances from an area's.
+/// The words between two bounds, or the addresses between two distances from an area's. What the operations give is
+/// exactly as written, and sound.
 #[derive(Clone, Copy, Debug, PartialEq, Eq)]
 pub struct Intervals {
     fact: Fact,

@@ -25,7 +25,8 @@ pub struct Completion {
 }
 
 impl Completion {
-    /// The 16 bytes of the entry, little-endian.
+    /// The 16 bytes of the entry, little-endian: they tell its dwords, its queue, the command's identifier and the
+    /// status.
     pub fn encode(&self) -> [u8; 16]
         ensures { result ≡ completion_bytes self.now }
     {
@@ -36,8 +37,9 @@ impl Completion {
         bytes
     }
 
-    /// The completion that 16 bytes spell. `None` where no completion has them: the status code type is none of
-    /// [`StatusType`], or a field that is 0 (profile) isn't.
+    /// The completion that 16 bytes spell: what [`Completion::encode`] gives is read back as what it was, and no other
+    /// bytes are read. `None` where no completion has them: the status code type is none of [`StatusType`], or a field
+    /// that is 0 (profile) isn't.
     pub fn decode(bytes: &[u8; 16]) -> Option<Completion>
         ensures spelled { IfSome result (λ completion. bytes.now ≡ completion_bytes completion) }
         ensures read_back { (completion : Completion) → AreCompletionFields completion → bytes.now ≡ completion_bytes completion → result ≡ Some completion }

@@ -40,8 +40,9 @@ impl ZoneDescriptor {
         }
     }
 
-    /// The descriptor that the bytes spell. `None` where no descriptor has them: they have another zone type, a code that no
-    /// state has, or attributes, information on them or reserved bits that aren't 0. Whether a zone can have these numbers
+    /// The descriptor that the bytes spell: what [`ZoneDescriptor::encode`] gives is read back as what it was, and no
+    /// other bytes are read. `None` where no descriptor has them: they have another zone type, a code that no state
+    /// has, or attributes, information on them or reserved bits that aren't 0. Whether a zone can have these numbers
     /// isn't asked.
     pub fn decode(bytes: &[u8; DESCRIPTOR_BYTES]) -> Option<ZoneDescriptor>
         ensures spelled { IfSome result (λ descriptor. bytes.now ≡ descriptor_bytes descriptor) }

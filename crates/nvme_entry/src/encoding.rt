@@ -39,8 +39,8 @@ impl CommandDwords {
 }
 
 impl Entry {
-    /// The entry that asks for a command, which has this command identifier. Bits that no field of the command
-    /// has are 0. The program of a Load has at most [`MOST_TRANSFER`] bytes.
+    /// The entry that asks for a command, and is decoded to it; it has this command identifier. Bits that no field of
+    /// the command has are 0. The program of a Load has at most [`MOST_TRANSFER`] bytes.
     ///
     /// [`MOST_TRANSFER`]: crate::MOST_TRANSFER
     pub fn encode(command: Command, cid: u16) -> [u8; 64]

@@ -23,7 +23,8 @@ const REPORT_ZONES: u8 = 0x00;
 pub struct Entry;
 
 impl Entry {
-    /// The command of an entry.
+    /// The command that an entry spells, or the status of the first check that it fails: of its opcode, of FUSE, of its
+    /// namespace, and then of the fields of its command.
     ///
     /// # Errors
     ///
@@ -65,7 +66,7 @@ impl Entry {
         }
     }
 
-    /// The command identifier of an entry, which its completion repeats.
+    /// The command identifier of an entry, which its completion repeats. It is read whatever else stands in the entry.
     pub fn cid(entry: &[u8; 64]) -> u16
         ensures { result ≡ identifier_of entry.now }
     {

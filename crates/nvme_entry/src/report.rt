@@ -32,8 +32,8 @@ pub struct Report<'a> {
 }
 
 impl Report<'_> {
-    /// Fills all of `output`: the header, as many whole descriptors as fit behind it, and zeros. An
-    /// output of fewer than 64 bytes is a beginning of the header (profile).
+    /// Fills all of `output`: the header, behind it the descriptors of the zones that match, in order, as many as fit
+    /// whole, and zeros. An output of fewer than 64 bytes is a beginning of the header (profile).
     pub fn write(&self, output: &mut [u8])
         requires { length self.now.zones.now ≤ 2 ^ 32 }
         ensures { output.new ≡ report (length output.old) self.now.zones.now self.now.first self.now.size self.now.filter self.now.partial }

@@ -74,7 +74,7 @@ impl Device {
         }
     }
 
-    /// The namespace as an image.
+    /// The namespace as an image. The device is in a state that events leave.
     pub fn image(&self) -> &Image
         ensures value { result.now ≡ self.now.namespace }
         ensures reached { IsReached intervals self.now }
@@ -82,7 +82,8 @@ impl Device {
         self.namespace.image()
     }
 
-    /// Does one event. The data of the reply goes to the front of `output`, which has room for the largest
+    /// Does one event: the reply with its data, and the state behind it, are those that the definitions of
+    /// `device_meaning` say. The data of the reply goes to the front of `output`, which has room for the largest
     /// transfer; what lies behind it stays.
     pub fn apply(&mut self, event: &Event, output: &mut [u8]) -> Reply
         requires { MOST_TRANSFER ≤ length output.old }
@@ -151,8 +152,9 @@ impl Device {
         out.take(reply, &output[..reply.data_length()])
     }
 
-    /// Does events in order, and hands out the reply to each with its data. `output` has room for the largest
-    /// transfer, and `out` can count one refusal more.
+    /// Does events in order, and hands out the reply to each with its data: the replies, and the state behind them, are
+    /// those of the definitions. It stops at the first reply that `out` refuses, whose event is done. `output` has room
+    /// for the largest transfer, and `out` can count one refusal more.
     ///
     /// # Errors
     ///
@@ -187,8 +189,9 @@ impl Device {
         places::lowest_run(&self.runs)
     }
 
-    /// Gives turns, always to the run of the lowest number, until no run is left, and hands out the reply
-    /// to each. `output` and `out` are as in [`Device::serve`].
+    /// Gives turns, always to the run of the lowest number, until no run is left, and hands out the reply to each: the
+    /// replies, and the state behind them, are those of the definitions. It stops at the first reply that `out`
+    /// refuses. `output` and `out` are as in [`Device::serve`].
     ///
     /// # Errors
     ///

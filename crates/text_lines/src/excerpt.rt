@@ -19,7 +19,7 @@ pub struct Excerpt {
 }
 
 impl Excerpt {
-    /// The excerpt of a text.
+    /// The excerpt of a text: its first 40 bytes, or all where it has fewer, and whether it goes on.
     pub fn of(text: &[u8]) -> Excerpt
         ensures { IsExcerptOf text.now result }
     {

@@ -8,7 +8,8 @@ ghost use Rattle.text_lines.specs.Cut.{uncommented};
 
 use crate::cutting::cut;
 
-/// The first line of a text without the `\n` or `\r\n` that ends it, and the text behind it.
+/// The first line of a text without the `\n` or `\r\n` that ends it, and the text behind it. Lines are those of the
+/// standard library's definition.
 pub fn first_line(text: &[u8]) -> (&[u8], &[u8])
     requires { 0 < length text.now }
     ensures lines { text_lines text.now ≡ result.0.now ∷ text_lines result.1.now }

@@ -86,9 +86,10 @@ fn judge_over<D: Domain>(
     Ok(Judgement::Accepted { most_emitted })
 }
 
-/// Visits the slots of a program, and gives the facts of the slot that is refused, or the most that is emitted for a block.
-/// [`verify`](crate::verify) calls it and drops these. The facts are true of each block run that comes to the slot by slots of
-/// which none is refused (the law `facts_are_met` of `accepted_programs`).
+/// Visits the slots of a program, and gives the facts of the slot that is refused, or the most that is emitted for a
+/// block. [`verify`](crate::verify) calls it and drops these. The facts are true of each block run that comes to the
+/// slot by slots of which none is refused (the law `facts_are_met` of `accepted_programs`), and no block run emits more
+/// (the law `accepted_emits_no_more`).
 ///
 /// # Errors
 ///

@@ -14,7 +14,7 @@ use program_meaning::TrapFree;
 use std::marker::PhantomData;
 use word_domain::Domain;
 
-/// A program that is accepted over a domain, for runs of some sizes.
+/// A program that is accepted over a domain, for runs of some sizes. It never traps.
 #[derive(Drop)]
 pub struct Verified<D: Domain> {
     program: Program,

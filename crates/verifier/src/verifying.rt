@@ -13,7 +13,8 @@ use program_interface::RunSizes;
 use std::alloc::Global;
 use word_domain::Domain;
 
-/// Accepts a program, for runs of these sizes, or says where and why not.
+/// Accepts a program, for runs of these sizes, just where no slot with facts fails a check, by the domain's own
+/// operations; else it tells the lowest such slot and the least reason that holds there. What is accepted never traps.
 ///
 /// # Errors
 ///

@@ -28,7 +28,8 @@ pub trait Domain: Copy {
         ensures size { type_size Self.row < 2 ^ 32 }
         ensures align { type_align Self.row < 2 ^ 32 };
 
-    /// The operations are sound. A proof about every domain calls this, which has no code.
+    /// The operations are sound: of the words below 2^64, those that belong to a fact before an instruction belong to
+    /// what the operation gives after it. A proof about every domain calls this, which has no code.
     fn sound()
         ensures { IsSound is_fact contains operations };
 

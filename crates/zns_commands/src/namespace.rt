@@ -51,7 +51,8 @@ impl Namespace {
         &self.image
     }
 
-    /// The shape of the namespace.
+    /// The shape of the namespace. In each namespace the open and active zones are within the limits, each zone's state
+    /// fits its written blocks, and each block is whole.
     pub fn geometry(&self) -> Geometry
         ensures value { result ≡ shape self.now }
         ensures known { IsShape result }
@@ -80,10 +81,10 @@ impl Namespace {
         self.image.append(zone, bytes);
     }
 
-    /// Executes a command, with the data that stands beside its entry, under the holds of the active runs,
-    /// which refuse it with Zone Held where they keep a zone from it. The data that the command gives goes to
-    /// the front of `output`, which has room for the largest transfer; what lies behind it stays. A command
-    /// that is refused changes nothing.
+    /// Executes a command, with the data that stands beside its entry, under the holds of the active runs. Its status,
+    /// dwords and data and the namespace behind it are those of its meaning: an ordered list of checks, of which the
+    /// first that fails decides and leaves all as it was, and else one effect. The data that the command gives goes to
+    /// the front of `output`, which has room for the largest transfer; what lies behind it stays.
     pub fn execute(
         &mut self,
         command: &StandardCommand,
@@ -99,8 +100,9 @@ impl Namespace {
         execute(&mut self.image, command, input, output, holds)
     }
 
-    /// Takes a zone fault (profile): the zone comes into the fault's state, its resources are
-    /// freed, and Offline forgets its blocks.
+    /// Takes a zone fault (profile): the zone comes into the fault's state, its resources are freed, and Offline
+    /// forgets its blocks. It is refused, and changes nothing, where there is no such zone, a run uses it, or Read Only
+    /// would follow Offline.
     ///
     /// # Errors
     ///

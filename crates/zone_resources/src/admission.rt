@@ -40,9 +40,10 @@ impl Wanted {
     }
 }
 
-/// Whether one more of the zones may take the resources that it wants (ZNS 1.1, 2.1.1). Gives the number
-/// of a zone that has to be closed first, where no open resource is free: the lowest-numbered one that is
-/// implicitly opened and no run's destination (profile).
+/// Whether one more of the zones may take the resources that it wants, of which the active one is asked for first (ZNS
+/// 1.1, 2.1.1). Gives the number of a zone that has to be closed first, where no open resource is free: the
+/// lowest-numbered one that is implicitly opened and no run's destination (profile). Where there is none such, too many
+/// are open.
 ///
 /// # Errors
 ///

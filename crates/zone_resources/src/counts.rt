@@ -16,7 +16,7 @@ pub struct Counts {
 }
 
 impl Counts {
-    /// The counts of these zones.
+    /// The counts of these zones: just those that are open, and just those that are open or Closed.
     pub fn of(zones: &[Zone]) -> Counts
         ensures { result ≡ counts_of zones.now }
     {
@@ -26,7 +26,8 @@ impl Counts {
         }
     }
 
-    /// Counts that a zone which was counted in the state `from` has come into the state `to`.
+    /// Counts that a zone which was counted in the state `from` has come into the state `to`: the counts of zones
+    /// become those of the same zones with that one changed.
     #[tactic(auto, using(crate::proofs::CountLemmas::moving))]
     pub fn moved(&mut self, from: ZoneState, to: ZoneState)
         requires { CountsOne self.old from }

@@ -54,8 +54,8 @@ impl Holds {
         self.is_source(zone) || self.is_destination(zone)
     }
 
-    /// Is this zone held against a Zone Send Action? A destination is against all of them, a
-    /// source against those that forget its blocks.
+    /// Is this zone held against a Zone Send Action? A destination is against all of them, a zone that is only a source
+    /// against Reset and Offline, which forget its blocks, and one that no run uses against none.
     pub fn refuses(&self, action: Action, zone: u32) -> bool
         ensures { result ≡ refuses self.now action zone }
     {

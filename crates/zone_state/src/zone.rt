@@ -83,8 +83,9 @@ impl Zone {
         self.capacity
     }
 
-    /// Whether `n` blocks, at least one, may be written from block `at` of the zone on (ZNS 1.1,
-    /// 2.1.1.3 and 3.4.1). The first check that fails decides.
+    /// Whether `n` blocks, at least one, may be written from block `at` of the zone on (ZNS 1.1, 2.1.1.3 and 3.4.1):
+    /// the zone is not Full, Read Only or Offline, `at` is the number of its written blocks, and so many are left. The
+    /// first of these checks that fails decides.
     ///
     /// # Errors
     ///
@@ -127,8 +128,9 @@ impl Zone {
         }
     }
 
-    /// Takes a Zone Send Action, and tells the state that the zone then has (ZNS 1.1, 3.4.3).
-    /// Reset and Offline forget the written blocks; Finish writes none.
+    /// Takes a Zone Send Action: the zone comes into the state to which the table of the zone state machine leads from
+    /// its own (ZNS 1.1, 2.1.1.3 and 3.4.3), which is told. Reset and Offline forget the written blocks; Finish writes
+    /// none. What the table refuses leaves the zone as it was.
     ///
     /// # Errors
     ///
@@ -146,8 +148,9 @@ impl Zone {
         Ok(to)
     }
 
-    /// Takes a fault (profile). Read Only keeps the written blocks, Offline forgets them; a zone
-    /// that has the state already stays as it is.
+    /// Takes a fault (profile), which leads to Read Only or Offline. Read Only keeps the written blocks, Offline
+    /// forgets them; a zone that has the state already stays as it is. Read Only of an Offline zone alone is refused,
+    /// and leaves it as it was.
     ///
     /// # Errors
     ///

@@ -16,8 +16,9 @@ use command_programs::{asm, disasm, trace, unpack, verify};
 use std::alloc::{AllocError, Global};
 use std::io::Write;
 
-/// Reads the words of a command line, the program's name first, and does the command that they name. At
-/// most one file is made, and none where this fails for another reason than `out`, where `exec` saves an image.
+/// Reads the words of a command line, the program's name first, and does the command that they name. At most one file
+/// is made. Where this fails for another reason than `out`, where `exec` saves an image, none is made, and each file
+/// has the bytes that it had.
 ///
 /// # Errors
 ///

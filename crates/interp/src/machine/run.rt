@@ -11,9 +11,9 @@ impl Machine<'_> {
     ghost use Rattle.interp.specs.Machine.{group_length, scratch_name, machine_slot, steps_of};
     ghost use Rattle.program_meaning.specs.Step.{IsAt};
 
-    /// Takes steps from where the machine stands until the block run ends, and at most `fuel` of them;
-    /// where they are used up it gives that no fuel is left, also before an instruction that
-    /// can't be done. `limit` and `group` are as for `step`.
+    /// Takes steps from where the machine stands until the block run ends, and at most `fuel` of them; where they are
+    /// used up it gives that no fuel is left, also before an instruction that can't be done. The end, the steps and the
+    /// state are those of the block run of the same meaning. `limit` and `group` are as for `step`.
     pub fn run_checked(
         &mut self,
         program: &Program,
