@@ -1,4 +1,5 @@
--- What the packing of groups is, said of its blocks: the groups that have bytes stand in them whole and in order, at least one in each, the rest of a block is zeros, and the next group is longer than that rest.
+-- What the packing of groups is, said of its blocks: the groups that have bytes stand in them whole and in order, at least
+-- one in each, the rest of a block is zeros, and the next group is longer than that rest.
 use Rattle.std.specs.Prelude.{◌≡◌, ◌↔◌, ℕ, ◌-◌, ◌≤◌, ◌<◌, Bool, true, false, List, [], ◌∷◌, length, map, filter}
 use Rattle.std.specs.List.{AllByRecursion, concat, flat_map}
 use Rattle.common_definitions.specs.Bytes.{padded}

@@ -1,4 +1,5 @@
--- How groups of bytes stand in output blocks (profile): whole and in order, each in the block of the group before it where it still fits, the rest of a block zeros.
+-- How groups of bytes stand in output blocks (profile): whole and in order, each in the block of the group before it where
+-- it still fits, the rest of a block zeros.
 use Rattle.std.specs.Prelude.{ℕ, ◌-◌, nat_le, List, [], ◌∷◌, ◌++◌, length, map, None, unwrap_or, if◌then◌else◌}
 use Rattle.std.specs.List.{last_or}
 use Rattle.common_definitions.specs.Bytes.{padded}

@@ -8,9 +8,6 @@ use Rattle.image_text.specs.Streams.{IsRead}
 use Rattle.image_text.specs.declared.same_text.Difference.{Difference}
 use Rattle.image_text.specs.declared.same_text.Difference.TheVariants.{Other, Stream}
 
-pub none_yet : (before text : List ℕ) → IsSameSoFar before before text text
-none_yet before text = record { part = []; whole = refl; came = refl }
-
 -- a further part came
 pub goes_on : (before mid after text first rest : List ℕ) → IsSameSoFar before mid text (first ++ rest) → mid ≡ first ++ after → IsSameSoFar before after text rest
 goes_on before mid after text first rest so_far more = record {
@@ -35,35 +32,28 @@ pub stops : (before mid after text first rest : List ℕ) (difference : Differen
 stops before mid after text first rest Other so_far other = differs before mid text first rest so_far other
 stops before mid after text first rest Stream so_far other = tt
 
--- the same where it is all that is left
-pub stops_last : (before mid after text last : List ℕ) (difference : Difference) → IsSameSoFar before mid text last → Compares mid after last (Err difference) → Compares before after text (Err difference)
-stops_last before mid after text last Other so_far other = differs_last before mid text last so_far other
-stops_last before mid after text last Stream so_far other = tt
-
--- the same where only a piece of that was looked at
+-- the same where it is all that is left, and only a piece of it was looked at
 pub stops_at : (before mid after text last : List ℕ) (difference : Difference) → IsSameSoFar before mid text last → ComparesPiece mid after last (Err difference) → Compares before after text (Err difference)
 stops_at before mid after text last Other so_far other = differs_last before mid text last so_far other
 stops_at before mid after text last Stream so_far other = tt
-
--- the same where nothing may follow the text
-pub is_other : (before after text : List ℕ) (difference : Difference) → Compares before after text (Err difference) → ComparesAll before text (Err difference)
-is_other before after text Other other = λ is. other [] (is ∙ sym (append-nil text))
-is_other before after text Stream other = tt
 
 -- nothing of the text is left
 pub ends : (before after text : List ℕ) → IsSameSoFar before after text [] → before ≡ text ++ after
 ends before after text so_far = so_far.came ∙ ap (λ (xs : List ℕ). xs ++ after) (sym (so_far.whole ∙ append-nil so_far.part))
 
--- the last part came
-pub ends_last : (before mid after text last : List ℕ) → IsSameSoFar before mid text last → mid ≡ last ++ after → before ≡ text ++ after
-ends_last before mid after text last so_far came =
-    so_far.came ∙ (ap (λ (xs : List ℕ). so_far.part ++ xs) came ∙ (sym (append_assoc so_far.part last after) ∙ ap (λ (xs : List ℕ). xs ++ after) (sym so_far.whole)))
+-- the first part of a text doesn't come
+pub first_differs : (before after text first rest : List ℕ) (difference : Difference) → text ≡ first ++ rest
+    → Compares before after first (Err difference) → ComparesAll before text (Err difference)
+first_differs before after text first rest Other parts other = λ is. other rest (is ∙ parts)
+first_differs before after text first rest Stream parts other = tt
 
--- nothing else is left, or there is
-pub ends_all : (before mid text : List ℕ) (result : Result (Unit {0}) Difference) → before ≡ text ++ mid → ComparesAll mid [] result → ComparesAll before text result
-ends_all before mid text (Ok same) whole none = whole ∙ (ap (λ (xs : List ℕ). text ++ xs) none ∙ append-nil text)
-ends_all before mid text (Err Other) whole more = λ is. more (append_cancel_left text mid [] (sym whole ∙ (is ∙ sym (append-nil text))))
-ends_all before mid text (Err Stream) whole more = tt
+-- it came, and what comes behind it is the rest, or isn't
+pub first_came : (before mid text first rest : List ℕ) (result : Result (Unit {0}) Difference) → text ≡ first ++ rest
+    → before ≡ first ++ mid → ComparesAll mid rest result → ComparesAll before text result
+first_came before mid text first rest (Ok same) parts came whole = came ∙ (ap (λ (xs : List ℕ). first ++ xs) whole ∙ sym parts)
+first_came before mid text first rest (Err Other) parts came other =
+    λ is. other (append_cancel_left first mid rest (sym came ∙ (is ∙ parts)))
+first_came before mid text first rest (Err Stream) parts came other = tt
 
 not_both : (b : Bool) → true ≡ not b → b ≡ true → ⊥
 not_both true told is = absurd cc

@@ -5,27 +5,30 @@ use Rattle.std.proofs.lemmas.List.{take_all, at_drop_more}
 use Rattle.zone_state.specs.Zone.{CountedZone}
 use Rattle.image_store.specs.Namespace.{ZoneWithBlocks, ZonedNamespace, no_zone, counted_zones, shape}
 use Rattle.image_text.specs.declared.version.Version.TheVariants.{Two}
-use Rattle.image_text.specs.SameText.{IsSameSoFar}
 use Rattle.image_text.specs.Streams.{IsBegun}
-use Rattle.image_text.specs.Text.{header, written_blocks, zone_rows, blocks_text, text}
-use Rattle.image_text.proofs.SameTexts.{none_yet}
+use Rattle.image_text.specs.Text.{header, written_blocks, zone_row, zone_rows, blocks_text, text}
 use Rattle.image_text.proofs.Sinks.{begins}
 
--- of that text nothing is taken yet, and its header stands in front
+-- its header, as a call gave it, the rows of its zones, and their blocks
+pub text_parts : (ns : ZonedNamespace) (zs : List CountedZone) (front : List ℕ) → zs ≡ counted_zones ns
+    → front ≡ header Two (shape ns) (written_blocks zs) → text ns ≡ front ++ (zone_rows zs ++ blocks_text ns.zones)
+text_parts ns zs front are is =
+    let blocks = blocks_text ns.zones in
+    ap (λ (all : List CountedZone). header Two (shape ns) (written_blocks all) ++ (zone_rows all ++ blocks)) (sym are)
+    ∙ ap (λ (first : List ℕ). first ++ (zone_rows zs ++ blocks)) (sym is)
+
+-- of that text nothing is taken yet
 pub text_begun : (ns : ZonedNamespace) (zs : List CountedZone) (before front : List ℕ) → zs ≡ counted_zones ns → front ≡ header Two (shape ns) (written_blocks zs)
     → IsBegun before before (text ns) (front ++ (zone_rows zs ++ blocks_text ns.zones))
-text_begun ns zs before front are is =
-    let blocks = blocks_text ns.zones in
-    let by_zones = ap (λ (all : List CountedZone). header Two (shape ns) (written_blocks all) ++ (zone_rows all ++ blocks)) (sym are) in
-    subst (IsBegun before before (text ns)) (by_zones ∙ ap (λ (first : List ℕ). first ++ (zone_rows zs ++ blocks)) (sym is)) (begins before (text ns))
+text_begun ns zs before front are is = subst (IsBegun before before (text ns)) (text_parts ns zs front are is) (begins before (text ns))
 
--- nothing of it has come yet
-pub text_to_come : (ns : ZonedNamespace) (zs : List CountedZone) (before front : List ℕ) → zs ≡ counted_zones ns → front ≡ header Two (shape ns) (written_blocks zs)
-    → IsSameSoFar before before (text ns) (front ++ (zone_rows zs ++ blocks_text ns.zones))
-text_to_come ns zs before front are is =
-    let blocks = blocks_text ns.zones in
-    let by_zones = ap (λ (all : List CountedZone). header Two (shape ns) (written_blocks all) ++ (zone_rows all ++ blocks)) (sym are) in
-    subst (IsSameSoFar before before (text ns)) (by_zones ∙ ap (λ (first : List ℕ). first ++ (zone_rows zs ++ blocks)) (sym is)) (none_yet before (text ns))
+-- the row of one zone, as a call gave it, and those of the zones behind it
+pub rows_step : (zones : List CountedZone) (i : ℕ) (zone : CountedZone) (row : List ℕ) → i < length zones → zone ≡ get_or zones i zone
+    → row ≡ zone_row zone → zone_rows (drop i zones) ≡ row ++ zone_rows (drop (i + 1) zones)
+rows_step zones i zone row inside is given =
+    let left = zone_rows (drop (i + 1) zones) in
+    at_drop_more zone_rows zones i zone inside
+    ∙ (ap (λ (z : CountedZone). zone_row z ++ left) (sym is) ∙ ap (λ (first : List ℕ). first ++ left) (sym given))
 
 -- the blocks of one zone, as a call gave them, and those of the zones behind it
 pub blocks_step : (zones : List ZoneWithBlocks) (i w : ℕ) (piece : List ℕ) → i < length zones → w ≡ length (get_or zones i no_zone).blocks

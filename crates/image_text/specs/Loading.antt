@@ -1,5 +1,7 @@
 -- What a call gives that reads from a source, over what reading the source's bytes gives.
-use Rattle.std.specs.Prelude.{ℕ, ◌≡◌, ◌+◌, Result, Ok, Err}
+use Rattle.std.specs.Prelude.{ℕ, ◌≡◌, ◌+◌, List, Result, Ok, Err, IsOk}
+use Rattle.image_store.specs.Namespace.{ZonedNamespace}
+use Rattle.image_text.specs.Reading.{header_in, namespace_in}
 use Rattle.image_text.specs.declared.fault.LoadFault.{LoadFault}
 use Rattle.image_text.specs.declared.fault.LoadFault.TheVariants.{Stream, Memory}
 
@@ -15,6 +17,10 @@ LoadFails wanted fault reading = reading ≡ Err fault
 abbrev pub LoadGives : {X Y : Type 0} → Type 0 → (X → Y) → Result X LoadFault → Result Y LoadFault → Type 0
 LoadGives wanted view (Ok x) reading = reading ≡ Ok (view x)
 LoadGives wanted view (Err fault) reading = LoadFails wanted fault reading
+
+-- a call that loads a text gives its namespace or its first fault, and wants memory only where the header is accepted
+abbrev pub LoadsText : {X : Type 0} → (X → ZonedNamespace) → List ℕ → Result X LoadFault → Type 0
+LoadsText view bytes result = LoadGives (IsOk (header_in bytes)) view result (namespace_in bytes)
 
 -- the count of failures is one more with the fault of a stream, and stays with each other fault
 abbrev pub CountsFault : ℕ → ℕ → LoadFault → Type 0

@@ -1,10 +1,9 @@
 //! An image, loaded from its text and saved as it.
 
-ghost use Rattle.std.specs.Prelude.{◌≡◌, ◌↔◌, ◌-◌, ◌^◌, ◌<◌, IfOk, IsOk, IsTrue};
+ghost use Rattle.std.specs.Prelude.{◌≡◌, ◌↔◌, ◌-◌, ◌^◌, ◌<◌, IfOk, IsTrue};
 ghost use Rattle.common_definitions.specs.Failures.{CountsFailure};
 ghost use Rattle.image_store.specs.Namespace.{ZonedNamespace};
-ghost use Rattle.image_text.specs.Loading.{LoadGives, CountsLoad};
-ghost use Rattle.image_text.specs.Reading.{header_in, namespace_in};
+ghost use Rattle.image_text.specs.Loading.{LoadsText, CountsLoad};
 ghost use Rattle.image_text.specs.Streams.{Takes};
 ghost use Rattle.image_text.specs.Text.{text};
 
@@ -30,7 +29,7 @@ pub trait ImageText {
     /// [`LoadFault::Memory`] where memory is refused once the header is accepted.
     fn load<R: Source>(alloc: Global, source: &mut R) -> Result<Self, LoadFault>
         requires { R.failures source.old < 2 ^ 64 - 1 }
-        ensures image { R.tells → LoadGives (IsOk (header_in (R.rest source.old))) namespace result (namespace_in (R.rest source.old)) }
+        ensures image { R.tells → LoadsText namespace (R.rest source.old) result }
         ensures failures { CountsLoad (R.failures source.old) (R.failures source.new) result };
 
     /// Hands the image's text, that of version 2, to a sink. Where the sink fails, it has a beginning of the text.

@@ -1,11 +1,11 @@
 //! Loading the fields of an image.
 
-ghost use Rattle.std.specs.Prelude.{◌≡◌, ◌≤◌, ◌<◌, ◌-◌, ◌+◌, ◌^◌, length, IfOk, IsOk, OnOk};
+ghost use Rattle.std.specs.Prelude.{◌≡◌, ◌≤◌, ◌<◌, ◌-◌, ◌+◌, ◌^◌, length, IfOk, OnOk};
 ghost use Rattle.zone_resources.specs.Admission.{IsWithin};
-ghost use Rattle.image_store.specs.ImageInMemory.{IsFlat, namespace_of, zones_of};
-ghost use Rattle.image_text.specs.Loading.{LoadGives, CountsLoad};
-ghost use Rattle.image_text.specs.steps.LoadStages.{AreZones, spliced_in};
-ghost use Rattle.image_text.specs.Reading.{bytes_in, header_in, zone_rows_in, total_kept, limits_kept, blocks_in, end_in, namespace_in};
+ghost use Rattle.image_store.specs.ImageInMemory.{IsFlat, namespace_of};
+ghost use Rattle.image_text.specs.Loading.{LoadGives, LoadsText, CountsLoad};
+ghost use Rattle.image_text.specs.steps.LoadStages.{AreZones, FillsZones, spliced_in};
+ghost use Rattle.image_text.specs.Reading.{bytes_in, header_in, zone_rows_in, total_kept, limits_kept, end_in};
 
 use crate::fault::LoadFault;
 use crate::header::Header;
@@ -25,7 +25,7 @@ pub fn load<R: Source>(
     source: &mut R,
 ) -> Result<(Geometry, Vec<Zone>, Vec<u8>), LoadFault>
     requires { R.failures source.old < 2 ^ 64 - 1 }
-    ensures parts { R.tells → LoadGives (IsOk (header_in (R.rest source.old))) (λ parts. namespace_of parts.0 parts.1.items parts.2.items) result (namespace_in (R.rest source.old)) }
+    ensures parts { R.tells → LoadsText (λ parts. namespace_of parts.0 parts.1.items parts.2.items) (R.rest source.old) result }
     ensures flat { IfOk result (λ parts. IsFlat parts.0 parts.1.items parts.2.items) }
     ensures within { IfOk result (λ parts. IsWithin parts.1.items parts.0.limits) }
     ensures failures { CountsLoad (R.failures source.old) (R.failures source.new) result }
@@ -111,7 +111,7 @@ fn read_blocks<R: Source>(
 ) -> Result<Vec<u8>, LoadFault>
     requires fit { AreZones geometry zones.now }
     requires few { R.failures source.old < 2 ^ 64 - 1 }
-    ensures blocks { R.tells → LoadGives (Unit {0}) (λ blocks. (zones_of geometry.block geometry.capacity zones.now blocks.items, R.rest source.new)) result (blocks_in geometry.block zones.now (R.rest source.old)) }
+    ensures blocks { R.tells → FillsZones (Unit {0}) geometry zones.now (λ all. all.items) (R.rest source.old) (R.rest source.new) result }
     ensures flat { IfOk result (λ blocks. IsFlat geometry zones.now blocks.items) }
     ensures failures { CountsLoad (R.failures source.old) (R.failures source.new) result }
 {
@@ -129,7 +129,7 @@ fn fill_zones<R: Source>(
 ) -> Result<(), LoadFault>
     requires flat { IsFlat geometry zones.now blocks.old }
     requires few { R.failures source.old < 2 ^ 64 - 1 }
-    ensures blocks { R.tells → LoadGives ⊥ (λ _. (zones_of geometry.block geometry.capacity zones.now blocks.new, R.rest source.new)) result (blocks_in geometry.block zones.now (R.rest source.old)) }
+    ensures blocks { R.tells → FillsZones ⊥ geometry zones.now (λ _. blocks.new) (R.rest source.old) (R.rest source.new) result }
     ensures failures { CountsLoad (R.failures source.old) (R.failures source.new) result }
 {
     let block = geometry.block().bytes() as usize;

@@ -1,9 +1,9 @@
-use Rattle.std.proofs.Common.{◌≡◌, ◌+◌, ◌++◌, drop, ap, sym, subst, ◌∙◌, arith}
-use Rattle.std.proofs.lemmas.List.{at_drop_more}
+use Rattle.std.proofs.Common.{◌+◌, drop, subst, ◌∙◌, arith}
 use Rattle.std.proofs.lemmas.Result.{err_from_is_err_and}
 use Rattle.image_text.specs.SameText.{IsSameSoFar}
-use Rattle.image_text.specs.Text.{zone_row, zone_rows}
+use Rattle.image_text.specs.Text.{zone_rows}
 use Rattle.image_text.proofs.SameTexts.{goes_on, stops}
+use Rattle.image_text.proofs.Texts.{rows_step}
 use Rattle.image_text.proofs.same_text.compare_zone_rows.Goals as goal
 
 pub returns-in_err-compare_bytes-clause-compares : goal.returns-in_err-compare_bytes-clause-compares
@@ -12,9 +12,7 @@ returns-in_err-compare_bytes-clause-compares g c =
     let l = c.loop-zone in
     let zones = c.args.zones.now in
     let left = zone_rows (drop (l.zone-index + 1) zones) in
-    let step : zone_rows (drop l.zone-index zones) ≡ c.encode.result ++ left =
-    at_drop_more zone_rows zones l.zone-index c.zone-item.result c.loop-zone-test.true
-    ∙ (ap (λ z. zone_row z ++ left) (sym c.zone-item.is) ∙ ap (λ first. first ++ left) (sym c.encode.ensures)) in
+    let step = rows_step zones l.zone-index c.zone-item.result c.encode.result c.loop-zone-test.true c.zone-item.is c.encode.ensures in
     let before = g.R.Source.rest c.args.source.now in
     let mid = g.R.Source.rest l.source in
     rw (p.1, p.2) (λ told. stops before mid (g.R.Source.rest c.compare_bytes.new.source) (zone_rows zones) c.encode.result left c.in_err-compare_bytes.field-0.0
@@ -25,9 +23,7 @@ loop-zone-preserved g c =
     let l = c.loop-zone in
     let zones = c.args.zones.now in
     let left = zone_rows (drop (l.zone-index + 1) zones) in
-    let step : zone_rows (drop l.zone-index zones) ≡ c.encode.result ++ left =
-    at_drop_more zone_rows zones l.zone-index c.zone-item.result c.loop-zone-test.true
-    ∙ (ap (λ z. zone_row z ++ left) (sym c.zone-item.is) ∙ ap (λ first. first ++ left) (sym c.encode.ensures)) in
+    let step = rows_step zones l.zone-index c.zone-item.result c.encode.result c.loop-zone-test.true c.zone-item.is c.encode.ensures in
     let before = g.R.Source.rest c.args.source.now in
     let mid = g.R.Source.rest l.source in
     record {

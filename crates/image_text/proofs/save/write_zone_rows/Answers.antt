@@ -1,9 +1,9 @@
-use Rattle.std.proofs.Common.{◌≡◌, ◌+◌, ◌++◌, drop, ap, sym, subst, ◌∙◌}
-use Rattle.std.proofs.lemmas.List.{at_drop_more}
+use Rattle.std.proofs.Common.{◌+◌, drop, subst}
 use Rattle.std.proofs.lemmas.Result.{err_from_is_err_and}
 use Rattle.image_text.specs.Streams.{IsBegun}
-use Rattle.image_text.specs.Text.{zone_row, zone_rows}
+use Rattle.image_text.specs.Text.{zone_rows}
 use Rattle.image_text.proofs.Sinks.{stops}
+use Rattle.image_text.proofs.Texts.{rows_step}
 use Rattle.image_text.proofs.save.write_zone_rows.Goals as goal
 
 pub returns-in_err-write_all-clause-text : goal.returns-in_err-write_all-clause-text
@@ -12,9 +12,7 @@ returns-in_err-write_all-clause-text g c =
     let l = c.loop-zone in
     let zones = c.args.zones.now in
     let left = zone_rows (drop (l.zone-index + 1) zones) in
-    let step : zone_rows (drop l.zone-index zones) ≡ c.encode.result ++ left =
-    at_drop_more zone_rows zones l.zone-index c.zone-item.result c.loop-zone-test.true
-    ∙ (ap (λ z. zone_row z ++ left) (sym c.zone-item.is) ∙ ap (λ first. first ++ left) (sym c.encode.ensures)) in
+    let step = rows_step zones l.zone-index c.zone-item.result c.encode.result c.loop-zone-test.true c.zone-item.is c.encode.ensures in
     let before = g.W.Sink.taken c.args.sink.now in
     let mid = g.W.Sink.taken l.sink in
     rw p.1 (λ told. stops before mid (g.W.Sink.taken c.write_all.new.sink) (zone_rows zones) c.encode.result left
