@@ -1,5 +1,5 @@
 -- One stage of a load after another.
-use Rattle.std.proofs.Common.{◌≡◌, ℕ, ◌*◌, ◌^◌, ◌<◌, ◌≤◌, List, length, get_or, replicate, Result, Ok, Err, refl, ap, sym, subst, arith}
+use Rattle.std.proofs.Common.{◌≡◌, ℕ, ◌*◌, ◌^◌, ◌<◌, ◌≤◌, List, length, get_or, replicate, Result, Ok, Err, refl, ap, sym, subst, ◌∙◌, arith}
 use Rattle.std.specs.Prelude.{IfOk, IsOk}
 use Rattle.std.proofs.lemmas.List.{length-replicate}
 use Rattle.zone_state.specs.Zone.{CountedZone, IsZone}
@@ -14,7 +14,7 @@ use Rattle.image_store.specs.Namespace.{ZoneWithBlocks, ZonedNamespace, namespac
 use Rattle.common_definitions.specs.Readings.{◌>>=◌}
 use Rattle.image_text.specs.Reading.{bytes_in, header_told, header_in, zones_in, zone_rows_in, total_kept, limits_kept, blocks_in, end_in, namespace_in}
 use Rattle.image_text.proofs.ReadingCalls.{fails_then}
-use Rattle.image_text.proofs.Faults.{no_stream, fails_text, header_text_fault}
+use Rattle.image_text.proofs.Faults.{no_stream, fails_text, header_text_fault, limits_text_fault, total_text_fault}
 use Rattle.image_text.proofs.FilledBuffers.{Split}
 use Rattle.image_text.proofs.ToldRows.{are_told, part}
 
@@ -102,15 +102,94 @@ past_blocks s zs bytes rest zones e = ap (λ (r : Result (List ZoneWithBlocks ×
 pub past_end : (s : Shape) (zones : List ZoneWithBlocks) (bytes : List ℕ) → end_in bytes ≡ Ok tt → after_blocks s zones bytes ≡ Ok (namespace_with s zones)
 past_end s zones bytes e = ap (λ (r : Result Unit LoadFault). r >>= λ end. let all : Result ZonedNamespace LoadFault = Ok (namespace_with s zones) in all) e
 
-pub header_accepted : (all rest : List ℕ) (h : Header) → header_in all ≡ Ok (h, rest) → IsOk (header_in all)
+header_accepted : (all rest : List ℕ) (h : Header) → header_in all ≡ Ok (h, rest) → IsOk (header_in all)
 header_accepted all rest h e = subst (λ (r : Result (Header × List ℕ) LoadFault). IsOk r) (sym e) refl
 
 -- a part that fails, by what was still to be read
-pub fails_at : {X : Type 0} (wanted may : Type 0) (first : LoadFault) (part : Result X LoadFault) (next : X → Result ZonedNamespace LoadFault) (all : Result ZonedNamespace LoadFault)
+fails_at : {X : Type 0} (wanted may : Type 0) (first : LoadFault) (part : Result X LoadFault) (next : X → Result ZonedNamespace LoadFault) (all : Result ZonedNamespace LoadFault)
     → all ≡ (part >>= next) → (wanted → may) → LoadFails wanted first part → LoadFails may first all
 fails_at wanted may first part next all so_far up h =
     subst (λ (r : Result ZonedNamespace LoadFault). LoadFails may first r) (sym so_far) (fails_then wanted may first part next up h)
 
-pub header_fails : (first : LoadFault) (all : List ℕ) → LoadFails ⊥ first (header_in all) → LoadFails (IsOk (header_in all)) first (namespace_in all)
+-- to load a text fails with this fault, and may want memory only where its header is accepted
+abbrev pub FailsToLoad : List ℕ → LoadFault → Type 0
+FailsToLoad all first = LoadFails (IsOk (header_in all)) first (namespace_in all)
+
+pub header_fails : (first : LoadFault) (all : List ℕ) → LoadFails ⊥ first (header_in all) → FailsToLoad all first
 unfolding namespace_in
 header_fails first all h = fails_then ⊥ (IsOk (header_in all)) first (header_in all) (λ x. after_header x.0 x.1) (λ no. absurd no) h
+
+-- a text begins with this header and these rows of zones, and goes on with these bytes
+pub record HasRows (all : List ℕ) (h : Header) (zs : List CountedZone) (later : List ℕ) : Type 0 where
+  pub accepted : IsOk (header_in all)
+  pub so_far : namespace_in all ≡ after_rows h zs later
+
+pub has_rows : {all bytes later : List ℕ} {h : Header} {zs : List CountedZone}
+    → header_in all ≡ Ok (h, bytes) → zone_rows_in h.geometry bytes ≡ Ok (zs, later) → HasRows all h zs later
+has_rows {all} {bytes} {later} {h} {zs} header rows = record {
+  accepted = header_accepted all bytes h header;
+  so_far = past_header all bytes h header ∙ past_rows h bytes later zs rows;
+}
+
+-- the zones of the rows pass the tests
+pub record HasZones (all : List ℕ) (s : Shape) (zs : List CountedZone) (later : List ℕ) : Type 0 where
+  pub accepted : IsOk (header_in all)
+  pub so_far : namespace_in all ≡ after_limits s zs later
+
+pub has_zones : {all later : List ℕ} {h : Header} {zs : List CountedZone}
+    → HasRows all h zs later → Ok tt ≡ total_kept h.total zs → Ok tt ≡ limits_kept h.geometry.limits zs → HasZones all h.geometry zs later
+has_zones {all} {later} {h} {zs} rows same kept = record {
+  accepted = rows.accepted;
+  so_far = rows.so_far ∙ (past_total h zs later (sym same) ∙ past_limits h.geometry zs later (sym kept));
+}
+
+-- the zones have these blocks
+pub record HasBlocks (all : List ℕ) (s : Shape) (zones : List ZoneWithBlocks) (last : List ℕ) : Type 0 where
+  pub so_far : namespace_in all ≡ after_blocks s zones last
+
+pub has_blocks : {all later last : List ℕ} {s : Shape} {zs : List CountedZone} {zones : List ZoneWithBlocks}
+    → HasZones all s zs later → blocks_in s.block zs later ≡ Ok (zones, last) → HasBlocks all s zones last
+has_blocks {all} {later} {last} {s} {zs} {zones} tested blocks = record {
+  so_far = tested.so_far ∙ past_blocks s zs later last zones blocks;
+}
+
+-- and nothing follows
+pub has_all : {all last : List ℕ} {s : Shape} {zones : List ZoneWithBlocks}
+    → HasBlocks all s zones last → end_in last ≡ Ok tt → namespace_in all ≡ Ok (namespace_with s zones)
+has_all {all} {last} {s} {zones} blocks none = blocks.so_far ∙ past_end s zones last none
+
+-- the part that fails is the rows,
+pub rows_fail : {bytes : List ℕ} {h : Header} (all : List ℕ) (first : LoadFault)
+    → header_in all ≡ Ok (h, bytes) → LoadFails (Unit {0}) first (zone_rows_in h.geometry bytes) → FailsToLoad all first
+rows_fail {bytes} {h} all first header fails =
+    fails_at (Unit {0}) _ first (zone_rows_in h.geometry bytes) (λ rows. after_rows h rows.0 rows.1) (namespace_in all)
+    (past_header all bytes h header) (λ _. header_accepted all bytes h header) fails
+
+-- the number of written blocks,
+pub total_fails : {later : List ℕ} {h : Header} {zs : List CountedZone} (all : List ℕ) (first : LoadFault)
+    → HasRows all h zs later → Err first ≡ total_kept h.total zs → FailsToLoad all first
+total_fails {later} {h} {zs} all first rows over =
+    fails_at ⊥ _ first (total_kept h.total zs) (λ same. after_total h.geometry zs later) (namespace_in all) rows.so_far
+    (λ no. absurd no) (fails_text ⊥ first (total_kept h.total zs) (total_text_fault h.total zs first (sym over)) (sym over))
+
+-- the limits,
+pub limits_fail : {later : List ℕ} {h : Header} {zs : List CountedZone} (all : List ℕ) (first : LoadFault) → HasRows all h zs later
+    → Ok tt ≡ total_kept h.total zs → Err first ≡ limits_kept h.geometry.limits zs → FailsToLoad all first
+limits_fail {later} {h} {zs} all first rows same over =
+    let limits = h.geometry.limits in
+    fails_at ⊥ _ first (limits_kept limits zs) (λ kept. after_limits h.geometry zs later) (namespace_in all)
+    (rows.so_far ∙ past_total h zs later (sym same))
+    (λ no. absurd no) (fails_text ⊥ first (limits_kept limits zs) (limits_text_fault limits zs first (sym over)) (sym over))
+
+-- the blocks,
+pub blocks_fail : {later : List ℕ} {s : Shape} {zs : List CountedZone} (all : List ℕ) (first : LoadFault)
+    → HasZones all s zs later → LoadFails (Unit {0}) first (blocks_in s.block zs later) → FailsToLoad all first
+blocks_fail {later} {s} {zs} all first tested fails =
+    fails_at (Unit {0}) _ first (blocks_in s.block zs later) (λ blocks. after_blocks s blocks.0 blocks.1) (namespace_in all)
+    tested.so_far (λ _. tested.accepted) fails
+
+-- or the end
+pub end_fails : {last : List ℕ} {s : Shape} {zones : List ZoneWithBlocks} (all : List ℕ) (first : LoadFault)
+    → HasBlocks all s zones last → LoadFails ⊥ first (end_in last) → FailsToLoad all first
+end_fails {last} {s} {zones} all first blocks fails =
+    fails_at ⊥ _ first (end_in last) (λ end. Ok (namespace_with s zones)) (namespace_in all) blocks.so_far (λ no. absurd no) fails
