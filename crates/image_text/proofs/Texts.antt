@@ -3,7 +3,8 @@ use Rattle.std.proofs.Common.{◌≡◌, ℕ, ◌+◌, ◌<◌, List, ◌++◌, 
 use Rattle.std.specs.List.{concat}
 use Rattle.std.proofs.lemmas.List.{take_all, at_drop_more}
 use Rattle.zone_state.specs.Zone.{CountedZone}
-use Rattle.image_store.specs.Namespace.{ZoneWithBlocks, ZonedNamespace, no_zone, counted_zones, shape}
+use Rattle.image_store.specs.Geometry.{Shape}
+use Rattle.image_store.specs.Namespace.{ZonedNamespace, no_zone, zone_at, counted, counted_zones, shape}
 use Rattle.image_text.specs.declared.version.Version.TheVariants.{Two}
 use Rattle.image_text.specs.Streams.{IsBegun}
 use Rattle.image_text.specs.Text.{header, written_blocks, zone_row, zone_rows, blocks_text, text}
@@ -30,12 +31,15 @@ rows_step zones i zone row inside is given =
     at_drop_more zone_rows zones i zone inside
     ∙ (ap (λ (z : CountedZone). zone_row z ++ left) (sym is) ∙ ap (λ (first : List ℕ). first ++ left) (sym given))
 
--- the blocks of one zone, as a call gave them, and those of the zones behind it
-pub blocks_step : (zones : List ZoneWithBlocks) (i w : ℕ) (piece : List ℕ) → i < length zones → w ≡ length (get_or zones i no_zone).blocks
-    → piece ≡ concat (take w (drop 0 (get_or zones i no_zone).blocks)) → blocks_text (drop i zones) ≡ piece ++ blocks_text (drop (i + 1) zones)
-blocks_step zones i w piece inside same given =
-    let blocks = (get_or zones i no_zone).blocks in
-    let whole : take w blocks ≡ blocks = take_all w blocks (omega arith) in
+-- the blocks of one zone, as calls gave them, and those of the zones behind it
+pub blocks_step : {end w : ℕ} {s : Shape} {zone : CountedZone} (ns : ZonedNamespace) (i : ℕ) (piece : List ℕ)
+    → i < end → end ≡ s.zones → s ≡ shape ns → zone ≡ counted ns.capacity (zone_at ns i) → w ≡ zone.written
+    → piece ≡ concat (take w (drop 0 (zone_at ns i).blocks)) → blocks_text (drop i ns.zones) ≡ piece ++ blocks_text (drop (i + 1) ns.zones)
+blocks_step {end} {w} {s} {zone} ns i piece before ends is zone_is written given =
+    let blocks = (zone_at ns i).blocks in
+    let zones : end ≡ length ns.zones = ends ∙ ap (λ (s : Shape). s.zones) is in
+    let count : w ≡ length blocks = written ∙ ap (λ (z : CountedZone). z.written) zone_is in
+    let whole : take w blocks ≡ blocks = take_all w blocks (omega (arith, count)) in
     let all : concat blocks ≡ piece = ap concat (sym whole) ∙ sym given in
-    at_drop_more blocks_text zones i no_zone inside
-    ∙ ap (λ (front : List ℕ). front ++ blocks_text (drop (i + 1) zones)) all
+    at_drop_more blocks_text ns.zones i no_zone (omega (arith, before, zones))
+    ∙ ap (λ (front : List ℕ). front ++ blocks_text (drop (i + 1) ns.zones)) all

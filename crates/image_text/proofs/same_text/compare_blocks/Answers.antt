@@ -1,7 +1,6 @@
-use Rattle.std.proofs.Common.{◌≡◌, ◌+◌, ◌<◌, [], length, drop, ap, subst, ◌∙◌, arith}
+use Rattle.std.proofs.Common.{◌≡◌, ◌+◌, [], drop, ap, subst, ◌∙◌, arith}
 use Rattle.std.proofs.lemmas.List.{drop_all}
 use Rattle.std.proofs.lemmas.Result.{err_from_is_err_and}
-use Rattle.zone_state.specs.Zone.{CountedZone}
 use Rattle.image_store.specs.Geometry.{Shape}
 use Rattle.image_text.specs.SameText.{IsSameSoFar}
 use Rattle.image_text.specs.Text.{blocks_text}
@@ -14,27 +13,25 @@ returns-in_err-compare_bytes-clause-compares g c =
     let p = err_from_is_err_and c.from_residual.result c.from_residual.ensures.1 in
     let l = c.loop-zone in
     let zones = c.args.image.now.zones in
-    let all = c.zones-zone-end.ensures ∙ ap (λ (s : Shape). s.zones) c.geometry.ensures.value in
-    let inside : l.zone < length zones = omega (arith, c.loop-zone-test.true, all) in
-    let count = c.written-written.ensures ∙ ap (λ (z : CountedZone). z.written) c.zone.ensures in
-    let step = blocks_step zones l.zone c.written-written.result c.blocks-in-loop-zone.result.now inside count c.blocks-in-loop-zone.ensures.value in
+    let piece = c.blocks-in-loop-zone.result.now in
+    let step = blocks_step c.args.image.now l.zone piece c.loop-zone-test.true c.zones-zone-end.ensures c.geometry.ensures.value c.zone.ensures
+    c.written-written.ensures c.blocks-in-loop-zone.ensures.value in
     let before = g.R.Source.rest c.args.source.now in
     let mid = g.R.Source.rest l.source in
-    rw (p.1, p.2) (λ told. stops before mid (g.R.Source.rest c.compare_bytes.new.source) (blocks_text zones) c.blocks-in-loop-zone.result.now (blocks_text (drop (l.zone + 1) zones))
+    rw (p.1, p.2) (λ told. stops before mid (g.R.Source.rest c.compare_bytes.new.source) (blocks_text zones) piece (blocks_text (drop (l.zone + 1) zones))
     c.in_err-compare_bytes.field-0.0 (subst (IsSameSoFar before mid (blocks_text zones)) step (l.invariant.same told)) (c.in_err-compare_bytes.ensures.compares told))
 
 pub loop-zone-preserved : goal.loop-zone-preserved
 loop-zone-preserved g c =
     let l = c.loop-zone in
     let zones = c.args.image.now.zones in
-    let all = c.zones-zone-end.ensures ∙ ap (λ (s : Shape). s.zones) c.geometry.ensures.value in
-    let inside : l.zone < length zones = omega (arith, c.loop-zone-test.true, all) in
-    let count = c.written-written.ensures ∙ ap (λ (z : CountedZone). z.written) c.zone.ensures in
-    let step = blocks_step zones l.zone c.written-written.result c.blocks-in-loop-zone.result.now inside count c.blocks-in-loop-zone.ensures.value in
+    let piece = c.blocks-in-loop-zone.result.now in
+    let step = blocks_step c.args.image.now l.zone piece c.loop-zone-test.true c.zones-zone-end.ensures c.geometry.ensures.value c.zone.ensures
+    c.written-written.ensures c.blocks-in-loop-zone.ensures.value in
     let before = g.R.Source.rest c.args.source.now in
     let mid = g.R.Source.rest l.source in
     record {
-      same = λ told. goes_on before mid (g.R.Source.rest c.compare_bytes.new.source) (blocks_text zones) c.blocks-in-loop-zone.result.now (blocks_text (drop (l.zone + 1) zones))
+      same = λ told. goes_on before mid (g.R.Source.rest c.compare_bytes.new.source) (blocks_text zones) piece (blocks_text (drop (l.zone + 1) zones))
           (subst (IsSameSoFar before mid (blocks_text zones)) step (l.invariant.same told)) (c.in_ok-compare_bytes.ensures.compares told);
       room = omega (arith, c.compare_bytes.auto.piece, l.invariant.room);
       count = c.in_ok-compare_bytes.ensures.failures ∙ l.invariant.count;
