@@ -12,7 +12,7 @@ use Rattle.instruction_set.specs.declared.instruction.Source.{Source}
 use Rattle.instruction_set.specs.declared.instruction.Source.TheVariants.{Immediate, Register}
 use Rattle.word_domain.specs.Domain.{Operations}
 use Rattle.accepted_programs.specs.Facts.{facts_at_target, facts_behind, gives, leads, merge, slot_behind, with_fact, with_source}
-use Rattle.verifier.specs.steps.Rows.{held, held_at}
+use Rattle.verifier.specs.steps.Rows.{EachBecomes, GivesBoth, held, held_at, Rows, with_gift}
 use Rattle.accepted_programs.specs.declared.facts.Facts.{Facts}
 
 -- one row more, of which nothing is known
@@ -57,14 +57,21 @@ module _ {D : Type 0} (operations : Operations D) where
       ap (λ r. merge operations r (if behind then Some a else None)) (elsewhere refl)
       ∙ sym (merge_none (merge operations o (if behind then Some a else None)))
 
+  -- facts given to the slot behind a compare, and then others to its target: x, and then y
+  pub given_in_turn : {Z : Type 0} (behind target : ℕ) (a b x y : Facts D) (old between new : Rows D Z)
+      → a ≡ x → b ≡ y → length between ≡ length old
+      → EachBecomes (with_gift operations behind (Some a)) old between → EachBecomes (with_gift operations target (Some b)) between new
+      → GivesBoth operations behind (Some x) target (Some y) old new
+  given_in_turn behind target a b x y old between new is_x is_y long first last s inside =
+      rw (sym is_x, sym is_y) (last s (rw long inside) ∙ ap (with_gift operations target (Some b) s) (first s inside))
+
   not_behind : (target behind s : ℕ) → behind ≢ target → (target == s) ≡ true → (behind == s) ≡ false
   not_behind target behind s apart e = grind (arith, nat_tests)
 
-  target_first : {Z : Type 0} (behind target : ℕ) (a b : Facts D) (old new : List (Option (Box (Facts D) Z))) (row : Option (Box (Facts D) Z))
+  target_first : {Z : Type 0} (behind target : ℕ) (a b : Facts D) (old new : Rows D Z) (row : Option (Box (Facts D) Z))
       → behind ≢ target → target < length old → held row ≡ merge operations (held_at old target) (Some b)
-      → ((s : ℕ) → s < length old → held_at new s ≡ merge operations (held_at (set old target row) s) (if behind == s then Some a else None))
-      → (s : ℕ) → s < length old
-      → held_at new s ≡ merge operations (merge operations (held_at old s) (if behind == s then Some a else None)) (if target == s then Some b else None)
+      → ((s : ℕ) → s < length old → held_at new s ≡ with_gift operations behind (Some a) s (held_at (set old target row) s))
+      → GivesBoth operations behind (Some a) target (Some b) old new
   target_first behind target a b old new row apart within joined given s inside =
       given s inside
       ∙ in_either_order a b (target == s) (behind == s) (held_at old s) (held_at (set old target row) s)
@@ -74,12 +81,11 @@ module _ {D : Type 0} (operations : Operations D) where
       (λ e. not_behind target behind s apart e)
 
   -- facts joined into the target's row, and then others given behind the compare: y along the taken edge, and then x
-  pub given_to_both : {Z : Type 0} (behind target : ℕ) (a b x y : Facts D) (old new : List (Option (Box (Facts D) Z))) (row : Option (Box (Facts D) Z))
+  pub given_to_both : {Z : Type 0} (behind target : ℕ) (a b x y : Facts D) (old new : Rows D Z) (row : Option (Box (Facts D) Z))
       → a ≡ x → b ≡ y
       → behind ≢ target → target < length old → held row ≡ merge operations (held_at old target) (Some b)
-      → ((s : ℕ) → s < length old → held_at new s ≡ merge operations (held_at (set old target row) s) (if behind == s then Some a else None))
-      → (s : ℕ) → s < length old
-      → held_at new s ≡ merge operations (merge operations (held_at old s) (if behind == s then Some x else None)) (if target == s then Some y else None)
+      → ((s : ℕ) → s < length old → held_at new s ≡ with_gift operations behind (Some a) s (held_at (set old target row) s))
+      → GivesBoth operations behind (Some x) target (Some y) old new
   given_to_both behind target a b x y old new row is_x is_y apart within joined given s inside =
       rw (sym is_x, sym is_y) (target_first behind target a b old new row apart within joined given s inside)
 
@@ -95,14 +101,14 @@ module _ {D : Type 0} (operations : Operations D) where
     -- a jump gives to the slot behind it and to its target
     pub jumped : (d : ℤ) (behind to : ℕ) (s : ℕ) (old new : Option (Facts D))
         → distance_of i ≡ Some d → pos to ≡ target slot d → behind ≡ slot_behind slot i
-        → new ≡ merge operations (merge operations old (if behind == s then facts_behind operations block i facts else None)) (if to == s then facts_at_target operations block i facts else None)
+        → new ≡ with_gift operations to (facts_at_target operations block i facts) s (with_gift operations behind (facts_behind operations block i facts) s old)
         → new ≡ gives operations block (Some i) slot (Some facts) s old
     jumped d behind to s old new is at behind_is given =
         rw (leads_to slot to s (distance_of i) d is at, sym behind_is) given
 
     -- an instruction with no target gives to the slot behind it alone
     pub stepped : (behind s : ℕ) (old new given : Option (Facts D)) → distance_of i ≡ None → behind ≡ slot_behind slot i
-        → given ≡ facts_behind operations block i facts → new ≡ merge operations old (if behind == s then given else None)
+        → given ≡ facts_behind operations block i facts → new ≡ with_gift operations behind given s old
         → new ≡ gives operations block (Some i) slot (Some facts) s old
     stepped behind s old new given is behind_is given_is told =
-        rw (is, sym behind_is, sym given_is) (told ∙ sym (merge_none (merge operations old (if behind == s then given else None))))
+        rw (is, sym behind_is, sym given_is) (told ∙ sym (merge_none (with_gift operations behind given s old)))

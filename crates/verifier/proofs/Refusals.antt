@@ -1,6 +1,5 @@
 -- The first refusal of a program.
 use Rattle.std.proofs.Common.{◌≡◌, ℕ, zero, suc, ◌+◌, ◌-◌, ◌<◌, ◌≤◌, List, length, Option, Some, None, add-zero, add-one, add-suc, arith, subst, ap, ◌∙◌}
-use Rattle.std.specs.Prelude.{Box}
 use Rattle.std.specs.Option.{option_or}
 use Rattle.instruction_set.specs.Program.{instruction_at}
 use Rattle.instruction_set.specs.declared.instruction.Instruction.{Instruction}
@@ -8,8 +7,7 @@ use Rattle.program_interface.specs.RunSizes.{Sizes}
 use Rattle.word_domain.specs.Domain.{Operations}
 use Rattle.accepted_programs.specs.Accepted.{refusal_at, refusal_below}
 use Rattle.accepted_programs.specs.Facts.{facts_at, given_below, gives}
-use Rattle.verifier.specs.steps.Rows.{held_at}
-use Rattle.accepted_programs.specs.declared.facts.Facts.{Facts}
+use Rattle.verifier.specs.steps.Rows.{GivesOn, held_at, Rows}
 use Rattle.accepted_programs.specs.declared.reason.Refusal.{Refusal}
 
 module _ {D : Type 0} (operations : Operations D) (program : List (Option Instruction)) (sizes : Sizes) where
@@ -35,9 +33,9 @@ module _ {D : Type 0} (operations : Operations D) (program : List (Option Instru
   none_more slot before is = rw (add-one, before) is
 
   -- the rows behind a slot that was visited hold what the slots up to it give
-  pub rows_more : {Z : Type 0} (slot : ℕ) (rows later : List (Option (Box (Facts D) Z))) → slot < length rows
+  pub rows_more : {Z : Type 0} (slot : ℕ) (rows later : Rows D Z) → slot < length rows
       → ((s : ℕ) → slot ≤ s → s < length rows → held_at rows s ≡ given_below operations sizes.block program slot s)
-      → ((s : ℕ) → slot < s → s < length rows → held_at later s ≡ gives operations sizes.block (instruction_at program slot) slot (held_at rows slot) s (held_at rows s))
+      → GivesOn operations sizes.block program slot rows later
       → (s : ℕ) → slot + 1 ≤ s → s < length rows → held_at later s ≡ given_below operations sizes.block program (slot + 1) s
   rows_more slot rows later inside old new s behind within = rw add-one
       (new s (omega arith) within

@@ -4,7 +4,7 @@ ghost use Rattle.std.specs.Prelude.{◌≡◌, ◌+◌, ◌<◌, ◌^◌, ◌++�
 ghost use Rattle.std.specs.Bool.{then_some};
 ghost use Rattle.instruction_set.specs.Instruction.{distance_of};
 ghost use Rattle.accepted_programs.specs.Facts.{source_fact, compared_fact, after_emit, after_store, computed_word, enters_stack as area_is_stack, fact, facts_behind, greatest_length, is_register as source_is, kept_fact, loaded_fact, loaded_word, with_fact, with_source};
-ghost use Rattle.verifier.specs.steps.Instructions.{CanBeCounted};
+ghost use Rattle.verifier.specs.steps.Instructions.{CanBeCounted, told_along};
 
 use crate::cells::{cell_of, is_stack, known, store_into};
 use accepted_programs::Facts;
@@ -58,7 +58,7 @@ pub(crate) fn refined<D: Domain>(
     source: &Source,
     facts: &Facts<D>,
 ) -> Option<(D, D)>
-    ensures { result ≡ D.operations.refine width relation taken (fact D.operations facts.now dst) (compared_fact D.operations width facts.now source.now) (source_is dst source.now) }
+    ensures { result ≡ told_along D.operations taken width relation dst source.now facts.now }
 {
     let (first, second) = (facts.get(dst), compared(width, facts, source));
     let same = is_register(dst, source);

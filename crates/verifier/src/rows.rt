@@ -1,12 +1,12 @@
 //! The facts for all slots, one slot visited after the other.
 
-ghost use Rattle.std.specs.Prelude.{◌≡◌, ◌<◌, ◌==◌, if◌then◌else◌, ℕ, length, Some, None, IsSome, IfSome, IfNone, IfOk, OnOk, false};
+ghost use Rattle.std.specs.Prelude.{◌≡◌, ◌<◌, length, Some, IsSome, IfSome, IfNone, IfOk, OnOk, false};
 ghost use Rattle.instruction_set.specs.Instruction.{distance_of};
 ghost use Rattle.instruction_set.specs.Program.{instruction_at};
 ghost use Rattle.accepted_programs.specs.Accepted.{refusal_at, turns_away};
-ghost use Rattle.accepted_programs.specs.Facts.{facts_at_target, facts_behind, gives, merge, with_both};
+ghost use Rattle.accepted_programs.specs.Facts.{gives, merge};
 ghost use Rattle.verifier.specs.steps.Instructions.{CanBeCounted, StaysInside};
-ghost use Rattle.verifier.specs.steps.Rows.{held, held_at, refusal_in};
+ghost use Rattle.verifier.specs.steps.Rows.{EachBecomes, GivesAlong, GivesByJump, GivesOn, held, held_at, refusal_in, with_gift};
 
 use crate::edges::{refined, set_both, step};
 use crate::facts::join;
@@ -63,7 +63,7 @@ fn add<D: Domain>(row: &mut Row<D>, spare: &mut Row<D>, facts: Box<Facts<D>>)
 fn give<D: Domain>(rows: &mut [Row<D>], spare: &mut Row<D>, to: usize, facts: Box<Facts<D>>)
     requires { to < length rows.old }
     ensures len { length rows.new ≡ length rows.old }
-    ensures given { (s : ℕ) → s < length rows.old → held_at rows.new s ≡ merge D.operations (held_at rows.old s) (if to == s then Some facts.value else None) }
+    ensures given { EachBecomes (with_gift D.operations to (Some facts.value)) rows.old rows.new }
 {
     add(&mut rows[to], spare, facts);
 }
@@ -104,7 +104,7 @@ fn give_both<D: Domain>(
     requires behind { fork.now.behind < length rows.old }
     requires target { fork.now.target < length rows.old }
     ensures len { length rows.new ≡ length rows.old }
-    ensures given { OnOk result ((s : ℕ) → s < length rows.old → held_at rows.new s ≡ merge D.operations (merge D.operations (held_at rows.old s) (if fork.now.behind == s then with_both D.operations facts.value fork.now.dst fork.now.source (Some not_taken) else None)) (if fork.now.target == s then with_both D.operations facts.value fork.now.dst fork.now.source (Some taken) else None)) }
+    ensures given { OnOk result (GivesAlong D.operations fork.now facts.value (Some not_taken) (Some taken) rows.old rows.new) }
 {
     // one slot at the end of both edges joins what comes along the taken one last
     if fork.target != fork.behind && rows[fork.target].is_some() {
@@ -133,7 +133,7 @@ fn give_edges<D: Domain>(
     requires behind { fork.now.behind < length rows.old }
     requires target { fork.now.target < length rows.old }
     ensures len { length rows.new ≡ length rows.old }
-    ensures given { OnOk result ((s : ℕ) → s < length rows.old → held_at rows.new s ≡ merge D.operations (merge D.operations (held_at rows.old s) (if fork.now.behind == s then with_both D.operations facts.value fork.now.dst fork.now.source fork.now.not_taken else None)) (if fork.now.target == s then with_both D.operations facts.value fork.now.dst fork.now.source fork.now.taken else None)) }
+    ensures given { OnOk result (GivesAlong D.operations fork.now facts.value fork.now.not_taken fork.now.taken rows.old rows.new) }
 {
     match (fork.not_taken, fork.taken) {
         (Some(not_taken), Some(taken)) => {
@@ -166,7 +166,7 @@ fn jump<D: Domain>(
     requires behind { turns_away instruction.now ≡ false → behind < length rows.old }
     requires target { target < length rows.old }
     ensures len { length rows.new ≡ length rows.old }
-    ensures given { OnOk result ((block s : ℕ) → s < length rows.old → held_at rows.new s ≡ merge D.operations (merge D.operations (held_at rows.old s) (if behind == s then facts_behind D.operations block instruction.now facts.value else None)) (if target == s then facts_at_target D.operations block instruction.now facts.value else None)) }
+    ensures given { OnOk result (GivesByJump D.operations instruction.now facts.value behind target rows.old rows.new) }
 {
     let Instruction::Branch {
         width,
@@ -204,7 +204,7 @@ fn push<D: Domain>(
     requires inside { StaysInside (length rows.old) slot instruction.now }
     requires counted { CanBeCounted D.operations instruction.now facts.value }
     ensures len { length rows.new ≡ length rows.old }
-    ensures given { OnOk result ((s : ℕ) → s < length rows.old → held_at rows.new s ≡ gives D.operations block (Some instruction.now) slot (Some facts.value) s (held_at rows.old s)) }
+    ensures given { OnOk result (EachBecomes (gives D.operations block (Some instruction.now) slot (Some facts.value)) rows.old rows.new) }
 {
     let behind = slot_behind(slot, instruction);
     if let Some(distance) = instruction.distance() {
@@ -236,7 +236,7 @@ pub(crate) fn visit<D: Domain>(
     ensures len { length rows.new ≡ length rows.old }
     ensures found { IfOk result (λ found. refusal_in found ≡ refusal_at D.operations program.now sizes slot (instruction_at program.now slot) (held_at rows.old slot)) }
     ensures facts { IfOk result (λ found. IfSome found (λ refused. Some refused.facts.value ≡ held_at rows.old slot)) }
-    ensures given { IfOk result (λ found. IfNone found ((s : ℕ) → slot < s → s < length rows.old → held_at rows.new s ≡ gives D.operations sizes.block (instruction_at program.now slot) slot (held_at rows.old slot) s (held_at rows.old s))) }
+    ensures given { IfOk result (λ found. IfNone found (GivesOn D.operations sizes.block program.now slot rows.old rows.new)) }
 {
     D::fact_fits();
     // what an instruction emits within the limit can be counted

@@ -3,7 +3,7 @@ use Rattle.std.proofs.lemmas.List.{get_or_default, length-set}
 use Rattle.accepted_programs.specs.Facts.{merge, with_fact, with_source}
 use Rattle.accepted_programs.specs.declared.facts.Facts.{Facts}
 use Rattle.verifier.specs.steps.Rows.{held, held_at}
-use Rattle.verifier.proofs.Gifts.{edge_replaced, given_to_both}
+use Rattle.verifier.proofs.Gifts.{edge_replaced, given_in_turn, given_to_both}
 use Rattle.verifier.proofs.rows.give_both.Goals as goal
 
 pub returns-then-is_some-clause-given : goal.returns-then-is_some-clause-given
@@ -27,3 +27,14 @@ returns-then-is_some-clause-given g c =
     (c.join_into.ensures some ∙ ap (λ r. merge ops r (Some c.deref.result.now)) there
     ∙ ap (λ f. merge ops (held_at c.args.rows.now c.args.fork.now.target) (Some f)) c.deref.ensures)
     (λ s within. c.give.ensures.given s (simp length-set within))
+
+pub returns-in_ok-copy-clause-given : goal.returns-in_ok-copy-clause-given
+returns-in_ok-copy-clause-given g c =
+    let ops = g.D.Domain.operations in
+    let along : g.row.D.Denot × g.row.D.Denot → Facts g.row.D.Denot → Facts g.row.D.Denot =
+    λ both facts. with_source ops (with_fact ops facts c.args.fork.now.dst both.0) c.args.fork.now.source both.1 in
+    given_in_turn ops c.args.fork.now.behind c.args.fork.now.target c.set_both-else-fork.new.facts c.set_both-else-fork-2.new.facts _ _
+    c.args.rows.now c.give-else-fork.new.rows c.give-else-fork-2.new.rows
+    (c.set_both-else-fork.ensures ∙ ap (along c.args.not_taken) c.deref_mut-else-fork.ensures.value)
+    (c.set_both-else-fork-2.ensures ∙ ap (along c.args.taken) (c.deref_mut-else-fork-2.ensures.value ∙ c.in_ok-copy.ensures ∙ c.deref-else-fork.ensures))
+    c.give-else-fork.ensures.len c.give-else-fork.ensures.given c.give-else-fork-2.ensures.given
