@@ -18,7 +18,7 @@ use Rattle.device_meaning.specs.Admission.{Loaded, address_checks, destination_c
 use Rattle.device_meaning.specs.EventReplies.{Submission}
 use Rattle.device_meaning.specs.Happenings.{why_not_run}
 use Rattle.device_meaning.specs.State.{loaded_at}
-use Rattle.runner.specs.steps.Admitting.{AreZonesOf}
+use Rattle.runner.specs.steps.Admitting.{AreZonesOf, refusal_by}
 use Rattle.runner.specs.DeviceState.{loaded_slot, device_state}
 use Rattle.runner.specs.steps.ActiveRuns.{held_by}
 use Rattle.runner.specs.steps.Ready.{IsReady}
@@ -78,7 +78,7 @@ module _ (ns : ZonedNamespace) (slots : List (Option LoadedProgram)) (runs : Lis
       → Some run ≡ position is_none runs → None ≡ first_failed (source_checks ns source command.blocks)
       → holds ≡ held_by runs → blocks ≡ need command.blocks (sizes_of p.prepared)
       → first_failed (destination_checks ns holds destination blocks)
-      ≡ run_refusal ns (held_by runs) (is_some (position is_none runs)) (loaded_slot (get_or slots command.slot None)) command input
+      ≡ refusal_by ns slots runs command input
   destination_decides command input p source destination run blocks holds ready no_input at zones addresses free sources held enough =
       ap (λ (h : Holds). first_failed (destination_checks ns h destination blocks)) held
       ∙ last_decides ns (held_by runs) (is_some (position is_none runs)) (loaded_slot (get_or slots command.slot None)) command input source destination blocks
@@ -87,7 +87,7 @@ module _ (ns : ZonedNamespace) (slots : List (Option LoadedProgram)) (runs : Lis
 
   pub why_is : (sub : Submission) (command : RunCommand) → IsReady ns slots runs
       → why_not_run sub (device_state ns slots runs) command
-      ≡ run_refusal ns (held_by runs) (is_some (position is_none runs)) (loaded_slot (get_or slots command.slot None)) command sub.input
+      ≡ refusal_by ns slots runs command sub.input
   why_is sub command ready =
       let s = device_state ns slots runs in
       ap (λ (holds : Holds). run_refusal ns holds (is_some (position is_none s.places)) (loaded_at s command.slot) command sub.input) (sym (holds_are ns slots runs ready))

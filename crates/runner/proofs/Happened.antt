@@ -12,7 +12,8 @@ use Rattle.device_meaning.specs.State.{State}
 use Rattle.device_events.specs.declared.event.Event.{Event}
 use Rattle.device_events.specs.declared.event.Event.TheVariants as event
 use Rattle.device_meaning.proofs.Proved.{events_keep_reached}
-use Rattle.runner.specs.steps.Answered.{HasSubmitted}
+use Rattle.runner.specs.steps.Answered.{HasSubmitted, as_submission}
+use Rattle.runner.specs.declared.submission.Submission.{Submission as GivenSubmission}
 use Rattle.device_meaning.specs.Reached.{IsReached}
 
 -- one more event leaves a state that events leave
@@ -33,11 +34,11 @@ as_submitted sub queue entry input same_queue same_entry same_input =
     ∙ ap (λ (e : List ℕ). submission_of queue e sub.input) same_entry
     ∙ ap (submission_of queue entry) same_input
 
-pub submission_happened : (queue : ℕ) (entry : List ℕ) (input : Vec ℕ Global) (sub : Submission) (old new : State) (reply : ReplyWithData)
-    → sub.queue ≡ queue → sub.entry ≡ entry → sub.input ≡ input.items
-    → HasSubmitted sub (decoded sub.entry) old new reply → HasHappened intervals (event.Submit queue entry input) old new reply
-submission_happened queue entry input sub old new reply same_queue same_entry same_input h =
-    let told = as_submitted sub queue entry input.items same_queue same_entry same_input in
+pub submission_happened : (queue : ℕ) (entry : List ℕ) (input : Vec ℕ Global) (given : GivenSubmission) (old new : State) (reply : ReplyWithData)
+    → given.queue ≡ queue → given.entry.now ≡ entry → given.input.now ≡ input.items
+    → HasSubmitted given (decoded given.entry.now) old new reply → HasHappened intervals (event.Submit queue entry input) old new reply
+submission_happened queue entry input given old new reply same_queue same_entry same_input h =
+    let told = as_submitted (as_submission given) queue entry input.items same_queue same_entry same_input in
     let happening : happens intervals old h.starved (event.Submit queue entry input) ≡ record { reply = reply; state = new } =
     ap (λ (x : Submission). submitted intervals h.starved x old (decoded x.entry)) (sym told) ∙ h.happening in
     record {

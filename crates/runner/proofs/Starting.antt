@@ -1,6 +1,6 @@
 -- The state in which a run has begun.
 use Rattle.std.proofs.Common.{◌≡◌, ℕ, List, map, set, get_or, Option, Some, None, ap, sym, ◌∙◌, inl, inr, subst, arith}
-use Rattle.std.specs.Prelude.{is_none, is_some, position}
+use Rattle.std.specs.Prelude.{is_none, position}
 use Rattle.std.proofs.lemmas.List.{map-set}
 use Rattle.zone_state.specs.declared.status.Status.{Status}
 use Rattle.nvme_entry.specs.declared.command.RunCommand.{RunCommand}
@@ -8,7 +8,6 @@ use Rattle.program_meaning.proofs.Proved.{the_value}
 use Rattle.accepted_programs.proofs.Proved.{set_known}
 use Rattle.image_store.specs.Namespace.{ZonedNamespace}
 use Rattle.image_store.specs.declared.geometry.ZoneBlock.{ZoneBlock}
-use Rattle.device_meaning.specs.Admission.{run_refusal}
 use Rattle.device_meaning.specs.EventReplies.{submission_of}
 use Rattle.device_events.specs.Replies.{without_data}
 use Rattle.device_meaning.specs.Happenings.{start_by}
@@ -17,10 +16,10 @@ use Rattle.device_meaning.specs.State.{Place, State, free_place, with_place}
 use Rattle.device_meaning.specs.View.{begun, place_of, seen}
 use Rattle.device_events.specs.declared.reply.Reply.TheVariants as reply
 use Rattle.device_meaning.proofs.Proved.{seen_at_admission}
-use Rattle.runner.specs.steps.Admitting.{IsAdmission}
+use Rattle.runner.specs.steps.Admitting.{IsAdmission, refusal_by}
 use Rattle.runner.specs.steps.Answered.{Refuses, Starts}
 use Rattle.runner.specs.DeviceState.{active_of, loaded_slot, running, device_state}
-use Rattle.runner.specs.steps.ActiveRuns.{held_by, new_active}
+use Rattle.runner.specs.steps.ActiveRuns.{new_active}
 use Rattle.runner.specs.steps.Ready.{IsReady, IsRunning}
 use Rattle.runner.specs.declared.active_run.ActiveRun.{ActiveRun}
 use Rattle.runner.specs.declared.admission.Admitted.{Admitted}
@@ -39,7 +38,7 @@ module _ (ns : ZonedNamespace) (slots : List (Option LoadedProgram)) (runs : Lis
 
   pub starts : (command : RunCommand) (queue cid block : ℕ) (admitted : Admitted) (input : List ℕ) → IsReady ns slots runs
       → position is_none runs ≡ Some admitted.run
-      → None ≡ run_refusal ns (held_by runs) (is_some (position is_none runs)) (loaded_slot (get_or slots command.slot None)) command input
+      → None ≡ refusal_by ns slots runs command input
       → Starts command queue cid input (device_state ns slots runs)
       (device_state ns slots (set runs admitted.run (Some (new_active queue cid command admitted.source admitted.destination block)))) admitted.run
   starts command queue cid block admitted input ready free passes entry named =
@@ -55,7 +54,7 @@ module _ (ns : ZonedNamespace) (slots : List (Option LoadedProgram)) (runs : Lis
       ∙ ap (λ (t : State). record { reply = without_data (reply.Pending admitted.run); state = t }) (sym (placed admitted.run a))
 
   pub refuses : (command : RunCommand) (input : List ℕ) (status : Status) → IsReady ns slots runs
-      → Some status ≡ run_refusal ns (held_by runs) (is_some (position is_none runs)) (loaded_slot (get_or slots command.slot None)) command input
+      → Some status ≡ refusal_by ns slots runs command input
       → Refuses command input (device_state ns slots runs) status
   refuses command input status ready fails queue entry =
       let s = device_state ns slots runs in

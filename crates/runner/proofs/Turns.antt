@@ -24,8 +24,8 @@ use Rattle.device_meaning.specs.Outcome.{Ending, Progress, Turn, appended_by, co
 use Rattle.device_meaning.specs.View.{Active, to_come, turns_of}
 use Rattle.device_meaning.proofs.Proved.{blocks_leave_others, rest_ends, rest_goes_on, room_is_open, room_stays}
 use Rattle.runner.specs.DeviceState.{active_of}
-use Rattle.runner.specs.steps.Ran.{HasRun}
-use Rattle.runner.specs.steps.Turning.{FitsOn, TurnGoesOn, HasEnded, HasRoom, next_block, next_block_run, with_packer, with_scratch}
+use Rattle.runner.specs.steps.Turning.{FitsOn, TurnGoesOn, HasEnded, HasRoom, HasRunNext, next_block, next_block_run, with_packer}
+use Rattle.verified_run.specs.declared.exit.Exit.{Exit}
 use Rattle.runner.specs.declared.active_run.ActiveRun.{ActiveRun}
 use Rattle.runner.proofs.Appends.{added_both}
 
@@ -267,40 +267,43 @@ module _ (ns : ZonedNamespace) (program : List (Option Instruction)) (limit : �
 
   -- ---- as the code has them: the run once its program has run, and once the group of that is packed
 
-  module _ (ran_on : ActiveRun) (r0 count : ℕ) (group : List ℕ) (run : HasRun ran r0 count group ran_on.scratch) (same : ran_on ≡ with_scratch a (scratch_after ran)) where
+  module _ (ran_on : ActiveRun) (told : Exit) (bytes : List ℕ) (next : HasRunNext ns program limit a ran_on told bytes) where
+    abbrev group : List ℕ
+    group = take told.group_length bytes
+
     abbrev given : List (List ℕ)
     given = given_by_put ran_on.packer group
 
     pub room_for_put : HasRoom ns ran_on.destination given
-    room_for_put = rw (same, sym run.group) (first_room r0 run.exit)
+    room_for_put = rw (next.same, sym next.run.group) (first_room told.r0 next.run.exit)
 
     module _ (then : ZonedNamespace) (put : ActiveRun) (written : then ≡ added ns ran_on.destination given)
         (put_is : put ≡ with_packer ran_on (after_put ran_on.packer group) (length given)) where
       -- the same, once the block is counted
       abbrev counted : ActiveRun
-      counted = record put { index = put.index + 1; frames = put.frames + count }
+      counted = record put { index = put.index + 1; frames = put.frames + told.frames }
 
       index_is : put.index ≡ a.index
-      index_is = ap (λ (x : ActiveRun). x.index) put_is ∙ ap (λ (x : ActiveRun). x.index) same
+      index_is = ap (λ (x : ActiveRun). x.index) put_is ∙ ap (λ (x : ActiveRun). x.index) next.same
 
       blocks_are : put.command.blocks ≡ a.command.blocks
-      blocks_are = ap (λ (x : ActiveRun). x.command.blocks) put_is ∙ ap (λ (x : ActiveRun). x.command.blocks) same
+      blocks_are = ap (λ (x : ActiveRun). x.command.blocks) put_is ∙ ap (λ (x : ActiveRun). x.command.blocks) next.same
 
-      pub goes : r0 ≡ 0 → counted.index < counted.command.blocks → TurnGoesOn ns then program limit a counted
+      pub goes : told.r0 ≡ 0 → counted.index < counted.command.blocks → TurnGoesOn ns then program limit a counted
       goes none more =
-          let on : goes_on ran.end ≡ true = ap goes_on run.exit ∙ ap (λ (n : ℕ). n == 0) none in
-          rw (written, put_is, same, sym run.group, sym run.frames) (goes_is on (omega (arith, index_is, blocks_are, more)))
+          let on : goes_on ran.end ≡ true = ap goes_on next.run.exit ∙ ap (λ (n : ℕ). n == 0) none in
+          rw (written, put_is, next.same, sym next.run.group, sym next.run.frames) (goes_is on (omega (arith, index_is, blocks_are, more)))
 
-      is_over : (r0 ≢ 0) ⊎ (counted.command.blocks ≤ counted.index) → Over
-      is_over (inl other) = inl (ap goes_on run.exit ∙ ne_eqb r0 0 other)
+      is_over : (told.r0 ≢ 0) ⊎ (counted.command.blocks ≤ counted.index) → Over
+      is_over (inl other) = inl (ap goes_on next.run.exit ∙ ne_eqb told.r0 0 other)
       is_over (inr last) = inr (omega (arith, index_is, blocks_are, last))
 
-      pub room_for_finish : (r0 ≢ 0) ⊎ (counted.command.blocks ≤ counted.index) → HasRoom then counted.destination (given_by_finish counted.packer)
-      room_for_finish over = rw (written, put_is, same, sym run.group) (last_room r0 run.exit (is_over over))
+      pub room_for_finish : (told.r0 ≢ 0) ⊎ (counted.command.blocks ≤ counted.index) → HasRoom then counted.destination (given_by_finish counted.packer)
+      room_for_finish over = rw (written, put_is, next.same, sym next.run.group) (last_room told.r0 next.run.exit (is_over over))
 
-      pub ends_there : (r0 ≢ 0) ⊎ (counted.command.blocks ≤ counted.index) → (last : ZonedNamespace) (finished : ActiveRun)
+      pub ends_there : (told.r0 ≢ 0) ⊎ (counted.command.blocks ≤ counted.index) → (last : ZonedNamespace) (finished : ActiveRun)
           → last ≡ added then counted.destination (given_by_finish counted.packer)
           → finished ≡ with_packer counted (new_packer counted.packer.block) (length (given_by_finish counted.packer))
           → HasEnded ns last program limit a finished (record { status = SUCCESS; dw0 = finished.frames; dw1 = finished.appended; length = 0 })
       ends_there over last finished last_is finished_is =
-          rw (last_is, finished_is, written, put_is, same, sym run.group, sym run.frames) (ended_is r0 run.exit (is_over over) _ refl)
+          rw (last_is, finished_is, written, put_is, next.same, sym next.run.group, sym next.run.frames) (ended_is told.r0 next.run.exit (is_over over) _ refl)

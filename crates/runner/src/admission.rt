@@ -1,13 +1,12 @@
 //! Whether a run is admitted.
 
-ghost use Rattle.std.specs.Prelude.{◌≡◌, ◌<◌, ◌+◌, ◌^◌, length, get_or, position, is_some, is_none, None, IfOk, IfErr, OnOk, OnErr};
+ghost use Rattle.std.specs.Prelude.{◌≡◌, ◌<◌, ◌+◌, ◌^◌, length, IfOk, IfErr, OnOk, OnErr};
 ghost use Rattle.std.specs.Result.{result_err};
 ghost use Rattle.common_definitions.specs.Checks.{first_failed};
-ghost use Rattle.device_meaning.specs.Admission.{address_checks, destination_checks, run_refusal, source_checks};
-ghost use Rattle.runner.specs.steps.Admitting.{AreZonesOf, IsAdmission};
+ghost use Rattle.device_meaning.specs.Admission.{address_checks, destination_checks, source_checks};
+ghost use Rattle.runner.specs.steps.Admitting.{AreZonesOf, IsAdmission, refusal_by};
 ghost use Rattle.runner.specs.steps.Answered.{Refuses, Starts};
-ghost use Rattle.runner.specs.DeviceState.{loaded_slot, device_state};
-ghost use Rattle.runner.specs.steps.ActiveRuns.{held_by};
+ghost use Rattle.runner.specs.DeviceState.{device_state};
 ghost use Rattle.runner.specs.steps.Ready.{AreWritten, IsReady};
 
 use crate::active_run::ActiveRun;
@@ -72,7 +71,7 @@ fn admit(
     input: &[u8],
 ) -> Result<Admitted, Status>
     requires { IsReady namespace.now slots.now runs.now }
-    ensures why { result_err result ≡ run_refusal namespace.now (held_by runs.now) (is_some (position is_none runs.now)) (loaded_slot (get_or slots.now command.now.slot None)) command.now input.now }
+    ensures why { result_err result ≡ refusal_by namespace.now slots.now runs.now command.now input.now }
     ensures admission { IfOk result (IsAdmission namespace.now slots.now runs.now command.now) }
 {
     check_transfer(0, 0, input)?;

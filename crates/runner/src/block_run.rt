@@ -1,6 +1,6 @@
 //! One block run: a program over one block.
 
-ghost use Rattle.std.specs.Prelude.{◌≡◌, ◌<◌, ◌≤◌, ◌^◌, length, take};
+ghost use Rattle.std.specs.Prelude.{◌≡◌, ◌<◌, ◌≤◌, ◌^◌, length};
 ghost use Rattle.device_meaning.specs.BlockRuns.{block_run_over};
 ghost use Rattle.runner.specs.steps.Ran.{HasRun};
 
@@ -20,7 +20,8 @@ pub fn run_block<V: TrapFree + Drop>(
     requires block { length block.now ≡ V.block prepared.now }
     requires small { length block.now < 2 ^ 32 }
     requires room { V.limit prepared.now ≤ length group.old }
-    ensures run { HasRun (block_run_over (V.code prepared.now) (V.limit prepared.now) block.now context.now scratch.old) result.r0 result.frames (take result.group_length group.new) scratch.new }
+    ensures run { HasRun (block_run_over (V.code prepared.now) (V.limit prepared.now) block.now context.now scratch.old)
+        result group.new scratch.new }
     ensures limit { result.group_length ≤ V.limit prepared.now }
     ensures few { result.frames ≤ result.group_length }
     ensures within { result.group_length ≤ length group.new }

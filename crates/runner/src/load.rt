@@ -1,13 +1,13 @@
 //! Loading programs.
 
-ghost use Rattle.std.specs.Prelude.{◌≡◌, ◌<◌, List, Option, IfOk, IfErr};
+ghost use Rattle.std.specs.Prelude.{◌≡◌, ◌<◌, IfOk, IfErr};
 ghost use Rattle.std.specs.List.{list_any};
 ghost use Rattle.std.specs.Result.{result_err};
 ghost use Rattle.common_definitions.specs.Checks.{first_failed};
 ghost use Rattle.device_meaning.specs.Happenings.{load_checks};
 ghost use Rattle.runner.specs.steps.Answered.{HasLoaded};
 ghost use Rattle.runner.specs.DeviceState.{device_state};
-ghost use Rattle.runner.specs.steps.Loading.{uses_slot, refused_program, IsAccepted, IsLoadable, IsNotAccepted};
+ghost use Rattle.runner.specs.steps.Loading.{uses_slot, refused_program, IsAccepted, IsLoadable, IsNotAccepted, WithAnySlots};
 ghost use Rattle.runner.specs.steps.Ready.{IsReady};
 ghost use Rattle.verifier.specs.Verified.{program_of, sizes_of};
 
@@ -54,8 +54,9 @@ fn try_load(
     command: &LoadCommand,
     input: &[u8],
 ) -> Result<Prepared<Verified<Intervals>>, Answer>
-    ensures ok { IfOk result (λ v. (slots : List (Option LoadedProgram)) → IsLoadable command.now input.now (device_state namespace.now slots runs.now) (program_of v) (sizes_of v)) }
-    ensures err { IfErr result (λ answer. (slots : List (Option LoadedProgram)) → let s = device_state namespace.now slots runs.now in HasLoaded command.now input.now s s answer) }
+    ensures ok { IfOk result (λ v. WithAnySlots namespace.now runs.now
+        (λ s. IsLoadable command.now input.now s (program_of v) (sizes_of v))) }
+    ensures err { IfErr result (λ answer. WithAnySlots namespace.now runs.now (λ s. HasLoaded command.now input.now s s answer)) }
     ensures no_data { IfErr result (λ answer. answer.length ≡ 0) }
 {
     match check_load(namespace, runs, command, input) {
@@ -71,7 +72,7 @@ fn check_load(
     command: &LoadCommand,
     input: &[u8],
 ) -> Result<RunSizes, Status>
-    ensures why { (slots : List (Option LoadedProgram)) → result_err result ≡ first_failed (load_checks (device_state namespace.now slots runs.now) command.now input.now) }
+    ensures why { WithAnySlots namespace.now runs.now (λ s. result_err result ≡ first_failed (load_checks s command.now input.now)) }
     ensures sizes { IfOk result (λ sizes. sizes ≡ record { block = namespace.now.block; limit = command.now.limit }) }
 {
     let bytes = u64::from(command.bytes);

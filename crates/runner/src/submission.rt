@@ -1,11 +1,11 @@
 //! Entries that hosts submit.
 
-ghost use Rattle.std.specs.Prelude.{◌≡◌, ◌≤◌, drop, length, take, List, Ok, Option};
+ghost use Rattle.std.specs.Prelude.{◌≡◌, ◌≤◌, drop, length, Ok};
 ghost use Rattle.common_definitions.specs.Bytes.{AreBytes};
 ghost use Rattle.nvme_entry.specs.Entry.{decoded, identifier_of};
 ghost use Rattle.nvme_entry.specs.declared.command.Command.TheVariants as commands;
 ghost use Rattle.device_events.specs.Replies.{data_length, without_data};
-ghost use Rattle.runner.specs.steps.Answered.{HasExecuted, HasSubmitted, as_submission, complete_reply};
+ghost use Rattle.runner.specs.steps.Answered.{HasExecuted, HasSubmitted, complete_reply, with_data};
 ghost use Rattle.runner.specs.DeviceState.{device_state};
 ghost use Rattle.runner.specs.steps.Ready.{IsReady};
 
@@ -64,7 +64,8 @@ pub fn submit(
 ) -> Reply
     requires ready { IsReady namespace.old slots.old runs.old }
     requires room { MOST_TRANSFER ≤ length output.old }
-    ensures submitted { HasSubmitted (as_submission submission.now) (decoded submission.now.entry.now) (device_state namespace.old slots.old runs.old) (device_state namespace.new slots.new runs.new) (record { reply = result; bytes = take (data_length result) output.new }) }
+    ensures submitted { HasSubmitted submission.now (decoded submission.now.entry.now) (device_state namespace.old slots.old runs.old)
+        (device_state namespace.new slots.new runs.new) (with_data result output.new) }
     ensures rest { drop (data_length result) output.new ≡ drop (data_length result) output.old }
     ensures within { data_length result ≤ length output.new }
     ensures ready { IsReady namespace.new slots.new runs.new }
@@ -87,7 +88,8 @@ fn perform(
 ) -> Reply
     requires ready { IsReady namespace.old slots.old runs.old }
     requires room { MOST_TRANSFER ≤ length output.old }
-    ensures submitted { HasSubmitted (as_submission submission.now) (Ok command) (device_state namespace.old slots.old runs.old) (device_state namespace.new slots.new runs.new) (record { reply = result; bytes = take (data_length result) output.new }) }
+    ensures submitted { HasSubmitted submission.now (Ok command) (device_state namespace.old slots.old runs.old)
+        (device_state namespace.new slots.new runs.new) (with_data result output.new) }
     ensures rest { drop (data_length result) output.new ≡ drop (data_length result) output.old }
     ensures within { data_length result ≤ length output.new }
     ensures ready { IsReady namespace.new slots.new runs.new }
@@ -114,7 +116,7 @@ fn execute(
     output: &mut [u8],
 ) -> Answer
     requires room { MOST_TRANSFER ≤ length output.old }
-    ensures left { (slots : List (Option LoadedProgram)) → IsReady namespace.old slots runs.now → HasExecuted command.now input.now namespace.old namespace.new slots runs.now result output.new }
+    ensures left { HasExecuted command.now input.now namespace.old namespace.new runs.now result output.new }
     ensures rest { drop result.length output.new ≡ drop result.length output.old }
     ensures within { result.length ≤ length output.new }
 {
@@ -130,7 +132,8 @@ fn run(
     submission: &Submission<'_>,
 ) -> Reply
     requires ready { IsReady namespace.now slots.now runs.old }
-    ensures submitted { HasSubmitted (as_submission submission.now) (Ok (commands.Run command.now)) (device_state namespace.now slots.now runs.old) (device_state namespace.now slots.now runs.new) (without_data result) }
+    ensures submitted { HasSubmitted submission.now (Ok (commands.Run command.now)) (device_state namespace.now slots.now runs.old)
+        (device_state namespace.now slots.now runs.new) (without_data result) }
     ensures no_data { data_length result ≡ 0 }
     ensures ready { IsReady namespace.now slots.now runs.new }
 {

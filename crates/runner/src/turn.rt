@@ -1,18 +1,16 @@
 //! Turns.
 
-ghost use Rattle.std.specs.Prelude.{◌≡◌, ◌<◌, ◌≤◌, ◌+◌, ◌^◌, [], ◌∷◌, length, take, IsNone};
+ghost use Rattle.std.specs.Prelude.{◌≡◌, ◌<◌, ◌≤◌, ◌+◌, ◌^◌, [], ◌∷◌, length, IsNone};
 ghost use Rattle.interval_domain.specs.Intervals.{intervals};
 ghost use Rattle.program_interface.specs.declared.block_size.TheConstants.{LARGEST_BLOCK};
 ghost use Rattle.emit_append.specs.Packer.{after_put, given_by_finish, given_by_put, new_packer};
 ghost use Rattle.common_definitions.specs.Bytes.{padded};
 ghost use Rattle.device_events.specs.Replies.{data_length};
-ghost use Rattle.device_meaning.specs.BlockRuns.{scratch_after};
 ghost use Rattle.device_meaning.specs.Happenings.{added};
 ghost use Rattle.runner.specs.DeviceState.{active_of, device_state};
-ghost use Rattle.runner.specs.steps.Ran.{HasRun};
 ghost use Rattle.runner.specs.steps.Ready.{FitsNamespace, IsReady};
 ghost use Rattle.device_meaning.specs.Reached.{IsReached};
-ghost use Rattle.runner.specs.steps.Turning.{FitsAt, FitsIn, FitsOn, HasRoom, IsTaking, IsTurned, Keeps, PlaceTurned, SlotTurned, Turned, next_block, next_block_run, with_packer, with_scratch};
+ghost use Rattle.runner.specs.steps.Turning.{FitsAt, FitsIn, FitsOn, HasRoom, HasRunNext, IsTaking, IsTurned, Keeps, PlaceTurned, SlotTurned, Turned, next_block, with_packer};
 
 use crate::active_run::ActiveRun;
 use crate::block_run::run_block;
@@ -48,11 +46,10 @@ fn run_next<V: TrapFree + Drop>(
     requires fits { FitsNamespace namespace.now active.old }
     requires block { V.block prepared.now ≡ namespace.now.block }
     requires limit { V.limit prepared.now ≤ namespace.now.block }
-    ensures run { HasRun (next_block_run namespace.now (V.code prepared.now) (V.limit prepared.now) (active_of active.old)) result.r0 result.frames (take result.group_length group.new) active.new.scratch }
+    ensures next { HasRunNext namespace.now (V.code prepared.now) (V.limit prepared.now) active.old active.new result group.new }
     ensures limit { result.group_length ≤ namespace.now.block }
     ensures few { result.frames ≤ LARGEST_BLOCK }
     ensures within { result.group_length ≤ length group.new }
-    ensures same { active.new ≡ with_scratch active.old (scratch_after (next_block_run namespace.now (V.code prepared.now) (V.limit prepared.now) (active_of active.old))) }
 {
     let command = active.command;
     let context = Context {

@@ -3,7 +3,7 @@
 ghost use Rattle.std.specs.Prelude.{◌≡◌, ◌+◌, ◌<◌, ◌^◌, ◌++◌, replicate, drop, None};
 ghost use Rattle.std.specs.Bool.{then_some};
 ghost use Rattle.instruction_set.specs.Instruction.{distance_of};
-ghost use Rattle.accepted_programs.specs.Facts.{source_fact, compared_fact, after_emit, after_store, computed_word, enters_stack as area_is_stack, fact, facts_behind, greatest_length, is_register as source_is, kept_fact, loaded_fact, loaded_word, with_fact, with_source};
+ghost use Rattle.accepted_programs.specs.Facts.{source_fact, compared_fact, after_emit, after_store, computed_word, enters_stack as area_is_stack, facts_behind, greatest_length, is_register as source_is, kept_fact, loaded_fact, loaded_word, with_fact, with_source};
 ghost use Rattle.verifier.specs.steps.Instructions.{CanBeCounted, told_along};
 
 use crate::cells::{cell_of, is_stack, known, store_into};

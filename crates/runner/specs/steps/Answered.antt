@@ -11,7 +11,7 @@ use Rattle.image_store.specs.Namespace.{ZonedNamespace}
 use Rattle.zns_commands.specs.Meaning.{meaning}
 use Rattle.zns_commands.specs.declared.answer.Answer.{Answer}
 use Rattle.device_meaning.specs.EventReplies.{Happening, Submission, completed, completion_reply, refused, submission_of}
-use Rattle.device_events.specs.Replies.{ReplyWithData, without_data}
+use Rattle.device_events.specs.Replies.{ReplyWithData, data_length, without_data}
 use Rattle.device_meaning.specs.Happenings.{commanded, giving_result, loading, starting, submitted}
 use Rattle.device_meaning.specs.State.{State, holds_at}
 use Rattle.device_events.specs.declared.reply.Reply.{Reply}
@@ -30,16 +30,20 @@ as_submission s = submission_of s.queue s.entry.now s.input.now
 abbrev pub answered : Submission → Answer → List ℕ → State → Happening
 answered sub answer bytes s = completed sub answer.status answer.dw0 answer.dw1 (take answer.length bytes) s
 
+-- a reply with its data, which is in front of these bytes
+abbrev pub with_data : Reply → List ℕ → ReplyWithData
+with_data reply bytes = record { reply = reply; bytes = take (data_length reply) bytes }
+
 -- the completion that an answer comes to
 abbrev pub complete_reply : ℕ → ℕ → Answer → Reply
 complete_reply queue cid answer = completion_reply queue cid answer.status answer.dw0 answer.dw1 answer.length
 
 -- a standard command led from one namespace to the other, and was answered so; all that a device has
--- besides is left
-pub record HasExecuted (asked : StandardCommand) (input : List ℕ) (ns later : ZonedNamespace) (slots : List (Option LoadedProgram))
-    (runs : List (Option ActiveRun)) (answer : Answer) (bytes : List ℕ) : Type 0 where
-  pub ready : IsReady later slots runs
-  pub happening : (queue : ℕ) (entry : List ℕ)
+-- besides is left, where its runs can go on by the programs that its slots have
+pub record HasExecuted (asked : StandardCommand) (input : List ℕ) (ns later : ZonedNamespace) (runs : List (Option ActiveRun))
+    (answer : Answer) (bytes : List ℕ) : Type 0 where
+  pub ready : (slots : List (Option LoadedProgram)) → IsReady ns slots runs → IsReady later slots runs
+  pub happening : (slots : List (Option LoadedProgram)) → IsReady ns slots runs → (queue : ℕ) (entry : List ℕ)
       → let sub = submission_of queue entry input in
       let s = device_state ns slots runs in
       commanded sub s (meaning ns (holds_at s) asked input) ≡ answered sub answer bytes (device_state later slots runs)
@@ -74,6 +78,6 @@ Refuses command input s status =
     starting sub s command ≡ refused sub status s
 
 -- an entry that asks for this led from one state to the other, with this reply
-pub record HasSubmitted (sub : Submission) (asked : Result Command Status) (old new : State) (given : ReplyWithData) : Type 0 where
+pub record HasSubmitted (given : GivenSubmission) (asked : Result Command Status) (old new : State) (reply : ReplyWithData) : Type 0 where
   pub starved : Bool
-  pub happening : submitted intervals starved sub old asked ≡ record { reply = given; state = new }
+  pub happening : submitted intervals starved (as_submission given) old asked ≡ record { reply = reply; state = new }

@@ -9,7 +9,7 @@ use Rattle.image_store.specs.Namespace.{ZonedNamespace, zone_at}
 use Rattle.zns_commands.specs.Address.{zone_offset}
 use Rattle.zns_commands.specs.declared.answer.Answer.{Answer}
 use Rattle.device_meaning.specs.Admission.{source_zone, task_by}
-use Rattle.device_meaning.specs.BlockRuns.{block_run}
+use Rattle.device_meaning.specs.BlockRuns.{block_run, scratch_after}
 use Rattle.device_meaning.specs.Laws.{RoomIn}
 use Rattle.device_meaning.specs.Happenings.{added, turned}
 use Rattle.device_meaning.specs.State.{State}
@@ -17,6 +17,8 @@ use Rattle.device_meaning.specs.View.{Active, turns_of}
 use Rattle.device_events.specs.declared.reply.Reply.{Reply}
 use Rattle.runner.specs.DeviceState.{active_of, device_state}
 use Rattle.runner.specs.steps.Ready.{FitsNamespace, IsForBlocks, IsReady}
+use Rattle.verified_run.specs.declared.exit.Exit.{Exit}
+use Rattle.runner.specs.steps.Ran.{HasRun}
 use Rattle.runner.specs.declared.active_run.ActiveRun.{ActiveRun}
 use Rattle.runner.specs.declared.loaded_program.LoadedProgram.{LoadedProgram}
 
@@ -35,6 +37,12 @@ next_block ns a = get_or (zone_at ns (source_zone ns a.command)).blocks (zone_of
 -- the block run of its program on that block
 abbrev pub next_block_run : ZonedNamespace → List (Option Instruction) → ℕ → Active → BlockRun
 next_block_run ns program limit a = block_run (task_by ns program limit a.command) a.so_far.index a.so_far.scratch (next_block ns a)
+
+-- the program has run on the block that a run reads next, and of the run changed the scratch bytes alone
+pub record HasRunNext (ns : ZonedNamespace) (program : List (Option Instruction)) (limit : ℕ) (old new : ActiveRun)
+    (told : Exit) (bytes : List ℕ) : Type 0 where
+  pub run : HasRun (next_block_run ns program limit (active_of old)) told bytes new.scratch
+  pub same : new ≡ with_scratch old (scratch_after (next_block_run ns program limit (active_of old)))
 
 -- a zone that takes so many blocks more
 pub record IsTaking (ns : ZonedNamespace) (z n : ℕ) : Type 0 where

@@ -15,8 +15,8 @@ returns-in-Standard-clause-submitted c =
     let sub = as_submission told in
     let old = device_state a.namespace.now a.slots.now a.runs.now in
     let asking : Command → Happening = λ x. submitted intervals false sub old (Ok x) in
-    replied sub (Ok a.command) old (device_state c.execute.new.namespace a.slots.now a.runs.now) false c.execute.result c.reply_with.result c.execute.new.output
-    (ap asking c.in-Standard.is ∙ (c.execute.ensures.left a.slots.now c.requires.ready).happening told.queue told.entry.now)
+    replied told (Ok a.command) old (device_state c.execute.new.namespace a.slots.now a.runs.now) false c.execute.result c.reply_with.result c.execute.new.output
+    (ap asking c.in-Standard.is ∙ c.execute.ensures.left.happening a.slots.now c.requires.ready told.queue told.entry.now)
     c.reply_with.ensures c.execute.ensures.within
 
 pub returns-in-Load-clause-submitted : goal.returns-in-Load-clause-submitted
@@ -27,7 +27,7 @@ returns-in-Load-clause-submitted c =
     let old = device_state a.namespace.now a.slots.now a.runs.now in
     let loaded = c.load.ensures.loaded in
     let asking : Command → Happening = λ x. submitted intervals loaded.starved sub old (Ok x) in
-    replied_alone sub (Ok a.command) old (device_state a.namespace.now c.load.new.slots a.runs.now) loaded.starved c.load.result c.reply_with-in-Load.result a.output.now
+    replied_alone told (Ok a.command) old (device_state a.namespace.now c.load.new.slots a.runs.now) loaded.starved c.load.result c.reply_with-in-Load.result a.output.now
     (ap asking c.in-Load.is ∙ loaded.happening told.queue told.entry.now)
     c.reply_with-in-Load.ensures c.load.ensures.no_data
 
@@ -38,6 +38,6 @@ returns-in-Result-clause-submitted c =
     let sub = as_submission told in
     let old = device_state a.namespace.now a.slots.now a.runs.now in
     let asking : Command → Happening = λ x. submitted intervals false sub old (Ok x) in
-    replied sub (Ok a.command) old old false c.give_result.result c.reply_with-in-Result.result c.give_result.new.output
+    replied told (Ok a.command) old old false c.give_result.result c.reply_with-in-Result.result c.give_result.new.output
     (ap asking c.in-Result.is ∙ c.give_result.ensures.gives a.namespace.now a.runs.now told.queue told.entry.now)
     c.reply_with-in-Result.ensures c.give_result.ensures.within

@@ -7,12 +7,12 @@ use Rattle.runner.proofs.turn.advance.Goals as goal
 pub put-requires-clause-room : goal.put-requires-clause-room
 put-requires-clause-room g c =
     room_for_put c.args.namespace.now (g.V.TrapFree.code c.args.prepared.now) (g.V.TrapFree.limit c.args.prepared.now) c.args.active.now c.requires.fits
-    c.run_next-exit.new.active c.run_next-exit.result.r0 c.run_next-exit.result.frames _ c.run_next-exit.ensures.run c.run_next-exit.ensures.same
+    c.run_next-exit.new.active c.run_next-exit.result _ c.run_next-exit.ensures.next
 
 pub returns-then-active-get-clause-turn : goal.returns-then-active-get-clause-turn
 returns-then-active-get-clause-turn g c =
     goes c.args.namespace.now (g.V.TrapFree.code c.args.prepared.now) (g.V.TrapFree.limit c.args.prepared.now) c.args.active.now c.requires.fits
-    c.run_next-exit.new.active c.run_next-exit.result.r0 c.run_next-exit.result.frames _ c.run_next-exit.ensures.run c.run_next-exit.ensures.same
+    c.run_next-exit.new.active c.run_next-exit.result _ c.run_next-exit.ensures.next
     c.put.new.namespace c.put.new.active c.put.ensures.namespace c.put.ensures.active
     c.if-exit-eq0.true (omega (arith, c.get.ensures.value, c.if-active-get.true))
 
@@ -23,7 +23,7 @@ finish-requires-clause-room g c =
       | else-exit-eq0-via-else-exit-eq0 w ↦ inl w.if-exit-eq0.false
     ] in
     room_for_finish c.args.namespace.now (g.V.TrapFree.code c.args.prepared.now) (g.V.TrapFree.limit c.args.prepared.now) c.args.active.now c.requires.fits
-    c.run_next-exit.new.active c.run_next-exit.result.r0 c.run_next-exit.result.frames _ c.run_next-exit.ensures.run c.run_next-exit.ensures.same
+    c.run_next-exit.new.active c.run_next-exit.result _ c.run_next-exit.ensures.next
     c.put.new.namespace c.put.new.active c.put.ensures.namespace c.put.ensures.active over
 
 pub returns-clause-turn : goal.returns-clause-turn
@@ -33,6 +33,6 @@ returns-clause-turn g c =
       | else-exit-eq0-via-else-exit-eq0 w ↦ inl w.if-exit-eq0.false
     ] in
     ends_there c.args.namespace.now (g.V.TrapFree.code c.args.prepared.now) (g.V.TrapFree.limit c.args.prepared.now) c.args.active.now c.requires.fits
-    c.run_next-exit.new.active c.run_next-exit.result.r0 c.run_next-exit.result.frames _ c.run_next-exit.ensures.run c.run_next-exit.ensures.same
+    c.run_next-exit.new.active c.run_next-exit.result _ c.run_next-exit.ensures.next
     c.put.new.namespace c.put.new.active c.put.ensures.namespace c.put.ensures.active over
     c.finish.new.namespace c.finish.new.active c.finish.ensures.namespace c.finish.ensures.active

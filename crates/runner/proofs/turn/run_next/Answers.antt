@@ -1,4 +1,4 @@
-use Rattle.std.proofs.Common.{◌≡◌, take, ap, sym, subst, ◌∙◌}
+use Rattle.std.proofs.Common.{◌≡◌, ap, sym, subst, ◌∙◌}
 use Rattle.program_meaning.specs.BlockRun.{BlockRun}
 use Rattle.image_store.specs.Geometry.{Shape}
 use Rattle.runner.specs.DeviceState.{active_of}
@@ -7,8 +7,8 @@ use Rattle.runner.specs.steps.Turning.{with_scratch}
 use Rattle.runner.proofs.NextBlockRun.{run_is, told_is}
 use Rattle.runner.proofs.turn.run_next.Goals as goal
 
-pub returns-clause-run : goal.returns-clause-run
-returns-clause-run g c =
+pub returns-clause-next : goal.returns-clause-next
+returns-clause-next g c =
     let code = g.V.TrapFree.code c.args.prepared.now in
     let limit = g.V.TrapFree.limit c.args.prepared.now in
     let ns = c.args.namespace.now in
@@ -16,8 +16,8 @@ returns-clause-run g c =
     let size : c.block.result ≡ ns.block = c.block.ensures.value ∙ ap (λ (s : Shape). s.block) c.geometry.ensures.value in
     let told = told_is ns code limit a c.encode.result c.from.result c.get.result c.block.result c.from.ensures c.get.ensures.value size c.encode.ensures in
     let same = run_is ns code limit a c.source_block-block.result.now c.encode.result c.source_block-block.ensures.value told in
-    subst (λ (r : BlockRun). HasRun r c.run_block.result.r0 c.run_block.result.frames (take c.run_block.result.group_length c.run_block.new.group) c.run_block.new.scratch) same
-    c.run_block.ensures.run
-
-pub returns-clause-same : goal.returns-clause-same
-returns-clause-same g c = ap (with_scratch c.args.active.now) (sym (returns-clause-run g c).scratch)
+    let run = subst (λ (r : BlockRun). HasRun r c.run_block.result c.run_block.new.group c.run_block.new.scratch) same c.run_block.ensures.run in
+    record {
+      run = run;
+      same = ap (with_scratch c.args.active.now) (sym run.scratch);
+    }

@@ -1,12 +1,11 @@
-use Rattle.std.proofs.Common.{false, take, subst, sym, ◌∙◌}
+use Rattle.std.proofs.Common.{false, subst, sym, ◌∙◌}
 use Rattle.common_definitions.specs.Bytes.{AreBytes}
 use Rattle.interval_domain.specs.Intervals.{intervals}
-use Rattle.device_events.specs.Replies.{ReplyWithData, data_length}
 use Rattle.device_meaning.specs.Events.{HasHappened}
 use Rattle.device_meaning.specs.State.{State}
 use Rattle.device_events.specs.declared.event.Event.{Event}
 use Rattle.device_events.specs.declared.event.Event.TheVariants as event
-use Rattle.runner.specs.steps.Answered.{as_submission}
+use Rattle.runner.specs.steps.Answered.{with_data}
 use Rattle.runner.specs.DeviceState.{device_state}
 use Rattle.runner.proofs.Happened.{reached_by, reached_more, submission_happened}
 use Rattle.runner.proofs.device.Device.apply.Goals as goal
@@ -18,9 +17,8 @@ invariant_of-self c =
     let made = c.new-submission in
     let old = device_state d.namespace d.slots d.runs in
     let new = device_state c.submit.new.namespace c.submit.new.slots c.submit.new.runs in
-    let sub = as_submission made.result in
-    let reply : ReplyWithData = record { reply = c.submit.result; bytes = take (data_length c.submit.result) c.submit.new.output } in
-    let happened = submission_happened e.queue e.entry e.input sub old new reply made.ensures.queue made.ensures.entry
+    let reply = with_data c.submit.result c.submit.new.output in
+    let happened = submission_happened e.queue e.entry e.input made.result old new reply made.ensures.queue made.ensures.entry
     (made.ensures.input ∙ c.as_slice.ensures.value) c.submit.ensures.submitted in
     let bytes : AreBytes e.input.items = subst AreBytes c.as_slice.ensures.value made.ensures.bytes in
     record {
@@ -44,9 +42,8 @@ returns-in-Submit-clause-happened c =
     let made = c.new-submission in
     let old = device_state d.namespace d.slots d.runs in
     let new = device_state c.submit.new.namespace c.submit.new.slots c.submit.new.runs in
-    let sub = as_submission made.result in
-    let reply : ReplyWithData = record { reply = c.submit.result; bytes = take (data_length c.submit.result) c.submit.new.output } in
-    let happened = submission_happened e.queue e.entry e.input sub old new reply made.ensures.queue made.ensures.entry
+    let reply = with_data c.submit.result c.submit.new.output in
+    let happened = submission_happened e.queue e.entry e.input made.result old new reply made.ensures.queue made.ensures.entry
     (made.ensures.input ∙ c.as_slice.ensures.value) c.submit.ensures.submitted in
     subst (λ (x : Event). HasHappened intervals x c.args.self.now new reply) (sym e.is)
     (subst (λ (s : State). HasHappened intervals (event.Submit e.queue e.entry e.input) s new reply) c.self.view_is happened)
