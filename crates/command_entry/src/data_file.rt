@@ -3,8 +3,7 @@
 ghost use Rattle.std.specs.Prelude.{◌≡◌, ◌≤◌, IfOk, vec_len};
 
 use crate::numbers::block_count;
-use command_failure::{DataFault, Failure};
-use command_files::{Files, read};
+use command_files::{DataFault, Failure, Files, read};
 use nvme_entry::{BlockCount, MOST_TRANSFER};
 use program_interface::BlockSize;
 

@@ -11,9 +11,8 @@ use crate::identifiers::{INTO, Identifiers};
 use crate::printing::print;
 use crate::{programs, transfers, zones};
 use clap::{ArgMatches, Command};
-use command_failure::Failure;
-use command_files::Files;
 use command_files::arguments::{and_command, no_command};
+use command_files::{Failure, Files};
 use std::alloc::{AllocError, Global};
 use std::io::Write;
 

@@ -6,7 +6,7 @@ ghost use Rattle.command_entry.specs.Identifiers.{IsNextIdentifier, identifier_i
 
 use crate::numbers::identifier;
 use clap::{ArgMatches, Command};
-use command_failure::Failure;
+use command_files::Failure;
 use command_files::arguments::{and_argument, option};
 use device_events::Event;
 use nvme_entry::Entry;

@@ -1,7 +1,7 @@
 //! Numbers that the words of an entry give.
 
 use clap::{Arg, ArgMatches};
-use command_failure::Failure;
+use command_files::Failure;
 use command_files::arguments::{not_in_range, number_or_hexadecimal_in_range, option};
 use nvme_entry::{BlockCount, DwordCount, MOST_BLOCKS, MOST_DWORDS, PROGRAM_SLOTS, ProgramSlot};
 use std::alloc::Global;

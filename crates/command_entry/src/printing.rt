@@ -5,7 +5,7 @@ ghost use Rattle.std.specs.Io.KnownBytes.{Appends};
 ghost use Rattle.nvme_entry.specs.Encoding.{program_length};
 ghost use Rattle.command_entry.specs.Printed.{IsCommandLine, PrintsCommand};
 
-use command_failure::{Failure, printed};
+use command_files::{Failure, printed};
 use event_text::submission_line;
 use nvme_entry::{Command, Entry, MOST_TRANSFER};
 use std::alloc::{AllocError, Global};

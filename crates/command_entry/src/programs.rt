@@ -7,12 +7,11 @@ use crate::data_file::read_data;
 use crate::identifiers::and_identifiers;
 use crate::numbers::{BLOCKS, address, blocks, blocks_option, slot};
 use clap::{Arg, ArgAction, ArgMatches, Command};
-use command_failure::Failure;
-use command_files::Files;
 use command_files::arguments::{
     ARGUMENT_OPTION, EMIT_OPTION, PROGRAM, and_argument, argument_option, emit_option,
     number_or_hexadecimal, option, program_argument, required,
 };
+use command_files::{Failure, Files};
 use nvme_entry::{LoadCommand, RunCommand};
 use std::alloc::{AllocError, Global};
 

@@ -7,11 +7,10 @@ use crate::data_file::{read_data, whole_blocks};
 use crate::identifiers::and_identifiers;
 use crate::numbers::{BLOCKS, LBA, address, blocks, blocks_option, lba_option};
 use clap::{ArgMatches, Command};
-use command_failure::Failure;
-use command_files::Files;
 use command_files::arguments::{
     BLOCK_OPTION, and_argument, block_option, block_size, number_or_hexadecimal, option, required,
 };
+use command_files::{Failure, Files};
 use nvme_entry::{BlockCount, StandardCommand};
 use std::alloc::{AllocError, Global};
 

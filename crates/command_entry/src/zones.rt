@@ -4,7 +4,7 @@ use crate::asked::Asked;
 use crate::identifiers::and_identifiers;
 use crate::numbers::{LBA, address, dwords, lba_option};
 use clap::{Arg, ArgAction, ArgGroup, ArgMatches, Command};
-use command_failure::Failure;
+use command_files::Failure;
 use command_files::arguments::{and_argument, and_command, option, required};
 use nvme_entry::{StandardCommand, ZoneFilter};
 use std::alloc::{AllocError, Global};

@@ -4,10 +4,9 @@ use Rattle.std.specs.Borrow.{Bor}
 use Rattle.event_text.specs.CommandFile.{events_in, refused_line}
 use Rattle.event_text.specs.declared.command_file.ParseFault.{ParseFault}
 use Rattle.event_text.specs.declared.command_file.ParseFault.TheVariants.{Line, Memory}
-use Rattle.command_failure.specs.UserTold.{told_of_commands}
-use Rattle.command_failure.specs.declared.failure.Failure.{Failure}
-use Rattle.command_failure.specs.declared.failure.Failure.TheVariants.{CannotPrint, CannotRead, CannotWrite, LineRefused, NoMemory}
-use Rattle.command_files.specs.UserTold.{IsUnread}
+use Rattle.command_files.specs.UserTold.{IsUnread, told_of_commands}
+use Rattle.command_files.specs.declared.failure.Failure.{Failure}
+use Rattle.command_files.specs.declared.failure.Failure.TheVariants.{CannotPrint, CannotRead, CannotWrite, LineRefused, NoMemory}
 use Rattle.command_files.proofs.Proved.{read_holds, same_name, unread_holds}
 use Rattle.command_images.specs.UserTold.{IsUnheld, LoadingFails, UpgradeFails}
 use Rattle.command_exec.specs.UserTold.{ExecFails}

@@ -1,8 +1,8 @@
 -- Why `exec` ends before its work is done (profile).
 use Rattle.std.specs.Prelude.{◌≡◌, ◌⊎◌, ℕ, List, Option, Err, IfSome}
 use Rattle.event_text.specs.CommandFile.{events_in}
-use Rattle.command_failure.specs.declared.failure.Failure.{Failure}
-use Rattle.command_failure.specs.declared.failure.Failure.TheVariants.{CannotPrint, CannotRead, CannotWrite, LineRefused}
+use Rattle.command_files.specs.declared.failure.Failure.{Failure}
+use Rattle.command_files.specs.declared.failure.Failure.TheVariants.{CannotPrint, CannotRead, CannotWrite, LineRefused}
 use Rattle.command_images.specs.UserTold.{LoadingFails}
 
 -- why `exec` ends before its work is done: standard output fails; the image file can't be written; it or the command file can't

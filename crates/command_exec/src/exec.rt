@@ -10,9 +10,8 @@ ghost use Rattle.command_exec.specs.UserTold.{ExecFails};
 ghost use Rattle.command_exec.specs.steps.Told.{SavingFails};
 
 use clap::{Arg, ArgMatches, Command};
-use command_failure::Failure;
 use command_files::arguments::{and_argument, required};
-use command_files::{Files, read};
+use command_files::{Failure, Files, read};
 use command_images::image_file::{self, IMAGE};
 use event_text::Lines;
 use runner::{Device, Event, Stopped};

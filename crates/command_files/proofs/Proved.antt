@@ -2,9 +2,9 @@
 use Rattle.std.proofs.Common.{◌≡◌, ℕ, List, Option, Some, None, IfSome, ◌∙◌, ap, refl, subst, sym}
 use Rattle.std.specs.Borrow.{Bor}
 use Rattle.std.proofs.lemmas.Option.{IfSome_then}
-use Rattle.command_failure.specs.declared.failure.Failure.{Failure}
-use Rattle.command_failure.specs.declared.failure.Failure.TheVariants.{CannotRead, CannotWrite, NoMemory}
-use Rattle.command_failure.specs.declared.file_cause.FileCause.{FileCause}
+use Rattle.command_files.specs.declared.failure.Failure.{Failure}
+use Rattle.command_files.specs.declared.failure.Failure.TheVariants.{CannotRead, CannotWrite, NoMemory}
+use Rattle.command_files.specs.declared.file_cause.FileCause.{FileCause}
 use Rattle.command_files.specs.Made.{KeepsModes, KeepsOthers}
 use Rattle.command_files.specs.UserTold.{IsUnread, IsUnwritten}
 

@@ -1,3 +1,9 @@
+pub mod DataFault
+pub mod Failure
+pub mod FileCause
+pub mod Laws
+pub mod Lines
+pub mod Shown
 pub mod Number
 pub mod Arguments
 pub mod Made

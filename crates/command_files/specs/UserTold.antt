@@ -1,15 +1,41 @@
--- What an error of the system is told as, a file that can't be read or written, and a word that spells no number of a range (profile).
+-- What an error is told as (profile): of the system, of the command line, of a command file, of a file that can't be read or
+-- written, and of a word that spells no number of a range.
 use Rattle.std.specs.Prelude.{◌≡◌, ◌<◌, ◌⊎◌, ℕ, List, Option, IfSome}
 use Rattle.std.specs.Borrow.{Bor}
 use Rattle.std.specs.declared.io.ErrorKind.{ErrorKind}
 use Rattle.std.specs.declared.io.ErrorKind.TheVariants as system
+use Rattle.clap.specs.Words.{kind_of}
+use Rattle.clap.specs.declared.error.Error.{Error}
+use Rattle.clap.specs.declared.error.kind.ErrorKind as clap
+use Rattle.clap.specs.declared.error.kind.ErrorKind.TheVariants as kind
 use Rattle.clap.specs.declared.parser.matches.ArgMatches.{ArgMatches}
-use Rattle.command_failure.specs.declared.failure.Failure.{Failure}
-use Rattle.command_failure.specs.declared.failure.Failure.TheVariants.{CannotRead, CannotWrite, NotInRange, NoMemory}
-use Rattle.command_failure.specs.declared.file_cause.FileCause.TheVariants as file_cause
+use Rattle.event_text.specs.declared.command_file.ParseFault.{ParseFault}
+use Rattle.event_text.specs.declared.command_file.ParseFault.TheVariants.{Line, Memory}
 use Rattle.command_files.specs.Arguments.{number_of, number_or_hexadecimal_of, value_of}
+use Rattle.command_files.specs.declared.failure.Failure.{Failure}
+use Rattle.command_files.specs.declared.failure.Failure.TheVariants.{CannotRead, CannotWrite, CommandLine, LineRefused, NotInRange, NotText, NoMemory}
+use Rattle.command_files.specs.declared.file_cause.FileCause.TheVariants as file_cause
 use Rattle.command_files.specs.declared.files.FileFault.{FileFault}
 use Rattle.command_files.specs.declared.files.FileFault.TheVariants as file
+
+-- a word of the command line that can't be read
+abbrev pub told_of_words : ErrorKind → Failure
+told_of_words system.OutOfMemory = NoMemory
+told_of_words _ = NotText
+
+-- a command line that is wrong, by the kind of what is wrong with it
+abbrev pub told_of_kind : Error → clap.ErrorKind → Failure
+told_of_kind error kind.OutOfMemory = NoMemory
+told_of_kind error _ = CommandLine error
+
+-- a command line that is wrong
+abbrev pub told_of_command_line : Error → Failure
+told_of_command_line error = told_of_kind error (kind_of error)
+
+-- a file that is no command file: its name, the number of its lowest line that is refused, and why it is refused
+abbrev pub told_of_commands : Bor (List ℕ) → ParseFault → Failure
+told_of_commands path (Line number fault) = LineRefused path number fault
+told_of_commands path Memory = NoMemory
 
 -- a file that the system refuses
 abbrev pub told_of_file : ErrorKind → FileFault

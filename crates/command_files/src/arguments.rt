@@ -5,10 +5,10 @@ ghost use Rattle.program_interface.specs.BlockSize.{block_size as size_of_bytes}
 ghost use Rattle.command_files.specs.Arguments.{number_of, number_or_hexadecimal_of, value_of};
 ghost use Rattle.command_files.specs.UserTold.{IsNotInRange, SpellsNone, SpellsNoneOrHexadecimal};
 
+use crate::failure::Failure;
 use crate::numbers::decimal_or_hexadecimal;
 use clap::error::ErrorKind;
 use clap::{Arg, ArgAction, ArgMatches, Command};
-use command_failure::Failure;
 use image_store::GeometryRefusal;
 use program_interface::BlockSize;
 use std::alloc::{AllocError, Global};

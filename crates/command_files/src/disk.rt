@@ -2,9 +2,9 @@
 
 ghost use Rattle.std.specs.Prelude.{◌≡◌, [], IfOk, None, option_map, string_bytes};
 
+use crate::file_cause::FileCause;
 use crate::files::{FileFault, Files};
 use crate::held_file::{HeldFile, behind_links, folder_of};
-use command_failure::FileCause;
 use image_text::{Sink, Source, StreamFault};
 use std::alloc::{AllocError, Global};
 use std::fs::File;

@@ -6,7 +6,7 @@ ghost use Rattle.command_files.specs.Made.{HasReplaced, KeepsModes, Made, then_m
 ghost use Rattle.command_files.specs.UserTold.{told_of_file};
 ghost use Rattle.command_files.specs.declared.files.FileFault.TheVariants.{Memory};
 
-use command_failure::FileCause;
+use crate::file_cause::FileCause;
 use image_text::{Sink, Source};
 use std::alloc::AllocError;
 use std::io::{self, ErrorKind};

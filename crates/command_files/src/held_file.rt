@@ -3,8 +3,8 @@
 ghost use Rattle.std.specs.Prelude.{◌≡◌, bit_and};
 ghost use Rattle.std.specs.Fs.{metadata_mode, permissions_mode};
 
+use crate::file_cause::FileCause;
 use crate::files::FileFault;
-use command_failure::FileCause;
 use std::fs::{File, Metadata, OpenOptions, Permissions, TryLockError};
 use std::io::{self, ErrorKind, Seek};
 use std::os::unix::fs::{MetadataExt, OpenOptionsExt, PermissionsExt, fchown};

@@ -1,18 +1,28 @@
-//! The files that a command names, how the words of a command line are read, also those that spell numbers, and numbers as a
-//! user reads them.
+//! What commands share: why they end before their work is done, what the user is told and the exit status; the files that they
+//! name; how the words of a command line are read, also those that spell numbers; and numbers as a user reads them.
 #![tactic(auto)]
 
 pub mod arguments;
 mod counted;
+mod data_fault;
 mod disk;
+mod failure;
+mod file_cause;
 mod files;
 mod held_file;
+pub mod laws;
+mod lines;
 mod memory_files;
 mod numbers;
+mod shown;
 mod whole;
 
 pub use counted::Counted;
+pub use data_fault::DataFault;
 pub use disk::{Disk, FileReader, FileWriter};
+pub use failure::{Conclusion, Failure, conclude, printed};
+pub use file_cause::FileCause;
 pub use files::{FileFault, Files};
 pub use memory_files::{MemoryFiles, MemoryReader, MemoryWriter};
+pub use shown::Shown;
 pub use whole::{cannot_read, cannot_write, read, size_as_block, write};

@@ -4,8 +4,8 @@ ghost use Rattle.std.specs.Prelude.{◌≡◌, [], ◌∷◌, ◌++◌, drop, fa
 ghost use Rattle.command_files.specs.Made.{HasReplaced, KeepsModes};
 ghost use Rattle.command_files.specs.MemoryFiles.{bytes_named, last_named, made_of, mode_named};
 
+use crate::file_cause::FileCause;
 use crate::files::{FileFault, Files};
-use command_failure::FileCause;
 use image_text::{Sink, Source, StreamFault};
 use std::alloc::{AllocError, Global};
 

@@ -5,8 +5,8 @@ ghost use Rattle.program_interface.specs.BlockSize.{block_size as size_of_bytes}
 ghost use Rattle.command_files.specs.Made.{HasReplaced, then_made};
 ghost use Rattle.command_files.specs.UserTold.{IsUnread, IsUnwritten, told_unread, told_unwritten};
 
+use crate::failure::Failure;
 use crate::files::{FileFault, Files};
-use command_failure::Failure;
 use program_interface::{BlockSize, LARGEST_BLOCK};
 
 /// All bytes of a file. Where it can't be read, its name is told. No file changes.

@@ -9,8 +9,8 @@ use Rattle.image_text.specs.Reading.{namespace_in}
 use Rattle.image_text.specs.Text.{text}
 use Rattle.common_definitions.specs.Checks.{first_failed}
 use Rattle.common_definitions.proofs.Proved.{value_given}
-use Rattle.command_failure.specs.declared.failure.Failure.{Failure}
-use Rattle.command_failure.specs.declared.failure.Failure.TheVariants.{CannotRead, CannotWrite, NoMemory, NotAnImage, NotInRange}
+use Rattle.command_files.specs.declared.failure.Failure.{Failure}
+use Rattle.command_files.specs.declared.failure.Failure.TheVariants.{CannotRead, CannotWrite, NoMemory, NotAnImage, NotInRange}
 use Rattle.command_files.specs.Made.{Made, then_made}
 use Rattle.command_files.specs.UserTold.{IsUnwritten, SpellsNone}
 use Rattle.command_files.proofs.Proved.{same_name, unwritten_holds}

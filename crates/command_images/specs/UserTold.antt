@@ -6,8 +6,8 @@ use Rattle.clap.specs.declared.parser.matches.ArgMatches.{ArgMatches}
 use Rattle.image_store.specs.Geometry.{Shape, tested}
 use Rattle.image_text.specs.Reading.{namespace_in}
 use Rattle.image_store.specs.declared.geometry.GeometryRefusal.{GeometryRefusal}
-use Rattle.command_failure.specs.declared.failure.Failure.{Failure}
-use Rattle.command_failure.specs.declared.failure.Failure.TheVariants.{NotInRange, CannotRead, CannotWrite, NoMemory, NotAnImage, GeometryRefused, ImageRefused}
+use Rattle.command_files.specs.declared.failure.Failure.{Failure}
+use Rattle.command_files.specs.declared.failure.Failure.TheVariants.{NotInRange, CannotRead, CannotWrite, NoMemory, NotAnImage, GeometryRefused, ImageRefused}
 use Rattle.command_files.specs.UserTold.{IsUnwritten, SpellsNone}
 use Rattle.command_images.specs.Images.{IsAnother, IsAskedFor, IsForced}
 

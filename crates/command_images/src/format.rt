@@ -10,11 +10,10 @@ ghost use Rattle.command_images.specs.steps.Beginnings.{may_begin};
 
 use crate::image_file::{self, IMAGE};
 use clap::{Arg, ArgAction, ArgMatches, Command};
-use command_failure::Failure;
 use command_files::arguments::{
     BLOCK_OPTION, and_argument, block_option, number, option, required,
 };
-use command_files::{Files, cannot_write};
+use command_files::{Failure, Files, cannot_write};
 use image_store::{Geometry, Image, Limits};
 use image_text::Version;
 use std::alloc::{AllocError, Global};

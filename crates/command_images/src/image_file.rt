@@ -9,8 +9,7 @@ ghost use Rattle.command_images.specs.Images.{HasText};
 ghost use Rattle.command_images.specs.UserTold.{IsUnheld, LoadingFails, UpgradeFails};
 ghost use Rattle.command_images.specs.steps.Told.{told_of_image};
 
-use command_failure::{Failure, FileCause};
-use command_files::{FileFault, Files, cannot_read, cannot_write};
+use command_files::{Failure, FileCause, FileFault, Files, cannot_read, cannot_write};
 use image_store::Image;
 use image_text::{ImageText, LoadFault, Source, StreamFault};
 use std::alloc::Global;

@@ -8,9 +8,8 @@ ghost use Rattle.command_images.specs.UserTold.{UpgradeFails};
 
 use crate::image_file::{self, IMAGE};
 use clap::{Arg, ArgMatches, Command};
-use command_failure::Failure;
-use command_files::Files;
 use command_files::arguments::required;
+use command_files::{Failure, Files};
 use std::alloc::{AllocError, Global};
 
 /// The command's name.

@@ -4,9 +4,8 @@ ghost use Rattle.std.specs.Prelude.{◌≡◌};
 
 use crate::image_file::{self, IMAGE};
 use clap::{Arg, ArgMatches, Command};
-use command_failure::{Failure, printed};
-use command_files::Files;
 use command_files::arguments::required;
+use command_files::{Failure, Files, printed};
 use std::alloc::{AllocError, Global};
 use std::io::{self, Write};
 use zone_state::Zone;

@@ -4,8 +4,8 @@ use Rattle.std.specs.Borrow.{Bor}
 use Rattle.ebpf_asm.specs.Assembly.{assembled, fault_in}
 use Rattle.ebpf_asm.specs.declared.fault.AssembleFault.{AssembleFault}
 use Rattle.ebpf_asm.specs.declared.fault.AssembleFault.TheVariants.{Fault, Memory}
-use Rattle.command_failure.specs.declared.failure.Failure.{Failure}
-use Rattle.command_failure.specs.declared.failure.Failure.TheVariants.{NoMemory, CannotWrite, AssemblyRefused}
+use Rattle.command_files.specs.declared.failure.Failure.{Failure}
+use Rattle.command_files.specs.declared.failure.Failure.TheVariants.{NoMemory, CannotWrite, AssemblyRefused}
 use Rattle.command_files.specs.Made.{Made}
 use Rattle.command_files.specs.UserTold.{IsUnread}
 use Rattle.command_files.proofs.Proved.{read_holds, same_name, unread_holds}

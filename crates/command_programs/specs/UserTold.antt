@@ -1,8 +1,8 @@
 -- Why `asm` makes no program (profile).
 use Rattle.std.specs.Prelude.{◌≡◌, ℕ, List, Option, Err, IfSome}
 use Rattle.ebpf_asm.specs.Assembly.{assembled}
-use Rattle.command_failure.specs.declared.failure.Failure.{Failure}
-use Rattle.command_failure.specs.declared.failure.Failure.TheVariants.{NoMemory, CannotRead, CannotWrite, AssemblyRefused}
+use Rattle.command_files.specs.declared.failure.Failure.{Failure}
+use Rattle.command_files.specs.declared.failure.Failure.TheVariants.{NoMemory, CannotRead, CannotWrite, AssemblyRefused}
 
 -- why `asm` makes no program: the first fault of the text file's bytes, where these are told, a file that can't be read or
 -- written, or want of memory, and nothing else

@@ -9,9 +9,8 @@ ghost use Rattle.command_programs.specs.UserTold.{AsmFails};
 ghost use Rattle.command_programs.specs.steps.Told.{IsToldOfAssembly, MakesNone};
 
 use clap::{Arg, ArgMatches, Command};
-use command_failure::Failure;
 use command_files::arguments::{PROGRAM, and_argument, required};
-use command_files::{Files, read, write};
+use command_files::{Failure, Files, read, write};
 use ebpf_asm::{AssembleFault, AssemblyRefusal, assemble};
 use std::alloc::{AllocError, Global};
 

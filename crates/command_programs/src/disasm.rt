@@ -4,9 +4,8 @@ ghost use Rattle.std.specs.Prelude.{◌≡◌};
 
 use crate::program::program_in_file;
 use clap::{Arg, ArgAction, ArgMatches, Command};
-use command_failure::{Failure, printed};
-use command_files::Files;
 use command_files::arguments::{PROGRAM, and_argument, program_argument, required};
+use command_files::{Failure, Files, printed};
 use ebpf_asm::{disassemble, disassemble_with_slots};
 use std::alloc::{AllocError, Global};
 use std::io::Write;

@@ -3,8 +3,7 @@
 ghost use Rattle.std.specs.Prelude.{◌≡◌};
 ghost use Rattle.command_programs.specs.steps.Told.{told_of_program};
 
-use command_failure::Failure;
-use command_files::{Files, read};
+use command_files::{Failure, Files, read};
 use ebpf_decode::{DecodeFault, ProgramRefusal, decode};
 use instruction_set::Program;
 use std::alloc::Global;

@@ -6,7 +6,7 @@ ghost use Rattle.program_interface.specs.RunSizes.{sizes_with};
 ghost use Rattle.command_programs.specs.steps.Sizes.{IsLimit, SpellsNoLimit};
 
 use clap::ArgMatches;
-use command_failure::Failure;
+use command_files::Failure;
 use command_files::arguments::{EMIT_OPTION, number};
 use program_interface::{BlockSize, RunSizes};
 

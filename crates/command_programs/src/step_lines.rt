@@ -1,7 +1,6 @@
 //! What an instruction changed, or why it can't be done, on a line.
 
-use command_failure::{Failure, printed};
-use command_files::Counted;
+use command_files::{Counted, Failure, printed};
 use ebpf_asm::instruction_text;
 use instruction_set::{Instruction, Register};
 use interp::Machine;

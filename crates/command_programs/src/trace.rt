@@ -9,12 +9,11 @@ use crate::program::program_in_file;
 use crate::sizes::{limit, run_sizes};
 use crate::step_lines::{Emitting, print_cause, print_changes};
 use clap::{Arg, ArgAction, ArgMatches, Command};
-use command_failure::{Failure, printed};
 use command_files::arguments::{
     ARGUMENT_OPTION, PROGRAM, and_argument, argument_option, emit_option, number, option,
     program_argument, required,
 };
-use command_files::{Files, read, size_as_block};
+use command_files::{Failure, Files, printed, read, size_as_block};
 use instruction_set::Program;
 use interp::{Machine, Step};
 use program_interface::{

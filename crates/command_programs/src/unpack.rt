@@ -4,11 +4,10 @@ ghost use Rattle.std.specs.Prelude.{◌≡◌};
 ghost use Rattle.command_programs.specs.steps.Told.{IsToldOfFrame};
 
 use clap::{Arg, ArgMatches, Command};
-use command_failure::{Failure, printed};
 use command_files::arguments::{
     BLOCK_OPTION, and_argument, block_option, block_size, number, required,
 };
-use command_files::{Files, read};
+use command_files::{Failure, Files, printed, read};
 use emit_append::{BlockSize, FrameRefusal, UnpackFault, unpack as records_of};
 use std::alloc::{AllocError, Global};
 use std::io::Write;

@@ -7,12 +7,11 @@ use crate::refusal_lines::RefusedInstruction;
 use crate::sizes::{limit, run_sizes};
 use accepted_programs::{Facts, Refusal};
 use clap::{Arg, ArgAction, ArgMatches, Command};
-use command_failure::{Failure, printed};
 use command_files::arguments::{
     BLOCK_OPTION, PROGRAM, and_argument, block_option, block_size, emit_option, number,
     program_argument, required,
 };
-use command_files::{Counted, Files};
+use command_files::{Counted, Failure, Files, printed};
 use ebpf_asm::instruction_text;
 use instruction_set::Program;
 use interval_domain::Intervals;

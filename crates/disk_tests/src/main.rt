@@ -3,8 +3,7 @@
 
 ghost use Rattle.std.specs.Prelude.{◌≡◌, OnOk, Some};
 
-use command_failure::FileCause;
-use command_files::{Disk, FileFault, Files};
+use command_files::{Disk, FileCause, FileFault, Files};
 use image_text::{Sink, Source};
 use std::io::{self, Write};
 use std::str;

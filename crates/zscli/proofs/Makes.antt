@@ -1,8 +1,8 @@
 -- How many files a command makes.
 use Rattle.std.proofs.Common.{◌≡◌, ◌≢◌, ℕ, List, Option, Result, Ok, Err, OnOk, IfErr, inl, inr, refl}
 use Rattle.command_files.specs.Made.{Made, MakesAtMost, MakesAtMostOne}
-use Rattle.command_failure.specs.declared.failure.Failure.{Failure}
-use Rattle.command_failure.specs.declared.failure.Failure.TheVariants.{CannotPrint}
+use Rattle.command_files.specs.declared.failure.Failure.{Failure}
+use Rattle.command_files.specs.declared.failure.Failure.TheVariants.{CannotPrint}
 
 -- none with this name, or one, is at most one
 at_most_one : (path : List ℕ) (before after : Option (List Made)) → MakesAtMost path before after → MakesAtMostOne before after

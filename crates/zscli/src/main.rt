@@ -5,8 +5,7 @@ mod commands;
 #[cfg(test)]
 mod tests;
 
-use command_failure::{Failure, conclude};
-use command_files::Disk;
+use command_files::{Disk, Failure, conclude};
 use commands::command;
 use std::env::{self, Env};
 use std::io;

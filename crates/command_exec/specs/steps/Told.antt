@@ -1,8 +1,8 @@
 -- Why events aren't all done and saved.
 use Rattle.std.specs.Prelude.{ℕ, List}
 use Rattle.std.specs.Borrow.{Bor}
-use Rattle.command_failure.specs.declared.failure.Failure.{Failure}
-use Rattle.command_failure.specs.declared.failure.Failure.TheVariants.{CannotPrint}
+use Rattle.command_files.specs.declared.failure.Failure.{Failure}
+use Rattle.command_files.specs.declared.failure.Failure.TheVariants.{CannotPrint}
 use Rattle.command_images.specs.UserTold.{IsUnheld}
 
 -- standard output fails, the file with this name can't be read again or written, or memory is wanting, and nothing else

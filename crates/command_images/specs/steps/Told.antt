@@ -3,9 +3,9 @@ use Rattle.std.specs.Prelude.{ℕ, List}
 use Rattle.std.specs.Borrow.{Bor}
 use Rattle.image_text.specs.declared.fault.LoadFault.{LoadFault}
 use Rattle.image_text.specs.declared.fault.LoadFault.TheVariants.{Stream, Memory}
-use Rattle.command_failure.specs.declared.failure.Failure.{Failure}
-use Rattle.command_failure.specs.declared.file_cause.FileCause.TheVariants.{Other}
-use Rattle.command_failure.specs.declared.failure.Failure.TheVariants.{CannotRead, ImageRefused, NoMemory}
+use Rattle.command_files.specs.declared.failure.Failure.{Failure}
+use Rattle.command_files.specs.declared.file_cause.FileCause.TheVariants.{Other}
+use Rattle.command_files.specs.declared.failure.Failure.TheVariants.{CannotRead, ImageRefused, NoMemory}
 
 -- the fault, but where the stream or memory failed, which says nothing of the file
 abbrev pub told_of_image : Bor (List ℕ) → LoadFault → Failure

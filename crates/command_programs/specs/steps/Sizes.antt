@@ -2,7 +2,7 @@
 use Rattle.std.specs.Prelude.{◌≡◌, ℕ, List, codes, Option, Some, None}
 use Rattle.std.specs.Borrow.{Bor}
 use Rattle.clap.specs.declared.parser.matches.ArgMatches.{ArgMatches}
-use Rattle.command_failure.specs.declared.failure.Failure.{Failure}
+use Rattle.command_files.specs.declared.failure.Failure.{Failure}
 use Rattle.command_files.specs.Arguments.{number_of}
 use Rattle.command_files.specs.UserTold.{SpellsNone}
 

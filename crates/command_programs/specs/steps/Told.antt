@@ -10,8 +10,8 @@ use Rattle.ebpf_decode.specs.declared.fault.DecodeFault.TheVariants as program
 use Rattle.emit_append.specs.Refusal.{refused_byte}
 use Rattle.emit_append.specs.declared.fault.UnpackFault.{UnpackFault}
 use Rattle.emit_append.specs.declared.fault.UnpackFault.TheVariants as frame
-use Rattle.command_failure.specs.declared.failure.Failure.{Failure}
-use Rattle.command_failure.specs.declared.failure.Failure.TheVariants.{NoMemory, CannotWrite, AssemblyRefused, ProgramRefused, FrameRefused}
+use Rattle.command_files.specs.declared.failure.Failure.{Failure}
+use Rattle.command_files.specs.declared.failure.Failure.TheVariants.{NoMemory, CannotWrite, AssemblyRefused, ProgramRefused, FrameRefused}
 
 -- of a text that isn't assembled: the file, and the fault with its line
 abbrev pub IsToldOfAssembly : Bor (List ℕ) → AssembleFault → Failure → Type 0

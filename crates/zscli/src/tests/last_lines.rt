@@ -1,7 +1,7 @@
 //! The last line on standard error of each failure, with nothing behind it, and its status.
 
 use super::scenes::{Act, EMPTY_ZONE, LIMITS, MAGIC, Scene, ZONE_NUMBERS, play};
-use command_failure::{Failure, conclude};
+use command_files::{Failure, conclude};
 use std::test::Fail;
 use test_inputs::slots;
 

@@ -2,8 +2,7 @@
 
 use super::submissions::submission;
 use crate::commands::command;
-use command_failure::conclude;
-use command_files::MemoryFiles;
+use command_files::{MemoryFiles, conclude};
 use std::alloc::{AllocError, Global};
 use std::io::{self, Write};
 use std::process::Abort;

@@ -1,7 +1,0 @@
-use Rattle.std.proofs.Common.{arith}
-use Rattle.std.proofs.lemmas.Grind.{common_steps}
-use Rattle.command_failure.proofs.ShownLemmas.{encode_high}
-use Rattle.command_failure.proofs.shown.write_character.Goals as goal
-
-pub returns-in_ok-write_byte : goal.returns-in_ok-write_byte
-returns-in_ok-write_byte g c = grind (arith, common_steps, encode_high)

@@ -1,0 +1,46 @@
+//! Why a file can't be read or written.
+
+ghost use Rattle.std.specs.Prelude.{◌≡◌};
+ghost use Rattle.command_files.specs.FileCause.{cause_words};
+
+/// Why a file can't be read or written, as far as the system tells.
+#[derive(Clone, Copy, Debug, PartialEq, Eq)]
+pub enum FileCause {
+    /// No file or folder has the name.
+    NotFound,
+    /// The user may not.
+    PermissionDenied,
+    /// What stands before a `/` of the name is no folder.
+    NotADirectory,
+    /// The name is a folder's.
+    IsADirectory,
+    /// Nothing can be written to the file system.
+    ReadOnlyFilesystem,
+    /// The file system, or what the user may have of it, is full.
+    NoRoom,
+    /// Another command works on the file.
+    InUse,
+    /// The name is that of a device, a pipe or a socket, or of another thing that holds no bytes.
+    NotOrdinary,
+    /// Another one, or none that is told.
+    Other,
+}
+
+impl FileCause {
+    /// What the user is told of the file: nothing of another cause.
+    pub fn words(self) -> &'static str
+        ensures { result.now ≡ cause_words self }
+    {
+        match self {
+            FileCause::NotFound => "no such file or folder",
+            FileCause::PermissionDenied => "permission denied",
+            FileCause::NotADirectory => "a part of its path is no folder",
+            FileCause::IsADirectory => "it is a folder",
+            FileCause::ReadOnlyFilesystem => "the file system is read-only",
+            FileCause::NoRoom => "no room is left",
+            FileCause::InUse => "in use by another command",
+            FileCause::NotOrdinary => "not an ordinary file",
+            FileCause::Other => "",
+        }
+    }
+}
