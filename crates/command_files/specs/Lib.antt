@@ -7,5 +7,6 @@ pub mod Shown
 pub mod Number
 pub mod Arguments
 pub mod Made
+pub mod Surroundings
 pub mod MemoryFiles
 pub mod UserTold

@@ -1,5 +1,5 @@
 -- What a failure is printed as (profile).
-use Rattle.std.specs.Prelude.{◌≡◌, ℕ, List, [], ◌∷◌, ◌++◌, codes, Option}
+use Rattle.std.specs.Prelude.{◌≡◌, ℕ, List, [], ◌∷◌, ◌++◌, codes, Option, IfSome}
 use Rattle.std.specs.Fmt.{decimal}
 use Rattle.std.specs.Io.KnownBytes.{Appends}
 use Rattle.ebpf_asm.specs.Fault.{fault_number as assembly_number}
@@ -39,7 +39,8 @@ sentence front behind = Around front (10 ∷ behind ++ 10 ∷ [])
 -- the word of an option that is no number from the least to the most
 abbrev pub range_text : List ℕ → List ℕ → ℕ → ℕ → Text
 range_text option word least most =
-    line (codes "error: '" ++ word ++ codes "' for --" ++ option ++ codes " is not a number from " ++ decimal least ++ codes " to " ++ decimal most)
+    line (codes "error: '" ++ word ++ codes "' for --" ++ option
+    ++ codes " is not a number from " ++ decimal least ++ codes " to " ++ decimal most)
 
 -- why a file fails, in a sentence: nothing where the cause isn't known
 abbrev pub cause_sentence : List ℕ → FileCause → List ℕ
@@ -57,7 +58,8 @@ unwritten_text path cause = Said (cause_sentence path cause ++ (codes "cannot wr
 -- a file that isn't replaced by an image, since it has bytes that are none
 abbrev pub not_an_image_text : List ℕ → Text
 not_an_image_text path =
-    Said (path ++ codes ": " ++ codes "it has bytes that are no image; `--force` replaces it" ++ 10 ∷ [] ++ (codes "cannot write " ++ path ++ 10 ∷ []))
+    Said (path ++ codes ": " ++ codes "it has bytes that are no image; `--force` replaces it" ++ 10 ∷ []
+    ++ (codes "cannot write " ++ path ++ 10 ∷ []))
 
 -- a line of a file: what stands in front of why it is refused
 abbrev pub line_front : List ℕ → ℕ → List ℕ
@@ -90,12 +92,14 @@ image_text path fault = sentence (path ++ codes ": ") (codes "image refused " ++
 -- a text that isn't assembled, with the line and the number of the fault
 abbrev pub assembly_text : List ℕ → AssemblyRefusal → Text
 assembly_text path refusal =
-    sentence (path ++ codes ", ") (codes "assembly refused " ++ decimal refusal.fault.line ++ codes " " ++ decimal (assembly_number refusal.fault.kind))
+    sentence (path ++ codes ", ") (codes "assembly refused " ++ decimal refusal.fault.line
+    ++ codes " " ++ decimal (assembly_number refusal.fault.kind))
 
 -- bytes that are no program, with the slot and the number of the fault
 abbrev pub program_text : List ℕ → ProgramRefusal → Text
 program_text path refusal =
-    sentence (path ++ codes ", ") (codes "program refused " ++ decimal refusal.fault.slot ++ codes " " ++ decimal (program_number refusal.fault.kind))
+    sentence (path ++ codes ", ") (codes "program refused " ++ decimal refusal.fault.slot
+    ++ codes " " ++ decimal (program_number refusal.fault.kind))
 
 -- bytes that are no output blocks, with the byte that is refused
 abbrev pub frame_text : List ℕ → FrameRefusal → Text
@@ -113,7 +117,8 @@ not_a_block_text path bytes =
 -- more bytes to be emitted than a block has
 abbrev pub emit_text : ℕ → ℕ → Text
 emit_text emit block =
-    Said (codes "--emit gives " ++ decimal emit ++ codes " bytes, and a block has " ++ decimal block ++ 10 ∷ codes "emit exceeds block" ++ 10 ∷ [])
+    Said (codes "--emit gives " ++ decimal emit ++ codes " bytes, and a block has " ++ decimal block
+    ++ 10 ∷ codes "emit exceeds block" ++ 10 ∷ [])
 
 -- what the user is told of each failure
 abbrev pub failure_text : Failure → Text
@@ -148,3 +153,15 @@ IsPrinted (Said text) old new = Appends old new text
 IsPrinted (Around front behind) old new = GrowsAround front behind old new
 IsPrinted Elsewhere old new = Unit {0}
 IsPrinted Silence old new = new ≡ old
+
+-- a stream grows by a sentence with this front and a line for scripts, where that line's text is known
+abbrev pub PrintsRefusal : List ℕ → Option (List ℕ) → Option (List ℕ) → Option (List ℕ) → Type 0
+PrintsRefusal front behind old new = IfSome behind (λ behind. IsPrinted (sentence front behind) old new)
+
+-- it grows by the name of a file, a mark and words, and a line for scripts, where that line's text is known
+abbrev pub PrintsSentence : List ℕ → List ℕ → List ℕ → Option (List ℕ) → Option (List ℕ) → Option (List ℕ) → Type 0
+PrintsSentence path mark words behind old new = IfSome behind (λ behind. Appends old new (path ++ mark ++ words ++ 10 ∷ behind ++ 10 ∷ []))
+
+-- it grows by what the user is told of a failure
+abbrev pub IsTold : Failure → Option (List ℕ) → Option (List ℕ) → Type 0
+IsTold failure old new = IsPrinted (failure_text failure) old new

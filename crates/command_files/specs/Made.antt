@@ -7,6 +7,10 @@ pub record Made : Type 0 where
   pub path : List ℕ
   pub bytes : List ℕ
 
+-- bytes are those of a file, where these are told
+abbrev pub AreAsTold : Option (List ℕ) → List ℕ → Type 0
+AreAsTold told bytes = IfSome told (λ told. bytes ≡ told)
+
 -- what was made before, where that is told, and then this file
 abbrev pub then_made : Option (List Made) → List ℕ → List ℕ → Option (List Made)
 then_made before path bytes = option_map (λ files. files ++ record { path = path; bytes = bytes } ∷ []) before

@@ -1,6 +1,6 @@
 -- Files in memory.
-use Rattle.std.specs.Prelude.{ℕ, List, map, reverse, find, Option, option_map, string_bytes, bytes_eq}
-use Rattle.command_files.specs.Made.{Made}
+use Rattle.std.specs.Prelude.{◌≡◌, ℕ, List, [], ◌∷◌, ◌++◌, map, reverse, find, Option, option_map, string_bytes, bytes_eq, unwrap_or}
+use Rattle.command_files.specs.Made.{HasReplaced, Made}
 use Rattle.command_files.specs.declared.memory_files.NamedFile.{NamedFile}
 
 -- the files that were made, in order
@@ -18,3 +18,15 @@ bytes_named files path = option_map (λ file. file.bytes.items) (last_named file
 -- its permission bits
 abbrev pub mode_named : List NamedFile → List ℕ → Option ℕ
 mode_named files path = option_map (λ file. file.mode) (last_named files path)
+
+-- a file of this name and these bytes is made behind the others
+abbrev pub HasPut : List ℕ → List ℕ → List NamedFile → List NamedFile → Type 0
+HasPut path bytes old new = made_of new ≡ made_of old ++ record { path = path; bytes = bytes } ∷ []
+
+-- one of the bytes that the name had, none where no file had it, and these behind them
+abbrev pub HasAdded : List ℕ → List ℕ → List NamedFile → List NamedFile → Type 0
+HasAdded path bytes old new = HasPut path (unwrap_or (bytes_named old path) [] ++ bytes) old new
+
+-- this name has these bytes now, and each other name what it had
+abbrev pub HasReplacedIn : List ℕ → List ℕ → List NamedFile → List NamedFile → Type 0
+HasReplacedIn path bytes old new = HasReplaced path bytes (bytes_named old) (bytes_named new)

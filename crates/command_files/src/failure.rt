@@ -3,7 +3,7 @@
 ghost use Rattle.std.specs.Prelude.{◌≡◌, ◌≢◌, IfErr, OnOk, OnErr};
 ghost use Rattle.std.specs.IoError.{error_kind};
 ghost use Rattle.command_files.specs.Failure.{exit_status, status_of};
-ghost use Rattle.command_files.specs.Lines.{IsPrinted, failure_text};
+ghost use Rattle.command_files.specs.Lines.{IsTold};
 ghost use Rattle.command_files.specs.declared.failure.Failure.TheVariants.{NoMemory};
 ghost use Rattle.command_files.specs.UserTold.{told_of_command_line, told_of_commands, told_of_words};
 
@@ -165,7 +165,7 @@ pub struct Conclusion {
 pub fn conclude<E: Write>(done: Result<(), Failure<'_>>, err: &mut E) -> Conclusion
     ensures status { result.status ≡ exit_status done.entry }
     ensures quiet { OnOk done.entry ((result.told ≡ Ok tt) × (err.new ≡ err.old)) }
-    ensures told { IfErr done.entry (λ failure. OnOk result.told (IsPrinted (failure_text failure) (E.contents err.old) (E.contents err.new))) }
+    ensures told { IfErr done.entry (λ failure. OnOk result.told (IsTold failure (E.contents err.old) (E.contents err.new))) }
 {
     match done {
         Ok(()) => Conclusion {

@@ -2,7 +2,7 @@
 
 ghost use Rattle.std.specs.Prelude.{◌≡◌, ℕ, List, [], IfOk, IfSome, OnOk, OnErr, Option, None, Some, take};
 ghost use Rattle.std.specs.IoError.{error_kind};
-ghost use Rattle.command_files.specs.Made.{HasReplaced, KeepsModes, Made, then_made};
+ghost use Rattle.command_files.specs.Made.{AreAsTold, HasReplaced, KeepsModes, Made, then_made};
 ghost use Rattle.command_files.specs.UserTold.{told_of_file};
 ghost use Rattle.command_files.specs.declared.files.FileFault.TheVariants.{Memory};
 
@@ -53,7 +53,7 @@ pub trait Files {
         ensures contents { contents self.new ≡ contents self.old }
         ensures modes { modes self.new ≡ modes self.old }
         ensures held { held self.new ≡ held self.old }
-        ensures bytes { IfOk result (λ file. IfSome (contents self.old path.now) (λ bytes. file.items ≡ bytes)) };
+        ensures bytes { IfOk result (λ file. AreAsTold (contents self.old path.now) file.items) };
 
     /// Makes a file of these bytes, in place of the one with this name, whose permissions it keeps, or makes none.
     /// Where files tell their bytes, it has just these then, and each other what it had; where this fails, each has.
@@ -82,7 +82,7 @@ pub trait Files {
         ensures modes { modes self.new ≡ modes self.old }
         ensures held { held self.new ≡ held self.old }
         ensures healthy { IfOk result (λ file. Self.Reader.failures file ≡ 0) }
-        ensures bytes { Self.Reader.tells → IfOk result (λ file. IfSome (contents self.old path.now) (λ bytes. Self.Reader.rest file ≡ bytes)) };
+        ensures bytes { Self.Reader.tells → IfOk result (λ file. AreAsTold (contents self.old path.now) (Self.Reader.rest file)) };
 
     /// Holds a name, whether or not a file has it: no other command replaces the file that the name leads to, until this one
     /// has finished a new file, holds another name or ends.
@@ -122,7 +122,7 @@ pub trait Files {
         ensures modes { modes self.new ≡ modes self.old }
         ensures held { held self.new ≡ held self.old }
         ensures healthy { IfOk result (λ file. Self.Reader.failures file ≡ 0) }
-        ensures bytes { Self.Reader.tells → IfOk result (λ file. IfSome (contents self.old path.now) (λ bytes. Self.Reader.rest file ≡ bytes)) };
+        ensures bytes { Self.Reader.tells → IfOk result (λ file. AreAsTold (contents self.old path.now) (Self.Reader.rest file)) };
 
     /// A file of no bytes yet, which is this command's alone. It has the name that is held once it is finished: the file with
     /// this name is as it was until then.

@@ -1,9 +1,9 @@
 //! What a failure is printed as.
 
-ghost use Rattle.std.specs.Prelude.{◌++◌, ◌∷◌, [], IfSome, OnOk};
+ghost use Rattle.std.specs.Prelude.{◌++◌, IfSome, OnOk};
 ghost use Rattle.std.specs.Io.KnownBytes.{Appends};
 ghost use Rattle.command_files.specs.Shown.{shown};
-ghost use Rattle.command_files.specs.Lines.{IsPrinted, assembly_text, at_line, cause_sentence, data_failure_text, emit_text, frame_text, geometry_text, image_text, line, line_front, line_failure_text, not_an_image_text, not_a_block_text, program_text, range_text, reply_failure_text, sentence, failure_text, unread_text, unwritten_text};
+ghost use Rattle.command_files.specs.Lines.{IsPrinted, IsTold, PrintsRefusal, PrintsSentence, assembly_text, at_line, cause_sentence, data_failure_text, emit_text, frame_text, geometry_text, image_text, line, line_front, line_failure_text, not_an_image_text, not_a_block_text, program_text, range_text, reply_failure_text, unread_text, unwritten_text};
 
 use crate::data_fault::DataFault;
 use crate::failure::Failure;
@@ -28,7 +28,7 @@ impl Failure<'_> {
     ///
     /// Those of the stream.
     pub(crate) fn print<W: Write>(&self, out: &mut W) -> io::Result<()>
-        ensures { OnOk result (IsPrinted (failure_text self.now) (W.contents out.old) (W.contents out.new)) }
+        ensures { OnOk result (IsTold self.now (W.contents out.old) (W.contents out.new)) }
     {
         match self {
             // This text has a line end of its own.
@@ -242,7 +242,7 @@ fn print_refusal<W: Write, D: Display + Drop, B: Display + Drop>(
     fault: D,
     behind: B,
 ) -> io::Result<()>
-    ensures { OnOk result (IfSome (B.output behind) (λ behind. IsPrinted (sentence (shown path.now ++ mark.now) behind) (W.contents out.old) (W.contents out.new))) }
+    ensures { OnOk result (PrintsRefusal (shown path.now ++ mark.now) (B.output behind) (W.contents out.old) (W.contents out.new)) }
 {
     let words = Words::of(fault);
     print_sentence(out, path, mark, words.as_str(), behind)
@@ -256,7 +256,7 @@ fn print_sentence<W: Write, B: Display + Drop>(
     words: &str,
     behind: B,
 ) -> io::Result<()>
-    ensures { OnOk result (IfSome (B.output behind) (λ behind. Appends (W.contents out.old) (W.contents out.new) (shown path.now ++ mark.now ++ words.now ++ 10 ∷ behind ++ 10 ∷ []))) }
+    ensures { OnOk result (PrintsSentence (shown path.now) mark.now words.now (B.output behind) (W.contents out.old) (W.contents out.new)) }
 {
     print_words(out, path, mark, words)?;
     print_line(out, behind)

@@ -1,8 +1,8 @@
 //! Files in memory. They tell which files were made, and the bytes of each.
 
-ghost use Rattle.std.specs.Prelude.{◌≡◌, [], ◌∷◌, ◌++◌, drop, false, Some, None, OnOk, OnErr, option_copied, option_map, string_bytes, unwrap_or};
-ghost use Rattle.command_files.specs.Made.{HasReplaced, KeepsModes};
-ghost use Rattle.command_files.specs.MemoryFiles.{bytes_named, last_named, made_of, mode_named};
+ghost use Rattle.std.specs.Prelude.{◌≡◌, [], drop, false, Some, None, OnOk, OnErr, option_copied, option_map, string_bytes, unwrap_or};
+ghost use Rattle.command_files.specs.Made.{KeepsModes};
+ghost use Rattle.command_files.specs.MemoryFiles.{HasAdded, HasPut, HasReplacedIn, bytes_named, last_named, made_of, mode_named};
 
 use crate::file_cause::FileCause;
 use crate::files::{FileFault, Files};
@@ -58,8 +58,8 @@ impl MemoryFiles {
     ///
     /// Want of memory, which leaves the files as they were.
     pub fn put(&mut self, path: &str, bytes: &[u8]) -> Result<(), AllocError>
-        ensures made { OnOk result (made_of self.new.files.items ≡ made_of self.old.files.items ++ record { path = path.now; bytes = bytes.now } ∷ []) }
-        ensures replaced { OnOk result (HasReplaced path.now bytes.now (bytes_named self.old.files.items) (bytes_named self.new.files.items)) }
+        ensures made { OnOk result (HasPut path.now bytes.now self.old.files.items self.new.files.items) }
+        ensures replaced { OnOk result (HasReplacedIn path.now bytes.now self.old.files.items self.new.files.items) }
         ensures modes { OnOk result (KeepsModes (mode_named self.old.files.items) (mode_named self.new.files.items)) }
         ensures kept { OnErr result (self.new.files.items ≡ self.old.files.items) }
         ensures same { (self.new.room ≡ self.old.room) × (self.new.fails ≡ self.old.fails) × (self.new.held ≡ self.old.held) }
@@ -79,7 +79,7 @@ impl MemoryFiles {
     ///
     /// Want of memory, which leaves the files as they were.
     pub fn add(&mut self, path: &str, bytes: &[u8]) -> Result<(), AllocError>
-        ensures made { OnOk result (made_of self.new.files.items ≡ made_of self.old.files.items ++ record { path = path.now; bytes = unwrap_or (bytes_named self.old.files.items path.now) [] ++ bytes.now } ∷ []) }
+        ensures made { OnOk result (HasAdded path.now bytes.now self.old.files.items self.new.files.items) }
         ensures modes { OnOk result (KeepsModes (mode_named self.old.files.items) (mode_named self.new.files.items)) }
         ensures kept { OnErr result (self.new.files.items ≡ self.old.files.items) }
         ensures same { (self.new.room ≡ self.old.room) × (self.new.fails ≡ self.old.fails) × (self.new.held ≡ self.old.held) }

@@ -1,8 +1,8 @@
 //! Whole files, and what the user is told of a file that fails.
 
-ghost use Rattle.std.specs.Prelude.{◌≡◌, ◌≢◌, ◌≤◌, IfErr, IfOk, IfSome, None, OnOk, OnErr};
+ghost use Rattle.std.specs.Prelude.{◌≡◌, ◌≢◌, ◌≤◌, IfErr, IfOk, None, OnOk, OnErr};
 ghost use Rattle.program_interface.specs.BlockSize.{block_size as size_of_bytes};
-ghost use Rattle.command_files.specs.Made.{HasReplaced, then_made};
+ghost use Rattle.command_files.specs.Made.{AreAsTold, HasReplaced, then_made};
 ghost use Rattle.command_files.specs.UserTold.{IsUnread, IsUnwritten, told_unread, told_unwritten};
 
 use crate::failure::Failure;
@@ -19,7 +19,7 @@ pub fn read<'a, F: Files>(path: &'a str, files: &mut F) -> Result<Vec<u8>, Failu
     ensures contents { F.contents files.new ≡ F.contents files.old }
     ensures modes { F.modes files.new ≡ F.modes files.old }
     ensures held { F.held files.new ≡ F.held files.old }
-    ensures bytes { IfOk result (λ file. IfSome (F.contents files.old path.now) (λ bytes. file.items ≡ bytes)) }
+    ensures bytes { IfOk result (λ file. AreAsTold (F.contents files.old path.now) file.items) }
     ensures unread { IfErr result (IsUnread path.entry) }
     ensures not_printing { result ≢ Err Failure.CannotPrint }
 {

@@ -1,0 +1,26 @@
+-- What stands around a command.
+use Rattle.std.specs.Prelude.{ℕ, List, Option}
+use Rattle.command_files.specs.Made.{Made}
+use Rattle.command_files.specs.declared.files.Files.{Ghosts}
+
+-- what a command finds and leaves of files
+pub record Surroundings : Type 1 where
+  -- those that it reads in pieces tell of their bytes
+  pub reads : Type 0
+  -- those that it writes in pieces do
+  pub writes : Type 0
+  -- the bytes of each name before it, where they are told
+  pub contents : List ℕ → Option (List ℕ)
+  -- the files that were made before it, and those that were by its end, where they are told
+  pub before : Option (List Made)
+  pub after : Option (List Made)
+
+-- the surroundings of a command that finds files so and leaves them so
+abbrev pub around : {F R W : Type 0} → Ghosts F R W → Type 0 → Type 0 → F → F → Surroundings
+around files reads writes old new = record {
+  reads = reads;
+  writes = writes;
+  contents = files.contents old;
+  before = files.made old;
+  after = files.made new;
+}
