@@ -44,7 +44,7 @@ pub makes_anew : {T E : Type 0} (reads writes : Type 0) (result : Result T E) (c
     (before loaded after : Option (List Made)) → path ≡ wanted → loaded ≡ before
     → (reads → IfSome (contents path) (λ bytes. namespace_in bytes ≡ Ok image))
     → OnOk result (writes → after ≡ then_made loaded path (text image))
-    → OnOk result (MakesAnew reads writes (contents wanted) wanted before after)
+    → OnOk result (MakesAnew (record { reads = reads; writes = writes; contents = contents; before = before; after = after }) wanted)
 makes_anew reads writes (Err error) contents image path wanted before loaded after same kept held saved = tt
 makes_anew reads writes (Ok done) contents image path wanted before loaded after same kept held saved = record {
   namespace = image;

@@ -9,6 +9,8 @@ use Rattle.image_text.specs.Version.{numbers_of_version}
 use Rattle.image_text.specs.declared.version.Version.TheVariants.{One, Two}
 use Rattle.command_files.specs.Arguments.{number_of, value_of}
 use Rattle.command_files.specs.Made.{Made, then_made}
+use Rattle.command_files.specs.Surroundings.{Surroundings}
+use Rattle.command_images.specs.declared.image_file.TheConstants.{IMAGE}
 
 -- the numbers of a shape are those that the options of a command line spell
 pub record IsAskedFor (matches : ArgMatches) (s : Shape) : Type 0 where
@@ -18,6 +20,10 @@ pub record IsAskedFor (matches : ArgMatches) (s : Shape) : Type 0 where
   pub capacity : number_of matches (codes "capacity") ≡ Some s.capacity
   pub open_limit : number_of matches (codes "open") ≡ Some s.limits.open_limit
   pub active_limit : number_of matches (codes "active") ≡ Some s.limits.active_limit
+
+-- the name of the image file that a command line gives
+abbrev pub image_of : ArgMatches → List ℕ
+image_of matches = value_of matches IMAGE.now
 
 -- it is asked for by force
 abbrev pub IsForced : ArgMatches → Type 0
@@ -36,19 +42,23 @@ pub record MakesEmpty (writes : Type 0) (matches : ArgMatches) (path : List ℕ)
   pub passes : tested shape ≡ Ok shape
   pub made : writes → after ≡ then_made before path (text (all_empty shape))
 
+-- the bytes of a file, where they are told, stand for this namespace
+abbrev pub StandFor : Option (List ℕ) → ZonedNamespace → Type 0
+StandFor bytes namespace = IfSome bytes (λ bytes. namespace_in bytes ≡ Ok namespace)
+
 -- the file is made anew of a namespace, where what is written of it is told: of the one that its bytes stand for, where
 -- these and what is read of them are told
-pub record MakesAnew (reads writes : Type 0) (bytes : Option (List ℕ)) (path : List ℕ) (before after : Option (List Made)) : Type 0 where
+pub record MakesAnew (here : Surroundings) (path : List ℕ) : Type 0 where
   pub namespace : ZonedNamespace
-  pub held : reads → IfSome bytes (λ bytes. namespace_in bytes ≡ Ok namespace)
-  pub made : writes → after ≡ then_made before path (text namespace)
+  pub held : here.reads → StandFor (here.contents path) namespace
+  pub made : here.writes → here.after ≡ then_made here.before path (text namespace)
 
 -- a file has a text afterwards, where its bytes, what is read of them and what is written are told: none is made, since it had
 -- this text; or it is made anew, since it had another
-abbrev pub HasText : Type 0 → Type 0 → Option (List ℕ) → List ℕ → List ℕ → Option (List Made) → Option (List Made) → Type 0
-HasText reads writes bytes path text before after =
-    ((after ≡ before) × (reads → IfSome bytes (λ bytes. bytes ≡ text)))
-    ⊎ ((writes → after ≡ then_made before path text) × (reads → IfSome bytes (λ bytes. bytes ≢ text)))
+abbrev pub HasText : Surroundings → List ℕ → List ℕ → Type 0
+HasText here path text =
+    ((here.after ≡ here.before) × (here.reads → IfSome (here.contents path) (λ bytes. bytes ≡ text)))
+    ⊎ ((here.writes → here.after ≡ then_made here.before path text) × (here.reads → IfSome (here.contents path) (λ bytes. bytes ≢ text)))
 
 -- where a file's bytes are told, they are none or begin as an image does
 abbrev pub IsReplaceable : Option (List ℕ) → Type 0

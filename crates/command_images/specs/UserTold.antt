@@ -40,7 +40,8 @@ FormatFails matches bytes path failure = RefusesShape matches failure
 -- why an image isn't loaded: the first fault of the file's bytes, where these and what is read of them are told, a file
 -- that can't be read, or want of memory, and nothing else
 abbrev pub LoadingFails : Type 0 → Option (List ℕ) → List ℕ → Failure → Type 0
-LoadingFails reads bytes path (ImageRefused told fault) = (told.now ≡ path) × (reads → IfSome bytes (λ bytes. namespace_in bytes ≡ Err fault))
+LoadingFails reads bytes path (ImageRefused told fault) =
+    (told.now ≡ path) × (reads → IfSome bytes (λ bytes. namespace_in bytes ≡ Err fault))
 LoadingFails reads bytes path (CannotRead told cause) = told.now ≡ path
 LoadingFails reads bytes path NoMemory = Unit {0}
 LoadingFails reads bytes path _ = ⊥

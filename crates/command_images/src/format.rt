@@ -1,10 +1,9 @@
 //! The command `format`: a new image.
 
 ghost use Rattle.std.specs.Prelude.{◌≡◌, ◌↔◌, ◌⊎◌, IfErr, IfOk, IsTrue, OnOk, OnErr, Some};
-ghost use Rattle.command_files.specs.Arguments.{value_of};
 ghost use Rattle.command_files.specs.Made.{KeepsModes, KeepsOthers, MakesOne};
 ghost use Rattle.image_store.specs.Geometry.{tested};
-ghost use Rattle.command_images.specs.Images.{IsAskedFor, IsForced, IsReplaceable, MakesEmpty};
+ghost use Rattle.command_images.specs.Images.{IsAskedFor, IsForced, IsReplaceable, MakesEmpty, image_of};
 ghost use Rattle.command_images.specs.UserTold.{FormatFails, IsUnreplaced, RefusesShape};
 ghost use Rattle.command_images.specs.steps.Beginnings.{may_begin};
 
@@ -112,11 +111,11 @@ pub fn format<'a, F: Files>(
     matches: &ArgMatches<'a>,
     files: &mut F,
 ) -> Result<(), Failure<'a>>
-    ensures empty { OnOk result (MakesEmpty F.Writer.tells matches.now (value_of matches.now IMAGE.now) (F.made files.old) (F.made files.new)) }
-    ensures replaceable { OnOk result (IsForced matches.now ⊎ IsReplaceable (F.contents files.old (value_of matches.now IMAGE.now))) }
-    ensures failed { IfErr result (FormatFails matches.now (F.contents files.old (value_of matches.now IMAGE.now)) (value_of matches.now IMAGE.now)) }
-    ensures made { OnOk result (MakesOne (value_of matches.now IMAGE.now) (F.made files.old) (F.made files.new)) }
-    ensures others { OnOk result (KeepsOthers (value_of matches.now IMAGE.now) (F.contents files.old) (F.contents files.new)) }
+    ensures empty { OnOk result (MakesEmpty F.Writer.tells matches.now (image_of matches.now) (F.made files.old) (F.made files.new)) }
+    ensures replaceable { OnOk result (IsForced matches.now ⊎ IsReplaceable (F.contents files.old (image_of matches.now))) }
+    ensures failed { IfErr result (FormatFails matches.now (F.contents files.old (image_of matches.now)) (image_of matches.now)) }
+    ensures made { OnOk result (MakesOne (image_of matches.now) (F.made files.old) (F.made files.new)) }
+    ensures others { OnOk result (KeepsOthers (image_of matches.now) (F.contents files.old) (F.contents files.new)) }
     ensures kept { OnErr result (F.made files.new ≡ F.made files.old) }
     ensures contents { OnErr result (F.contents files.new ≡ F.contents files.old) }
     ensures modes { OnOk result (KeepsModes (F.modes files.old) (F.modes files.new)) }

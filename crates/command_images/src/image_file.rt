@@ -1,12 +1,14 @@
 //! Images in files.
 
-ghost use Rattle.std.specs.Prelude.{◌≡◌, ◌≢◌, ◌↔◌, IfOk, IfErr, IfSome, IsTrue, OnOk, OnErr, Some};
+ghost use Rattle.std.specs.Prelude.{◌≡◌, ◌≢◌, IfOk, IfErr, OnOk, OnErr, Some};
 ghost use Rattle.image_text.specs.Reading.{namespace_in};
 ghost use Rattle.image_text.specs.Text.{text};
 ghost use Rattle.command_files.specs.Made.{KeepsModes, KeepsOthers, MakesAtMost, MakesOne, then_made};
+ghost use Rattle.command_files.specs.Surroundings.{around};
 ghost use Rattle.command_files.specs.UserTold.{IsUnread, IsUnwritten};
-ghost use Rattle.command_images.specs.Images.{HasText};
+ghost use Rattle.command_images.specs.Images.{HasText, StandFor};
 ghost use Rattle.command_images.specs.UserTold.{IsUnheld, LoadingFails, UpgradeFails};
+ghost use Rattle.command_images.specs.steps.Texts.{TellsWhether};
 ghost use Rattle.command_images.specs.steps.Told.{told_of_image};
 
 use command_files::{Failure, FileCause, FileFault, Files, cannot_read, cannot_write};
@@ -52,7 +54,7 @@ fn cannot_hold<'a>(path: &'a str, fault: FileFault) -> Failure<'a>
 pub fn load<'a, F: Files>(alloc: Global, path: &'a str, files: &mut F) -> Result<Image, Failure<'a>>
     ensures made { F.made files.new ≡ F.made files.old }
     ensures contents { F.contents files.new ≡ F.contents files.old }
-    ensures image { F.Reader.tells → IfOk result (λ image. IfSome (F.contents files.old path.now) (λ bytes. namespace_in bytes ≡ Ok image)) }
+    ensures image { F.Reader.tells → IfOk result (StandFor (F.contents files.old path.now)) }
     ensures failed { IfErr result (LoadingFails F.Reader.tells (F.contents files.old path.now) path.now) }
     ensures not_printing { result ≢ Err Failure.CannotPrint }
 {
@@ -76,7 +78,7 @@ pub fn load_to_replace<'a, F: Files>(
     ensures contents { F.contents files.new ≡ F.contents files.old }
     ensures modes { F.modes files.new ≡ F.modes files.old }
     ensures held { OnOk result (F.held files.new ≡ Some path.now) }
-    ensures image { F.Reader.tells → IfOk result (λ image. IfSome (F.contents files.old path.now) (λ bytes. namespace_in bytes ≡ Ok image)) }
+    ensures image { F.Reader.tells → IfOk result (StandFor (F.contents files.old path.now)) }
     ensures failed { IfErr result (UpgradeFails F.Reader.tells (F.contents files.old path.now) path.now) }
     ensures not_printing { result ≢ Err Failure.CannotPrint }
 {
@@ -95,7 +97,7 @@ fn load_held<'a, F: Files>(
     ensures contents { F.contents files.new ≡ F.contents files.old }
     ensures modes { F.modes files.new ≡ F.modes files.old }
     ensures held { F.held files.new ≡ F.held files.old }
-    ensures image { F.Reader.tells → IfOk result (λ image. IfSome (F.contents files.old path.now) (λ bytes. namespace_in bytes ≡ Ok image)) }
+    ensures image { F.Reader.tells → IfOk result (StandFor (F.contents files.old path.now)) }
     ensures failed { IfErr result (LoadingFails F.Reader.tells (F.contents files.old path.now) path.now) }
     ensures not_printing { result ≢ Err Failure.CannotPrint }
 {
@@ -175,7 +177,7 @@ pub fn save_changes<'a, F: Files>(
     files: &mut F,
 ) -> Result<(), Failure<'a>>
     requires { F.held files.old ≡ Some path.now }
-    ensures saved { OnOk result (HasText F.Reader.tells F.Writer.tells (F.contents files.old path.now) path.now (text image.now) (F.made files.old) (F.made files.new)) }
+    ensures saved { OnOk result (HasText (around F.Files F.Reader.tells F.Writer.tells files.old files.new) path.now (text image.now)) }
     ensures made { OnOk result (MakesAtMost path.now (F.made files.old) (F.made files.new)) }
     ensures others { OnOk result (KeepsOthers path.now (F.contents files.old) (F.contents files.new)) }
     ensures kept { OnErr result (F.made files.new ≡ F.made files.old) }
@@ -197,7 +199,7 @@ pub fn save_changes<'a, F: Files>(
 /// It can't be read, or memory is wanting.
 fn has_text<'a, F: Files>(image: &Image, path: &'a str, files: &mut F) -> Result<bool, Failure<'a>>
     requires { F.held files.old ≡ Some path.now }
-    ensures same { F.Reader.tells → IfOk result (λ same. IfSome (F.contents files.old path.now) (λ bytes. IsTrue same ↔ (bytes ≡ text image.now))) }
+    ensures same { F.Reader.tells → IfOk result (TellsWhether (text image.now) (F.contents files.old path.now)) }
     ensures made { F.made files.new ≡ F.made files.old }
     ensures contents { F.contents files.new ≡ F.contents files.old }
     ensures modes { F.modes files.new ≡ F.modes files.old }

@@ -1,9 +1,9 @@
 //! The command `upgrade`: an image in the last version.
 
 ghost use Rattle.std.specs.Prelude.{◌≡◌, IfErr, OnOk, OnErr};
-ghost use Rattle.command_files.specs.Arguments.{value_of};
 ghost use Rattle.command_files.specs.Made.{KeepsModes, KeepsOthers, MakesOne};
-ghost use Rattle.command_images.specs.Images.{MakesAnew};
+ghost use Rattle.command_files.specs.Surroundings.{around};
+ghost use Rattle.command_images.specs.Images.{MakesAnew, image_of};
 ghost use Rattle.command_images.specs.UserTold.{UpgradeFails};
 
 use crate::image_file::{self, IMAGE};
@@ -57,10 +57,10 @@ pub fn upgrade<'a, F: Files>(
     matches: &ArgMatches<'a>,
     files: &mut F,
 ) -> Result<(), Failure<'a>>
-    ensures same { OnOk result (MakesAnew F.Reader.tells F.Writer.tells (F.contents files.old (value_of matches.now IMAGE.now)) (value_of matches.now IMAGE.now) (F.made files.old) (F.made files.new)) }
-    ensures failed { IfErr result (UpgradeFails F.Reader.tells (F.contents files.old (value_of matches.now IMAGE.now)) (value_of matches.now IMAGE.now)) }
-    ensures made { OnOk result (MakesOne (value_of matches.now IMAGE.now) (F.made files.old) (F.made files.new)) }
-    ensures others { OnOk result (KeepsOthers (value_of matches.now IMAGE.now) (F.contents files.old) (F.contents files.new)) }
+    ensures same { OnOk result (MakesAnew (around F.Files F.Reader.tells F.Writer.tells files.old files.new) (image_of matches.now)) }
+    ensures failed { IfErr result (UpgradeFails F.Reader.tells (F.contents files.old (image_of matches.now)) (image_of matches.now)) }
+    ensures made { OnOk result (MakesOne (image_of matches.now) (F.made files.old) (F.made files.new)) }
+    ensures others { OnOk result (KeepsOthers (image_of matches.now) (F.contents files.old) (F.contents files.new)) }
     ensures kept { OnErr result (F.made files.new ≡ F.made files.old) }
     ensures contents { OnErr result (F.contents files.new ≡ F.contents files.old) }
     ensures modes { OnOk result (KeepsModes (F.modes files.old) (F.modes files.new)) }
