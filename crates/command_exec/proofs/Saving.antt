@@ -1,7 +1,7 @@
 -- What was done, and what was done where a reply is refused.
 use Rattle.std.proofs.Common.{◌≡◌, ℕ, List, map, Option, Result, Ok, Err, OnOk, OnErr, IfErr, IfSome, ◌∙◌, subst}
+use Rattle.clap.specs.declared.parser.matches.ArgMatches.{ArgMatches}
 use Rattle.image_store.specs.Namespace.{ZonedNamespace}
-use Rattle.image_text.specs.Reading.{namespace_in}
 use Rattle.image_text.specs.Text.{text}
 use Rattle.interval_domain.specs.Intervals.{intervals}
 use Rattle.device_events.specs.Printed.{Printed}
@@ -18,9 +18,10 @@ use Rattle.runner.specs.declared.device.Stopped.{Stopped}
 use Rattle.event_text.specs.CommandFile.{events_in, told_of}
 use Rattle.event_text.specs.Lines.{Took, reply_line}
 use Rattle.command_files.specs.Made.{Made}
+use Rattle.command_files.specs.Surroundings.{Surroundings}
 use Rattle.command_files.proofs.Proved.{read_holds}
-use Rattle.command_images.specs.Images.{HasText}
-use Rattle.command_exec.specs.Executed.{AreInFiles, Executes, ExecutesFirst, HasBegun, HasPrinted, InEvents, InTurns, SavesAll, SavesFirst}
+use Rattle.command_images.specs.Images.{HasText, StandFor, image_of}
+use Rattle.command_exec.specs.Executed.{AreInFiles, DoesAll, Executes, ExecutesFirst, HasBegun, HasPrinted, InEvents, InTurns, SavesAll, SavesFirst, commands_of}
 
 pub on_err : {T E fact : Type 0} (result : Result T E) → fact → OnErr result fact
 on_err (Ok value) holds = tt
@@ -45,7 +46,7 @@ stops_in_events events old new took done stopped = InEvents done (record {
 module _ (events : List Event) (old between new : State) (before then after : ℕ × Printed) (served : HasServed intervals events old between (Took before then)) where
   -- a drain, behind events that were all done
   pub serves_and_drains : (result : Result (Unit {0}) Stopped) → then.1.refusals ≡ before.1.refusals → CountsFailure then.1.refusals after.1.refusals result
-      → OnOk result (HasDrained between new (Took then after)) → OnOk result (HasServedAndDrained intervals events old new (HasPrinted before.1.bytes after.1.bytes))
+      → OnOk result (HasDrained between new (Took then after)) → OnOk result (DoesAll events old new before.1.bytes after.1.bytes)
   serves_and_drains (Err error) none count drained = tt
   serves_and_drains (Ok done) none count drained =
       let did = served_and_drained intervals Took took_joins events old between new before then after served drained in
@@ -83,24 +84,23 @@ module _ (events : List Event) (old between new : State) (before then after : �
 
 -- a device began with a namespace; its writer held so much before the lines were printed, and so much it holds now
 pub prints_all : (events : List Event) (namespace : ZonedNamespace) (old left : State) (held before holds after : Option (List ℕ))
-    → old ≡ new_state namespace → held ≡ before → holds ≡ after → HasServedAndDrained intervals events old left (HasPrinted held holds)
-    → HasServedAndDrained intervals events (new_state namespace) left (HasPrinted before after)
+    → old ≡ new_state namespace → held ≡ before → holds ≡ after → DoesAll events old left held holds → DoesAll events (new_state namespace) left before after
 prints_all events namespace old left held before holds after begins first last did =
-    subst (λ (s : State). HasServedAndDrained intervals events s left (HasPrinted before after)) begins
-    (subst (λ (bytes : Option (List ℕ)). HasServedAndDrained intervals events old left (HasPrinted bytes after)) first
-    (subst (λ (bytes : Option (List ℕ)). HasServedAndDrained intervals events old left (HasPrinted held bytes)) last did))
+    subst (λ (s : State). DoesAll events s left before after) begins
+    (subst (λ (bytes : Option (List ℕ)). DoesAll events old left bytes after) first
+    (subst (λ (bytes : Option (List ℕ)). DoesAll events old left held bytes) last did))
 
 -- the namespace is saved that a device shows
-module _ (reads writes : Type 0) (bytes : Option (List ℕ)) (events : List Event) (namespace shown : ZonedNamespace) (path : List ℕ) (before after : Option (List Made)) (left : State)
-    (saved : HasText reads writes bytes path (text shown) before after) (shows : shown ≡ left.namespace) where
-  meant : HasText reads writes bytes path (text left.namespace) before after
-  meant = subst (λ (ns : ZonedNamespace). HasText reads writes bytes path (text ns) before after) shows saved
+module _ (here : Surroundings) (events : List Event) (namespace shown : ZonedNamespace) (path : List ℕ) (left : State)
+    (saved : HasText here path (text shown)) (shows : shown ≡ left.namespace) where
+  meant : HasText here path (text left.namespace)
+  meant = subst (λ (ns : ZonedNamespace). HasText here path (text ns)) shows saved
 
-  pub saves_all : (printed printed_after : Option (List ℕ)) → HasServedAndDrained intervals events (new_state namespace) left (HasPrinted printed printed_after)
-      → SavesAll reads writes bytes events namespace path before after printed printed_after
+  pub saves_all : (printed printed_after : Option (List ℕ)) → DoesAll events (new_state namespace) left printed printed_after
+      → SavesAll here events namespace path printed printed_after
   saves_all printed printed_after did = record { left = left; served_and_drained = did; saved = meant }
 
-  pub saves_first : (old : State) → old ≡ new_state namespace → HasBegun events old left → SavesFirst reads writes bytes events namespace path before after
+  pub saves_first : (old : State) → old ≡ new_state namespace → HasBegun events old left → SavesFirst here events namespace path
   saves_first old begins begun = record {
     left = left;
     begun = subst (λ (s : State). HasBegun events s left) begins begun;
@@ -109,40 +109,45 @@ module _ (reads writes : Type 0) (bytes : Option (List ℕ)) (events : List Even
 
 -- an image was loaded, and then a command file was read, of the files that the command line names; the contents of files
 -- stayed the same, and no file was made
-module _ (reads writes : Type 0) (contents then : List ℕ → Option (List ℕ)) (path named commands named_commands file slice : List ℕ) (namespace : ZonedNamespace) (events : List Event)
-    (before loaded after : Option (List Made)) (same : then ≡ contents) (is_named : path ≡ named) (are_named : commands ≡ named_commands) (kept : loaded ≡ before)
+module _ (reads writes : Type 0) (contents then : List ℕ → Option (List ℕ)) (path commands : List ℕ) (matches : ArgMatches) (file slice : List ℕ)
+    (namespace : ZonedNamespace) (events : List Event) (before loaded after : Option (List Made)) (same : then ≡ contents)
+    (is_named : path ≡ image_of matches) (are_named : commands ≡ commands_of matches) (kept : loaded ≡ before)
     (file_is : IfSome (then commands) (λ bytes. file ≡ bytes)) (slice_is : slice ≡ file) (events_are : events_in slice ≡ Ok (map told_of events)) where
-  in_both : (reads → IfSome (contents path) (λ bytes. namespace_in bytes ≡ Ok namespace)) → AreInFiles reads contents named named_commands namespace events
+  -- what stands around the command, where the files held these bytes and these were made by then
+  abbrev pub from_there : (List ℕ → Option (List ℕ)) → Option (List Made) → Surroundings
+  from_there held made = record { reads = reads; writes = writes; contents = held; before = made; after = after }
+
+  in_both : (reads → StandFor (contents path) namespace) → AreInFiles (from_there contents before) matches namespace events
   in_both namespace_is = record {
-    namespace_is = λ read. subst (λ (p : List ℕ). IfSome (contents p) (λ bytes. namespace_in bytes ≡ Ok namespace)) is_named (namespace_is read);
-    events_are = read_holds contents commands named_commands file slice (λ bytes. events_in bytes ≡ Ok (map told_of events)) are_named slice_is
+    namespace_is = λ read. subst (λ (p : List ℕ). StandFor (contents p) namespace) is_named (namespace_is read);
+    events_are = read_holds contents commands (commands_of matches) file slice (λ bytes. events_in bytes ≡ Ok (map told_of events)) are_named slice_is
         (subst (λ (c : List ℕ → Option (List ℕ)). IfSome (c commands) (λ bytes. file ≡ bytes)) same file_is) events_are;
   }
 
   -- what `run` does of them is what the command does of the files
-  pub executes : {T E : Type 0} (bytes : Option (List ℕ)) (given : List Event) (printed printed_after : Option (List ℕ)) (result : Result T E)
-      → (reads → IfSome (contents path) (λ bytes. namespace_in bytes ≡ Ok namespace))
-      → bytes ≡ contents path → OnOk result (SavesAll reads writes bytes given namespace path loaded after printed printed_after) → given ≡ events
-      → OnOk result (Executes reads writes contents named named_commands before after printed printed_after)
-  executes bytes given printed printed_after (Err error) namespace_is bytes_are saves are = tt
-  executes bytes given printed printed_after (Ok done) namespace_is bytes_are saves are = record {
+  pub executes : {T E : Type 0} (held : List ℕ → Option (List ℕ)) (given : List Event) (printed printed_after : Option (List ℕ)) (result : Result T E)
+      → (reads → StandFor (contents path) namespace) → held ≡ contents
+      → OnOk result (SavesAll (from_there held loaded) given namespace path printed printed_after) → given ≡ events
+      → OnOk result (Executes (from_there contents before) matches printed printed_after)
+  executes held given printed printed_after (Err error) namespace_is held_is saves are = tt
+  executes held given printed printed_after (Ok done) namespace_is held_is saves are = record {
     namespace = namespace;
     events = events;
     in_files = in_both namespace_is;
-    saves = subst (λ (p : List ℕ). SavesAll reads writes (contents p) events namespace p before after printed printed_after) is_named
-        (subst (λ (b : Option (List ℕ)). SavesAll reads writes b events namespace path before after printed printed_after) bytes_are
-        (subst (λ (made : Option (List Made)). SavesAll reads writes bytes events namespace path made after printed printed_after) kept
-        (subst (λ (list : List Event). SavesAll reads writes bytes list namespace path loaded after printed printed_after) are saves)));
+    saves = subst (λ (p : List ℕ). SavesAll (from_there contents before) events namespace p printed printed_after) is_named
+        (subst (λ (c : List ℕ → Option (List ℕ)). SavesAll (from_there c before) events namespace path printed printed_after) held_is
+        (subst (λ (made : Option (List Made)). SavesAll (from_there held made) events namespace path printed printed_after) kept
+        (subst (λ (list : List Event). SavesAll (from_there held loaded) list namespace path printed printed_after) are saves)));
   }
 
-  pub executes_first : (bytes : Option (List ℕ)) (given : List Event) → (reads → IfSome (contents path) (λ bytes. namespace_in bytes ≡ Ok namespace))
-      → bytes ≡ contents path → SavesFirst reads writes bytes given namespace path loaded after → given ≡ events → ExecutesFirst reads writes contents named named_commands before after
-  executes_first bytes given namespace_is bytes_are saves are = record {
+  pub executes_first : (held : List ℕ → Option (List ℕ)) (given : List Event) → (reads → StandFor (contents path) namespace) → held ≡ contents
+      → SavesFirst (from_there held loaded) given namespace path → given ≡ events → ExecutesFirst (from_there contents before) matches
+  executes_first held given namespace_is held_is saves are = record {
     namespace = namespace;
     events = events;
     in_files = in_both namespace_is;
-    saves = subst (λ (p : List ℕ). SavesFirst reads writes (contents p) events namespace p before after) is_named
-        (subst (λ (b : Option (List ℕ)). SavesFirst reads writes b events namespace path before after) bytes_are
-        (subst (λ (made : Option (List Made)). SavesFirst reads writes bytes events namespace path made after) kept
-        (subst (λ (list : List Event). SavesFirst reads writes bytes list namespace path loaded after) are saves)));
+    saves = subst (λ (p : List ℕ). SavesFirst (from_there contents before) events namespace p) is_named
+        (subst (λ (c : List ℕ → Option (List ℕ)). SavesFirst (from_there c before) events namespace path) held_is
+        (subst (λ (made : Option (List Made)). SavesFirst (from_there held made) events namespace path) kept
+        (subst (λ (list : List Event). SavesFirst (from_there held loaded) list namespace path) are saves)));
   }

@@ -1,11 +1,10 @@
 //! The command `exec`: the events of a command file, run on an image.
 
 ghost use Rattle.std.specs.Prelude.{◌≡◌, ◌≢◌, ◌≤◌, ◌<◌, ◌+◌, ◌^◌, length, OnOk, OnErr, IfErr, Some};
-ghost use Rattle.interval_domain.specs.Intervals.{intervals};
-ghost use Rattle.device_meaning.specs.JoinedEvents.{HasServedAndDrained};
-ghost use Rattle.command_files.specs.Arguments.{value_of};
 ghost use Rattle.command_files.specs.Made.{KeepsModes, KeepsOthers, MakesAtMost};
-ghost use Rattle.command_exec.specs.Executed.{Executes, ExecutesFirst, HasBegun, HasPrinted, SavesAll, SavesFirst};
+ghost use Rattle.command_files.specs.Surroundings.{around};
+ghost use Rattle.command_images.specs.Images.{image_of};
+ghost use Rattle.command_exec.specs.Executed.{DoesAll, Executes, ExecutesFirst, HasBegun, SavesAll, SavesFirst, commands_of};
 ghost use Rattle.command_exec.specs.UserTold.{ExecFails};
 ghost use Rattle.command_exec.specs.steps.Told.{SavingFails};
 
@@ -98,13 +97,15 @@ pub fn exec<'a, F: Files, O: Write>(
     files: &mut F,
     out: &mut O,
 ) -> Result<(), Failure<'a>>
-    ensures executed { OnOk result (Executes F.Reader.tells F.Writer.tells (F.contents files.old) (value_of matches.now IMAGE.now) (value_of matches.now COMMANDS.now) (F.made files.old) (F.made files.new) (O.contents out.old) (O.contents out.new)) }
-    ensures stopped { result ≡ Err Failure.CannotPrint → ExecutesFirst F.Reader.tells F.Writer.tells (F.contents files.old) (value_of matches.now IMAGE.now) (value_of matches.now COMMANDS.now) (F.made files.old) (F.made files.new) }
-    ensures failed { IfErr result (ExecFails F.Reader.tells (F.contents files.old) (value_of matches.now IMAGE.now) (value_of matches.now COMMANDS.now)) }
-    ensures made { OnOk result (MakesAtMost (value_of matches.now IMAGE.now) (F.made files.old) (F.made files.new)) }
-    ensures one { result ≡ Err Failure.CannotPrint → MakesAtMost (value_of matches.now IMAGE.now) (F.made files.old) (F.made files.new) }
-    ensures others { OnOk result (KeepsOthers (value_of matches.now IMAGE.now) (F.contents files.old) (F.contents files.new)) }
-    ensures others_stopped { result ≡ Err Failure.CannotPrint → KeepsOthers (value_of matches.now IMAGE.now) (F.contents files.old) (F.contents files.new) }
+    ensures executed { let here = around F.Files F.Reader.tells F.Writer.tells files.old files.new in
+        OnOk result (Executes here matches.now (O.contents out.old) (O.contents out.new)) }
+    ensures stopped { let here = around F.Files F.Reader.tells F.Writer.tells files.old files.new in
+        result ≡ Err Failure.CannotPrint → ExecutesFirst here matches.now }
+    ensures failed { IfErr result (ExecFails F.Reader.tells (F.contents files.old) (image_of matches.now) (commands_of matches.now)) }
+    ensures made { OnOk result (MakesAtMost (image_of matches.now) (F.made files.old) (F.made files.new)) }
+    ensures one { result ≡ Err Failure.CannotPrint → MakesAtMost (image_of matches.now) (F.made files.old) (F.made files.new) }
+    ensures others { OnOk result (KeepsOthers (image_of matches.now) (F.contents files.old) (F.contents files.new)) }
+    ensures others_stopped { result ≡ Err Failure.CannotPrint → KeepsOthers (image_of matches.now) (F.contents files.old) (F.contents files.new) }
     ensures kept { IfErr result (λ failure. failure ≢ Failure.CannotPrint → F.made files.new ≡ F.made files.old) }
     ensures contents { IfErr result (λ failure. failure ≢ Failure.CannotPrint → F.contents files.new ≡ F.contents files.old) }
     ensures modes { OnOk result (KeepsModes (F.modes files.old) (F.modes files.new)) }
@@ -132,8 +133,10 @@ fn run<'a, F: Files, O: Write>(
     out: &mut O,
 ) -> Result<(), Failure<'a>>
     requires { F.held files.old ≡ Some path.now }
-    ensures saved { OnOk result (SavesAll F.Reader.tells F.Writer.tells (F.contents files.old path.now) events.now image path.now (F.made files.old) (F.made files.new) (O.contents out.old) (O.contents out.new)) }
-    ensures stopped { result ≡ Err Failure.CannotPrint → SavesFirst F.Reader.tells F.Writer.tells (F.contents files.old path.now) events.now image path.now (F.made files.old) (F.made files.new) }
+    ensures saved { let here = around F.Files F.Reader.tells F.Writer.tells files.old files.new in
+        OnOk result (SavesAll here events.now image path.now (O.contents out.old) (O.contents out.new)) }
+    ensures stopped { let here = around F.Files F.Reader.tells F.Writer.tells files.old files.new in
+        result ≡ Err Failure.CannotPrint → SavesFirst here events.now image path.now }
     ensures failed { IfErr result (SavingFails path.entry) }
     ensures made { OnOk result (MakesAtMost path.now (F.made files.old) (F.made files.new)) }
     ensures one { result ≡ Err Failure.CannotPrint → MakesAtMost path.now (F.made files.old) (F.made files.new) }
@@ -167,7 +170,7 @@ fn serve_and_drain<O: Write>(
     requires room { MOST_TRANSFER ≤ length output.old }
     requires counts { lines.old.refusals + 1 < 2 ^ 64 }
     ensures same_writer { lines.new.out.ghost_name ≡ lines.old.out.ghost_name }
-    ensures served_and_drained { OnOk result (HasServedAndDrained intervals events.now device.old device.new (HasPrinted (O.contents lines.old.out.now) (O.contents lines.new.out.now))) }
+    ensures done { OnOk result (DoesAll events.now device.old device.new (O.contents lines.old.out.now) (O.contents lines.new.out.now)) }
     ensures stopped { OnErr result (HasBegun events.now device.old device.new) }
 {
     device.serve(events, output, lines)?;

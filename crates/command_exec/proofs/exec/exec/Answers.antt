@@ -1,8 +1,8 @@
-use Rattle.std.proofs.Common.{ℕ, List, Option, ap, ◌∙◌, rules}
-use Rattle.std.specs.Prelude.{codes}
+use Rattle.std.proofs.Common.{◌∙◌, rules}
 use Rattle.std.proofs.lemmas.Result.{err_from_is_err_and, IfErr-weaker, on_ok_weaker}
-use Rattle.command_files.specs.Arguments.{value_of}
 use Rattle.command_files.proofs.Proved.{others_kept}
+use Rattle.command_images.specs.Images.{image_of}
+use Rattle.command_exec.specs.Executed.{commands_of}
 use Rattle.command_exec.proofs.Failing.{exec_of_commands, exec_of_loading, exec_of_reading, exec_of_saving}
 use Rattle.command_exec.proofs.Saving.{executes, executes_first}
 use Rattle.command_exec.proofs.exec.exec.Goals as goal
@@ -10,43 +10,43 @@ use Rattle.command_exec.proofs.exec.exec.Goals as goal
 pub returns-in-Ok-clause-executed : goal.returns-in-Ok-clause-executed
 returns-in-Ok-clause-executed g c =
     executes g.F.Reader.Source.tells g.F.Writer.Sink.tells (g.F.Files.contents c.args.files.now) (g.F.Files.contents c.load_to_replace.new.files)
-    c.required-path.result.now _ c.required-commands.result.now _
+    c.required-path.result.now c.required-commands.result.now c.args.matches.now
     c.in_ok-file.file.items c.as_slice.result.now c.in_ok-image.image c.in-Ok.events.items
     (g.F.Files.made c.args.files.now) (g.F.Files.made c.read.new.files) (g.F.Files.made c.run.new.files)
     c.load_to_replace.ensures.contents c.required-path.ensures c.required-commands.ensures (search rules) c.in_ok-file.ensures.bytes c.as_slice.ensures.value c.in-Ok.ensures
-    _ _ _ _ c.run.result c.in_ok-image.ensures.image (ap (λ (contents : List ℕ → Option (List ℕ)). contents c.required-path.result.now) (c.read.ensures.contents ∙ c.load_to_replace.ensures.contents)) c.run.ensures.saved (search rules)
+    (g.F.Files.contents c.read.new.files) _ _ _ c.run.result c.in_ok-image.ensures.image (c.read.ensures.contents ∙ c.load_to_replace.ensures.contents) c.run.ensures.saved (search rules)
 
 pub returns-in-Ok-clause-stopped : goal.returns-in-Ok-clause-stopped
 returns-in-Ok-clause-stopped g c = λ stops.
     executes_first g.F.Reader.Source.tells g.F.Writer.Sink.tells (g.F.Files.contents c.args.files.now) (g.F.Files.contents c.load_to_replace.new.files)
-    c.required-path.result.now _ c.required-commands.result.now _
+    c.required-path.result.now c.required-commands.result.now c.args.matches.now
     c.in_ok-file.file.items c.as_slice.result.now c.in_ok-image.image c.in-Ok.events.items
     (g.F.Files.made c.args.files.now) (g.F.Files.made c.read.new.files) (g.F.Files.made c.run.new.files)
     c.load_to_replace.ensures.contents c.required-path.ensures c.required-commands.ensures (search rules) c.in_ok-file.ensures.bytes c.as_slice.ensures.value c.in-Ok.ensures
-    _ _ c.in_ok-image.ensures.image (ap (λ (contents : List ℕ → Option (List ℕ)). contents c.required-path.result.now) (c.read.ensures.contents ∙ c.load_to_replace.ensures.contents)) (c.run.ensures.stopped stops) (search rules)
+    (g.F.Files.contents c.read.new.files) _ c.in_ok-image.ensures.image (c.read.ensures.contents ∙ c.load_to_replace.ensures.contents) (c.run.ensures.stopped stops) (search rules)
 
 pub returns-in_err-image-clause-failed : goal.returns-in_err-image-clause-failed
 returns-in_err-image-clause-failed g c =
     let p = err_from_is_err_and c.from_residual.result c.from_residual.ensures.1 in
-    rw (p.1, p.2) (exec_of_loading g.F.Reader.Source.tells (g.F.Files.contents c.args.files.now) (value_of c.args.matches.now (codes "IMAGE")) (value_of c.args.matches.now (codes "COMMANDS"))
+    rw (p.1, p.2) (exec_of_loading g.F.Reader.Source.tells (g.F.Files.contents c.args.files.now) (image_of c.args.matches.now) (commands_of c.args.matches.now)
     c.required-path.result.now c.required-path.ensures c.in_err-image.field-0.0 c.in_err-image.ensures.failed)
 
 pub returns-in_err-file-clause-failed : goal.returns-in_err-file-clause-failed
 returns-in_err-file-clause-failed g c =
     let p = err_from_is_err_and c.from_residual-in_err-file.result c.from_residual-in_err-file.ensures.1 in
-    rw (p.1, p.2) (exec_of_reading g.F.Reader.Source.tells (g.F.Files.contents c.args.files.now) (value_of c.args.matches.now (codes "IMAGE")) (value_of c.args.matches.now (codes "COMMANDS"))
+    rw (p.1, p.2) (exec_of_reading g.F.Reader.Source.tells (g.F.Files.contents c.args.files.now) (image_of c.args.matches.now) (commands_of c.args.matches.now)
     c.required-commands.result c.required-commands.ensures c.in_err-file.field-0.0 c.in_err-file.ensures.unread)
 
 pub returns-clause-failed : goal.returns-clause-failed
 returns-clause-failed g c =
-    rw c.of_commands.ensures.told (exec_of_commands g.F.Reader.Source.tells (g.F.Files.contents c.args.files.now) (value_of c.args.matches.now (codes "IMAGE")) (value_of c.args.matches.now (codes "COMMANDS"))
+    rw c.of_commands.ensures.told (exec_of_commands g.F.Reader.Source.tells (g.F.Files.contents c.args.files.now) (image_of c.args.matches.now) (commands_of c.args.matches.now)
     c.required-commands.result c.required-commands.ensures (g.F.Files.contents c.load_to_replace.new.files) c.load_to_replace.ensures.contents
     c.in_ok-file.file.items c.as_slice.result.now c.as_slice.ensures.value c.in_ok-file.ensures.bytes c.in-Err.fault c.in-Err.ensures)
 
 pub returns-in-Ok-clause-failed : goal.returns-in-Ok-clause-failed
 returns-in-Ok-clause-failed g c =
     IfErr-weaker c.run.result _ _
-    (exec_of_saving g.F.Reader.Source.tells (g.F.Files.contents c.args.files.now) (value_of c.args.matches.now (codes "IMAGE")) (value_of c.args.matches.now (codes "COMMANDS"))
+    (exec_of_saving g.F.Reader.Source.tells (g.F.Files.contents c.args.files.now) (image_of c.args.matches.now) (commands_of c.args.matches.now)
     c.required-path.result c.required-path.ensures) c.run.ensures.failed
 
 pub returns-in-Ok-clause-others : goal.returns-in-Ok-clause-others

@@ -1,5 +1,6 @@
 use Rattle.std.proofs.Common.{ap, sym, ◌∙◌, rules}
 use Rattle.std.proofs.lemmas.Result.{err_from_is_err_and}
+use Rattle.command_files.specs.Surroundings.{around}
 use Rattle.command_exec.proofs.Failing.{saving_of_changes}
 use Rattle.command_exec.proofs.Saving.{prints_all, saves_all, saves_first}
 use Rattle.command_exec.proofs.exec.run.Goals as goal
@@ -8,15 +9,15 @@ pub returns-in-Ok-clause-saved : goal.returns-in-Ok-clause-saved
 returns-in-Ok-clause-saved g c =
     let contents = g.O.Write.contents in
     let writer = c.into_writer-out.ensures.same_writer ∙ c.serve_and_drain-done.ensures.same_writer ∙ c.in_ok-lines.ensures.same_writer.0 in
-    saves_all g.F.Reader.Source.tells g.F.Writer.Sink.tells (g.F.Files.contents c.args.files.now c.args.path.now) c.args.events.now c.args.image c.image-2.result.now c.args.path.now (g.F.Files.made c.args.files.now) (g.F.Files.made c.save_changes.new.files)
+    saves_all (around g.F.Files g.F.Reader.Source.tells g.F.Writer.Sink.tells c.args.files.now c.save_changes.new.files) c.args.events.now c.args.image c.image-2.result.now c.args.path.now
     c.serve_and_drain-done.new.device c.in_ok-save_changes.ensures.saved c.image-2.ensures.value _ _
     (prints_all c.args.events.now c.args.image c.new-device.result c.serve_and_drain-done.new.device
     (contents c.in_ok-lines.lines.out.now) _ (contents c.serve_and_drain-done.new.lines.out.now) _ c.new-device.ensures
-    (ap contents c.in_ok-lines.ensures.same_writer.1) (ap contents (sym c.into_writer-out.ensures.value ∙ search rules)) c.in-Ok.ensures.served_and_drained)
+    (ap contents c.in_ok-lines.ensures.same_writer.1) (ap contents (sym c.into_writer-out.ensures.value ∙ search rules)) c.in-Ok.ensures.done)
 
 pub returns-clause-stopped : goal.returns-clause-stopped
 returns-clause-stopped g c = λ _.
-    saves_first g.F.Reader.Source.tells g.F.Writer.Sink.tells (g.F.Files.contents c.args.files.now c.args.path.now) c.args.events.now c.args.image c.image-2.result.now c.args.path.now (g.F.Files.made c.args.files.now) (g.F.Files.made c.save_changes.new.files)
+    saves_first (around g.F.Files g.F.Reader.Source.tells g.F.Writer.Sink.tells c.args.files.now c.save_changes.new.files) c.args.events.now c.args.image c.image-2.result.now c.args.path.now
     c.serve_and_drain-done.new.device c.in_ok-save_changes.ensures.saved c.image-2.ensures.value
     c.new-device.result c.new-device.ensures c.in-Err.ensures.stopped
 

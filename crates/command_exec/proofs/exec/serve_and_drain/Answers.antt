@@ -17,8 +17,8 @@ returns-clause-same_writer g c =
     (printed c.args.lines.now) (printed c.serve.new.out) (printed c.drain.new.out)
     c.in_ok-serve.ensures.served c.drain.result c.drain.ensures.drained c.drain.ensures.stopped
 
-pub returns-clause-served_and_drained : goal.returns-clause-served_and_drained
-returns-clause-served_and_drained g c =
+pub returns-clause-done : goal.returns-clause-done
+returns-clause-done g c =
     let printed = printed_by g.O.Write.contents in
     serves_and_drains c.args.events.now c.args.device.now c.serve.new.self c.drain.new.self
     (printed c.args.lines.now) (printed c.serve.new.out) (printed c.drain.new.out)
