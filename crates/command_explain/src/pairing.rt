@@ -1,10 +1,8 @@
 //! Completions, each paired with a submission of a command file.
 
-ghost use Rattle.std.specs.Prelude.{◌≡◌, IfOk, IfSome, option_map};
-ghost use Rattle.command_explain.specs.steps.Pairing.{Begins};
+ghost use Rattle.std.specs.Prelude.{IfOk};
+ghost use Rattle.command_explain.specs.steps.Pairing.{Begins, Pairs};
 ghost use Rattle.command_explain.specs.steps.Submissions.{identity};
-ghost use Rattle.command_explain.specs.steps.Uses.{doubt_at};
-ghost use Rattle.command_explain.specs.steps.Waiting.{TakesFirst};
 
 use crate::submissions::{Submission, identity};
 use crate::uses::{Doubt, Uses};
@@ -61,9 +59,7 @@ impl<'a> Pairing<'a> {
     /// The submission that a completion is taken to answer, which waits no longer; `None` where none waits that has its queue and
     /// its command identifier.
     pub(crate) fn pair(&mut self, completion: &Completion) -> Option<Paired<'a>>
-        ensures submission { TakesFirst (identity completion.now.queue completion.now.cid) self.old.waiting.submissions.items self.new.waiting.submissions.items (option_map (λ paired. paired.submission) result) }
-        ensures doubt { IfSome result (λ paired. paired.doubt ≡ doubt_at (identity completion.now.queue completion.now.cid) self.old.uses) }
-        ensures uses { self.new.uses ≡ self.old.uses }
+        ensures { Pairs (identity completion.now.queue completion.now.cid) self.old self.new result }
     {
         let identity = identity(completion.queue, completion.cid);
         let submission = self.waiting.complete(identity)?;

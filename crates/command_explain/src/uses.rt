@@ -1,9 +1,9 @@
 //! How often a queue and a command identifier are used, by which it is judged whether a completion can be that of another submission.
 
-ghost use Rattle.std.specs.Prelude.{◌≡◌, ◌==◌, ℕ, nat_eq, unwrap_or, count_by, map, IfOk};
+ghost use Rattle.std.specs.Prelude.{◌≡◌, ℕ, nat_eq, unwrap_or, map, IfOk};
 ghost use Rattle.std.specs.List.{filter_map};
 ghost use Rattle.std.specs.HashMap.{get};
-ghost use Rattle.command_explain.specs.steps.Uses.{AreCounted, completion_in, doubt_at, ends_in_run, run_in};
+ghost use Rattle.command_explain.specs.steps.Uses.{AreCounted, completion_in, count_of, doubt_at, ends_in_run, run_in};
 
 use crate::submissions::{Submission, identity, is_run};
 use device_events::Reply;
@@ -81,7 +81,7 @@ impl Uses {
 
 /// How often each number stands in a list.
 fn tally(alloc: Global, numbers: &[u32]) -> Result<HashMap<u32, u64>, AllocError>
-    ensures { IfOk result (λ counts. (number : ℕ) → unwrap_or (get nat_eq counts number) 0 ≡ count_by (λ other. other == number) numbers.now) }
+    ensures { IfOk result (λ counts. (number : ℕ) → unwrap_or (get nat_eq counts number) 0 ≡ count_of number numbers.now) }
 {
     let mut counts = HashMap::new(alloc);
     for number in numbers {

@@ -34,11 +34,13 @@ completion_in told = completion_of told.reply
 -- is the last submission that has an identity a Run? None where no submission has it
 abbrev pub ends_in_run : ℕ → List Submission → Option Bool
 ends_in_run identity submissions =
-    option_map (λ (submission : Submission). is_run submission.entry) (find (λ (submission : Submission). submission.identity == identity) (reverse submissions))
+    option_map (λ (submission : Submission). is_run submission.entry)
+    (find (λ (submission : Submission). submission.identity == identity) (reverse submissions))
 
 -- of an identity the submissions, the completions, the Runs, and whether the last submission is a Run, are those of these lists
 pub record AreCountedOf (identity : ℕ) (all : List Submission) (told : List ToldReply) (uses : Uses) : Type 0 where
-  pub submissions : unwrap_or (get nat_eq uses.submissions identity) 0 ≡ count_of identity (map (λ (submission : Submission). submission.identity) all)
+  pub submissions : unwrap_or (get nat_eq uses.submissions identity) 0
+      ≡ count_of identity (map (λ (submission : Submission). submission.identity) all)
   pub runs : unwrap_or (get nat_eq uses.runs identity) 0 ≡ count_of identity (filter_map run_in all)
   pub ends_in_run : get nat_eq uses.ends_in_run identity ≡ ends_in_run identity all
   pub completions : unwrap_or (get nat_eq uses.completions identity) 0 ≡ count_of identity (filter_map completion_in told)
