@@ -2,8 +2,9 @@
 
 mod events;
 mod fields;
+mod hashes;
+mod joins;
 mod ranks;
-mod sets;
 mod sums;
 mod walks;
 
