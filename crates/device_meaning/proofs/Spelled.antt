@@ -9,8 +9,9 @@ use Rattle.nvme_entry.specs.declared.command.StandardCommand.{StandardCommand}
 use Rattle.nvme_entry.specs.declared.command.StandardCommand.TheVariants.{Write, Append}
 use Rattle.nvme_entry.proofs.Proved.{fields_are_spelled}
 use Rattle.common_definitions.specs.Bytes.{AreBytes, field}
-use Rattle.zns_commands.specs.Change.{CanBeAsked, Change, Nothing, Writing, Moving, change_of}
+use Rattle.zns_commands.specs.Change.{CanBeAsked, Change, Nothing, Writing, Moving}
 use Rattle.zns_commands.specs.Laws.{Commanded, IsSpelled}
+use Rattle.zns_commands.specs.Meaning.{change_of}
 
 -- what writes blocks writes at least one
 abbrev pub WritesSome : Change → Type 0

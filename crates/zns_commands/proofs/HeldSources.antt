@@ -21,7 +21,8 @@ use Rattle.zns_commands.specs.Address.{zone_number}
 use Rattle.zns_commands.specs.Fault.{zone_fault_refusal, faulted_by}
 use Rattle.zns_commands.specs.Left.{Grows, HeldSourcesKeepBlocks}
 use Rattle.zns_commands.specs.Laws.{Commanded, Faulted}
-use Rattle.zns_commands.specs.Change.{Change, Nothing, Writing, Moving, change_of, changed}
+use Rattle.zns_commands.specs.Change.{Change, Nothing, Writing, Moving, changed}
+use Rattle.zns_commands.specs.Meaning.{change_of}
 use Rattle.zns_commands.specs.Resources.{closed}
 use Rattle.zns_commands.specs.Send.{send_checks, send_effect, takes, led_to}
 use Rattle.zns_commands.specs.steps.Plans.{write_plan, zone_plan}

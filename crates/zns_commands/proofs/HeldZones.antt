@@ -18,7 +18,8 @@ use Rattle.common_definitions.specs.Checks.{first_failed}
 use Rattle.common_definitions.proofs.Proved.{demanded, passed}
 use Rattle.image_store.specs.Namespace.{ZoneWithBlocks, ZonedNamespace, no_zone, zone_at, counted, counted_zones}
 use Rattle.zns_commands.specs.Address.{zone_number}
-use Rattle.zns_commands.specs.Change.{Change, Nothing, Writing, Moving, change_of}
+use Rattle.zns_commands.specs.Change.{Change, Nothing, Writing, Moving}
+use Rattle.zns_commands.specs.Meaning.{change_of}
 use Rattle.zns_commands.specs.Fault.{zone_fault_refusal}
 use Rattle.zns_commands.specs.Left.{is_either, reaches, HeldDestinationsAreLeft}
 use Rattle.zns_commands.specs.Laws.{Commanded, Faulted}

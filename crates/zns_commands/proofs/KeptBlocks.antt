@@ -15,7 +15,8 @@ use Rattle.zone_state.specs.State.{is_cleared}
 use Rattle.zns_commands.specs.declared.write.WritePlan.{WritePlan}
 use Rattle.zns_commands.specs.Address.{zone_number}
 use Rattle.zns_commands.specs.Fault.{zone_fault_refusal, faulted_by}
-use Rattle.zns_commands.specs.Change.{Change, Nothing, Writing, Moving, change_of, changed}
+use Rattle.zns_commands.specs.Change.{Change, Nothing, Writing, Moving, changed}
+use Rattle.zns_commands.specs.Meaning.{change_of}
 use Rattle.zns_commands.specs.Read.{read_refusal}
 use Rattle.zns_commands.specs.Resources.{closed}
 use Rattle.zns_commands.specs.Send.{send_effect, takes, swept, led_to}

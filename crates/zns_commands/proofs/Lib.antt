@@ -1,5 +1,6 @@
 mod BlockParts
 mod EachBlock
+mod EachCommand
 mod FittingZones
 mod GivenWay
 mod HeldCommands

@@ -3,20 +3,13 @@ use Rattle.std.proofs.Common.{◌≡◌, ℕ, List, Option, Some, None, refl, ap
 use Rattle.zone_state.specs.declared.status.Status.{Status}
 use Rattle.zone_resources.specs.declared.holds.Holds.{Holds}
 use Rattle.nvme_entry.specs.declared.command.StandardCommand.{StandardCommand}
-use Rattle.nvme_entry.specs.declared.command.StandardCommand.TheVariants.{Write}
-use Rattle.common_definitions.specs.Checks.{first_failed}
 use Rattle.image_store.specs.Namespace.{ZonedNamespace}
-use Rattle.zns_commands.specs.Change.{Change, change_of, changed}
+use Rattle.zns_commands.specs.Change.{Change, changed}
 use Rattle.zns_commands.specs.Effect.{Effect, concluded}
 use Rattle.zns_commands.specs.Left.{QueriesChangeNothing}
-use Rattle.zns_commands.specs.Meaning.{checks_of, effect_of, meaning}
-use Rattle.zns_commands.proofs.PassedChecks.{IsPassed, change_passed}
-
--- what a command leaves that isn't refused is its change
-effect_changes : (ns : ZonedNamespace) (holds : Holds) (command : StandardCommand) (input : List ℕ)
-    → (effect_of ns holds command input).namespace ≡ changed ns holds (change_of command) input
-effect_changes ns holds (Write lba blocks) input = refl
-effect_changes ns holds command input = refl
+use Rattle.zns_commands.specs.Meaning.{change_of, effect_of, meaning, refusal_of}
+use Rattle.zns_commands.proofs.EachCommand.{change_passed, effect_changes}
+use Rattle.zns_commands.proofs.PassedChecks.{IsPassed}
 
 concluded_so : (P : ZonedNamespace → Type 0) (refusal : Option Status) (ns : ZonedNamespace) (effect : Effect)
     → P ns → (refusal ≡ None → P effect.namespace) → P (concluded refusal ns effect).namespace
@@ -28,7 +21,7 @@ pub after_command : (P : ZonedNamespace → Type 0) (ns : ZonedNamespace) (holds
     → P ns → (IsPassed ns holds (change_of command) input → P (changed ns holds (change_of command) input))
     → P (meaning ns holds command input).namespace
 after_command P ns holds command input before done =
-    concluded_so P (first_failed (checks_of ns holds command input)) ns (effect_of ns holds command input) before
+    concluded_so P (refusal_of ns holds command input) ns (effect_of ns holds command input) before
     (λ none. subst P (sym (effect_changes ns holds command input)) (done (change_passed ns holds command input none)))
 
 pub queries_change_nothing : QueriesChangeNothing

@@ -20,8 +20,7 @@ use Rattle.zone_resources.specs.declared.admission.Limits.{Limits}
 use Rattle.zone_resources.specs.declared.admission.Wanted.{Wanted}
 use Rattle.zone_resources.specs.declared.admission.Wanted.TheVariants.{OpenOnly, OpenAndActive}
 use Rattle.zone_resources.specs.declared.holds.Holds.{Holds}
-use Rattle.nvme_entry.specs.declared.command.StandardCommand.{StandardCommand}
-use Rattle.nvme_entry.specs.declared.command.StandardCommand.TheVariants.{Write, Read, Send, Append}
+use Rattle.nvme_entry.specs.declared.command.StandardCommand.TheVariants.{Write, Read, Append}
 use Rattle.nvme_entry.specs.declared.command.TheConstants.{MOST_TRANSFER}
 use Rattle.common_definitions.specs.Checks.{demand, first_failed, unless_failed}
 use Rattle.common_definitions.proofs.Proved.{demanded, guarded, passed}
@@ -29,7 +28,7 @@ use Rattle.zone_state.proofs.Proved.{is_allowed}
 use Rattle.common_definitions.proofs.Proved.{all_append}
 use Rattle.image_store.specs.Namespace.{ZonedNamespace, zone_at, counted_zones, IsNamespace}
 use Rattle.zns_commands.specs.Address.{counted_zone_at, zone_number, block_total, lowest_checks, range_checks}
-use Rattle.zns_commands.specs.Change.{Change, Writing, Moving, change_of}
+use Rattle.zns_commands.specs.Change.{Change, Writing, Moving}
 use Rattle.zns_commands.specs.Effect.{Effect, concluded}
 use Rattle.zns_commands.specs.Append.{append_address_checks, append_checks, append_effect}
 use Rattle.zns_commands.specs.Fault.{zone_fault_refusal}
@@ -38,7 +37,7 @@ use Rattle.zns_commands.specs.Resources.{room_by, room_for, closing_of}
 use Rattle.zns_commands.specs.Send.{send_checks}
 use Rattle.zns_commands.specs.Write.{write_address_checks, write_checks, write_effect, zone_write_checks}
 use Rattle.zns_commands.specs.Transfer.{transfer_checks}
-use Rattle.zns_commands.specs.Meaning.{checks_of, meaning}
+use Rattle.zns_commands.specs.Meaning.{meaning}
 
 -- what isn't refused is given
 pub unrefused : {X : Type 0} (r : Result X Status) (other : X) → result_err r ≡ None → r ≡ Ok (result_unwrap_or r other)
@@ -133,13 +132,6 @@ abbrev pub IsPassed : ZonedNamespace → Holds → Change → List ℕ → Type 
 IsPassed ns holds (Writing lba blocks) input = Writes ns holds (zone_number ns lba) blocks input
 IsPassed ns holds (Moving lba a select_all) input = first_failed (send_checks ns holds lba a select_all input) ≡ None
 IsPassed ns holds _ input = Unit {0}
-
-pub change_passed : (ns : ZonedNamespace) (holds : Holds) (command : StandardCommand) (input : List ℕ)
-    → first_failed (checks_of ns holds command input) ≡ None → IsPassed ns holds (change_of command) input
-change_passed ns holds (Write lba blocks) input none = write_writes ns holds lba blocks input none
-change_passed ns holds (Append lba blocks) input none = append_writes ns holds lba blocks input none
-change_passed ns holds (Send lba a select_all) input none = none
-change_passed ns holds command input none = tt
 
 -- where a check fails, its status isn't success
 abbrev Fails : Option Status → Type 0

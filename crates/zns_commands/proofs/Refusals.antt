@@ -1,15 +1,13 @@
 -- That just one case of a command holds, and that a refused command changes nothing.
-use Rattle.std.proofs.Common.{◌≡◌, ◌≢◌, ℕ, List, Option, Some, None, refl, ap, sym, ◌∙◌}
+use Rattle.std.proofs.Common.{◌≡◌, ◌≢◌, List, Option, Some, None, refl, ap, sym, ◌∙◌}
 use Rattle.zone_state.specs.declared.status.Status.{Status}
 use Rattle.zone_state.specs.declared.status.TheConstants.Status.{SUCCESS}
-use Rattle.zone_resources.specs.declared.holds.Holds.{Holds}
-use Rattle.nvme_entry.specs.declared.command.StandardCommand.{StandardCommand}
-use Rattle.nvme_entry.specs.declared.command.StandardCommand.TheVariants.{Write}
 use Rattle.common_definitions.specs.Checks.{first_failed}
 use Rattle.common_definitions.proofs.Proved.{first_failed_is_first, no_fault_where_none_fails}
 use Rattle.image_store.specs.Namespace.{ZonedNamespace}
 use Rattle.zns_commands.specs.Effect.{Effect, concluded}
 use Rattle.zns_commands.specs.Meaning.{checks_of, effect_of}
+use Rattle.zns_commands.proofs.EachCommand.{succeeds}
 use Rattle.zns_commands.specs.Laws.{IsCase, TakesEffect, IsRefused, JustOneCase, ChangesNothing, RefusedCommandsChangeNothing}
 
 some_case : (ns : ZonedNamespace) (checks : List (Option Status)) (effect : Effect) (refusal : Option Status)
@@ -35,10 +33,6 @@ refused_concluded : (refusal : Option Status) (ns : ZonedNamespace) (effect : Ef
     → effect.status ≡ SUCCESS → (concluded refusal ns effect).status ≢ SUCCESS → ChangesNothing ns (concluded refusal ns effect)
 refused_concluded None ns effect done not_success = absurd (not_success done)
 refused_concluded (Some status) ns effect done not_success = record { namespace = refl; dw0 = refl; dw1 = refl; output = refl }
-
-succeeds : (ns : ZonedNamespace) (holds : Holds) (command : StandardCommand) (input : List ℕ) → (effect_of ns holds command input).status ≡ SUCCESS
-succeeds ns holds (Write lba blocks) input = refl
-succeeds ns holds command input = refl
 
 pub refused_commands_change_nothing : RefusedCommandsChangeNothing
 refused_commands_change_nothing ns holds command input =

@@ -19,7 +19,8 @@ use Rattle.image_store.specs.Geometry.{IsShape}
 use Rattle.image_store.specs.Namespace.{ZoneWithBlocks, ZonedNamespace, no_zone, zone_at, counted, IsNamespace, all_empty}
 use Rattle.image_store.proofs.Proved.{resized}
 use Rattle.zns_commands.specs.Address.{zone_number, block_total}
-use Rattle.zns_commands.specs.Change.{CanBeAsked, Change, Nothing, Writing, Moving, change_of, changed}
+use Rattle.zns_commands.specs.Change.{CanBeAsked, Change, Nothing, Writing, Moving, changed}
+use Rattle.zns_commands.specs.Meaning.{change_of}
 use Rattle.zns_commands.specs.Resources.{closing_of, gives_way}
 use Rattle.zns_commands.specs.Send.{send_checks, send_effect, all_fit, room_of}
 use Rattle.zns_commands.specs.Write.{with_written}

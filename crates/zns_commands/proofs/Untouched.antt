@@ -14,7 +14,8 @@ use Rattle.zns_commands.specs.Address.{zone_number}
 use Rattle.zns_commands.specs.Fault.{zone_fault_refusal, faulted_by}
 use Rattle.zns_commands.specs.Left.{is_either, reaches, OtherZonesAreLeft}
 use Rattle.zns_commands.specs.Laws.{Commanded, Faulted}
-use Rattle.zns_commands.specs.Change.{Change, Nothing, Writing, Moving, change_of, changed}
+use Rattle.zns_commands.specs.Change.{Change, Nothing, Writing, Moving, changed}
+use Rattle.zns_commands.specs.Meaning.{change_of}
 use Rattle.zns_commands.specs.Resources.{closed}
 use Rattle.zns_commands.specs.Send.{send_effect, takes, led_to}
 use Rattle.zns_commands.specs.declared.write.WritePlan.{WritePlan}

@@ -1,10 +1,8 @@
--- What a command changes: a command that only reads changes nothing.
+-- What commands change.
 use Rattle.std.specs.Prelude.{ℕ, ◌≤◌, Bool, List}
 use Rattle.common_definitions.specs.Bytes.{AreBytes}
 use Rattle.zone_state.specs.declared.action.Action.{Action}
 use Rattle.zone_resources.specs.declared.holds.Holds.{Holds}
-use Rattle.nvme_entry.specs.declared.command.StandardCommand.{StandardCommand}
-use Rattle.nvme_entry.specs.declared.command.StandardCommand.TheVariants.{Write, Send, Append}
 use Rattle.image_store.specs.Namespace.{ZonedNamespace}
 use Rattle.zns_commands.specs.Address.{zone_number}
 use Rattle.zns_commands.specs.Send.{send_effect}
@@ -16,13 +14,6 @@ pub data Change : Type 0 where
   Nothing : Change
   Writing : (lba blocks : ℕ) → Change
   Moving : (lba : ℕ) (action : Action) (select_all : Bool) → Change
-
--- the change that a command makes which isn't refused; one that only reads makes none
-abbrev pub change_of : StandardCommand → Change
-change_of (Write lba blocks) = Writing lba blocks
-change_of (Append lba blocks) = Writing lba blocks
-change_of (Send lba action select_all) = Moving lba action select_all
-change_of _ = Nothing
 
 -- the namespace after a change, where these bytes are what is written
 abbrev pub changed : ZonedNamespace → Holds → Change → List ℕ → ZonedNamespace

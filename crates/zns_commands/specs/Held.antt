@@ -1,21 +1,16 @@
 -- What is refused of the zones that runs use (profile).
-use Rattle.std.specs.Prelude.{ℕ, ◌≡◌, ◌++◌, Bool, true, false, List, [], Option, unwrap_or}
-use Rattle.zone_state.specs.declared.status.Status.{Status}
+use Rattle.std.specs.Prelude.{ℕ, ◌≡◌, Bool, true, false, List, unwrap_or}
 use Rattle.zone_state.specs.declared.status.TheConstants.Status.{ZONE_HELD}
 use Rattle.common_definitions.specs.Checks.{first_failed}
 use Rattle.zone_resources.specs.Holds.{is_destination, refuses}
 use Rattle.zone_resources.specs.declared.holds.Holds.{Holds}
 use Rattle.nvme_entry.specs.declared.command.StandardCommand.{StandardCommand}
-use Rattle.nvme_entry.specs.declared.command.StandardCommand.TheVariants.{Write, Send, Append}
 use Rattle.image_store.specs.Namespace.{ZonedNamespace, counted_zones}
-use Rattle.zns_commands.specs.Address.{zone_number, lowest_checks}
-use Rattle.zns_commands.specs.Change.{Change, Writing, Moving, change_of}
+use Rattle.zns_commands.specs.Address.{zone_number}
+use Rattle.zns_commands.specs.Change.{Change, Writing, Moving}
 use Rattle.zns_commands.specs.Effect.{refused_effect}
-use Rattle.zns_commands.specs.Append.{append_address_checks}
-use Rattle.zns_commands.specs.Meaning.{meaning}
+use Rattle.zns_commands.specs.Meaning.{change_of, checks_before_holds, meaning}
 use Rattle.zns_commands.specs.Send.{held_among}
-use Rattle.zns_commands.specs.Transfer.{transfer_checks}
-use Rattle.zns_commands.specs.Write.{write_address_checks}
 
 -- is a zone that would be changed held against the change?
 abbrev pub is_held_against : ZonedNamespace → Holds → Change → Bool
@@ -23,14 +18,6 @@ is_held_against ns holds (Writing lba blocks) = is_destination holds (zone_numbe
 is_held_against ns holds (Moving lba action true) = held_among (counted_zones ns) holds action
 is_held_against ns holds (Moving lba action false) = refuses holds action (zone_number ns lba)
 is_held_against ns holds _ = false
-
--- the checks that a command which changes zones meets before it meets the holds: those of its data and of its address
-abbrev pub checks_before_holds : ZonedNamespace → StandardCommand → List ℕ → List (Option Status)
-checks_before_holds ns (Write lba blocks) input = write_address_checks ns lba blocks input
-checks_before_holds ns (Append lba blocks) input = append_address_checks ns lba blocks input
-checks_before_holds ns (Send lba action true) input = transfer_checks 0 0 input
-checks_before_holds ns (Send lba action false) input = transfer_checks 0 0 input ++ lowest_checks ns lba
-checks_before_holds ns _ input = []
 
 -- a command on a zone that is held against it is refused, with Zone Held where its data and its address are right
 abbrev pub HeldCommandsAreRefused : Type 0

@@ -21,11 +21,11 @@ use Rattle.image_store.specs.Namespace.{ZonedNamespace, zone_at, appended, block
 use Rattle.common_definitions.specs.FirstCheck.{FailsFirst, NoneFails}
 use Rattle.zone_state.specs.State.{is_cleared}
 use Rattle.zns_commands.specs.Address.{block_total, zone_number, zone_offset}
-use Rattle.zns_commands.specs.Change.{CanBeAsked, change_of}
+use Rattle.zns_commands.specs.Change.{CanBeAsked}
 use Rattle.zns_commands.specs.Effect.{Effect, success_effect, refused_effect}
 use Rattle.zns_commands.specs.Append.{TakesBlocks}
 use Rattle.zns_commands.specs.Fault.{faulted}
-use Rattle.zns_commands.specs.Meaning.{checks_of, effect_of, meaning}
+use Rattle.zns_commands.specs.Meaning.{change_of, checks_of, effect_of, meaning}
 
 -- an event that happens to a namespace, under the holds of the active runs: a command with the data beside
 -- its entry, or a fault of a zone

@@ -5,9 +5,9 @@ use Rattle.zone_resources.specs.declared.holds.Holds.{Holds}
 use Rattle.nvme_entry.specs.declared.command.StandardCommand.{StandardCommand}
 use Rattle.image_store.specs.Namespace.{ZonedNamespace, zone_at, shape}
 use Rattle.zns_commands.specs.Address.{zone_number}
-use Rattle.zns_commands.specs.Change.{Change, Nothing, Writing, Moving, change_of}
+use Rattle.zns_commands.specs.Change.{Change, Nothing, Writing, Moving}
 use Rattle.zns_commands.specs.Laws.{NamespaceEvent, Commanded, Faulted, after}
-use Rattle.zns_commands.specs.Meaning.{meaning}
+use Rattle.zns_commands.specs.Meaning.{change_of, meaning}
 use Rattle.zns_commands.specs.Send.{gives_way_to, takes}
 use Rattle.zns_commands.specs.Resources.{gives_way}
 
