@@ -1,10 +1,9 @@
 //! The command `asm`: text to a program.
 
-ghost use Rattle.std.specs.Prelude.{◌≡◌, IfErr, IfSome, OnOk, OnErr};
+ghost use Rattle.std.specs.Prelude.{◌≡◌, IfErr, OnOk, OnErr};
 ghost use Rattle.ebpf_asm.specs.Assembly.{assembled};
-ghost use Rattle.command_files.specs.Arguments.{value_of};
 ghost use Rattle.command_files.specs.Made.{KeepsOthers, MakesOne};
-ghost use Rattle.command_programs.specs.MakesProgram.{MakesProgram};
+ghost use Rattle.command_programs.specs.MakesProgram.{Assembles, MakesProgram, program_file_of, text_file_of};
 ghost use Rattle.command_programs.specs.UserTold.{AsmFails};
 ghost use Rattle.command_programs.specs.steps.Told.{IsToldOfAssembly, MakesNone};
 
@@ -69,10 +68,10 @@ pub fn asm<'a, F: Files>(
     matches: &ArgMatches<'a>,
     files: &mut F,
 ) -> Result<(), Failure<'a>>
-    ensures program { OnOk result (IfSome (F.contents files.old (value_of matches.now TEXT.now)) (λ text. MakesProgram (F.made files.old) (F.made files.new) (value_of matches.now PROGRAM.now) (assembled text))) }
-    ensures failed { IfErr result (AsmFails (F.contents files.old) (value_of matches.now TEXT.now) (value_of matches.now PROGRAM.now)) }
-    ensures made { OnOk result (MakesOne (value_of matches.now PROGRAM.now) (F.made files.old) (F.made files.new)) }
-    ensures others { OnOk result (KeepsOthers (value_of matches.now PROGRAM.now) (F.contents files.old) (F.contents files.new)) }
+    ensures program { OnOk result (Assembles matches.now (F.contents files.old) (F.made files.old) (F.made files.new)) }
+    ensures failed { IfErr result (AsmFails (F.contents files.old) (text_file_of matches.now) (program_file_of matches.now)) }
+    ensures made { OnOk result (MakesOne (program_file_of matches.now) (F.made files.old) (F.made files.new)) }
+    ensures others { OnOk result (KeepsOthers (program_file_of matches.now) (F.contents files.old) (F.contents files.new)) }
     ensures kept { OnErr result (F.made files.new ≡ F.made files.old) }
     ensures contents { OnErr result (F.contents files.new ≡ F.contents files.old) }
 {

@@ -1,8 +1,7 @@
 use Rattle.std.proofs.Common.{rules}
-use Rattle.std.specs.Prelude.{codes}
 use Rattle.std.proofs.lemmas.Result.{err_from_is_err_and, IfErr-weaker, on_ok_weaker}
-use Rattle.command_files.specs.Arguments.{value_of}
 use Rattle.command_files.proofs.Proved.{others_kept}
+use Rattle.command_programs.specs.MakesProgram.{program_file_of, text_file_of}
 use Rattle.command_programs.proofs.Assembling.{fails_none, fails_unread, makes_program}
 use Rattle.command_programs.proofs.asm.asm.Goals as goal
 
@@ -15,8 +14,8 @@ returns-clause-program g c =
 pub returns-in_err-text-clause-failed : goal.returns-in_err-text-clause-failed
 returns-in_err-text-clause-failed g c =
     let p = err_from_is_err_and c.from_residual.result c.from_residual.ensures.1 in
-    rw (p.1, p.2) (fails_unread (g.F.Files.contents c.args.files.now) c.required-text_file.result (value_of c.args.matches.now (codes "TEXT"))
-    (value_of c.args.matches.now (codes "PROGRAM")) c.required-text_file.ensures c.in_err-text.field-0.0 c.in_err-text.ensures.unread)
+    rw (p.1, p.2) (fails_unread (g.F.Files.contents c.args.files.now) c.required-text_file.result
+    (text_file_of c.args.matches.now) (program_file_of c.args.matches.now) c.required-text_file.ensures c.in_err-text.field-0.0 c.in_err-text.ensures.unread)
 
 pub returns-clause-failed : goal.returns-clause-failed
 returns-clause-failed g c =
