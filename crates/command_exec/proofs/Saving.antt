@@ -10,7 +10,6 @@ use Rattle.device_events.specs.Replies.{Joins, ReplyWithData}
 use Rattle.device_events.proofs.Proved.{prints_in_parts}
 use Rattle.device_meaning.specs.Draining.{HasDrained, HasStoppedDraining}
 use Rattle.device_meaning.specs.Events.{HasServed, HasStopped}
-use Rattle.device_meaning.specs.JoinedEvents.{HasServedAndDrained}
 use Rattle.device_meaning.specs.State.{State, new_state}
 use Rattle.device_events.specs.declared.event.Event.{Event}
 use Rattle.device_meaning.proofs.Proved.{served_and_drained}
@@ -21,7 +20,7 @@ use Rattle.command_files.specs.Made.{Made}
 use Rattle.command_files.specs.Surroundings.{Surroundings}
 use Rattle.command_files.proofs.Proved.{read_holds}
 use Rattle.command_images.specs.Images.{HasText, StandFor, image_of}
-use Rattle.command_exec.specs.Executed.{AreInFiles, DoesAll, Executes, ExecutesFirst, HasBegun, HasPrinted, InEvents, InTurns, SavesAll, SavesFirst, commands_of}
+use Rattle.command_exec.specs.Executed.{AreInFiles, DoesAll, Executes, ExecutesFirst, HasBegun, InEvents, InTurns, SavesAll, SavesFirst, commands_of}
 
 pub on_err : {T E fact : Type 0} (result : Result T E) → fact → OnErr result fact
 on_err (Ok value) holds = tt
