@@ -9,7 +9,7 @@ use Rattle.nvme_entry.specs.declared.command.StandardCommand.{StandardCommand}
 use Rattle.nvme_entry.specs.declared.command.StandardCommand.TheVariants.{Write, Append}
 use Rattle.nvme_entry.proofs.Proved.{fields_are_spelled}
 use Rattle.common_definitions.specs.Bytes.{AreBytes, field}
-use Rattle.zns_commands.specs.Change.{CanBeAsked, Change, Nothing, Writing, Moving}
+use Rattle.zns_commands.specs.Change.{CanBeAsked, Change, Writing}
 use Rattle.zns_commands.specs.Laws.{Commanded, IsSpelled}
 use Rattle.zns_commands.specs.Meaning.{change_of}
 
@@ -41,8 +41,7 @@ decoded_has entry c e = tt
 
 asked_by : (change : Change) (input : List ℕ) → WritesSome change → AreBytes input → CanBeAsked change input
 asked_by (Writing lba blocks) input some fit = (some, fit)
-asked_by (Moving lba action select_all) input some fit = tt
-asked_by Nothing input some fit = tt
+asked_by change input some fit = tt
 
 pub spelled : (holds : Holds) (c : StandardCommand) (input : List ℕ) → HasBlocks (commands.Standard c) → AreBytes input
     → IsSpelled (Commanded holds c input)
