@@ -161,8 +161,7 @@ fn print_of_command<O: Write>(
             let bytes = Counted(data.len() as u64, "byte");
             writeln!(out, "{bytes}")
         }
-        Command::Standard(StandardCommand::Write { .. } | StandardCommand::Send { .. })
-        | Command::Load(_) => writeln!(out, "done"),
+        Command::Standard(_) | Command::Load(_) => writeln!(out, "done"),
     }
 }
 

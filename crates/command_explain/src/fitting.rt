@@ -36,15 +36,13 @@ fn can_succeed_standard(completion: &Completion, bytes: usize, command: &Standar
 {
     match command {
         StandardCommand::Append { .. } => bytes == 0,
-        StandardCommand::Write { .. } | StandardCommand::Send { .. } => {
-            has_no_dwords(completion) && bytes == 0
-        }
         StandardCommand::Read { blocks, .. } => {
             has_no_dwords(completion) && is_of_blocks(bytes, *blocks)
         }
         StandardCommand::Receive { dwords, .. } => {
             has_no_dwords(completion) && bytes == dwords.bytes()
         }
+        _ => has_no_dwords(completion) && bytes == 0,
     }
 }
 

@@ -17,14 +17,13 @@ has_no_dwords c = (c.dw0 == 0) && (c.dw1 == 0)
 abbrev pub is_of_blocks : ℕ → ℕ → Bool
 is_of_blocks bytes blocks = list_any (λ size. blocks * size == bytes) BLOCK_SIZES
 
--- a command of the standards can succeed with this completion and so many bytes of data: an append alone tells something in
--- the dwords, a read gives its blocks, and a report as many dwords as were asked for
+-- a command of the standards can succeed with this completion and so many bytes of data: an append tells something in the
+-- dwords, a read gives its blocks, a report as many dwords as were asked for, and any other nothing
 abbrev pub can_succeed_standard : Completion → ℕ → StandardCommand → Bool
 can_succeed_standard c bytes (standard.Append lba blocks) = bytes == 0
-can_succeed_standard c bytes (standard.Write lba blocks) = has_no_dwords c && (bytes == 0)
-can_succeed_standard c bytes (standard.Send lba action select_all) = has_no_dwords c && (bytes == 0)
 can_succeed_standard c bytes (standard.Read lba blocks) = has_no_dwords c && is_of_blocks bytes blocks
 can_succeed_standard c bytes (standard.Receive lba dwords filter partial) = has_no_dwords c && (bytes == 4 * dwords)
+can_succeed_standard c bytes _ = has_no_dwords c && (bytes == 0)
 
 -- a command can: a run tells something in the dwords, and a result gives the scratch bytes
 abbrev pub can_succeed : Completion → ℕ → Command → Bool
