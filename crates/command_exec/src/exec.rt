@@ -105,7 +105,8 @@ pub fn exec<'a, F: Files, O: Write>(
     ensures made { OnOk result (MakesAtMost (image_of matches.now) (F.made files.old) (F.made files.new)) }
     ensures one { result ≡ Err Failure.CannotPrint → MakesAtMost (image_of matches.now) (F.made files.old) (F.made files.new) }
     ensures others { OnOk result (KeepsOthers (image_of matches.now) (F.contents files.old) (F.contents files.new)) }
-    ensures others_stopped { result ≡ Err Failure.CannotPrint → KeepsOthers (image_of matches.now) (F.contents files.old) (F.contents files.new) }
+    ensures others_stopped { result ≡ Err Failure.CannotPrint
+        → KeepsOthers (image_of matches.now) (F.contents files.old) (F.contents files.new) }
     ensures kept { IfErr result (λ failure. failure ≢ Failure.CannotPrint → F.made files.new ≡ F.made files.old) }
     ensures contents { IfErr result (λ failure. failure ≢ Failure.CannotPrint → F.contents files.new ≡ F.contents files.old) }
     ensures modes { OnOk result (KeepsModes (F.modes files.old) (F.modes files.new)) }
