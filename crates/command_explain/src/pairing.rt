@@ -1,10 +1,9 @@
 //! Completions, each paired with a submission of a command file.
 
 ghost use Rattle.std.specs.Prelude.{IfOk};
-ghost use Rattle.command_explain.specs.steps.Pairing.{Begins, Pairs};
-ghost use Rattle.command_explain.specs.steps.Submissions.{identity};
+ghost use Rattle.command_explain.specs.steps.Pairing.{Begins, Pairs, identity_of};
 
-use crate::submissions::{Submission, identity};
+use crate::submissions::{Identity, Submission};
 use crate::uses::{Doubt, Uses};
 use crate::waiting::Waiting;
 use event_text::ToldReply;
@@ -59,9 +58,12 @@ impl<'a> Pairing<'a> {
     /// The submission that a completion is taken to answer, which waits no longer; `None` where none waits that has its queue and
     /// its command identifier.
     pub(crate) fn pair(&mut self, completion: &Completion) -> Option<Paired<'a>>
-        ensures { Pairs (identity completion.now.queue completion.now.cid) self.old self.new result }
+        ensures { Pairs (identity_of completion.now) self.old self.new result }
     {
-        let identity = identity(completion.queue, completion.cid);
+        let identity = Identity {
+            queue: completion.queue,
+            cid: completion.cid,
+        };
         let submission = self.waiting.complete(identity)?;
         Some(Paired {
             path: self.path,

@@ -1,20 +1,28 @@
 //! The submissions of a command file, with the lines that they stand on.
 
-ghost use Rattle.std.specs.Prelude.{◌≡◌, ◌+◌, ◌*◌, ◌^◌, IfOk, zip};
+ghost use Rattle.std.specs.Prelude.{◌≡◌, IfOk, zip};
 ghost use Rattle.std.specs.List.{filter_map};
-ghost use Rattle.command_explain.specs.steps.Submissions.{identity, is_run, submission_in};
+ghost use Rattle.command_explain.specs.steps.Submissions.{is_run, submission_in};
 
 use device_events::Event;
 use nvme_entry::{Command, Entry};
 use std::alloc::{AllocError, Global};
+
+/// By what a completion is paired with a submission.
+#[derive(Clone, Copy, PartialEq, Eq, Hash)]
+pub(crate) struct Identity {
+    pub(crate) queue: u16,
+    /// The command identifier.
+    pub(crate) cid: u16,
+}
 
 /// A submission of a command file.
 #[derive(Clone, Copy)]
 pub(crate) struct Submission {
     /// The number of its line, the first being 1.
     pub(crate) line: usize,
-    /// The [`identity`] of its queue and its command identifier.
-    pub(crate) identity: u32,
+    /// Its queue and its command identifier.
+    pub(crate) identity: Identity,
     /// The entry.
     pub(crate) entry: [u8; 64],
 }
@@ -45,18 +53,14 @@ fn submission_in(event: &Event, line: usize) -> Option<Submission>
     match event {
         Event::Submit { queue, entry, .. } => Some(Submission {
             line,
-            identity: identity(*queue, Entry::cid(entry)),
+            identity: Identity {
+                queue: *queue,
+                cid: Entry::cid(entry),
+            },
             entry: *entry,
         }),
         Event::Turn { .. } | Event::Fault { .. } => None,
     }
-}
-
-/// A queue and a command identifier as one number.
-pub(crate) fn identity(queue: u16, cid: u16) -> u32
-    ensures { result ≡ identity queue cid }
-{
-    u32::from(queue) * 0x1_0000 + u32::from(cid)
 }
 
 /// Is the command of an entry a Run, whose completion may come later than those of commands behind it?

@@ -1,11 +1,13 @@
 //! How often a queue and a command identifier are used, by which it is judged whether a completion can be that of another submission.
 
-ghost use Rattle.std.specs.Prelude.{◌≡◌, ℕ, nat_eq, unwrap_or, map, IfOk};
+ghost use Rattle.std.specs.Prelude.{◌≡◌, unwrap_or, map, IfOk};
 ghost use Rattle.std.specs.List.{filter_map};
 ghost use Rattle.std.specs.HashMap.{get};
+ghost use Rattle.command_explain.specs.declared.submissions.Identity.{Identity};
+ghost use Rattle.command_explain.specs.steps.Submissions.{same_identity};
 ghost use Rattle.command_explain.specs.steps.Uses.{AreCounted, completion_in, count_of, doubt_at, ends_in_run, run_in};
 
-use crate::submissions::{Submission, identity, is_run};
+use crate::submissions::{Identity, Submission, is_run};
 use device_events::Reply;
 use event_text::ToldReply;
 use std::alloc::{AllocError, Global};
@@ -15,13 +17,13 @@ use std::collections::HashMap;
 #[derive(Drop)]
 pub(crate) struct Uses {
     /// The submissions.
-    submissions: HashMap<u32, u64>,
+    submissions: HashMap<Identity, u64>,
     /// The Runs among them.
-    runs: HashMap<u32, u64>,
+    runs: HashMap<Identity, u64>,
     /// Is the last submission a Run?
-    ends_in_run: HashMap<u32, bool>,
+    ends_in_run: HashMap<Identity, bool>,
     /// The completions.
-    completions: HashMap<u32, u64>,
+    completions: HashMap<Identity, u64>,
 }
 
 /// Why a completion may be that of another submission with its queue and identifier.
@@ -59,7 +61,7 @@ impl Uses {
 
     /// Why a completion with this identity may be that of another submission than the one whose turn it is; `None` where it
     /// can't be.
-    pub(crate) fn doubt(&self, identity: u32) -> Option<Doubt>
+    pub(crate) fn doubt(&self, identity: Identity) -> Option<Doubt>
         ensures { result ≡ doubt_at identity self.now }
     {
         let submissions = self.submissions.get(&identity).copied().unwrap_or(0);
@@ -79,19 +81,19 @@ impl Uses {
     }
 }
 
-/// How often each number stands in a list.
-fn tally(alloc: Global, numbers: &[u32]) -> Result<HashMap<u32, u64>, AllocError>
-    ensures { IfOk result (λ counts. (number : ℕ) → unwrap_or (get nat_eq counts number) 0 ≡ count_of number numbers.now) }
+/// How often each identity stands in a list.
+fn tally(alloc: Global, all: &[Identity]) -> Result<HashMap<Identity, u64>, AllocError>
+    ensures { IfOk result (λ counts. (identity : Identity) → unwrap_or (get same_identity counts identity) 0 ≡ count_of identity all.now) }
 {
     let mut counts = HashMap::new(alloc);
-    for number in numbers {
-        *counts.entry(*number)?.or_insert(0) += 1;
+    for identity in all {
+        *counts.entry(*identity)?.or_insert(0) += 1;
     }
     Ok(counts)
 }
 
 /// The identities of submissions.
-fn identities(alloc: Global, submissions: &[Submission]) -> Result<Vec<u32>, AllocError>
+fn identities(alloc: Global, submissions: &[Submission]) -> Result<Vec<Identity>, AllocError>
     ensures { IfOk result (λ identities. identities.items ≡ map (λ submission. submission.identity) submissions.now) }
 {
     submissions
@@ -101,7 +103,7 @@ fn identities(alloc: Global, submissions: &[Submission]) -> Result<Vec<u32>, All
 }
 
 /// Those of the Runs among them.
-fn runs(alloc: Global, submissions: &[Submission]) -> Result<Vec<u32>, AllocError>
+fn runs(alloc: Global, submissions: &[Submission]) -> Result<Vec<Identity>, AllocError>
     ensures { IfOk result (λ identities. identities.items ≡ filter_map run_in submissions.now) }
 {
     submissions
@@ -111,7 +113,7 @@ fn runs(alloc: Global, submissions: &[Submission]) -> Result<Vec<u32>, AllocErro
 }
 
 /// The identity of a submission that is a Run.
-fn run_in(submission: &Submission) -> Option<u32>
+fn run_in(submission: &Submission) -> Option<Identity>
     ensures { result ≡ run_in submission.now }
 {
     if is_run(&submission.entry) {
@@ -122,7 +124,7 @@ fn run_in(submission: &Submission) -> Option<u32>
 }
 
 /// The identities of the completions among replies.
-fn completions(alloc: Global, replies: &[ToldReply]) -> Result<Vec<u32>, AllocError>
+fn completions(alloc: Global, replies: &[ToldReply]) -> Result<Vec<Identity>, AllocError>
     ensures { IfOk result (λ identities. identities.items ≡ filter_map completion_in replies.now) }
 {
     replies
@@ -132,21 +134,24 @@ fn completions(alloc: Global, replies: &[ToldReply]) -> Result<Vec<u32>, AllocEr
 }
 
 /// The identity of a reply that is a completion, whose bytes 12 and 13 have the command identifier (NVMe Base 2.0, 3.3.3.2).
-fn completion_in(told: &ToldReply) -> Option<u32>
+fn completion_in(told: &ToldReply) -> Option<Identity>
     ensures { result ≡ completion_in told.now }
 {
     match &told.reply {
         Reply::Complete { queue, entry, .. } => {
             let cid = u16::from(entry[12]) + 0x100 * u16::from(entry[13]);
-            Some(identity(*queue, cid))
+            Some(Identity { queue: *queue, cid })
         }
         Reply::Pending { .. } | Reply::Idle | Reply::FaultTaken | Reply::FaultRefused => None,
     }
 }
 
 /// Of each identity, is the last submission that has it a Run?
-fn ends_in_run(alloc: Global, submissions: &[Submission]) -> Result<HashMap<u32, bool>, AllocError>
-    ensures { IfOk result (λ ends. (identity : ℕ) → get nat_eq ends identity ≡ ends_in_run identity submissions.now) }
+fn ends_in_run(
+    alloc: Global,
+    submissions: &[Submission],
+) -> Result<HashMap<Identity, bool>, AllocError>
+    ensures { IfOk result (λ ends. (identity : Identity) → get same_identity ends identity ≡ ends_in_run identity submissions.now) }
 {
     let mut ends = HashMap::new(alloc);
     for submission in submissions {

@@ -1,9 +1,10 @@
 //! The submissions of a command file that wait for their completions.
 
-ghost use Rattle.std.specs.Prelude.{◌≡◌, ◌==◌, IfOk, position};
+ghost use Rattle.std.specs.Prelude.{◌≡◌, IfOk, position};
+ghost use Rattle.command_explain.specs.steps.Submissions.{same_identity};
 ghost use Rattle.command_explain.specs.steps.Waiting.{TakesFirst};
 
-use crate::submissions::Submission;
+use crate::submissions::{Identity, Submission};
 use std::alloc::{AllocError, Global};
 use std::collections::VecDeque;
 
@@ -31,7 +32,7 @@ impl Waiting {
 
     /// The first that waits with this identity, which is its queue and its identifier. It waits no longer; where none
     /// has the identity, all wait on.
-    pub(crate) fn complete(&mut self, identity: u32) -> Option<Submission>
+    pub(crate) fn complete(&mut self, identity: Identity) -> Option<Submission>
         ensures { TakesFirst identity self.old.submissions.items self.new.submissions.items result }
     {
         let at = self.index(identity)?;
@@ -40,8 +41,8 @@ impl Waiting {
     }
 
     /// The index of the first that waits with this identity.
-    fn index(&self, identity: u32) -> Option<usize>
-        ensures { result ≡ position (λ submission. submission.identity == identity) self.now.submissions.items }
+    fn index(&self, identity: Identity) -> Option<usize>
+        ensures { result ≡ position (λ submission. same_identity submission.identity identity) self.now.submissions.items }
     {
         self.submissions
             .iter()
