@@ -403,6 +403,9 @@ const SCENES: &[Scene] = &[
         name: "submissions with one identifier",
         acts: SAME_IDENTIFIERS,
     },
+];
+
+const ALTERED: &[Scene] = &[
     Scene {
         name: "lines that were cut out or come twice",
         acts: CUT_LINES,
@@ -420,4 +423,9 @@ const SCENES: &[Scene] = &[
 #[test]
 fn what_exec_printed_in_words(rt: HostRuntime) -> Result<(), Fail> {
     play(&rt, rt.alloc(), SCENES)
+}
+
+#[test]
+fn what_exec_did_not_print_so(rt: HostRuntime) -> Result<(), Fail> {
+    play(&rt, rt.alloc(), ALTERED)
 }
