@@ -6,6 +6,7 @@ use Rattle.common_definitions.proofs.Proved.{bytes_from, bytes_to}
 use Rattle.image_store.specs.ImageInMemory.{zones_of}
 use Rattle.image_store.specs.Namespace.{no_zone}
 
+-- each block that bytes are cut into is bytes
 pub blocks_are_bytes : (b n : ℕ) (xs : List ℕ) → AreBytes xs → (i : ℕ) → AreBytes (get_or (pieces b n xs) i [])
 blocks_are_bytes b zero xs fit i = λ k. omega arith
 blocks_are_bytes b (suc n) xs fit zero = bytes_to b xs fit

@@ -28,6 +28,7 @@ written_is_within ReadOnly written capacity h = grind (arith, nat_tests)
 written_is_within Full written capacity h = grind (arith, nat_tests)
 written_is_within Offline written capacity h = grind (arith, nat_tests)
 
+-- each zone of an image has no more written blocks than its capacity
 pub within : (s : Shape) (zs : List CountedZone) (xs : List ℕ) (z : ℕ) → IsFlat s zs xs → z < length zs → (get_or zs z no_counted_zone).written ≤ s.capacity
 within s zs xs z flat inside = written_is_within (get_or zs z no_counted_zone).state (get_or zs z no_counted_zone).written s.capacity (flat.fits z inside)
 

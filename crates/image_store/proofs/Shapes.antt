@@ -51,6 +51,7 @@ shape_passes s known =
 in_range : (n most : ℕ) → is_in_range 1 most n ≡ true → (1 ≤ n) × (n ≤ most)
 in_range n most e = let p = and_parts (nat_le 1 n) (nat_le n most) e in (leb-true 1 n p.0, leb-true n most p.1)
 
+-- what passes the tests is a shape
 pub shape_is : (s t : Shape) → tested s ≡ Ok t → IsShape s
 shape_is s t e =
     let checks = shape_checks s in

@@ -7,4 +7,5 @@ pub mod SameText
 pub mod Loading
 pub mod Laws
 pub mod FirstFault
+pub mod Numbers
 pub mod steps

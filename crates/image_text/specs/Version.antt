@@ -1,9 +1,8 @@
 -- The versions of an image's text, and the numbers of each (profile).
-use Rattle.std.specs.Prelude.{ℕ, Bool, ◌≡◌, ◌≤◌, ◌==◌, true, List, codes}
+use Rattle.std.specs.Prelude.{ℕ, Bool, ◌≡◌, ◌≤◌, ◌==◌, true, List, [], ◌∷◌, codes}
 use Rattle.std.specs.List.{list_any}
 use Rattle.program_interface.specs.declared.block_size.TheConstants.{BLOCK_SIZES}
 use Rattle.image_store.specs.declared.geometry.TheConstants.{MOST_ZONES}
-use Rattle.image_text.specs.declared.version.TheConstants.{VERSION_1_BLOCK_SIZES, VERSION_1_MOST_ZONES}
 use Rattle.image_text.specs.declared.version.Version.{Version}
 use Rattle.image_text.specs.declared.version.Version.TheVariants.{One, Two}
 use Rattle.image_store.specs.Geometry.{Shape}
@@ -18,7 +17,7 @@ pub record VersionNumbers : Type 0 where
 
 -- those of each version. Version 2 has all shapes that there are
 abbrev pub numbers_of_version : Version → VersionNumbers
-numbers_of_version One = record { magic = codes "ZNSIMG01"; block_sizes = VERSION_1_BLOCK_SIZES; most_zones = VERSION_1_MOST_ZONES; zeros_from = 32 }
+numbers_of_version One = record { magic = codes "ZNSIMG01"; block_sizes = 512 ∷ 1024 ∷ 2048 ∷ 4096 ∷ []; most_zones = 1024; zeros_from = 32 }
 numbers_of_version Two = record { magic = codes "ZNSIMG02"; block_sizes = BLOCK_SIZES; most_zones = MOST_ZONES; zeros_from = 40 }
 
 -- the number by which a user is told of a version

@@ -2,6 +2,7 @@
 
 ghost use Rattle.image_text.specs.FirstFault.{FaultIsFirst};
 ghost use Rattle.image_text.specs.Laws.{CutTextsAreTruncated, EachVersionLoads, FaultsAreByPrefix, LastVersionHasAll, LoadedTextsAreNamespaces, LongerTextsAreTrailing, OnlyTextsLoad, SavedTextsLoad, UpgradedStandsForTheSame, UpgradingTwiceIsOnce, VersionsAreKnown};
+ghost use Rattle.image_text.specs.Numbers.{SizesAreTheProfiles};
 
 /// What is saved loads again as the same namespace, and so does the text of each version that has its shape.
 pub fn saved_texts_load()
@@ -51,4 +52,9 @@ pub fn fault_is_first()
 pub fn versions_are_known()
     ensures known { VersionsAreKnown }
     ensures all { LastVersionHasAll }
+{}
+
+/// A header has 64 bytes, and what tells of a zone has 8 (profile).
+pub fn sizes_are_the_profiles()
+    ensures { SizesAreTheProfiles }
 {}

@@ -111,7 +111,8 @@ fn read_blocks<R: Source>(
 ) -> Result<Vec<u8>, LoadFault>
     requires fit { AreZones geometry zones.now }
     requires few { R.failures source.old < 2 ^ 64 - 1 }
-    ensures blocks { R.tells → FillsZones (Unit {0}) geometry zones.now (λ all. all.items) (R.rest source.old) (R.rest source.new) result }
+    ensures blocks { R.tells
+        → FillsZones (Unit {0}) geometry zones.now (λ all. all.items) (R.rest source.old) (R.rest source.new) result }
     ensures flat { IfOk result (λ blocks. IsFlat geometry zones.now blocks.items) }
     ensures failures { CountsLoad (R.failures source.old) (R.failures source.new) result }
 {

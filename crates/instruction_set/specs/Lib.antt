@@ -3,3 +3,5 @@ pub mod Spelling
 pub mod Codes
 pub mod Program
 pub mod Laws
+pub mod Numbers
+pub mod OpcodeTable

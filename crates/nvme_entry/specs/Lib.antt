@@ -9,4 +9,5 @@ pub mod CompletionFields
 pub mod Descriptor
 pub mod Report
 pub mod ReportLaws
+pub mod Numbers
 pub mod steps

@@ -4,6 +4,7 @@
 ghost use Rattle.nvme_entry.specs.EntryLaws.{FieldsAreSpelled, OnlyNamedFieldsCount, SpelledEntriesAreDecoded};
 ghost use Rattle.nvme_entry.specs.ReportLaws.{ReportsGiveWhatMatches};
 ghost use Rattle.nvme_entry.specs.CompletionFields.{CompletionsTell};
+ghost use Rattle.nvme_entry.specs.Numbers.{LimitsAreTheProfiles, ReportsAreTheStandards};
 
 /// An entry that is decoded to a command has its opcode and its fields at their bytes, is for namespace 1 and no part of a
 /// fused command.
@@ -32,4 +33,16 @@ pub fn completions_tell()
 /// many are given, and gives the descriptors of the zones that match, in order, as many as fit whole, with zeros behind them.
 pub fn reports_give_what_matches()
     ensures { ReportsGiveWhatMatches }
+{}
+
+/// A report's header and each of its zone descriptors have 64 bytes, and the zone type is Sequential Write Required
+/// (ZNS 1.1, 3.4.2).
+pub fn reports_are_the_standards()
+    ensures { ReportsAreTheStandards }
+{}
+
+/// A command moves 131072 bytes at most (profile), and names 65536 blocks at most. There are eight slots for programs
+/// (profile).
+pub fn limits_are_the_profiles()
+    ensures { LimitsAreTheProfiles }
 {}

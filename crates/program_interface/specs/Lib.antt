@@ -4,3 +4,4 @@ pub mod Area
 pub mod Context
 pub mod Registers
 pub mod Frame
+pub mod Numbers

@@ -80,6 +80,7 @@ room_of_admission : (zones : List CountedZone) (limits : Limits) (holds : Holds)
 room_of_admission zones limits holds None within can = record { opened = can.free refl; active = refl; others = λ number zone there _. there }
 room_of_admission zones limits holds (Some k) within can = room_of_closed zones limits holds k within (can.closable k refl)
 
+-- one zone adds at most one to a count
 pub one_if-le-one : (b : Bool) → one_if b ≤ 1
 one_if-le-one true = omega arith
 one_if-le-one false = omega arith
@@ -89,6 +90,7 @@ pub record WantsIn (wanted : Wanted) (state : ZoneState) : Type 0 where
   pub not_open : state ≢ ImplicitlyOpened
   pub was_active : wanted ≡ OpenOnly → is_active state ≡ true
 
+-- this holds of whatever a zone's state wants
 pub wants : (state : ZoneState) (wanted : Wanted) → wanted_of state ≡ Some wanted → WantsIn wanted state
 wants Empty wanted e = record { not_open = λ s. cc; was_active = λ o. cc }
 wants Closed wanted e = record { not_open = λ s. cc; was_active = λ o. refl }

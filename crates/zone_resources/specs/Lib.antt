@@ -1,3 +1,4 @@
 pub mod Counts
 pub mod Holds
 pub mod Admission
+pub mod Numbers

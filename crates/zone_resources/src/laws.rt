@@ -4,6 +4,7 @@
 ghost use Rattle.zone_resources.specs.Admission.{AdmissionKeepsLimits, ClosesTheLowest, IdleHoldsNoMore, ReleaseKeepsLimits};
 ghost use Rattle.zone_resources.specs.Counts.{CountsAreFew};
 ghost use Rattle.zone_resources.specs.Holds.{HoldsRefuse};
+ghost use Rattle.zone_resources.specs.Numbers.{RunsAreEight};
 
 /// There are no more open zones than active ones, and no more of these than zones.
 pub fn counts_are_few()
@@ -36,4 +37,9 @@ pub fn idle_holds_no_more()
 /// zone that no run uses none. Where no run is, no zone is used.
 pub fn holds_refuse()
     ensures { HoldsRefuse }
+{}
+
+/// Eight runs can be active at one time (profile).
+pub fn runs_are_eight()
+    ensures { RunsAreEight }
 {}

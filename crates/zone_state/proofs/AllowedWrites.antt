@@ -14,6 +14,7 @@ pub record IsAllowed (z : CountedZone) (at n : ℕ) : Type 0 where
   pub at_pointer : at ≡ z.written
   pub has_room : z.written + n ≤ z.capacity
 
+-- a write that passes the checks goes to a writable zone, at its write pointer, with room for it
 pub is_allowed : (z : CountedZone) (at n : ℕ) → write_check z at n ≡ Ok tt → IsAllowed z at n
 is_allowed z at n given =
     let checks = checks_of_write z at n in
@@ -28,6 +29,7 @@ all_pass : (why : Option Status) (here fits : Bool) → why ≡ None → here �
     → first_failed (why ∷ demand here ZONE_INVALID_WRITE ∷ demand fits ZONE_BOUNDARY_ERROR ∷ []) ≡ None
 all_pass why here fits writable at_pointer has_room = rw (writable, at_pointer, has_room) refl
 
+-- a write to a writable zone, at its write pointer, with room for it, passes the checks
 pub allowed_passes : (z : CountedZone) (at n : ℕ) → IsAllowed z at n → write_check z at n ≡ Ok tt
 allowed_passes z at n is =
     ap (λ (why : Option Status). unless_failed why tt)

@@ -22,5 +22,6 @@ has_code : (code : ℕ) (found : Option ZoneState) → state_of code ≡ found �
 has_code code None is = tt
 has_code code (Some s) is = eqb-true (code_of s) code (found_passes (λ x. code_of x == code) ALL s is)
 
+-- no two states share a code, and no other number is one
 pub codes_are_distinct : CodesAreDistinct
 codes_are_distinct = record { there = there; back = λ code. has_code code (state_of code) refl }

@@ -2,6 +2,7 @@
 //! it ensures is the law.
 
 ghost use Rattle.zone_state.specs.State.{CodesAreDistinct};
+ghost use Rattle.zone_state.specs.Numbers.{StatesAreInOrder, StatusesAreTheStandards};
 ghost use Rattle.zone_state.specs.Transition.{ActionsRepeat, OfflineIsFinal};
 ghost use Rattle.zone_state.specs.Zone.{WritesJoin};
 
@@ -24,4 +25,14 @@ pub fn offline_is_final()
 /// Where a write fits, two writes of its blocks, one behind the other, fit too, and leave the zone that it leaves.
 pub fn writes_join()
     ensures { WritesJoin }
+{}
+
+/// Each status has the type and the code that the standards give it, those of runs and programs the profile's.
+pub fn statuses_are_the_standards()
+    ensures { StatusesAreTheStandards }
+{}
+
+/// All seven states are listed in the order of their codes, each once.
+pub fn states_are_in_order()
+    ensures { StatesAreInOrder }
 {}
