@@ -3,13 +3,14 @@ use Rattle.std.proofs.Common.{◌≡◌, ℕ, zero, suc, ◌+◌, ◌*◌, ◌<�
 use Rattle.std.specs.List.{concat}
 use Rattle.std.proofs.lemmas.List.{get_or-take, get_or-drop, get_or-replicate, length-take, length-replicate}
 use Rattle.zone_state.specs.declared.status.Status.{Status}
+use Rattle.nvme_entry.specs.declared.command.StandardCommand.TheVariants.{Read}
 use Rattle.image_store.specs.Namespace.{ZonedNamespace, zone_at, IsNamespace}
 use Rattle.image_store.proofs.Proved.{blocks_are_cut_again, blocks_are_parts}
 use Rattle.zns_commands.specs.Address.{zone_number, zone_offset}
 use Rattle.zns_commands.specs.Effect.{concluded}
 use Rattle.zns_commands.specs.Read.{blocks_read, read_effect}
 use Rattle.zns_commands.specs.Laws.{EachBlockIsRead, block_or_zeros}
-use Rattle.zns_commands.proofs.PassedChecks.{read_passed}
+use Rattle.zns_commands.proofs.Refusals.{success_passes}
 
 -- in a list with others of one kind behind it
 padded_at : {X : Type 0} (xs : List X) (more i : ℕ) (other none : X) → i < more → get_or (xs ++ replicate more other) i none ≡ get_or xs i other
@@ -57,5 +58,5 @@ pub each_block_is_read : EachBlockIsRead
 each_block_is_read ns holds lba blocks input i sound done inside =
     let read = read_effect ns lba blocks in
     subst (λ (r : Option Status). take ns.block (drop (i * ns.block) (concluded r ns read).output) ≡ block_or_zeros ns (zone_number ns lba) (zone_offset ns lba + i))
-    (sym (read_passed ns holds lba blocks input done))
+    (sym (success_passes ns holds (Read lba blocks) input done))
     (each_block ns (zone_number ns lba) (zone_offset ns lba) blocks i sound inside)

@@ -25,6 +25,7 @@ pub record FitsIn (block capacity : ℕ) (zone : ZoneWithBlocks) : Type 0 where
   pub whole : (i : ℕ) → i < length zone.blocks → length (get_or zone.blocks i []) ≡ block
   pub bytes : (i : ℕ) → AreBytes (get_or zone.blocks i [])
 
+-- the empty list is one of bytes
 pub no_bytes : AreBytes []
 no_bytes i = omega arith
 

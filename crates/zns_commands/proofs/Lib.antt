@@ -1,6 +1,7 @@
 mod BlockParts
 mod EachBlock
 mod EachCommand
+mod FailedChecks
 mod FittingZones
 mod GivenWay
 mod HeldCommands

@@ -1,6 +1,6 @@
 -- Laws of this crate, proved, and lemmas: what the proofs of other crates cite of it.
 use Rattle.zns_commands.specs.Left.{HeldDestinationsAreLeft, ShapesAreKept, HeldSourcesKeepBlocks}
-use Rattle.zns_commands.specs.Laws.{AddedBlocksKeepNamespacesSound, EmptyIsNamespace, EventsKeepNamespacesSound, RefusedCommandsChangeNothing}
+use Rattle.zns_commands.specs.Laws.{AddedBlocksKeepNamespacesSound, EmptyIsNamespace, EventsKeepNamespacesSound, RefusedCommandsChangeNothing, StatusesAreStandard}
 pub use Rattle.zns_commands.proofs.FittingZones.{no_bytes}
 use Rattle.zns_commands.proofs.HeldSources as held_sources
 use Rattle.zns_commands.proofs.HeldZones as held_zones
@@ -33,3 +33,6 @@ shapes_are_kept = event_shape
 
 pub refused_commands_change_nothing : RefusedCommandsChangeNothing
 refused_commands_change_nothing = refusals.refused_commands_change_nothing
+
+pub statuses_are_standard : StatusesAreStandard
+statuses_are_standard = refusals.statuses_are_standard

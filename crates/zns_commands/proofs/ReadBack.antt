@@ -32,7 +32,8 @@ use Rattle.zns_commands.specs.steps.Plans.{write_plan, written_by}
 use Rattle.zns_commands.proofs.GivenWay.{has_room, written_is}
 use Rattle.zns_commands.proofs.WrittenZones.{brings, count_of}
 use Rattle.zns_commands.proofs.KeptBlocks.{KeepsZone, events_keep_zones, written_shape}
-use Rattle.zns_commands.proofs.PassedChecks.{Writes, append_passed, append_writes, write_begins, write_passed, write_writes}
+use Rattle.zns_commands.proofs.PassedChecks.{Writes, append_writes, write_begins, write_writes}
+use Rattle.zns_commands.proofs.Refusals.{success_passes}
 
 -- a namespace, once a zone is written
 written_zone : (ns : ZonedNamespace) (z : ℕ) (gives : Option ℕ) (input : List ℕ) → gives ≢ Some z → z < length ns.zones
@@ -178,7 +179,7 @@ pub appended_stays : (ns : ZonedNamespace) (holds : Holds) (lba blocks : ℕ) (i
     → (meaning ns holds (Append lba blocks) input).status ≡ SUCCESS
     → ReadsBack (zone_number ns lba) later blocks input (meaning ns holds (Append lba blocks) input)
 appended_stays ns holds lba blocks input later sound some done =
-    let none = append_passed ns holds lba blocks input done in
+    let none = success_passes ns holds (Append lba blocks) input done in
     let z = zone_number ns lba in
     let writes = append_writes ns holds lba blocks input none in
     let pointer = write_pointer ns z in
@@ -200,7 +201,7 @@ pub written_stays : (ns : ZonedNamespace) (holds : Holds) (lba blocks : ℕ) (in
     → (meaning ns holds (Write lba blocks) input).status ≡ SUCCESS
     → ReadsAt (zone_number ns lba) lba later blocks input (meaning ns holds (Write lba blocks) input)
 written_stays ns holds lba blocks input later sound some done =
-    let none = write_passed ns holds lba blocks input done in
+    let none = success_passes ns holds (Write lba blocks) input done in
     let z = zone_number ns lba in
     let at = write_begins ns holds lba blocks input none in
     let writes = write_writes ns holds lba blocks input none in

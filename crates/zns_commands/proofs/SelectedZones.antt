@@ -26,7 +26,8 @@ use Rattle.nvme_entry.specs.declared.command.StandardCommand.TheVariants.{Send}
 use Rattle.zone_resources.proofs.Proved.{one_if-le-count_in}
 use Rattle.zns_commands.proofs.FittingZones.{counted_zone_there}
 use Rattle.zns_commands.proofs.HeldZones.{held_from, held_is_left}
-use Rattle.zns_commands.proofs.PassedChecks.{lowest_of, no_success}
+use Rattle.zns_commands.proofs.FailedChecks.{no_success}
+use Rattle.zns_commands.proofs.PassedChecks.{lowest_of}
 use Rattle.zns_commands.proofs.SweptZones.{opened_count}
 use Rattle.zns_commands.proofs.Untouched.{other_zones_are_left}
 

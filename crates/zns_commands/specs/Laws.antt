@@ -1,9 +1,10 @@
 -- Laws of commands and faults.
-use Rattle.std.specs.Prelude.{ℕ, zero, suc, ◌≡◌, ◌≢◌, ◌<◌, ◌≤◌, ◌+◌, ◌*◌, ◌^◌, min, Bool, true, false, List, [], ◌∷◌, ◌++◌, length, map, get_or, take, drop, replicate, Option, All}
+use Rattle.std.specs.Prelude.{ℕ, zero, suc, ◌≡◌, ◌≢◌, ◌<◌, ◌≤◌, ◌+◌, ◌*◌, ◌^◌, min, Bool, true, false, List, [], ◌∷◌, ◌++◌, length, map, get_or, take, drop, replicate, Option, All, ◌⊎◌}
 use Rattle.std.specs.List.{enumerate_from, fold}
 use Rattle.zone_state.specs.declared.state.FaultState.{FaultState}
 use Rattle.zone_state.specs.declared.status.Status.{Status}
-use Rattle.zone_state.specs.declared.status.TheConstants.Status.{SUCCESS}
+use Rattle.zone_state.specs.declared.status.StatusType.TheVariants.{VendorSpecific}
+use Rattle.zone_state.specs.declared.status.TheConstants.Status.{SUCCESS, ZONE_HELD}
 use Rattle.zone_resources.specs.Holds.{no_holds}
 use Rattle.zone_resources.specs.declared.holds.Holds.{Holds}
 use Rattle.nvme_entry.specs.declared.command.StandardCommand.{StandardCommand}
@@ -99,6 +100,17 @@ RefusedCommandsChangeNothing =
     (ns : ZonedNamespace) (holds : Holds) (command : StandardCommand) (input : List ℕ)
     → (meaning ns holds command input).status ≢ SUCCESS
     → ChangesNothing ns (meaning ns holds command input)
+
+-- a status of the standards, or Zone Held, which is profile; its code has 8 bits (NVMe Base 2.0, 3.3.3.2)
+pub record IsStandardStatus (status : Status) : Type 0 where
+  pub code : status.code < 2 ^ 8
+  pub standard : (status.kind ≢ VendorSpecific) ⊎ (status ≡ ZONE_HELD)
+
+-- a command of the standards ends with such a status
+abbrev pub StatusesAreStandard : Type 0
+StatusesAreStandard =
+    (ns : ZonedNamespace) (holds : Holds) (command : StandardCommand) (input : List ℕ)
+    → IsStandardStatus (meaning ns holds command input).status
 
 -- after none of the events is the zone cleared
 abbrev pub NoneClears : ℕ → List NamespaceEvent → ZonedNamespace → Type 0

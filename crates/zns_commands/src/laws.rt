@@ -4,7 +4,7 @@
 ghost use Rattle.zns_commands.specs.Held.{HeldCommandsAreRefused};
 ghost use Rattle.zns_commands.specs.Left.{HeldDestinationsAreLeft, HeldSourcesKeepBlocks, OtherZonesAreLeft, QueriesChangeNothing, ShapesAreKept};
 ghost use Rattle.zns_commands.specs.SelectAll.{SelectAllIsEachAlone, SelectAllIsRefusedByHoldsAndLimits, TakenZonesMove};
-ghost use Rattle.zns_commands.specs.Laws.{AddedBlocksAreAppended, AddedBlocksKeepNamespacesSound, AppendedBlocksReadBack, ConsecutiveBlocksAreAPart, EachBlockIsRead, EmptyIsNamespace, EventsKeepNamespacesSound, JustOneCase, RefusedCommandsChangeNothing, ReportsEveryZone, ReportsWhatMatches, WrittenBlocksReadBack};
+ghost use Rattle.zns_commands.specs.Laws.{AddedBlocksAreAppended, AddedBlocksKeepNamespacesSound, AppendedBlocksReadBack, ConsecutiveBlocksAreAPart, EachBlockIsRead, EmptyIsNamespace, EventsKeepNamespacesSound, JustOneCase, RefusedCommandsChangeNothing, ReportsEveryZone, ReportsWhatMatches, StatusesAreStandard, WrittenBlocksReadBack};
 
 /// A namespace stays one, whatever commands that entries can spell, and whatever faults, come: its open and
 /// active zones are within the limits, each zone's state fits its written blocks, and each block is whole. One of
@@ -35,6 +35,11 @@ pub fn just_one_case()
 /// A command whose status is not success leaves the namespace as it was, and gives nothing.
 pub fn refused_commands_change_nothing()
     ensures { RefusedCommandsChangeNothing }
+{}
+
+/// A command of the standards ends with a status of theirs, or with Zone Held.
+pub fn statuses_are_standard()
+    ensures { StatusesAreStandard }
 {}
 
 /// Each block that a Read gives is the zone's block of that offset where it is written, and zeros where it isn't.

@@ -72,7 +72,8 @@ pub fn receive(
     output: &mut [u8],
 ) -> Answer
     requires { MOST_TRANSFER ≤ length output.old }
-    ensures answer { effect_of_answer result image.now output.new ≡ meaning image.now no_holds (Receive lba dwords filter partial) input.now }
+    ensures answer { effect_of_answer result image.now output.new
+        ≡ meaning image.now no_holds (Receive lba dwords filter partial) input.now }
     ensures most { result.length ≤ MOST_TRANSFER }
     ensures rest { drop result.length output.new ≡ drop result.length output.old }
 {
