@@ -21,6 +21,7 @@ module _ {D : Type 0} where
   abbrev nothing : Option D
   nothing = None
 
+  -- where nothing is known in so many cells, nothing is known in any of them
   pub none_known : (n k : ℕ) (d : D) → get_or (replicate n nothing) k nothing ≡ Some d → ⊥
   none_known zero k d e = cc
   none_known (suc n) zero d e = cc

@@ -1,11 +1,11 @@
 -- What is known at a slot is met by the block runs that come there, and a program that is accepted over a sound domain never traps.
-use Rattle.std.specs.Prelude.{ℕ, zero, suc, ◌≡◌, ◌+◌, ◌<◌, ◌≤◌, true, List, length, drop, count_by, is_some, Option, Some, None}
-use Rattle.std.proofs.Common.{arith, inl, inr, ◌⊎◌, lit<, refl, ap, subst, ◌∙◌}
+use Rattle.std.specs.Prelude.{ℕ, zero, suc, ◌≡◌, ◌+◌, ◌-◌, ◌<◌, ◌≤◌, true, List, length, drop, count_by, is_some, Option, Some, None}
+use Rattle.std.proofs.Common.{arith, inl, inr, ◌⊎◌, lit<, refl, ap, subst, sym, ◌∙◌}
 use Rattle.std.proofs.lemmas.Bool.{cases_lt, cond_both}
 use Rattle.instruction_set.proofs.Proved.{begins, begins_inside}
 use Rattle.instruction_set.specs.Program.{instruction_at, instruction_count}
 use Rattle.instruction_set.specs.declared.instruction.Instruction.{Instruction}
-use Rattle.program_meaning.proofs.Proved.{decided_goes, keeps_group_limit, keeps_read_only, keeps_state, leads_to_instruction, runs_by_step_end}
+use Rattle.program_meaning.proofs.Proved.{decided_goes, keeps_group_limit, keeps_read_only, keeps_state, leads_to_instruction, more_fuel_is_the_same, runs_by_step_end}
 use Rattle.program_meaning.specs.Cause.{is_exit, least_cause}
 use Rattle.program_meaning.specs.Effect.{register}
 use Rattle.program_meaning.specs.BlockRun.{BlockRun, block_run_of, continued, ran}
@@ -23,14 +23,14 @@ use Rattle.accepted_programs.proofs.Flow.{arrives}
 use Rattle.accepted_programs.proofs.Fitting.{HasShortOffsets, short_offsets}
 use Rattle.accepted_programs.specs.Emitted.{group_in, most_below, most_emitted}
 use Rattle.accepted_programs.proofs.KnownFacts.{known_facts}
-use Rattle.accepted_programs.specs.Laws.{AcceptedEmitsNoMore, AcceptedNeverTraps, FactsAreMet}
+use Rattle.accepted_programs.specs.Laws.{AcceptedEmitsNoMore, AcceptedEndsByItself, AcceptedNeverTraps, FactsAreMet}
 use Rattle.accepted_programs.specs.Meets.{Meets, MeetsSome}
 use Rattle.accepted_programs.specs.FirstRefusal.{IsPassed}
 use Rattle.accepted_programs.proofs.Edges.{Moved}
 use Rattle.accepted_programs.proofs.FirstRefusals.{accepted_fails_nowhere}
 use Rattle.accepted_programs.proofs.Moves.{moved}
 use Rattle.accepted_programs.proofs.Progress.{fewer, some_left}
-use Rattle.program_meaning.specs.TrapFree.{Exits}
+use Rattle.program_meaning.specs.TrapFree.{Exits, IsExit}
 use Rattle.accepted_programs.proofs.Unhindered.{unhindered}
 use Rattle.accepted_programs.specs.declared.facts.Facts.{Facts}
 use Rattle.accepted_programs.specs.declared.facts.TheConstants.{CELLS}
@@ -220,6 +220,17 @@ module _ {D : Type 0} {IsFact : D → Type 0} {contains : D → ℕ → Type 0} 
   pub accepted_never_traps : AcceptedNeverTraps operations
   accepted_never_traps program is sizes are_sizes accepted =
       starts program (short_offsets program is) sizes are_sizes accepted sizes.limit (λ s holds. holds.group) (begins program is)
+
+  pub accepted_ends_by_itself : AcceptedEndsByItself operations
+  accepted_ends_by_itself program is sizes are_sizes accepted bytes context scratch long starting fuel enough =
+      let count = instruction_count program in
+      let start = at_start bytes context scratch in
+      let ends = accepted_never_traps program is sizes are_sizes accepted bytes context scratch long starting in
+      let all : count + (fuel - count) ≡ fuel = omega (arith, enough) in
+      let P : ℕ → Type 0 = λ k. block_run_of program sizes.limit k 0 start ≡ block_run_of program sizes.limit count 0 start in
+      let same = subst P all
+      (more_fuel_is_the_same program sizes.limit count (fuel - count) 0 start (λ out. subst IsExit out ends.exit)) in
+      (subst (Exits count sizes.limit) (sym same) ends, same)
 
   pub accepted_emits_no_more : AcceptedEmitsNoMore operations
   accepted_emits_no_more program is sizes are_sizes accepted bytes context scratch long starting =

@@ -4,7 +4,7 @@ use Rattle.instruction_set.specs.Program.{IsProgram, instruction_count}
 use Rattle.instruction_set.specs.declared.instruction.Instruction.{Instruction}
 use Rattle.program_meaning.specs.BlockRun.{block_run_of}
 use Rattle.program_meaning.specs.State.{IsState, State, at_start}
-use Rattle.program_meaning.specs.TrapFree.{NeverTraps}
+use Rattle.program_meaning.specs.TrapFree.{Exits, NeverTraps}
 use Rattle.program_interface.specs.RunSizes.{AreSizes, Sizes}
 use Rattle.program_interface.specs.declared.TheConstants.{MOST_SLOTS}
 use Rattle.word_domain.specs.Domain.{Operations}
@@ -19,6 +19,17 @@ use Rattle.accepted_programs.specs.declared.reason.Refusal.{Refusal}
 abbrev pub AcceptedNeverTraps : {D : Type 0} → Operations D → Type 0
 AcceptedNeverTraps operations = (program : List (Option Instruction)) → IsProgram program → (sizes : Sizes) → AreSizes sizes
     → refusal operations program sizes ≡ None → NeverTraps program sizes.limit sizes.block
+
+-- with at least as much fuel as it has instructions, a program that these operations accept ends by EXIT, after at most as many
+-- steps as it has instructions, with a group within the limit, and its block run is the one with just as much fuel
+abbrev pub AcceptedEndsByItself : {D : Type 0} → Operations D → Type 0
+AcceptedEndsByItself operations = (program : List (Option Instruction)) → IsProgram program → (sizes : Sizes) → AreSizes sizes
+    → refusal operations program sizes ≡ None
+    → (bytes context scratch : List ℕ) → length bytes ≡ sizes.block → IsState (at_start bytes context scratch)
+    → (fuel : ℕ) → instruction_count program ≤ fuel
+    → Exits (instruction_count program) sizes.limit (block_run_of program sizes.limit fuel 0 (at_start bytes context scratch))
+    × (block_run_of program sizes.limit fuel 0 (at_start bytes context scratch)
+    ≡ block_run_of program sizes.limit (instruction_count program) 0 (at_start bytes context scratch))
 
 -- over every block of the length, every context and every scratch, a program that these operations accept emits no more
 -- than a group is known to have at some slot

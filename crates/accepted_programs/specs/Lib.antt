@@ -5,3 +5,4 @@ pub mod Accepted
 pub mod Emitted
 pub mod FirstRefusal
 pub mod Laws
+pub mod Numbers

@@ -1,6 +1,7 @@
 //! Laws of the definitions. Each function does nothing: what it ensures is the law.
 
-ghost use Rattle.accepted_programs.specs.Laws.{AcceptedEmitsNoMore, AcceptedFailsNowhere, AcceptedNeverTraps, FactsAreMet, RefusalIsFirst, RefusalIsInside};
+ghost use Rattle.accepted_programs.specs.Laws.{AcceptedEmitsNoMore, AcceptedEndsByItself, AcceptedFailsNowhere, AcceptedNeverTraps, FactsAreMet, RefusalIsFirst, RefusalIsInside};
+ghost use Rattle.accepted_programs.specs.Numbers.{CellsAreWords};
 
 use word_domain::Domain;
 
@@ -9,6 +10,15 @@ use word_domain::Domain;
 /// many steps as it has instructions, with a group within the limit.
 pub fn accepted_never_traps<D: Domain>()
     ensures { AcceptedNeverTraps D.operations }
+{
+    D::sound();
+}
+
+/// A block run of a program that is accepted ends by itself, and not for want of fuel: with any fuel that is at least the
+/// program's number of instructions it ends by EXIT, after at most as many steps as the program has instructions, with a group
+/// within the limit, and is the one with just as much fuel.
+pub fn accepted_ends_by_itself<D: Domain>()
+    ensures { AcceptedEndsByItself D.operations }
 {
     D::sound();
 }
@@ -44,3 +54,8 @@ pub fn facts_are_met<D: Domain>()
 {
     D::sound();
 }
+
+/// What is known of the stack is known of its words of eight bytes, of which there are 64 (profile).
+pub fn cells_are_words()
+    ensures { CellsAreWords }
+{}

@@ -1,6 +1,6 @@
 //! Laws of the definitions. Each function does nothing: what it ensures is the law.
 
-ghost use Rattle.program_meaning.specs.Laws.{AccessIsMapped, EmitsFromMap, EndsInRun, KeepsReadOnly, LoadsFromMap, StepsChangeOnlyWhatTheyWrite, StoresIntoMap, StuckByLeast};
+ghost use Rattle.program_meaning.specs.Laws.{AccessIsMapped, EmitsFromMap, EndsInRun, KeepsReadOnly, LoadsFromMap, MoreFuelIsTheSame, StepsChangeOnlyWhatTheyWrite, StoresIntoMap, StuckByLeast};
 
 /// Bytes, at least one, lie in one area exactly where each of them is in the map from addresses to bytes.
 pub fn access_is_mapped()
@@ -43,4 +43,10 @@ pub fn emits_from_map()
 /// within the limit, ends in such a state, however it ends.
 pub fn ends_in_run()
     ensures { EndsInRun }
+{}
+
+/// A block run that ends by EXIT or by a trap with some fuel is the same with any more: how it ends, its steps and its
+/// state. So it isn't the fuel that bounds its steps.
+pub fn more_fuel_is_the_same()
+    ensures { MoreFuelIsTheSame }
 {}
