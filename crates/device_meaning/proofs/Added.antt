@@ -24,6 +24,7 @@ use Rattle.device_meaning.proofs.Bytes.{AreBlocks, whole_at}
 inside : (zones : List ZoneWithBlocks) (z : ℕ) → (get_or zones z no_zone).state ≢ Offline → z < length zones
 inside zones z is = is_one_of (λ zone. zone.state ≢ Offline) (λ on. on refl) zones z is
 
+-- an open zone isn't Offline
 pub open_on : (s : ZoneState) → is_open s ≡ true → s ≢ Offline
 open_on s is off = let none = ap is_open off in cc
 
@@ -39,6 +40,7 @@ pub record IsAdded (ns : ZonedNamespace) (z : ℕ) (blocks : List (List ℕ)) : 
   pub blocks_is : (zone_at (added ns z blocks) z).blocks ≡ (zone_at ns z).blocks ++ blocks
   pub on : (zone_at (added ns z blocks) z).state ≢ Offline
 
+-- blocks that are added to a zone which isn't Offline stand behind its own, and it still isn't Offline
 pub is_added : (ns : ZonedNamespace) (z : ℕ) (blocks : List (List ℕ)) → (zone_at ns z).state ≢ Offline → IsAdded ns z blocks
 is_added ns z [] on = record { blocks_is = sym (append-nil (zone_at ns z).blocks); on = on }
 is_added ns z (b ∷ bs) on =
@@ -50,10 +52,12 @@ is_added ns z (b ∷ bs) on =
           (grown_on (nat_eq (length (zone_at ns z).blocks + length (b ∷ bs)) ns.capacity) (zone_at ns z).state);
     }
 
+-- blocks that are added to a zone leave each other zone as it is
 pub added_leaves : (ns : ZonedNamespace) (z other : ℕ) (blocks : List (List ℕ)) → other ≢ z → zone_at (added ns z blocks) other ≡ zone_at ns other
 added_leaves ns z other [] differs = refl
 added_leaves ns z other (b ∷ bs) differs = get_or-set_other ns.zones z other (grown ns.capacity (zone_at ns z) (b ∷ bs)) no_zone differs
 
+-- blocks that are added to a zone leave the shape as it is
 pub added_shape : (ns : ZonedNamespace) (z : ℕ) (blocks : List (List ℕ)) → shape (added ns z blocks) ≡ shape ns
 added_shape ns z [] = refl
 added_shape ns z (b ∷ bs) = with_zone_shape ns z (grown ns.capacity (zone_at ns z) (b ∷ bs))
@@ -64,6 +68,7 @@ added_block ns z blocks = ap (λ (x : Shape). x.block) (added_shape ns z blocks)
 pub added_capacity : (ns : ZonedNamespace) (z : ℕ) (blocks : List (List ℕ)) → (added ns z blocks).capacity ≡ ns.capacity
 added_capacity ns z blocks = ap (λ (x : Shape). x.capacity) (added_shape ns z blocks)
 
+-- where blocks are added to a zone, each zone has those of before, and perhaps some behind them
 pub added_grows : (ns : ZonedNamespace) (z other : ℕ) (blocks : List (List ℕ)) → Grows (zone_at ns other).blocks (zone_at (added ns z blocks) other).blocks
 added_grows ns z other [] = grows_by_none (zone_at ns other).blocks
 added_grows ns z other (b ∷ bs) =

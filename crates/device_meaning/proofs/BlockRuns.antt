@@ -133,6 +133,7 @@ frames_fit task run done =
     let same : length run.state.group ≡ length (frames group.records) = ap length group.whole in
     omega (arith, long, same, group.number, group.within)
 
+-- block runs that are done have at most a frame for each three bytes that the limit allows them
 pub few_frames : (task : Task) (block_runs : List BlockRun) → AllByRecursion (IsDone task) block_runs → 3 * frames_of block_runs ≤ length block_runs * task.sizes.limit
 few_frames task [] done = omega arith
 few_frames task (run ∷ block_runs) done =

@@ -1,6 +1,7 @@
 -- What a turn, an entry and any event come to, by cases.
 use Rattle.std.proofs.Common.{◌≡◌, ℕ, ◌≤◌, Bool, List, [], ◌∷◌, Option, Some, None, Result, Ok, Err, refl, sym, subst, ap, ◌∙◌, inl, inr}
 use Rattle.std.specs.Prelude.{is_some}
+use Rattle.std.specs.Result.{result_err}
 use Rattle.zone_state.specs.declared.status.Status.{Status}
 use Rattle.zone_state.specs.declared.status.TheConstants.Status.{SUCCESS, NO_RUN_FREE, NO_SUCH_PROGRAM}
 use Rattle.common_definitions.specs.Checks.{first_failed}
@@ -18,7 +19,7 @@ use Rattle.zns_commands.specs.Laws.{Commanded, Faulted, IsSpelled, NamespaceEven
 use Rattle.zns_commands.specs.Meaning.{meaning}
 use Rattle.zns_commands.specs.Transfer.{transfer_checks}
 use Rattle.device_meaning.specs.Admission.{Loaded, admission_checks}
-use Rattle.device_meaning.specs.EventReplies.{Happening, Submission, completed, submission_of}
+use Rattle.device_meaning.specs.EventReplies.{Happening, Submission, completed, idle, submission_of}
 use Rattle.device_meaning.specs.Happenings.{admitted_place, commanded, happens, just_loaded, loading, result_by, start_by, submitted, take_turn, turn_state, turned, turned_at, why_not_run}
 use Rattle.device_meaning.specs.Outcome.{Turn}
 use Rattle.device_meaning.specs.Events.{CarriesBytes}
@@ -27,6 +28,7 @@ use Rattle.device_events.specs.declared.event.Event.{Event}
 use Rattle.device_events.specs.declared.event.Event.TheVariants as event
 use Rattle.device_meaning.proofs.Loads.{IsLoad, TakesSlot, loading_is}
 use Rattle.device_meaning.proofs.Spelled.{decoded_has, spelled}
+use Rattle.device_meaning.proofs.Statuses.{FailsOther, IsOther, entry_other, failed_other, other, run_other, transfer_other}
 
 -- the turn of a run whose turns these are
 pub turned_is : (s : State) (run : ℕ) (place : Place) (turn : Turn) (later : List Turn)
@@ -34,30 +36,38 @@ pub turned_is : (s : State) (run : ℕ) (place : Place) (turn : Turn) (later : L
 turned_is s run place turn later at first =
     ap (λ (p : Option Place). turned_at s run p) at ∙ ap (λ (turns : List Turn). take_turn s run place turns) first
 
--- what holds of a state holds after a turn of a run, if it holds after the first of the run's turns
-module _ (P : State → Type 0) (s : State) (run : ℕ) where
-  abbrev AfterFirst : Type 0
-  AfterFirst =
+-- what holds where no run has the number, and of the first of a run's turns, holds of what a turn comes to
+module _ (P : Happening → Type 0) (s : State) (run : ℕ) where
+  abbrev OfFirst : Type 0
+  OfFirst =
       (place : Place) (turn : Turn) (later : List Turn) → place_at s run ≡ Some place → place.turns ≡ turn ∷ later
-      → P (turn_state s run place turn later)
+      → P (take_turn s run place (turn ∷ later))
 
-  after_taken : P s → AfterFirst → (place : Place) (turns : List Turn) → place_at s run ≡ Some place → place.turns ≡ turns
-      → P (take_turn s run place turns).state
-  after_taken here first place [] at is = here
-  after_taken here first place (turn ∷ later) at is = first place turn later at is
+  of_taken : P (idle s) → OfFirst → (place : Place) (turns : List Turn) → place_at s run ≡ Some place → place.turns ≡ turns
+      → P (take_turn s run place turns)
+  of_taken none first place [] at is = none
+  of_taken none first place (turn ∷ later) at is = first place turn later at is
 
-  after_turned : P s → AfterFirst → (at : Option Place) → place_at s run ≡ at → P (turned_at s run at).state
-  after_turned here first None is = here
-  after_turned here first (Some place) is = after_taken here first place place.turns is refl
+  of_turned : P (idle s) → OfFirst → (at : Option Place) → place_at s run ≡ at → P (turned_at s run at)
+  of_turned none first None is = none
+  of_turned none first (Some place) is = of_taken none first place place.turns is refl
 
-  pub after_turn : P s → AfterFirst → P (turned s run).state
-  after_turn here first = after_turned here first (place_at s run) refl
+  -- it holds of what the turn of the run comes to
+  pub of_turn : P (idle s) → OfFirst → P (turned s run)
+  of_turn none first = of_turned none first (place_at s run) refl
+
+-- what holds of a state holds after a turn of a run, if it holds after the first of the run's turns
+pub after_turn : (P : State → Type 0) (s : State) (run : ℕ) → P s
+    → ((place : Place) (turn : Turn) (later : List Turn) → place_at s run ≡ Some place → place.turns ≡ turn ∷ later
+    → P (turn_state s run place turn later))
+    → P (turned s run).state
+after_turn P s run here first = of_turn (λ (h : Happening). P h.state) s run here first
 
 module _ {D : Type 0} (operations : Operations D) (P : Happening → Type 0) (sub : Submission) (s : State) where
   -- it holds of each thing that the entry can come to
   pub record HoldsOfEach : Type 0 where
-    -- it is refused, or a Result: it is answered, and nothing changes
-    pub unchanged : (status : Status) (output : List ℕ) → P (completed sub status 0 0 output s)
+    -- it is refused, or a Result: it is answered, no program trapped, and nothing changes
+    pub unchanged : (status : Status) (output : List ℕ) → IsOther status → P (completed sub status 0 0 output s)
     pub standard : (c : StandardCommand) → decoded sub.entry ≡ Ok (commands.Standard c)
         → P (commanded sub s (meaning s.namespace (holds_at s) c sub.input))
     -- a Load, whatever it comes to
@@ -70,7 +80,7 @@ module _ {D : Type 0} (operations : Operations D) (P : Happening → Type 0) (su
     -- what a Run comes to; that a place is free is among its checks
     of_run : (why : Option Status) (free : Option ℕ) (command : RunCommand) → decoded sub.entry ≡ Ok (commands.Run command)
         → why_not_run sub s command ≡ why → free_place s ≡ free → P (start_by why free sub s command)
-    of_run (Some status) free command asked is at = holds.unchanged status []
+    of_run (Some status) free command asked is at = holds.unchanged status [] (failed_other status (subst FailsOther is (run_other sub s command)))
     of_run None None command asked is at =
         let checks = admission_checks s.namespace (holds_at s) (is_some (free_place s)) (loaded_at s command.slot) command sub.input in
         let there = demanded (is_some (free_place s)) NO_RUN_FREE (passed checks 7 is) in
@@ -79,19 +89,20 @@ module _ {D : Type 0} (operations : Operations D) (P : Happening → Type 0) (su
     of_run None (Some run) command asked is at = holds.start command run asked is at
 
     -- what a Result comes to
-    of_result : (slot : Option Loaded) (why : Option Status) → P (result_by slot why sub s)
-    of_result slot (Some status) = holds.unchanged status []
-    of_result None None = holds.unchanged NO_SUCH_PROGRAM []
-    of_result (Some loaded) None = holds.unchanged SUCCESS loaded.result
+    of_result : (slot : Option Loaded) (why : Option Status) → FailsOther why → P (result_by slot why sub s)
+    of_result slot (Some status) h = holds.unchanged status [] (failed_other status h)
+    of_result None None h = holds.unchanged NO_SUCH_PROGRAM [] (other NO_SUCH_PROGRAM refl)
+    of_result (Some loaded) None h = holds.unchanged SUCCESS loaded.result (other SUCCESS refl)
 
     -- what an entry comes to that names this command
     of_asked : (starved : Bool) (asked : Result Command Status) → decoded sub.entry ≡ asked → P (submitted operations starved sub s asked)
-    of_asked starved (Err status) is = holds.unchanged status []
+    of_asked starved (Err status) is =
+        holds.unchanged status [] (failed_other status (subst (λ (r : Result Command Status). FailsOther (result_err r)) is (entry_other sub.entry)))
     of_asked starved (Ok (commands.Standard c)) is = holds.standard c is
     of_asked starved (Ok (commands.Load load)) is =
         holds.load load (loading operations starved sub s load) is (loading_is operations sub s load starved)
     of_asked starved (Ok (commands.Run command)) is = of_run (why_not_run sub s command) (free_place s) command is refl refl
-    of_asked starved (Ok (commands.Result slot)) is = of_result (loaded_at s slot) (first_failed (transfer_checks 0 0 sub.input))
+    of_asked starved (Ok (commands.Result slot)) is = of_result (loaded_at s slot) (first_failed (transfer_checks 0 0 sub.input)) (transfer_other 0 0 sub.input)
 
   -- what holds of each thing that an entry can come to holds of what it comes to
   pub of_entry : HoldsOfEach → (starved : Bool) → P (submitted operations starved sub s (decoded sub.entry))
@@ -121,13 +132,14 @@ module _ {D : Type 0} (operations : Operations D) (P : State → Type 0) (s : St
     -- it holds of the state that each thing leaves that an entry can come to
     after_entry : (sub : Submission) → (CarriesBytes e → AreBytes sub.input) → HoldsOfEach operations (λ h. P h.state) sub s
     after_entry sub are = record {
-      unchanged = λ status output. holds.same;
+      unchanged = λ status output untrapped. holds.same;
       standard = λ c asked. holds.step (Commanded (holds_at s) c sub.input) refl
           (λ has. spelled (holds_at s) c sub.input (decoded_has sub.entry (commands.Standard c) asked) (are has));
       load = λ load h asked is. after_load sub load h are is;
       start = λ command run asked is at. holds.start sub command run is at (decoded_has sub.entry (commands.Run command) asked);
     }
 
+  -- what holds so of a state holds of the state that the event leaves
   pub after_event : (starved : Bool) (e : Event) → HoldsAfter e → P (happens operations s starved e).state
   after_event starved (event.Submit queue entry input) holds =
       let sub = submission_of queue entry input.items in

@@ -25,6 +25,7 @@ use Rattle.device_meaning.proofs.Changes.{after_event}
 
 -- ---- programs
 
+-- a slot that stays as it is has the same program
 pub same_program : (slot : Option Loaded) → SameProgram slot slot
 same_program slot = record { loaded = refl; program = refl; limit = refl }
 

@@ -2,6 +2,7 @@ mod Added
 mod BlockRuns
 mod Bytes
 mod Changes
+mod Completions
 mod Drained
 mod FewBlocks
 mod JoinedEvents
@@ -15,6 +16,8 @@ mod Rests
 mod RunsFit
 mod Spelled
 mod States
+mod Statuses
 mod TurnsFit
+mod Untrapped
 mod Views
 mod WantOfMemory

@@ -1,8 +1,8 @@
 -- What Load comes to: nothing changes, or an accepted program takes its slot.
-use Rattle.std.proofs.Common.{◌≡◌, ℕ, Bool, true, false, List, [], Option, Some, None, Result, Ok, Err, refl, inl, inr}
+use Rattle.std.proofs.Common.{◌≡◌, ◌≢◌, ℕ, Bool, true, false, List, [], Option, Some, None, Result, Ok, Err, refl, subst, inl, inr}
 use Rattle.std.specs.Prelude.{◌⊎◌}
 use Rattle.zone_state.specs.declared.status.Status.{Status}
-use Rattle.zone_state.specs.declared.status.TheConstants.Status.{SUCCESS, PROGRAM_REFUSED, WANT_OF_MEMORY}
+use Rattle.zone_state.specs.declared.status.TheConstants.Status.{SUCCESS, PROGRAM_REFUSED, PROGRAM_TRAPPED, WANT_OF_MEMORY}
 use Rattle.common_definitions.specs.Checks.{first_failed}
 use Rattle.nvme_entry.specs.Entry.{identifier_of}
 use Rattle.nvme_entry.specs.declared.command.LoadCommand.{LoadCommand}
@@ -19,7 +19,9 @@ use Rattle.device_meaning.specs.Happenings.{judged, just_loaded, load_checks, lo
 use Rattle.device_meaning.specs.State.{State, with_slot}
 use Rattle.device_events.specs.declared.reply.Reply.{Reply}
 use Rattle.device_events.specs.declared.reply.Reply.TheVariants as reply
+use Rattle.device_meaning.proofs.Statuses.{FailsOther, failed_other, load_other, other, some_is}
 
+-- does the reply tell that a run was admitted, or has turns left?
 abbrev pub is_pending : Reply → Bool
 is_pending (reply.Pending run) = true
 is_pending (reply.Complete queue entry length) = false
@@ -36,39 +38,43 @@ module _ {D : Type 0} (operations : Operations D) (sub : Submission) (s : State)
     pub accepted : refusal operations program (sizes_for s load) ≡ None
     pub taken : t ≡ with_slot s load.slot (Some (just_loaded program load.limit))
 
+  -- a Load is answered, no program trapped, and nothing changes or, with success, an accepted program takes its slot
   pub record IsLoad (h : Happening) : Type 0 where
     pub replied : is_pending h.reply.reply ≡ false
     pub answered : IsAnswered s sub h
+    pub untrapped : answered.status ≢ PROGRAM_TRAPPED
     pub state : (h.state ≡ s) ⊎ TakesSlot h.state
     pub succeeds : (h.state ≡ s) ⊎ (h.reply ≡ completion sub.queue (identifier_of sub.entry) SUCCESS 0 0 [])
 
-  refused_is : (status : Status) (dw0 dw1 : ℕ) → IsLoad (completed sub status dw0 dw1 [] s)
-  refused_is status dw0 dw1 = record {
+  refused_is : (status : Status) (dw0 dw1 : ℕ) → FailsOther (Some status) → IsLoad (completed sub status dw0 dw1 [] s)
+  refused_is status dw0 dw1 fails = record {
     replied = refl;
-    answered = record { status = status; dw0 = dw0; dw1 = dw1; output = []; reply = refl; state = λ other. refl };
+    answered = record { status = status; code = (failed_other status fails).code; dw0 = dw0; dw1 = dw1; output = []; is = refl; so = λ failed. refl };
+    untrapped = (failed_other status fails).differs;
     state = inl refl;
     succeeds = inl refl;
   }
 
   judged_is : (program : List (Option Instruction)) (why : Option Refusal) → first_failed (load_checks s load sub.input) ≡ None
       → decoded_program sub.input ≡ Ok program → refusal operations program (sizes_for s load) ≡ why → IsLoad (judged sub s load program why)
-  judged_is program (Some why) passed read e = refused_is PROGRAM_REFUSED why.slot (reason_number why.reason)
+  judged_is program (Some why) passed read e = refused_is PROGRAM_REFUSED why.slot (reason_number why.reason) (some_is PROGRAM_REFUSED refl)
   judged_is program None passed read e = record {
     replied = refl;
-    answered = record { status = SUCCESS; dw0 = 0; dw1 = 0; output = []; reply = refl; state = λ other. absurd (other refl) };
+    answered = record { status = SUCCESS; code = (other SUCCESS refl).code; dw0 = 0; dw1 = 0; output = []; is = refl; so = λ failed. absurd (failed refl) };
+    untrapped = (other SUCCESS refl).differs;
     state = inr (record { program = program; passed = passed; read = read; accepted = e; taken = refl });
     succeeds = inr refl;
   }
 
   read_is : (read : Result (List (Option Instruction)) Fault) → first_failed (load_checks s load sub.input) ≡ None
       → decoded_program sub.input ≡ read → IsLoad (read_program operations sub s load read)
-  read_is (Err fault) passed e = refused_is PROGRAM_REFUSED fault.slot (fault_number fault.kind)
+  read_is (Err fault) passed e = refused_is PROGRAM_REFUSED fault.slot (fault_number fault.kind) (some_is PROGRAM_REFUSED refl)
   read_is (Ok program) passed e = judged_is program (refusal operations program (sizes_for s load)) passed e refl
 
   unless_is : (why : Option Status) (starved : Bool) → first_failed (load_checks s load sub.input) ≡ why
       → IsLoad (load_unless operations why starved sub s load)
-  unless_is (Some status) starved e = refused_is status 0 0
-  unless_is None true e = refused_is WANT_OF_MEMORY 0 0
+  unless_is (Some status) starved e = refused_is status 0 0 (subst FailsOther e (load_other s load sub.input))
+  unless_is None true e = refused_is WANT_OF_MEMORY 0 0 (some_is WANT_OF_MEMORY refl)
   unless_is None false e = read_is (decoded_program sub.input) e refl
 
   pub loading_is : (starved : Bool) → IsLoad (loading operations starved sub s load)

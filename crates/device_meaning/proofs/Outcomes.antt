@@ -195,6 +195,7 @@ module _ (block : ℕ) where
       ∙ ap (λ n. told n (0 + length (packed block (groups_of (run ∷ block_runs)))) (last_scratch (run ∷ block_runs))) frames
       ∙ ap (λ n. told (frames_of (run ∷ block_runs)) n (last_scratch (run ∷ block_runs))) blocks
 
+-- where each block run ends by EXIT, all that the turns append is the packing of the groups
 pub outcome_is_packed : OutcomeIsPacked
 outcome_is_packed task blocks exit =
     let block = task.sizes.block in

@@ -20,6 +20,7 @@ use Rattle.device_meaning.specs.State.{Place, State, destination_of, free_place,
 use Rattle.device_events.specs.declared.event.Event.{Event}
 use Rattle.device_meaning.proofs.Changes.{after_event, after_turn}
 
+-- no two of these places have one destination
 pub record AreApart (places : List (Option Place)) : Type 0 where
   pub apart : (j k : ℕ) (p q : Place) → get_or places j None ≡ Some p → get_or places k None ≡ Some q
       → p.destination ≡ q.destination → j ≡ k
@@ -29,6 +30,7 @@ new_apart ns = record { apart = λ j k p q at_j at_k same. absurd (none_known RU
 
 -- ---- the zone that an active run appends to is held
 
+-- the destination of an active run is among those that the places name
 pub held_at : (places : List (Option Place)) (run : ℕ) (place : Place) → get_or places run None ≡ Some place
     → list_any (names place.destination) (map destination_of places) ≡ true
 held_at places run place at = runs_name_zones destination_of place.destination places run place at refl
@@ -115,15 +117,18 @@ pub left_apart : (places : List (Option Place)) (run : ℕ) (place : Place) (lat
 left_apart places run place later ending at h =
     older_apart places (set places run (place_left place later ending)) h (left_older places run place later ending at)
 
+-- after a turn each place is empty, or has the slot and the destination that it had
 pub turned_older : (s : State) (run : ℕ) → AreOlder s.places (turned s run).state.places
 turned_older s run =
     after_turn (λ (t : State). AreOlder s.places t.places) s run (as_before s.places)
     (λ place turn later at is. left_older s.places run place later turn.ending at)
 
+-- after a turn no two places have one destination, where no two had before
 pub turned_apart : (s : State) (run : ℕ) → AreApart s.places → AreApart (turned s run).state.places
 turned_apart s run h = older_apart s.places (turned s run).state.places h (turned_older s run)
 
 module _ {D : Type 0} (operations : Operations D) where
+  -- after an event no two places have one destination, where no two had before
   pub event_apart : (s : State) (starved : Bool) (e : Event) → AreApart s.places → AreApart (happens operations s starved e).state.places
   event_apart s starved e h = after_event operations (λ (t : State). AreApart t.places) s starved e (record {
     same = h;

@@ -3,14 +3,16 @@ use Rattle.std.proofs.Common.{List}
 use Rattle.word_domain.specs.Domain.{Operations}
 use Rattle.accepted_programs.specs.Laws.{AcceptedNeverTraps}
 use Rattle.device_events.specs.Replies.{Joins, ReplyWithData}
+use Rattle.device_meaning.specs.Completions.{EachIsCompletedOnce, NoCompletionIsLost}
 use Rattle.device_meaning.specs.JoinedEvents.{EventsInParts, ServedAndDrained}
-use Rattle.device_meaning.specs.Laws.{BlocksLeaveOthers, DrainingEnds, EventsKeepForRuns, RestEnds, RestGoesOn, RestIsFew, RoomIsOpen, RoomStays, StatesAreSound, TurnsLeaveFewer}
+use Rattle.device_meaning.specs.Laws.{BlocksLeaveOthers, DrainingEnds, EventsKeepForRuns, NoReplyIsTrapped, RestEnds, RestGoesOn, RestIsFew, RoomIsOpen, RoomStays, StatesAreSound, TurnsLeaveFewer}
 use Rattle.device_meaning.specs.Reached.{EventsKeepReached, NewIsReached, TurnsKeepReached}
 use Rattle.device_meaning.specs.View.{SeenAtAdmission, SeenStays}
 use Rattle.device_meaning.proofs.Added as added
 pub use Rattle.device_meaning.proofs.Added.{added_grows, added_leaves, added_shape, is_added, open_on}
 pub use Rattle.device_meaning.proofs.BlockRuns.{IsDone, few_block_runs, few_frames}
-pub use Rattle.device_meaning.proofs.Changes.{HoldsOfEach, after_event, after_turn, of_entry, turned_is}
+pub use Rattle.device_meaning.proofs.Changes.{HoldsOfEach, after_event, after_turn, of_entry, of_turn, turned_is}
+use Rattle.device_meaning.proofs.Completions as completions
 use Rattle.device_meaning.proofs.Drained as drained
 use Rattle.device_meaning.proofs.JoinedEvents as joined
 use Rattle.device_meaning.proofs.KeptForRuns as kept
@@ -24,6 +26,9 @@ pub use Rattle.device_meaning.proofs.Spelled.{HasBlocks, decoded_has}
 use Rattle.device_meaning.proofs.States as states
 pub use Rattle.device_meaning.proofs.States.{IsFine, admitted_room, all_exit, block_runs_all_done, events_fine, few_source, groups_within, reached_fine, ready, some_block_run, turn_fine, turns_are, written}
 use Rattle.device_meaning.proofs.TurnsFit as fitting
+use Rattle.device_meaning.proofs.Untrapped as untrapped
+pub use Rattle.device_meaning.proofs.Statuses.{success_other}
+pub use Rattle.device_meaning.proofs.Untrapped.{ends_with_success}
 use Rattle.device_meaning.proofs.Views as views
 
 pub rest_goes_on : RestGoesOn
@@ -66,12 +71,21 @@ module _ {D : Type 0} (operations : Operations D) where
   pub served_and_drained : {T : Type 0} (took : T → T → List ReplyWithData → Type 0) → Joins took → ServedAndDrained operations took
   served_and_drained = joined.served_and_drained operations
 
+  pub no_completion_is_lost : NoCompletionIsLost operations
+  no_completion_is_lost = completions.no_completion_is_lost operations
+
+  pub each_is_completed_once : EachIsCompletedOnce operations
+  each_is_completed_once = completions.each_is_completed_once operations
+
   pub events_keep_for_runs : EventsKeepForRuns operations
   events_keep_for_runs = kept.events_keep_for_runs operations
 
   module _ (never : AcceptedNeverTraps operations) where
     pub states_are_sound : StatesAreSound operations
     states_are_sound = states.states_are_sound operations never
+
+    pub no_reply_is_trapped : NoReplyIsTrapped operations
+    no_reply_is_trapped = untrapped.no_reply_is_trapped operations never
 
     pub turns_leave_fewer : TurnsLeaveFewer operations
     turns_leave_fewer = drained.turns_leave_fewer operations never

@@ -18,6 +18,7 @@ abbrev pub WritesSome : Change → Type 0
 WritesSome (Writing lba blocks) = 1 ≤ blocks
 WritesSome _ = Unit {0}
 
+-- a command that writes blocks, or runs over some, has at least one
 abbrev pub HasBlocks : Command → Type 0
 HasBlocks (commands.Standard c) = WritesSome (change_of c)
 HasBlocks (commands.Run command) = 1 ≤ command.blocks
@@ -27,6 +28,7 @@ HasBlocks _ = Unit {0}
 at_least_one : (n k : ℕ) → n ≡ k + 1 → 1 ≤ n
 at_least_one n k e = omega (arith, e)
 
+-- a command that an entry is decoded to has at least one block, where it writes some or runs over some
 pub decoded_has : (entry : List ℕ) (c : Command) → decoded entry ≡ Ok c → HasBlocks c
 decoded_has entry (commands.Standard (Write lba blocks)) e =
     let told = fields_are_spelled entry (commands.Standard (Write lba blocks)) e in

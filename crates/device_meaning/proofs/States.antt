@@ -70,6 +70,7 @@ source_are ns command is =
     let at = command.lba % ns.size in
     all_take (IsBlock ns.block) command.blocks (drop at (zone_at ns z).blocks) (all_drop (IsBlock ns.block) at (zone_at ns z).blocks (zone_are ns z is))
 
+-- a run has no more source blocks than its command tells
 pub few_source : (ns : ZonedNamespace) (command : RunCommand) → length (source_blocks ns command) ≤ command.blocks
 few_source ns command =
     let blocks = drop (command.lba % ns.size) (zone_at ns (command.lba / ns.size)).blocks in
@@ -82,6 +83,7 @@ groups_fit : (task : Task) (block_runs : List BlockRun) → AllByRecursion (IsDo
 groups_fit task [] h = tt
 groups_fit task (run ∷ block_runs) h = (h.0.exits.group, groups_fit task block_runs h.1)
 
+-- where the limit is at most a block, the groups of block runs that are done each fit into a block
 pub groups_within : (task : Task) (block_runs : List BlockRun) → task.sizes.limit ≤ task.sizes.block → AllByRecursion (IsDone task) block_runs
     → FitBlock task.sizes.block (groups_of block_runs)
 groups_within task block_runs less h =
@@ -111,6 +113,7 @@ module _ {D : Type 0} (operations : Operations D) (never : AcceptedNeverTraps op
   abbrev pub PlaceIsFine : Option Place → Type 0
   PlaceIsFine at = IfSome at (λ place. AppendWhole place.turns)
 
+  -- a state with a sound namespace, accepted programs, and runs that each append whole blocks to a zone of their own with room for them
   pub record IsFine (s : State) : Type 0 where
     pub is : IsNamespace s.namespace
     pub size : s.namespace.block ≡ block
@@ -200,15 +203,18 @@ module _ {D : Type 0} (operations : Operations D) (never : AcceptedNeverTraps op
     abbrev checks : List (Option Status)
     checks = admission_checks s.namespace (holds_at s) (is_some (free_place s)) (loaded_at s command.slot) command sub.input
 
+    -- its program never traps over blocks of the namespace
     pub ready : IsReady task
     ready =
         let slot = loaded_at s command.slot in
         slot_ready s.namespace slot command h.is h.size (all_at SlotIsFine s.slots command.slot None h.slots tt)
         (demanded (is_some slot) NO_SUCH_PROGRAM (passed checks 2 none))
 
+    -- each of its block runs ends by EXIT, with a group of whole frames, and scratch bytes for the next
     pub block_runs_all_done : AllByRecursion (IsDone task) block_runs
     block_runs_all_done = block_runs_done task ready source (source_are s.namespace command h.is)
 
+    -- each of its block runs ends by EXIT
     pub all_exit : AllByRecursion (λ (run : BlockRun). IsExit run.end) block_runs
     all_exit = all_from (IsDone task) (λ (run : BlockRun). IsExit run.end) (λ run done. done.exits.exit) block_runs block_runs_all_done
 
@@ -225,9 +231,11 @@ module _ {D : Type 0} (operations : Operations D) (never : AcceptedNeverTraps op
         let at = command.lba % s.namespace.size in
         omega (arith, written, some, length-take command.blocks (drop at blocks), length-drop at blocks)
 
+    -- where it is over some block, it has some block run
     pub some_block_run : 1 ≤ command.blocks → 1 ≤ length block_runs
     some_block_run some = some_block_runs task source (some_source some)
 
+    -- where it is over some block, its turns append whole blocks, few each, and the last of them ends it
     pub turns_are : 1 ≤ command.blocks → AppendWhole (admitted_place sub s command).turns
     turns_are some = record {
       whole = subst (λ (n : ℕ). AllByRecursion (HasWhole n) (outcome task source)) h.size
@@ -249,6 +257,7 @@ module _ {D : Type 0} (operations : Operations D) (never : AcceptedNeverTraps op
         let same = ap length whole.blocks in
         omega (arith, same, enough, grows)
 
+    -- what it appends fits into its destination, which is open
     pub admitted_room : RoomIn s.namespace.capacity (zone_at s.namespace (admitted_place sub s command).destination) (admitted_place sub s command).turns
     admitted_room =
         let zone = zone_at s.namespace (admitted_place sub s command).destination in
@@ -317,6 +326,7 @@ module _ {D : Type 0} (operations : Operations D) (never : AcceptedNeverTraps op
         rooms = turn_rooms s run place turn later h.apart h.rooms here first;
       }
 
+  -- a turn leaves such a state where it finds one
   pub turn_fine : (s : State) (run : ℕ) → IsFine s → IsFine (turned s run).state
   turn_fine s run h = after_turn IsFine s run h (λ place turn later here first. first_fine s run place turn later h here first)
 
@@ -331,6 +341,7 @@ module _ {D : Type 0} (operations : Operations D) (never : AcceptedNeverTraps op
     turn = λ run place turn later is here first. first_fine s run place turn later h here first;
   })
 
+  -- events leave such a state where they find one
   pub events_fine : (events : List Occurrence) (s : State) → IsFine s → AreEvents events → IsFine (state_after operations events s)
   events_fine [] s h are = h
   events_fine (o ∷ os) s h are = events_fine os (happens operations s o.starved o.event).state (event_fine s o.starved o.event h are.0) are.1
@@ -371,4 +382,5 @@ states_are_sound operations never s reached =
       programs = programs operations never block s h;
       rooms = h.rooms;
       appends = appends operations never block s h;
+      ends = λ run place here. (subst (PlaceIsFine operations never block) here (place_fine operations never block s run h)).ends;
     }

@@ -1,4 +1,4 @@
--- The block runs of a run: its program on one source block after another.
+-- The block runs of a run (profile): its program on one source block after another.
 use Rattle.std.specs.Prelude.{ℕ, Bool, false, ◌+◌, ◌==◌, List, [], ◌∷◌, map, replicate, Option, None, if◌then◌else◌}
 use Rattle.std.specs.List.{last_or, sum_by}
 use Rattle.std.specs.Option.{option_map_or}

@@ -1,4 +1,4 @@
--- Turns of the lowest active run, until no run is left.
+-- Turns of the lowest active run, until no run is left (profile).
 use Rattle.std.specs.Prelude.{ℕ, ◌≡◌, ◌≤◌, ◌-◌, List, [], ◌∷◌, length, position, take, is_some, Option, Some, None}
 use Rattle.std.specs.List.{fold, sum_by}
 use Rattle.std.specs.Option.{option_map_or}

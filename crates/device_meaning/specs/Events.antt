@@ -1,4 +1,4 @@
--- Lists of events: the replies to them and the state behind them, and that a device did them.
+-- Lists of events (profile): the replies to them and the state behind them, and that a device did them.
 use Rattle.std.specs.Prelude.{ℕ, Bool, ◌≡◌, ◌≤◌, ◌-◌, List, [], ◌∷◌, length, map, take}
 use Rattle.std.specs.List.{AllByRecursion, fold}
 use Rattle.common_definitions.specs.Bytes.{AreBytes}

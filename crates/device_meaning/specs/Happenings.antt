@@ -1,4 +1,4 @@
--- What an event does to a state, and the reply to it.
+-- What an event does to a state, and the reply to it (profile).
 use Rattle.std.specs.Prelude.{ℕ, Bool, true, false, not, nat_le, List, [], ◌∷◌, ◌++◌, set, is_some, Option, Some, None, Result, Ok, Err}
 use Rattle.zone_state.specs.declared.state.FaultState.{FaultState}
 use Rattle.zone_state.specs.declared.status.Status.{Status}

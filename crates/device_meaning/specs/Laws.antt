@@ -4,8 +4,7 @@ use Rattle.std.specs.Prelude.{◌≤◌, ◌*◌, ℕ, true, false, ◌≡◌, �
 use Rattle.std.specs.List.{AllByRecursion, concat}
 use Rattle.common_definitions.specs.Checks.{first_failed}
 use Rattle.zone_state.specs.State.{is_open}
-use Rattle.zone_state.specs.declared.status.Status.{Status}
-use Rattle.zone_state.specs.declared.status.TheConstants.Status.{SUCCESS}
+use Rattle.zone_state.specs.declared.status.TheConstants.Status.{SUCCESS, PROGRAM_TRAPPED}
 use Rattle.zone_resources.specs.Holds.{no_holds}
 use Rattle.nvme_entry.specs.Entry.{identifier_of}
 use Rattle.instruction_set.specs.Program.{IsProgram}
@@ -18,12 +17,12 @@ use Rattle.image_store.specs.Namespace.{ZoneWithBlocks, ZonedNamespace, zone_at,
 use Rattle.zns_commands.specs.Append.{TakesBlocks, append_checks, append_effect}
 use Rattle.zns_commands.specs.Left.{Grows}
 use Rattle.device_meaning.specs.Admission.{Loaded, SameProgram, sizes_in}
-use Rattle.device_meaning.specs.EventReplies.{Happening, Submission, completion}
+use Rattle.device_meaning.specs.EventReplies.{CompletesOnlyWith, Happening, IsCompletionOf, Submission}
 use Rattle.device_meaning.specs.BlockRuns.{Task, block_run, block_runs_of, goes_on, groups_of, scratch_after}
 use Rattle.device_meaning.specs.Draining.{Drains, turns_left}
 use Rattle.device_meaning.specs.Events.{Occurrence}
 use Rattle.device_meaning.specs.Happenings.{added, happens, turned}
-use Rattle.device_meaning.specs.Outcome.{Ending, Progress, Turn, appended_by, at_admission, ending_of, last_turn, outcome, emitted_by, rest, success_of}
+use Rattle.device_meaning.specs.Outcome.{Ending, EndsWithLast, Progress, Turn, appended_by, at_admission, ending_of, last_turn, outcome, emitted_by, rest, success_of}
 use Rattle.device_meaning.specs.Reached.{IsReached}
 use Rattle.device_meaning.specs.State.{Place, State, loaded_at, place_at}
 
@@ -89,13 +88,8 @@ OutcomeIsPacked =
 -- ---- entries and events
 
 -- an entry is completed with a status, and where that isn't success the state is as it was
-pub record IsAnswered (s : State) (sub : Submission) (h : Happening) : Type 0 where
-  pub status : Status
-  pub dw0 : ℕ
-  pub dw1 : ℕ
-  pub output : List ℕ
-  pub reply : h.reply ≡ completion sub.queue (identifier_of sub.entry) status dw0 dw1 output
-  pub state : status ≢ SUCCESS → h.state ≡ s
+abbrev pub IsAnswered : State → Submission → Happening → Type 0
+IsAnswered s sub h = IsCompletionOf sub.queue (identifier_of sub.entry) (λ status. status ≢ SUCCESS → h.state ≡ s) h.reply
 
 -- what is kept for an active run: the blocks of its source, its program, and the shape of the namespace
 pub record KeepsFor (place : Place) (s t : State) : Type 0 where
@@ -130,7 +124,7 @@ module _ {D : Type 0} (operations : Operations D) where
     pub accepted : refusal operations loaded.program (sizes_in ns (Some loaded)) ≡ None
 
   -- in each state that events leave, the namespace is sound, each loaded program is accepted, what is left of
-  -- each run fits, and what its next turn appends is appended
+  -- each run fits, what its next turn appends is appended, and the last of its turns ends it with success
   pub record IsSoundState (s : State) : Type 0 where
     pub namespace : IsNamespace s.namespace
     pub programs : (slot : ℕ) (loaded : Loaded) → loaded_at s slot ≡ Some loaded → IsAcceptedIn s.namespace loaded
@@ -138,10 +132,17 @@ module _ {D : Type 0} (operations : Operations D) where
         → RoomIn s.namespace.capacity (zone_at s.namespace place.destination) place.turns
     pub appends : (run : ℕ) (place : Place) (turn : Turn) (later : List Turn) → place_at s run ≡ Some place
         → place.turns ≡ turn ∷ later → turn.blocks ≢ [] → IsAppended s.namespace place.destination turn.blocks
+    pub ends : (run : ℕ) (place : Place) → place_at s run ≡ Some place → EndsWithLast place.turns
 
 -- what holds of each state that events leave
 abbrev pub StatesAreSound : {D : Type 0} → Operations D → Type 0
 StatesAreSound operations = (s : State) → IsReached operations s → IsSoundState operations s
+
+-- in each state that events leave, no reply tells that a program couldn't go on
+abbrev pub NoReplyIsTrapped : {D : Type 0} → Operations D → Type 0
+NoReplyIsTrapped operations =
+    (s : State) (o : Occurrence) → IsReached operations s
+    → CompletesOnlyWith (λ status. status ≢ PROGRAM_TRAPPED) s o.event (happens operations s o.starved o.event).reply
 
 -- in each state that events leave, a turn of an active run leaves fewer turns
 abbrev pub TurnsLeaveFewer : {D : Type 0} → Operations D → Type 0

@@ -9,5 +9,6 @@ pub mod Events
 pub mod Reached
 pub mod WantOfMemory
 pub mod JoinedEvents
+pub mod Completions
 pub mod View
 pub mod Laws

@@ -1,4 +1,4 @@
--- The outcome of a run: what each of its turns appends, and how it ends. It is fixed when the run is
+-- The outcome of a run (profile): what each of its turns appends, and how it ends. It is fixed when the run is
 -- admitted, by the program and the source blocks of then.
 use Rattle.std.specs.Prelude.{ℕ, ◌≡◌, ◌+◌, List, [], ◌∷◌, ◌++◌, length, drop, flat_map, Option, Some, None, IsSomeAnd}
 use Rattle.std.specs.List.{last_or}

@@ -1,4 +1,4 @@
--- The state of a device: its namespace, its programs and its active runs.
+-- The state of a device (profile): its namespace, its programs and its active runs.
 use Rattle.std.specs.Prelude.{ℕ, Bool, false, ◌==◌, List, map, set, get_or, replicate, position, is_none, option_map, Option, Some, None}
 use Rattle.std.specs.List.{list_any}
 use Rattle.zone_resources.specs.declared.holds.Holds.{Holds}

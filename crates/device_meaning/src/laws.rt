@@ -1,7 +1,8 @@
 //! Laws of the definitions. Each function does nothing: what it ensures is the law.
 
+ghost use Rattle.device_meaning.specs.Completions.{EachIsCompletedOnce, NoCompletionIsLost};
 ghost use Rattle.device_meaning.specs.JoinedEvents.{DrainedByTurns, DrainedInOneWay, EventsInParts, EventsJoin, OneReplyEach, ServedAndDrained, ServedInParts};
-ghost use Rattle.device_meaning.specs.Laws.{BlocksLeaveOthers, DrainingEnds, EventsKeepForRuns, OutcomeIsPacked, RestAtAdmission, RestEnds, RestGoesOn, RestIsFew, RoomIsOpen, RoomStays, StatesAreSound, TurnsLeaveFewer};
+ghost use Rattle.device_meaning.specs.Laws.{BlocksLeaveOthers, DrainingEnds, EventsKeepForRuns, NoReplyIsTrapped, OutcomeIsPacked, RestAtAdmission, RestEnds, RestGoesOn, RestIsFew, RoomIsOpen, RoomStays, StatesAreSound, TurnsLeaveFewer};
 ghost use Rattle.device_meaning.specs.Reached.{EventsKeepReached, NewIsReached, TurnsKeepReached};
 ghost use Rattle.device_meaning.specs.View.{SeenAtAdmission, SeenStays};
 ghost use Rattle.device_meaning.specs.WantOfMemory.{OnlyLoadsWantMemory};
@@ -69,9 +70,16 @@ pub fn turns_keep_reached<D: Domain>()
 
 /// In each state that events leave, the namespace is sound, each loaded program is accepted, and what is left of
 /// each run fits into its destination, which is open as long as it isn't filled: a turn's blocks come there as by
-/// a Zone Append that meets no hold, and no check refuses that.
+/// a Zone Append that meets no hold, and no check refuses that. The last turn of each run ends it, with success.
 pub fn states_are_sound<D: Domain>()
     ensures { StatesAreSound D.operations }
+{
+    accepted_never_traps::<D>();
+}
+
+/// In each state that events leave, no reply to any event is a completion with Program Trapped.
+pub fn no_reply_is_trapped<D: Domain>()
+    ensures { NoReplyIsTrapped D.operations }
 {
     accepted_never_traps::<D>();
 }
@@ -129,6 +137,14 @@ pub fn drained_in_one_way()
 /// A device that is served events and then drained has done both, and no run is left.
 pub fn served_and_drained<D: Domain, O: Out>()
     ensures { ServedAndDrained D.operations O.took }
+{}
+
+/// Whatever events come, what is submitted is completed once, to its queue and with its identifier, or is an active run still,
+/// and nothing else is completed: of each queue and identifier the completions, and the runs that are active then, are as many
+/// as the submissions, and the runs that were active before. Once turns have drained the device, each has its one completion.
+pub fn each_is_completed_once<D: Domain>()
+    ensures so_far { NoCompletionIsLost D.operations }
+    ensures drained { EachIsCompletedOnce D.operations }
 {}
 
 /// In each state that events leave, a turn of an active run leaves fewer turns.
