@@ -1,1 +1,2 @@
 mod Reached
+mod Witness

@@ -1,16 +1,18 @@
 //! Laws of a device, which judges programs by intervals, in the states that events leave from an image on.
-//! Each function does nothing: what it ensures is the law. Three are of its own: where a device begins, and that what
-//! is saved loads again. The others are those laws of `pushdown` that a device's user asks for, of intervals; the rest
-//! hold of a device too, by the trait `Domain`.
+//! Each function does nothing: what it ensures is the law. Four are of its own: where a device begins, that what is
+//! saved loads again, and that there is a Run of which the pushdown theorem speaks. The others are those laws of
+//! `pushdown` that a device's user asks for, of intervals; the rest hold of a device too, by the trait `Domain`.
 
 ghost use Rattle.interval_domain.specs.Intervals.{intervals};
 ghost use Rattle.pushdown.specs.AnyOrder.{TurnsInAnyOrder};
-ghost use Rattle.device_meaning.specs.Laws.{DrainingEnds, StatesAreSound};
-ghost use Rattle.pushdown.specs.Laws.{OnlyLoadsChangeSlots, RefusedLeavesState};
+ghost use Rattle.device_meaning.specs.Completions.{EachIsCompletedOnce, NoCompletionIsLost};
+ghost use Rattle.device_meaning.specs.Laws.{DrainingEnds, NoReplyIsTrapped, StatesAreSound};
+ghost use Rattle.pushdown.specs.Laws.{LastTurnCompletes, OnlyLoadsChangeSlots, RefusedEventsLeaveState, RefusedLeavesState};
 ghost use Rattle.pushdown.specs.Pushdown.{Pushdown};
 ghost use Rattle.device_meaning.specs.Reached.{EventsKeepReached, TurnsKeepReached};
 ghost use Rattle.pushdown.specs.ReadBack.{AppendedBlocksReadBack, AppendedByRunsReadsBack, ResultsReadBack, WrittenBlocksReadBack};
 ghost use Rattle.device_laws.specs.Laws.{EmptyIsReached, LoadedIsReached, SavedStatesLoad};
+ghost use Rattle.device_laws.specs.Witness.{PushdownIsMet};
 
 /// A device begins with an empty image, in a state that events leave.
 pub fn empty_is_reached()
@@ -34,9 +36,28 @@ pub fn turns_keep_reached()
 
 /// In every state that events leave, the open and active zones are within the limits, each zone's state fits its
 /// written blocks, each block is whole and of bytes, each loaded program is accepted, what is left of each run fits
-/// into its destination, which is open as long as it isn't filled, and no append of a run's turns can be refused.
+/// into its destination, which is open as long as it isn't filled, no append of a run's turns can be refused, and the last of
+/// a run's turns ends it with success.
 pub fn states_are_sound()
     ensures { StatesAreSound intervals }
+{}
+
+/// In every state that events leave, no reply to any event is a completion with Program Trapped.
+pub fn no_reply_is_trapped()
+    ensures { NoReplyIsTrapped intervals }
+{}
+
+/// Whatever events come, what is submitted is completed once, to its queue and with its identifier, or is an active run still,
+/// and nothing else is completed. Once turns have drained the device, each has its one completion.
+pub fn each_is_completed_once()
+    ensures so_far { NoCompletionIsLost intervals }
+    ensures drained { EachIsCompletedOnce intervals }
+{}
+
+/// In every state that events leave, the last turn of a run is answered with the run's completion, a success, and any other with
+/// Pending.
+pub fn last_turn_completes()
+    ensures { LastTurnCompletes intervals }
 {}
 
 /// In every state that events leave, turns of the lowest active run come to an end.
@@ -53,6 +74,12 @@ pub fn saved_states_load()
 /// state as it was, whatever its command is.
 pub fn refused_leaves_state()
     ensures { RefusedLeavesState intervals }
+{}
+
+/// In every state that events leave, an event that is refused leaves the state as it was: a turn of no run, a fault that isn't
+/// taken, and what is completed with a status that isn't success.
+pub fn refused_events_leave_state()
+    ensures { RefusedEventsLeaveState intervals }
 {}
 
 /// An entry leaves the slots as they were, unless it is a Load that succeeds: it changes its own slot and nothing
@@ -97,4 +124,10 @@ pub fn turns_in_any_order()
 /// those that are fixed at admission; and the numbers that the completion tells fit into its 32 bits.
 pub fn pushdown()
     ensures { Pushdown intervals }
+{}
+
+/// There is a Run of which that law speaks: in a state that events leave it is admitted, its program emits three frames over
+/// three turns, of which the second appends a block, and a command of another queue succeeds between the first and the second.
+pub fn pushdown_is_met()
+    ensures { PushdownIsMet }
 {}

@@ -6,7 +6,7 @@ use Rattle.nvme_entry.specs.declared.command.Command.TheVariants as commands
 use Rattle.nvme_entry.specs.declared.command.LoadCommand.{LoadCommand}
 use Rattle.word_domain.specs.Domain.{Operations}
 use Rattle.zns_commands.specs.Meaning.{meaning}
-use Rattle.zns_commands.proofs.Proved.{refused_commands_change_nothing}
+use Rattle.zns_commands.proofs.Proved.{refused_commands_change_nothing, statuses_are_standard}
 use Rattle.device_meaning.specs.EventReplies.{Happening, Submission, submission_of}
 use Rattle.device_events.specs.Replies.{without_data}
 use Rattle.device_meaning.specs.Laws.{IsAnswered}
@@ -23,17 +23,18 @@ module _ {D : Type 0} (operations : Operations D) (sub : Submission) (s : State)
   -- each entry is replied to so
   replied : HoldsOfEach operations IsReplied sub s
   replied = record {
-    unchanged = λ status output.
-        inr (record { status = status; dw0 = 0; dw1 = 0; output = output; reply = refl; state = λ other. refl });
+    unchanged = λ status output other.
+        inr (record { status = status; code = other.code; dw0 = 0; dw1 = 0; output = output; is = refl; so = λ fails. refl });
     standard = λ c asked.
         let done = meaning s.namespace (holds_at s) c sub.input in
         inr (record {
           status = done.status;
+          code = (statuses_are_standard s.namespace (holds_at s) c sub.input).code;
           dw0 = done.dw0;
           dw1 = done.dw1;
           output = done.output;
-          reply = refl;
-          state = λ other. ap (with_namespace s) (refused_commands_change_nothing s.namespace (holds_at s) c sub.input other).namespace;
+          is = refl;
+          so = λ fails. ap (with_namespace s) (refused_commands_change_nothing s.namespace (holds_at s) c sub.input fails).namespace;
         });
     load = λ load h asked is. inr is.answered;
     start = λ command run asked is at. inl (run, refl);
@@ -69,7 +70,7 @@ module _ {D : Type 0} (operations : Operations D) (sub : Submission) (s : State)
   -- each entry changes slots only so
   changes_slots : HoldsOfEach operations ChangesSlots sub s
   changes_slots = record {
-    unchanged = λ status output. inl refl;
+    unchanged = λ status output untrapped. inl refl;
     standard = λ c asked. inl refl;
     load = load_changes;
     start = λ command run asked is at. inl refl;

@@ -7,12 +7,14 @@ mod ExampleLoads
 mod ExampleReached
 mod ExampleRuns
 mod Examples
+mod LastTurns
 mod Lasting
 mod OthersEvents
 mod Pending
 pub mod Proved
 mod Pushdown
 mod ReadBack
+mod Refused
 mod Results
 mod RunsRead
 mod SameTurns

@@ -1,5 +1,5 @@
 -- What events leave of a run that they are no turns of, and what its own turn leaves.
-use Rattle.std.proofs.Common.{◌≡◌, ◌≢◌, ℕ, ◌<◌, Bool, true, false, List, ◌∷◌, length, get_or, Option, Some, None, refl, ap, sym, subst, ◌∙◌, get_or-set_other, get_or-set_same}
+use Rattle.std.proofs.Common.{◌≡◌, ◌≢◌, ℕ, ◌<◌, Bool, true, false, List, length, get_or, Option, Some, None, refl, ap, sym, subst, ◌∙◌, get_or-set_other, get_or-set_same}
 use Rattle.std.specs.Prelude.{is_none, position, nat_eq}
 use Rattle.std.proofs.lemmas.Bool.{eqb-false}
 use Rattle.std.proofs.lemmas.List.Quantifiers.{position-Some}
@@ -8,7 +8,6 @@ use Rattle.zone_resources.proofs.Proved.{there}
 use Rattle.device_meaning.specs.EventReplies.{Happening}
 use Rattle.pushdown.specs.Laws.{ForeignLeavesTurns, TurnTakesFirst}
 use Rattle.device_meaning.specs.Happenings.{admitted_place, happens, place_left, turned}
-use Rattle.device_meaning.specs.Outcome.{Turn}
 use Rattle.pushdown.specs.Pushdown.{is_turn_of}
 use Rattle.device_meaning.specs.State.{Place, State, place_at}
 use Rattle.device_events.specs.declared.event.Event.{Event}

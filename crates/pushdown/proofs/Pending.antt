@@ -30,7 +30,7 @@ module _ {D : Type 0} (operations : Operations D) (sub : Submission) (s : State)
   -- it is so of each entry
   pends : HoldsOfEach operations AdmittedIfPending sub s
   pends = record {
-    unchanged = λ status output is. absurd (other_reply _ run refl is);
+    unchanged = λ status output untrapped is. absurd (other_reply _ run refl is);
     standard = λ c asked is. absurd (other_reply _ run refl is);
     load = λ load h asked loads is. absurd (other_reply _ run loads.replied is);
     start = λ command first asked passed at is.

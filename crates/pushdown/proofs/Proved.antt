@@ -2,13 +2,15 @@
 use Rattle.word_domain.specs.Domain.{Operations}
 use Rattle.accepted_programs.specs.Laws.{AcceptedNeverTraps}
 use Rattle.pushdown.specs.AnyOrder.{TurnsInAnyOrder}
-use Rattle.pushdown.specs.Laws.{OnlyLoadsChangeSlots, RefusedLeavesState}
+use Rattle.pushdown.specs.Laws.{LastTurnCompletes, OnlyLoadsChangeSlots, RefusedEventsLeaveState, RefusedLeavesState}
 use Rattle.pushdown.specs.Pushdown.{Pushdown}
 use Rattle.pushdown.specs.ReadBack.{AppendedBlocksReadBack, AppendedByRunsReadsBack, ResultsReadBack, WrittenBlocksReadBack}
 use Rattle.pushdown.proofs.Answered as answered
 use Rattle.pushdown.proofs.AnyOrder as any_order
+use Rattle.pushdown.proofs.LastTurns as last_turns
 use Rattle.pushdown.proofs.Pushdown as theorem
 use Rattle.pushdown.proofs.ReadBack as read_back
+use Rattle.pushdown.proofs.Refused as refused
 use Rattle.pushdown.proofs.Results as results
 use Rattle.pushdown.proofs.RunsRead as runs_read
 
@@ -26,6 +28,12 @@ module _ {D : Type 0} (operations : Operations D) where
   written_blocks_read_back = read_back.written_blocks_read_back operations
 
   module _ (never : AcceptedNeverTraps operations) where
+    pub refused_events_leave_state : RefusedEventsLeaveState operations
+    refused_events_leave_state = refused.refused_events_leave_state operations never
+
+    pub last_turn_completes : LastTurnCompletes operations
+    last_turn_completes = last_turns.last_turn_completes operations never
+
     pub turns_in_any_order : TurnsInAnyOrder operations
     turns_in_any_order = any_order.turns_in_any_order operations never
 

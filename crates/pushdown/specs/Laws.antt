@@ -16,7 +16,7 @@ use Rattle.word_domain.specs.Domain.{Operations}
 use Rattle.accepted_programs.specs.Accepted.{refusal}
 use Rattle.emit_append.specs.Unpacking.{unpacked}
 use Rattle.device_meaning.specs.Admission.{source_blocks, task_of}
-use Rattle.device_meaning.specs.EventReplies.{Happening, Submission, completion, submission_of}
+use Rattle.device_meaning.specs.EventReplies.{CompletesOnlyWith, Happening, IsCompletionOf, Submission, completion, submission_of}
 use Rattle.device_events.specs.Replies.{without_data}
 use Rattle.device_meaning.specs.BlockRuns.{block_runs_of, frames_of, groups_of}
 use Rattle.device_meaning.specs.Events.{Occurrence}
@@ -26,6 +26,7 @@ use Rattle.device_meaning.specs.Laws.{IsAnswered}
 use Rattle.pushdown.specs.Pushdown.{IsAdmitted, is_turn_of}
 use Rattle.device_meaning.specs.Reached.{IsReached}
 use Rattle.device_meaning.specs.State.{Place, State, loaded_at, place_at, with_slot}
+use Rattle.device_events.specs.declared.event.Event.{Event}
 use Rattle.device_events.specs.declared.event.Event.TheVariants as event
 use Rattle.device_events.specs.declared.reply.Reply.TheVariants as reply
 
@@ -37,6 +38,18 @@ RefusedLeavesState operations =
     (s : State) (starved : Bool) (queue : ℕ) (entry : List ℕ) (input : Vec ℕ Global)
     → let h = happens operations s starved (event.Submit queue entry input) in
     ((run : ℕ) × (h.reply ≡ without_data (reply.Pending run))) ⊎ IsAnswered s (submission_of queue entry input.items) h
+
+-- an event that is refused leaves the state as it was: a turn of no run, a fault that isn't taken, and what is completed
+-- with a status that isn't success
+pub record LeavesIfRefused (s : State) (e : Event) (h : Happening) : Type 0 where
+  pub idle : h.reply ≡ without_data reply.Idle → h.state ≡ s
+  pub fault : h.reply ≡ without_data reply.FaultRefused → h.state ≡ s
+  pub completed : CompletesOnlyWith (λ status. status ≢ SUCCESS → h.state ≡ s) s e h.reply
+
+-- in each state that events leave, every event that is refused leaves the state
+abbrev pub RefusedEventsLeaveState : {D : Type 0} → Operations D → Type 0
+RefusedEventsLeaveState operations =
+    (s : State) (o : Occurrence) → IsReached operations s → LeavesIfRefused s o.event (happens operations s o.starved o.event)
 
 module _ {D : Type 0} (operations : Operations D) where
   -- a Load succeeds: its slot gets the program that its data is decoded to, which no reason refuses, with zeros
@@ -99,6 +112,23 @@ abbrev pub TurnTakesFirst : Type 0
 TurnTakesFirst =
     (s : State) (run : ℕ) (place : Place) (turn : Turn) (later : List Turn)
     → place_at s run ≡ Some place → place.turns ≡ turn ∷ later → FirstIsTaken s run place turn later
+
+-- the last turn of a run is answered with the run's completion, a success, and leaves its place empty
+pub record CompletesRun (run : ℕ) (place : Place) (h : Happening) : Type 0 where
+  pub reply : IsCompletionOf place.queue place.cid (λ status. status ≡ SUCCESS) h.reply
+  pub place_freed : place_at h.state run ≡ None
+
+-- a turn that isn't the last is answered with Pending, and leaves those after it
+pub record LeavesLater (run : ℕ) (place : Place) (later : List Turn) (h : Happening) : Type 0 where
+  pub reply : h.reply ≡ without_data (reply.Pending run)
+  pub later_left : place_at h.state run ≡ Some (record place { turns = later })
+
+-- in each state that events leave, the last turn of a run completes it, and no other does
+abbrev pub LastTurnCompletes : {D : Type 0} → Operations D → Type 0
+LastTurnCompletes operations =
+    (s : State) → IsReached operations s
+    → (run : ℕ) (place : Place) (turn : Turn) (later : List Turn) → place_at s run ≡ Some place → place.turns ≡ turn ∷ later
+    → ((later ≡ []) × CompletesRun run place (turned s run)) ⊎ ((later ≢ []) × LeavesLater run place later (turned s run))
 
 -- ---- in a user's words
 

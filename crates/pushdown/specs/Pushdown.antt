@@ -7,7 +7,7 @@
 -- 4. each turn is the one that is fixed at admission: the blocks that it appends, the completion, and all that
 --    it leaves: the namespace, the run's place and the slots;
 -- 5. the completion tells how many frames were emitted and how many blocks were appended; both fit into its 32 bits.
-use Rattle.std.specs.Prelude.{ℕ, Bool, false, ◌≡◌, ◌≢◌, ◌≤◌, ◌<◌, ◌+◌, ◌^◌, ◌==◌, List, [], ◌∷◌, ◌++◌, length, take, drop, get_or, Option, Some, None, Ok, Vec}
+use Rattle.std.specs.Prelude.{ℕ, Bool, false, ◌≡◌, ◌≢◌, ◌≤◌, ◌<◌, ◌+◌, ◌^◌, ◌==◌, List, [], ◌∷◌, ◌++◌, length, take, drop, get_or, Some, None, Ok, Vec}
 use Rattle.std.specs.List.{AllByRecursion, count_by}
 use Rattle.std.specs.declared.alloc.Global.{Global}
 use Rattle.nvme_entry.specs.Entry.{decoded}

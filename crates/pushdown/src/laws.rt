@@ -1,7 +1,7 @@
 //! The theorem, and laws beside it. Each function does nothing: what it ensures is the law.
 
 ghost use Rattle.pushdown.specs.AnyOrder.{TurnsInAnyOrder};
-ghost use Rattle.pushdown.specs.Laws.{AdmittedStarts, ForeignLeavesTurns, OnlyLoadsChangeSlots, OutcomeUnpacks, PendingIsAdmitted, RefusedLeavesState, TurnTakesFirst};
+ghost use Rattle.pushdown.specs.Laws.{AdmittedStarts, ForeignLeavesTurns, LastTurnCompletes, OnlyLoadsChangeSlots, OutcomeUnpacks, PendingIsAdmitted, RefusedEventsLeaveState, RefusedLeavesState, TurnTakesFirst};
 ghost use Rattle.pushdown.specs.Pushdown.{Pushdown};
 ghost use Rattle.pushdown.specs.ReadBack.{AppendedBlocksReadBack, AppendedByRunsReadsBack, EventsKeepShapes, ResultsReadBack, UnclearedZonesKeepBlocks, WrittenBlocksReadBack, WrittenIsRead};
 
@@ -37,11 +37,27 @@ pub fn turn_takes_first()
     ensures { TurnTakesFirst }
 {}
 
+/// In each state that events leave, the last turn of a run is answered with the run's completion, a success, and leaves its place
+/// empty. Any other is answered with Pending, and leaves those after it.
+pub fn last_turn_completes<D: Domain>()
+    ensures { LastTurnCompletes D.operations }
+{
+    accepted_never_traps::<D>();
+}
+
 /// The reply to an entry is Pending, or its completion with a status. One whose status isn't success leaves the
 /// state as it was, whatever its command is.
 pub fn refused_leaves_state<D: Domain>()
     ensures { RefusedLeavesState D.operations }
 {}
+
+/// In each state that events leave, an event that is refused leaves the state as it was: a turn of no run, a fault that isn't
+/// taken, and what is completed with a status that isn't success.
+pub fn refused_events_leave_state<D: Domain>()
+    ensures { RefusedEventsLeaveState D.operations }
+{
+    accepted_never_traps::<D>();
+}
 
 /// An entry leaves the slots as they were, unless it is a Load that succeeds: it changes its own slot and nothing
 /// else, to the program that its data is decoded to, which no reason refuses, with zeros as its result.

@@ -2,6 +2,7 @@
 use Rattle.std.proofs.Common.{◌≡◌, ℕ, List, [], ◌∷◌, ap, sym, subst, ◌∙◌}
 use Rattle.std.specs.Prelude.{Vec}
 use Rattle.std.specs.declared.alloc.Global.{Global}
+use Rattle.common_definitions.specs.Bytes.{AreBytes}
 use Rattle.nvme_entry.specs.Entry.{decoded}
 use Rattle.interval_domain.specs.Intervals.{intervals}
 use Rattle.device_meaning.specs.EventReplies.{Happening, Submission, submission_of}
@@ -22,7 +23,7 @@ reached_more s t o reached has step = subst (IsReached intervals) (sym step) (ev
 
 -- ---- one event
 
-pub reached_by : (e : Event) (old new : State) (reply : ReplyWithData) → IsReached intervals old → CarriesBytes e → HasHappened intervals e old new reply → IsReached intervals new
+reached_by : (e : Event) (old new : State) (reply : ReplyWithData) → IsReached intervals old → CarriesBytes e → HasHappened intervals e old new reply → IsReached intervals new
 reached_by e old new reply reached has happened =
     let o : Occurrence = record { event = e; starved = happened.starved } in reached_more old new o reached has happened.state
 
@@ -46,3 +47,10 @@ submission_happened queue entry input given old new reply same_queue same_entry 
       state = sym (ap (λ (x : Happening). x.state) happening);
       replied = sym (ap (λ (x : Happening). x.reply) happening);
     }
+
+pub submission_reached : (queue : ℕ) (entry : List ℕ) (input : Vec ℕ Global) (given : GivenSubmission) (old new : State) (reply : ReplyWithData)
+    → IsReached intervals old → AreBytes input.items → given.queue ≡ queue → given.entry.now ≡ entry → given.input.now ≡ input.items
+    → HasSubmitted given (decoded given.entry.now) old new reply → IsReached intervals new
+submission_reached queue entry input given old new reply reached bytes same_queue same_entry same_input h =
+    reached_by (event.Submit queue entry input) old new reply reached bytes
+    (submission_happened queue entry input given old new reply same_queue same_entry same_input h)

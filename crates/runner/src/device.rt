@@ -58,9 +58,10 @@ impl Model for Device {
 }
 
 impl Device {
-    /// A device with the namespace of an image, without a program or a run.
+    /// A device with the namespace of an image, without a program or a run, in a state that events leave.
     pub fn new(alloc: Global, image: Image) -> Device
-        ensures { result ≡ new_state image }
+        ensures value { result ≡ new_state image }
+        ensures reached { IsReached intervals result }
     {
         let namespace = Namespace::new(image);
         // Brings in what holds of each namespace.
@@ -84,12 +85,13 @@ impl Device {
 
     /// Does one event: the reply with its data, and the state behind it, are those that the definitions of
     /// `device_meaning` say. The data of the reply goes to the front of `output`, which has room for the largest
-    /// transfer; what lies behind it stays.
+    /// transfer; what lies behind it stays. The device is then in a state that events leave.
     pub fn apply(&mut self, event: &Event, output: &mut [u8]) -> Reply
         requires { MOST_TRANSFER ≤ length output.old }
         ensures happened { HasHappened intervals event.now self.old self.new (record { reply = result; bytes = take (data_length result) output.new }) }
         ensures rest { drop (data_length result) output.new ≡ drop (data_length result) output.old }
         ensures within { data_length result ≤ length output.new }
+        ensures reached { IsReached intervals self.new }
     {
         match event {
             Event::Submit {
@@ -125,6 +127,7 @@ impl Device {
         ensures reply { result ≡ (faulting self.old zone state).reply.reply }
         ensures state { self.new ≡ (faulting self.old zone state).state }
         ensures no_data { data_length result ≡ 0 }
+        ensures reached { IsReached intervals self.new }
     {
         match self.namespace.fault(zone, state, &holds(&self.runs)) {
             Ok(()) => Reply::FaultTaken,
@@ -147,6 +150,7 @@ impl Device {
         requires counts { O.refusals out.old + 1 < 2 ^ 64 }
         ensures served { HasServedOne event.now self.old self.new (O.took out.old out.new) result }
         ensures refused { CountsFailure (O.refusals out.old) (O.refusals out.new) result }
+        ensures reached { IsReached intervals self.new }
     {
         let reply = self.apply(event, output);
         out.take(reply, &output[..reply.data_length()])
@@ -154,7 +158,7 @@ impl Device {
 
     /// Does events in order, and hands out the reply to each with its data: the replies, and the state behind them, are
     /// those of the definitions. It stops at the first reply that `out` refuses, whose event is done. `output` has room
-    /// for the largest transfer, and `out` can count one refusal more.
+    /// for the largest transfer, and `out` can count one refusal more. The device is then in a state that events leave.
     ///
     /// # Errors
     ///
@@ -170,6 +174,7 @@ impl Device {
         ensures served { OnOk result (HasServed intervals events.now self.old self.new (O.took out.old out.new)) }
         ensures stopped { IfErr result (λ stopped. HasStopped intervals events.now self.old self.new (O.took out.old out.new) stopped.done) }
         ensures refused { CountsFailure (O.refusals out.old) (O.refusals out.new) result }
+        ensures reached { IsReached intervals self.new }
     {
         for (index, event) in events.iter().enumerate() {
             match self.serve_one(event, output, out) {
@@ -177,6 +182,8 @@ impl Device {
                 Err(_) => return Err(Stopped { done: index + 1 }),
             }
         }
+        // Brings in that the device is in a state that events leave, also where it was given none.
+        let _ = self.image();
         Ok(())
     }
 
@@ -191,7 +198,7 @@ impl Device {
 
     /// Gives turns, always to the run of the lowest number, until no run is left, and hands out the reply to each: the
     /// replies, and the state behind them, are those of the definitions. It stops at the first reply that `out`
-    /// refuses. `output` and `out` are as in [`Device::serve`].
+    /// refuses. `output` and `out` are as in [`Device::serve`]. The device is then in a state that events leave.
     ///
     /// # Errors
     ///
@@ -202,6 +209,7 @@ impl Device {
         ensures drained { OnOk result (HasDrained self.old self.new (O.took out.old out.new)) }
         ensures stopped { IfErr result (λ stopped. HasStoppedDraining self.old self.new (O.took out.old out.new) stopped.done) }
         ensures refused { CountsFailure (O.refusals out.old) (O.refusals out.new) result }
+        ensures reached { IsReached intervals self.new }
     {
         let mut done = 0;
         while let Some(run) = self.lowest_run() {

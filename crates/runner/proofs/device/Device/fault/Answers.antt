@@ -21,6 +21,13 @@ invariant_of-self c =
           (record { event = event.Fault c.args.zone c.args.state; starved = false }) c.self.invariant.reached tt left.1;
     }
 
+pub returns-clause-reached : goal.returns-clause-reached
+returns-clause-reached c =
+    let d = c.self.inside in
+    let left = fault_leaves d.namespace c.fault.new.self d.slots d.runs c.holds.result c.args.zone c.args.state c.self.invariant.ready c.holds.ensures c.fault.ensures.state in
+    reached_more (device_state d.namespace d.slots d.runs) (device_state c.fault.new.self d.slots d.runs)
+    (record { event = event.Fault c.args.zone c.args.state; starved = false }) c.self.invariant.reached tt left.1
+
 pub returns-clause-reply : goal.returns-clause-reply
 returns-clause-reply c =
     let d = c.self.inside in

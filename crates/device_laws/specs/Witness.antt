@@ -1,0 +1,61 @@
+-- That there is a Run of which the pushdown theorem speaks: its program emits, a turn that isn't its last appends, and a command of
+-- another queue is done between its turns.
+use Rattle.std.specs.Prelude.{ℕ, false, ◌≡◌, ◌≢◌, List, [], ◌∷◌, length, map, get_or, Vec, None}
+use Rattle.std.specs.declared.alloc.Global.{Global}
+use Rattle.interval_domain.specs.Intervals.{intervals}
+use Rattle.zone_state.specs.declared.status.TheConstants.Status.{SUCCESS}
+use Rattle.nvme_entry.specs.Entry.{identifier_of}
+use Rattle.nvme_entry.specs.declared.command.RunCommand.{RunCommand}
+use Rattle.device_meaning.specs.EventReplies.{completion, submission_of}
+use Rattle.device_meaning.specs.Events.{Occurrence, replies_to}
+use Rattle.device_meaning.specs.Happenings.{admitted_place}
+use Rattle.device_meaning.specs.Outcome.{Turn}
+use Rattle.device_meaning.specs.Reached.{IsReached}
+use Rattle.device_meaning.specs.State.{State}
+use Rattle.device_events.specs.Replies.{without_data}
+use Rattle.device_events.specs.declared.event.Event.{Event}
+use Rattle.device_events.specs.declared.event.Event.TheVariants as event
+use Rattle.device_events.specs.declared.reply.Reply.TheVariants as reply
+use Rattle.pushdown.specs.Pushdown.{IsAdmitted, no_turn}
+
+-- a submission, the first turn of a run, another submission, and two more turns of the run; memory isn't refused at any of them
+abbrev pub interleaved : Event → ℕ → Event → List Occurrence
+interleaved first run other =
+    map (λ e. record { event = e; starved = false }) (first ∷ event.Turn run ∷ other ∷ event.Turn run ∷ event.Turn run ∷ [])
+
+-- three turns, of which the second appends a block, and doesn't end the run
+pub record AppendsBetween (turns : List Turn) : Type 0 where
+  pub three : length turns ≡ 3
+  pub appends : length (get_or turns 1 no_turn).blocks ≡ 1
+  pub goes_on : (get_or turns 1 no_turn).ending ≡ None
+
+-- The pushdown theorem's premises are met, by a Run whose program emits three frames over three turns, of which the second appends a
+-- block. Behind the first a command of another queue succeeds.
+pub record PushdownIsMet : Type 0 where
+  -- a state that events leave
+  pub state : State
+  pub reached : IsReached intervals state
+  -- a Run that is admitted there, and its turns
+  pub queue : ℕ
+  pub entry : List ℕ
+  pub input : Vec ℕ Global
+  pub command : RunCommand
+  pub run : ℕ
+  pub admitted : IsAdmitted state (submission_of queue entry input.items) command run
+  pub turns : AppendsBetween (admitted_place (submission_of queue entry input.items) state command).turns
+  -- a command of another queue, and what its completion gives back, as the block that a Zone Append is assigned
+  pub other_queue : ℕ
+  pub other_entry : List ℕ
+  pub other_input : Vec ℕ Global
+  pub another_queue : other_queue ≢ queue
+  pub given_back : ℕ
+  -- the replies to the Run, its first turn, the other command, and the two turns behind it: the run's completion tells three
+  -- frames and three blocks
+  pub replies :
+      replies_to intervals (interleaved (event.Submit queue entry input) run (event.Submit other_queue other_entry other_input)) state
+      ≡ without_data (reply.Pending run)
+      ∷ without_data (reply.Pending run)
+      ∷ completion other_queue (identifier_of other_entry) SUCCESS given_back 0 []
+      ∷ without_data (reply.Pending run)
+      ∷ completion queue (identifier_of entry) SUCCESS 3 3 []
+      ∷ []
