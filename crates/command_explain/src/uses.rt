@@ -83,7 +83,8 @@ impl Uses {
 
 /// How often each identity stands in a list.
 fn tally(alloc: Global, all: &[Identity]) -> Result<HashMap<Identity, u64>, AllocError>
-    ensures { IfOk result (λ counts. (identity : Identity) → unwrap_or (get same_identity counts identity) 0 ≡ count_of identity all.now) }
+    ensures { IfOk result (λ counts. (identity : Identity)
+        → unwrap_or (get same_identity counts identity) 0 ≡ count_of identity all.now) }
 {
     let mut counts = HashMap::new(alloc);
     for identity in all {

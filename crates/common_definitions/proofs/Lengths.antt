@@ -5,11 +5,13 @@ use Rattle.std.proofs.lemmas.List.{drop_at, length-append, length-replicate, tak
 use Rattle.std.specs.List.{All, flat_map}
 use Rattle.common_definitions.specs.Bytes.{padded, pieces}
 
+-- bytes that are padded up to a length, which they don't exceed, have that length
 pub length-padded : (wanted : ℕ) (bytes : List ℕ) → length bytes ≤ wanted → length (padded wanted bytes) ≡ wanted
 length-padded wanted bytes fits =
     let zeros : length (replicate {A = ℕ} (wanted - length bytes) 0) ≡ wanted - length bytes = length-replicate (wanted - length bytes) 0 in
     omega (arith, length-append bytes (replicate (wanted - length bytes) 0), zeros)
 
+-- what is put together of pieces of one length is as long as their number times that length
 pub length-flat_map-each : {X A : Type 0} (f : X → List A) (n : ℕ) (xs : List X) → All (λ x. length (f x) ≡ n) xs → length (flat_map f xs) ≡ length xs * n
 length-flat_map-each f n [] each = omega arith
 length-flat_map-each f n (x ∷ xs) each =

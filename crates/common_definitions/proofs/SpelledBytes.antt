@@ -7,6 +7,7 @@ use Rattle.byteorder.specs.Endian.{little_bytes, little_number}
 use Rattle.byteorder.specs.Numbers.{little_from-bytes, little_from-cons}
 use Rattle.common_definitions.specs.Bytes.{AreBytes}
 
+-- the byte of a number at a place is the number divided by that power of 256, modulo 256
 pub byte_is : (place n : ℕ) → byte_at place n ≡ n / 256 ^ place % 256
 byte_is place n = omega (arith, little_from-bytes 1 place n [])
 

@@ -15,6 +15,7 @@ use Rattle.ebpf_decode.proofs.ReadAreSpelled.{AreFields, below-32}
 fits-16 : (n : ℕ) → n < 2 ^ 16 → FitsSigned w16 (cast_signed w16 n)
 fits-16 n h = omega (arith, ints)
 
+-- a number of 32 bits, taken as a signed one, fits these
 pub fits-32 : (n : ℕ) → n < 2 ^ 32 → FitsSigned w32 (cast_signed w32 n)
 fits-32 n h = omega (arith, ints)
 

@@ -105,6 +105,7 @@ length-slots_of [] = refl
 length-slots_of (LoadImmediate dst value ∷ is) = ap (λ n. suc (suc n)) (length-slots_of is)
 length-slots_of (i ∷ is) = ap suc (length-slots_of is)
 
+-- the slots of instructions hold these and no others
 pub instructions_of-slots_of : (is : List Instruction) → instructions_of (slots_of is) ≡ is
 instructions_of-slots_of [] = refl
 instructions_of-slots_of (LoadImmediate dst value ∷ is) = ap (λ xs. LoadImmediate dst value ∷ xs) (instructions_of-slots_of is)

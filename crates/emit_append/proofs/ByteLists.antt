@@ -5,15 +5,19 @@ use Rattle.common_definitions.specs.Bytes.{AreBytes}
 use Rattle.common_definitions.proofs.Proved.{all_at}
 use Rattle.emit_append.specs.OutputBlocks.{AreAllBytes}
 
+-- a number fits a byte
 abbrev pub FitsByte : ℕ → Type 0
 FitsByte number = number < 2 ^ 8
 
+-- each number of a list fits a byte, by recursion
 abbrev pub AllBytes : List ℕ → Type 0
 AllBytes bytes = AllByRecursion FitsByte bytes
 
+-- where each fits by recursion, each does at its place
 pub by_place : (bytes : List ℕ) → AllBytes bytes → AreBytes bytes
 by_place bytes all k = all_at FitsByte bytes k 0 all (lit< tt)
 
+-- where each fits at its place, each does by recursion
 pub by_recursion : (bytes : List ℕ) → AreBytes bytes → AllBytes bytes
 by_recursion [] are = tt
 by_recursion (x ∷ xs) are = (are zero, by_recursion xs (λ k. are (suc k)))

@@ -14,6 +14,7 @@ use Rattle.text_lines.specs.Cut.{is_blank_byte, without_end_blanks}
 
 -- ---- a blank byte
 
+-- a blank byte is ASCII
 pub blank_is_ascii : (byte : ℕ) → is_blank_byte byte ≡ true → is_ascii byte ≡ true
 blank_is_ascii byte e = grind (arith, nat_tests)
 

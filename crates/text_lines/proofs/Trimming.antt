@@ -33,6 +33,7 @@ no_blank_by byte text false is more = λ other rest e.
     let same : byte ≡ other = cc in
     subst (λ (b : ℕ). is_blank_byte b ≡ false) same is
 
+-- a text without its first blanks begins with no blank
 pub no_blank_first : (text : List ℕ) → NoBlankFirst (without_first_blanks text)
 no_blank_first [] = λ byte rest e. cc
 no_blank_first (byte ∷ text) = no_blank_by byte text (is_blank_byte byte) refl (no_blank_first text)
@@ -114,10 +115,12 @@ trimmed_between text =
 
 -- ---- nothing else stands so
 
+-- blanks in front of bytes go with the first blanks of these
 pub front_goes : (front bytes : List ℕ) → AreBlanks front → without_first_blanks (front ++ bytes) ≡ without_first_blanks bytes
 front_goes [] bytes blanks = refl
 front_goes (byte ∷ front) bytes blanks = rw blanks.0 (front_goes front bytes blanks.1)
 
+-- blanks behind bytes go with the last blanks of these
 pub back_goes : (bytes back : List ℕ) → AreBlanks back → without_end_blanks (bytes ++ back) ≡ without_end_blanks bytes
 back_goes [] [] blanks = refl
 back_goes [] (byte ∷ back) blanks = rw (blanks.0, back_goes [] back blanks.1) refl

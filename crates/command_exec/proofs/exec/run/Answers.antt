@@ -12,14 +12,14 @@ returns-in-Ok-clause-saved g c =
     saves_all (around g.F.Files g.F.Reader.Source.tells g.F.Writer.Sink.tells c.args.files.now c.save_changes.new.files) c.args.events.now c.args.image c.image-2.result.now c.args.path.now
     c.serve_and_drain-done.new.device c.in_ok-save_changes.ensures.saved c.image-2.ensures.value _ _
     (prints_all c.args.events.now c.args.image c.new-device.result c.serve_and_drain-done.new.device
-    (contents c.in_ok-lines.lines.out.now) _ (contents c.serve_and_drain-done.new.lines.out.now) _ c.new-device.ensures
+    (contents c.in_ok-lines.lines.out.now) _ (contents c.serve_and_drain-done.new.lines.out.now) _ c.new-device.ensures.value
     (ap contents c.in_ok-lines.ensures.same_writer.1) (ap contents (sym c.into_writer-out.ensures.value ∙ search rules)) c.in-Ok.ensures.done)
 
 pub returns-clause-stopped : goal.returns-clause-stopped
 returns-clause-stopped g c = λ _.
     saves_first (around g.F.Files g.F.Reader.Source.tells g.F.Writer.Sink.tells c.args.files.now c.save_changes.new.files) c.args.events.now c.args.image c.image-2.result.now c.args.path.now
     c.serve_and_drain-done.new.device c.in_ok-save_changes.ensures.saved c.image-2.ensures.value
-    c.new-device.result c.new-device.ensures c.in-Err.ensures.stopped
+    c.new-device.result c.new-device.ensures.value c.in-Err.ensures.stopped
 
 pub returns-in_err-save_changes-clause-failed : goal.returns-in_err-save_changes-clause-failed
 returns-in_err-save_changes-clause-failed g c =
