@@ -70,12 +70,17 @@ done_by s s' i (Some cause) e = cc
 done_by s s' i None e =
     let facts = went (is_exit i) (register s 0) s (after s i) s' e in (refl, facts.0, facts.1)
 
+-- where no cause is the least one, none holds
+pub none_hinders : (program : List (Option Instruction)) (limit : ℕ) (s : State) (i : Instruction) → least_cause program limit s i ≡ None
+    → (cause : Cause) → hinders program limit s i cause ≡ false
+none_hinders program limit s i none cause = all_fail are_numbered (hinders program limit s i) cause none
+
 pub done : (program : List (Option Instruction)) (limit : ℕ) (s s' : State) (i : Instruction)
     → step_of program limit s i ≡ Goes s' → IsDone program limit s s' i
 done program limit s s' i e =
     let facts = done_by s s' i (least_cause program limit s i) e in
     record {
       runs_on = facts.1;
-      free = λ cause. all_fail are_numbered (hinders program limit s i) cause facts.0;
+      free = none_hinders program limit s i facts.0;
       next = facts.2;
     }

@@ -1,5 +1,8 @@
 mod AreaOffsets
 mod CauseLemmas
+mod FlatExamples
+mod FlatMemory
+mod Granted
 mod Groups
 mod MapLemmas
 mod MemoryLemmas

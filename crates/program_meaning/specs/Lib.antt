@@ -7,3 +7,4 @@ pub mod Step
 pub mod BlockRun
 pub mod TrapFree
 pub mod Laws
+pub mod Granted

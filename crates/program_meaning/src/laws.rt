@@ -1,5 +1,6 @@
 //! Laws of the definitions. Each function does nothing: what it ensures is the law.
 
+ghost use Rattle.program_meaning.specs.Granted.{ExitsKeepToGrantedAreas};
 ghost use Rattle.program_meaning.specs.Laws.{AccessIsMapped, EmitsFromMap, EndsInRun, KeepsReadOnly, LoadsFromMap, MoreFuelIsTheSame, StepsChangeOnlyWhatTheyWrite, StoresIntoMap, StuckByLeast};
 
 /// Bytes, at least one, lie in one area exactly where each of them is in the map from addresses to bytes.
@@ -49,4 +50,10 @@ pub fn ends_in_run()
 /// state. So it isn't the fuel that bounds its steps.
 pub fn more_fuel_is_the_same()
     ensures { MoreFuelIsTheSame }
+{}
+
+/// A block run that ends by EXIT neither reads nor changes memory outside the granted areas: each access lies in one of them, and
+/// whatever stands outside, a machine that checks nothing comes to the same states and leaves that as it was.
+pub fn exits_keep_to_granted_areas()
+    ensures { ExitsKeepToGrantedAreas }
 {}
