@@ -2,8 +2,8 @@
 use Rattle.std.specs.Prelude.{ℕ, ◌≡◌, ◌<◌, ◌≤◌, List, length, Option, Some, None}
 use Rattle.instruction_set.specs.Program.{IsProgram, instruction_count}
 use Rattle.instruction_set.specs.declared.instruction.Instruction.{Instruction}
-use Rattle.program_meaning.specs.BlockRun.{block_run_of}
-use Rattle.program_meaning.specs.State.{IsState, State, at_start}
+use Rattle.program_meaning.specs.BlockRun.{block_run_of, state_after_steps}
+use Rattle.program_meaning.specs.State.{IsState, at_start}
 use Rattle.program_meaning.specs.TrapFree.{Exits, NeverTraps}
 use Rattle.program_interface.specs.RunSizes.{AreSizes, Sizes}
 use Rattle.program_interface.specs.declared.TheConstants.{MOST_SLOTS}
@@ -54,10 +54,6 @@ RefusalIsFirst operations = (program : List (Option Instruction)) (sizes : Sizes
 abbrev pub AcceptedFailsNowhere : {D : Type 0} → Operations D → Type 0
 AcceptedFailsNowhere operations = (program : List (Option Instruction)) (sizes : Sizes)
     → refusal operations program sizes ≡ None → (slot : ℕ) → IsPassed operations program sizes slot
-
--- the state that so many steps of a block run lead to from another, or its last where it has fewer
-abbrev pub state_after_steps : List (Option Instruction) → ℕ → ℕ → State → State
-state_after_steps program limit steps start = (block_run_of program limit steps 0 start).state
 
 -- over every block of the length, every context and every scratch, each state of a block run meets what is known at its slot,
 -- where each slot that the block run was at before is passed; whether its own is passed doesn't matter

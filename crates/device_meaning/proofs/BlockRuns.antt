@@ -38,7 +38,7 @@ pub record IsScratch (scratch : List ℕ) : Type 0 where
   pub long : length scratch ≡ 1024
   pub are : AreBytes scratch
 
-no_scratch_is : IsScratch no_scratch
+pub no_scratch_is : IsScratch no_scratch
 no_scratch_is = record {
   long = length-replicate {A = ℕ} 1024 0;
   are = by_place no_scratch (all_same FitsByte 1024 0 (lit< tt));
@@ -57,12 +57,12 @@ pub record IsDone (task : Task) (run : BlockRun) : Type 0 where
   pub scratch : IsScratch (scratch_after run)
 
 module _ (task : Task) (ready : IsReady task) where
-  starts : (index : ℕ) (scratch bytes : List ℕ) → IsScratch scratch → IsBlock task.sizes.block bytes → IsState (at_start bytes (context task index) scratch)
+  pub starts : (index : ℕ) (scratch bytes : List ℕ) → IsScratch scratch → IsBlock task.sizes.block bytes → IsState (at_start bytes (context task index) scratch)
   starts index scratch bytes is block =
       start_is_state bytes (context task index) scratch (rw block.whole ready.small) refl is.long
       block.are (by_place (context task index) (context_are task index)) is.are
 
-  one_done : (index : ℕ) (scratch bytes : List ℕ) → IsScratch scratch → IsBlock task.sizes.block bytes → IsDone task (block_run task index scratch bytes)
+  pub one_done : (index : ℕ) (scratch bytes : List ℕ) → IsScratch scratch → IsBlock task.sizes.block bytes → IsDone task (block_run task index scratch bytes)
   one_done index scratch bytes is block =
       let limit = task.sizes.limit in
       let told = context task index in

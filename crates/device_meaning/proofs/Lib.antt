@@ -5,6 +5,7 @@ mod Changes
 mod Completions
 mod Drained
 mod FewBlocks
+mod GrantedAreas
 mod JoinedEvents
 mod KeptForRuns
 mod Loads

@@ -17,6 +17,7 @@ use Rattle.device_meaning.proofs.Drained as drained
 use Rattle.device_meaning.proofs.JoinedEvents as joined
 use Rattle.device_meaning.proofs.KeptForRuns as kept
 pub use Rattle.device_meaning.proofs.KeptForRuns.{left_program, not_loaded, same_program}
+pub use Rattle.device_meaning.proofs.GrantedAreas.{IsGrantedRun}
 pub use Rattle.device_meaning.proofs.Loads.{IsLoad, is_pending}
 pub use Rattle.device_meaning.proofs.Outcomes.{outcome_is_packed}
 pub use Rattle.device_meaning.proofs.Places.{AreApart, event_apart, held_at, turned_apart, turned_older}
@@ -24,7 +25,7 @@ use Rattle.device_meaning.proofs.Reached as reached
 use Rattle.device_meaning.proofs.Rests as rests
 pub use Rattle.device_meaning.proofs.Spelled.{HasBlocks, decoded_has}
 use Rattle.device_meaning.proofs.States as states
-pub use Rattle.device_meaning.proofs.States.{IsFine, admitted_room, all_exit, block_runs_all_done, events_fine, few_source, groups_within, reached_fine, ready, some_block_run, turn_fine, turns_are, written}
+pub use Rattle.device_meaning.proofs.States.{IsFine, admitted_room, all_exit, all_granted, block_runs_all_done, events_fine, few_source, groups_within, reached_fine, ready, some_block_run, turn_fine, turns_are, written}
 use Rattle.device_meaning.proofs.TurnsFit as fitting
 use Rattle.device_meaning.proofs.Untrapped as untrapped
 pub use Rattle.device_meaning.proofs.Statuses.{success_other}

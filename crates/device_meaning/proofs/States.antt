@@ -1,5 +1,5 @@
 -- What holds of each state that events leave.
-use Rattle.std.proofs.Common.{◌≡◌, ◌≢◌, ℕ, ◌+◌, ◌/◌, ◌%◌, ◌≤◌, Bool, true, List, [], ◌∷◌, length, drop, Option, Some, None, refl, ap, sym, subst, ◌∙◌, arith, inl, inr, length-take, length-drop}
+use Rattle.std.proofs.Common.{◌≡◌, ◌≢◌, ℕ, ◌+◌, ◌/◌, ◌%◌, ◌<◌, ◌≤◌, Bool, true, List, [], ◌∷◌, length, drop, Option, Some, None, slice_get, refl, ap, sym, subst, ◌∙◌, arith, inl, inr, length-take, length-drop}
 use Rattle.std.specs.Prelude.{IfSome, is_some, nat_le}
 use Rattle.std.specs.List.{AllByRecursion}
 use Rattle.std.proofs.lemmas.Bool.{leb-true}
@@ -40,7 +40,7 @@ use Rattle.zns_commands.proofs.Proved.{held_destinations_are_left, events_keep_n
 use Rattle.accepted_programs.proofs.Proved.{none_known, set_known}
 use Rattle.device_meaning.specs.Admission.{Loaded, admission_checks, source_blocks, task_of}
 use Rattle.device_meaning.specs.EventReplies.{Submission}
-use Rattle.device_meaning.specs.BlockRuns.{Task, block_runs_of, groups_of, no_scratch}
+use Rattle.device_meaning.specs.BlockRuns.{Task, block_runs_of, groups_of, no_scratch, start_of}
 use Rattle.device_meaning.specs.Events.{AreEvents, CarriesBytes, Occurrence, state_after}
 use Rattle.device_meaning.specs.Laws.{IsAcceptedIn, IsAppended, RoomIn, StatesAreSound}
 use Rattle.device_meaning.specs.Happenings.{admitted_place, happens, just_loaded, keeping, load_checks, place_left, slots_left, turn_state, turned, why_not_run}
@@ -53,6 +53,7 @@ use Rattle.device_meaning.proofs.BlockRuns.{IsDone, IsReady, few_block_runs, blo
 use Rattle.device_meaning.proofs.Bytes.{AreBlocks, IsBlock, blocks_by_place}
 use Rattle.device_meaning.proofs.Changes.{after_event, after_turn}
 use Rattle.device_meaning.proofs.FewBlocks.{HasFew, turns_few}
+use Rattle.device_meaning.proofs.GrantedAreas.{IsGrantedRun, block_runs_granted}
 use Rattle.device_meaning.proofs.Loads.{TakesSlot}
 use Rattle.device_meaning.proofs.Outcomes.{HasWhole, ends_with_last, no_groups, outcome_is_packed, turns_whole}
 use Rattle.device_meaning.proofs.Places.{AreApart, held_at, left_apart, new_apart, started_apart}
@@ -213,6 +214,10 @@ module _ {D : Type 0} (operations : Operations D) (never : AcceptedNeverTraps op
     -- each of its block runs ends by EXIT, with a group of whole frames, and scratch bytes for the next
     pub block_runs_all_done : AllByRecursion (IsDone task) block_runs
     block_runs_all_done = block_runs_done task ready source (source_are s.namespace command h.is)
+
+    -- each of them is the one from its start, and keeps to the granted areas
+    pub all_granted : (index : ℕ) → index < length block_runs → IsGrantedRun task (slice_get block_runs index) (start_of task source index)
+    all_granted = block_runs_granted task ready source (source_are s.namespace command h.is)
 
     -- each of its block runs ends by EXIT
     pub all_exit : AllByRecursion (λ (run : BlockRun). IsExit run.end) block_runs

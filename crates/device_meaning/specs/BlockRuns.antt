@@ -1,5 +1,5 @@
 -- The block runs of a run (profile): its program on one source block after another.
-use Rattle.std.specs.Prelude.{ℕ, Bool, false, ◌+◌, ◌==◌, List, [], ◌∷◌, map, replicate, Option, None, if◌then◌else◌}
+use Rattle.std.specs.Prelude.{ℕ, Bool, false, ◌+◌, ◌==◌, List, [], ◌∷◌, get_or, map, replicate, take, Option, None, if◌then◌else◌}
 use Rattle.std.specs.List.{last_or, sum_by}
 use Rattle.std.specs.Option.{option_map_or}
 use Rattle.instruction_set.specs.Program.{instruction_count}
@@ -8,7 +8,7 @@ use Rattle.program_interface.specs.Context.{context_bytes}
 use Rattle.program_interface.specs.RunSizes.{Sizes}
 use Rattle.program_interface.specs.declared.area.TheConstants.{SCRATCH_BYTES}
 use Rattle.program_meaning.specs.BlockRun.{BlockRun, block_run_of}
-use Rattle.program_meaning.specs.State.{at_start}
+use Rattle.program_meaning.specs.State.{State, at_start}
 use Rattle.program_meaning.specs.declared.end.End.{End}
 use Rattle.program_meaning.specs.declared.end.End.TheVariants as end
 
@@ -81,3 +81,8 @@ frames_of block_runs = sum_by (λ run. run.state.frames) block_runs
 -- the scratch bytes that the last of them leaves
 abbrev pub last_scratch : List BlockRun → List ℕ
 last_scratch block_runs = option_map_or scratch_after (last_or None block_runs) no_scratch
+
+-- the state in which the block run of this index starts: over its block, with the scratch bytes that the block run before it left
+abbrev pub start_of : Task → List (List ℕ) → ℕ → State
+start_of task blocks index =
+    at_start (get_or blocks index []) (context task index) (last_scratch (take index (block_runs_of task blocks)))

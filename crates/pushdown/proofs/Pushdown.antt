@@ -28,7 +28,7 @@ use Rattle.pushdown.specs.Pushdown.{ChangesDestinationAlone, DoesItsTurns, IsAdm
 use Rattle.device_meaning.specs.State.{Place, State, free_place, holds_at, loaded_at, place_at, with_place}
 use Rattle.device_events.specs.declared.event.Event.TheVariants as event
 use Rattle.device_events.specs.declared.reply.Reply.TheVariants as reply
-use Rattle.device_meaning.proofs.Proved.{added_leaves, added_shape, open_on, IsDone, few_frames, few_block_runs, outcome_is_packed, AreApart, event_apart, decoded_has, IsFine, admitted_room, all_exit, few_source, reached_fine, ready as is_ready, block_runs_all_done, some_block_run, turns_are, written}
+use Rattle.device_meaning.proofs.Proved.{added_leaves, added_shape, open_on, IsDone, few_frames, few_block_runs, outcome_is_packed, AreApart, event_apart, decoded_has, IsFine, admitted_room, all_exit, all_granted, few_source, reached_fine, ready as is_ready, block_runs_all_done, some_block_run, turns_are, written}
 use Rattle.common_definitions.proofs.Proved.{all_from}
 use Rattle.pushdown.proofs.TurnsDone.{Next, Ready, Stands, next_is, stand}
 use Rattle.pushdown.proofs.OthersEvents.{free_within}
@@ -179,10 +179,15 @@ pushdown operations never s reached queue entry input starved command run after 
     let block_runs = block_runs_of task (source_blocks s.namespace command) in
     let none = admitted.passed in
     let done = block_runs_all_done operations never block sub s command fine none in
+    let granted = all_granted operations never block sub s command fine none in
     let ends = (turns_are operations never block sub s command fine none (decoded_has entry (commands.Run command) admitted.asked)).ends in
     record {
       no_turn_traps = record { exits = all_exit operations never block sub s command fine none; ends = ends };
       few_steps = all_from (IsDone task) (λ (r : BlockRun). r.steps ≤ instruction_count task.program) (λ r h. h.exits.steps) block_runs done;
+      stays_in_granted_areas = record {
+        from_start = λ index below. (granted index below).from_start;
+        keeps = λ index below. (granted index below).keeps;
+      };
       changes_destination_alone = changes_destination_alone operations s queue entry input command run fine.apart starved admitted ends after;
       does_its_turns = does_its_turns operations s queue entry input command run fine.apart starved admitted ends after;
       tells_frames_and_blocks = tells_frames_and_blocks operations never block s fine queue entry input starved command run after admitted;

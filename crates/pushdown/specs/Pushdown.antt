@@ -2,25 +2,27 @@
 -- Run admitted there, whatever events follow, turns of its own among them:
 -- 1. no turn traps;
 -- 2. each turn takes at most as many steps as the program has instructions;
--- 3. each turn changes no zone but the destination, and that one by blocks at its end; it leaves other runs'
+-- 3. memory outside the granted areas is neither read nor changed: each block run keeps to them, from its start to its
+--    end; and each turn changes no zone but the destination, and that one by blocks at its end; it leaves other runs'
 --    places and other slots, and reads nothing but source blocks;
 -- 4. each turn is the one that is fixed at admission: the blocks that it appends, the completion, and all that
 --    it leaves: the namespace, the run's place and the slots;
 -- 5. the completion tells how many frames were emitted and how many blocks were appended; both fit into its 32 bits.
-use Rattle.std.specs.Prelude.{ℕ, Bool, false, ◌≡◌, ◌≢◌, ◌≤◌, ◌<◌, ◌+◌, ◌^◌, ◌==◌, List, [], ◌∷◌, ◌++◌, length, take, drop, get_or, Some, None, Ok, Vec}
+use Rattle.std.specs.Prelude.{ℕ, Bool, false, ◌≡◌, ◌≢◌, ◌≤◌, ◌<◌, ◌+◌, ◌^◌, ◌==◌, List, [], ◌∷◌, ◌++◌, length, take, drop, get_or, slice_get, Some, None, Ok, Vec}
 use Rattle.std.specs.List.{AllByRecursion, count_by}
 use Rattle.std.specs.declared.alloc.Global.{Global}
 use Rattle.nvme_entry.specs.Entry.{decoded}
 use Rattle.nvme_entry.specs.declared.command.Command.TheVariants as commands
 use Rattle.nvme_entry.specs.declared.command.RunCommand.{RunCommand}
 use Rattle.instruction_set.specs.Program.{instruction_count}
-use Rattle.program_meaning.specs.BlockRun.{BlockRun}
+use Rattle.program_meaning.specs.BlockRun.{BlockRun, block_run_of}
+use Rattle.program_meaning.specs.Granted.{KeepsToGrantedAreas}
 use Rattle.program_meaning.specs.TrapFree.{IsExit}
 use Rattle.word_domain.specs.Domain.{Operations}
 use Rattle.image_store.specs.Namespace.{ZonedNamespace, zone_at, shape}
 use Rattle.device_meaning.specs.Admission.{SameProgram, source_blocks, task_of}
 use Rattle.device_meaning.specs.EventReplies.{Happening, Submission, submission_of}
-use Rattle.device_meaning.specs.BlockRuns.{Task, block_runs_of, frames_of}
+use Rattle.device_meaning.specs.BlockRuns.{Task, block_runs_of, frames_of, start_of}
 use Rattle.device_meaning.specs.Events.{Occurrence, state_after}
 use Rattle.device_meaning.specs.Happenings.{added, admitted_place, place_left, slots_left, turn_reply, turned, why_not_run}
 use Rattle.device_meaning.specs.Outcome.{EndsWithLast, Turn, appended_by, ending_of, outcome, success_of}
@@ -71,9 +73,13 @@ module _ {D : Type 0} (operations : Operations D) where
     abbrev pub task : Task
     task = task_of s.namespace (loaded_at s command.slot) command
 
+    -- its source blocks
+    abbrev pub source : List (List ℕ)
+    source = source_blocks s.namespace command
+
     -- its block runs
     abbrev pub block_runs : List BlockRun
-    block_runs = block_runs_of task (source_blocks s.namespace command)
+    block_runs = block_runs_of task source
 
     -- the place that it is given
     abbrev pub place : Place
@@ -104,7 +110,16 @@ module _ {D : Type 0} (operations : Operations D) where
     abbrev pub FewSteps : Type 0
     FewSteps = AllByRecursion (λ r. r.steps ≤ instruction_count task.program) block_runs
 
-    -- 3. A turn changes no zone but the destination, and that one by blocks at its end. It leaves every other
+    -- 3. Within memory: each block run, begun on its source block with the scratch bytes that the one before it left, keeps to
+    -- the granted areas. Whatever stands outside of them, a machine that checks no access comes to the same states, and
+    -- leaves that as it was; and in each state that the block run comes to, each access lies in one area.
+    pub record StaysInGrantedAreas : Type 0 where
+      pub from_start : (index : ℕ) → index < length block_runs → slice_get block_runs index
+          ≡ Some (block_run_of task.program task.sizes.limit (instruction_count task.program) 0 (start_of task source index))
+      pub keeps : (index : ℕ) → index < length block_runs
+          → KeepsToGrantedAreas task.program task.sizes.limit (start_of task source index)
+
+    -- Within the namespace: a turn changes no zone but the destination, and that one by blocks at its end. It leaves every other
     -- run's place, and every slot but the result of its own. Equal source blocks give equal turns: nothing
     -- else is read.
     pub record ChangesDestinationAlone : Type 0 where
@@ -145,6 +160,7 @@ module _ {D : Type 0} (operations : Operations D) where
     pub record IsPushedDown : Type 0 where
       pub no_turn_traps : NoTurnTraps
       pub few_steps : FewSteps
+      pub stays_in_granted_areas : StaysInGrantedAreas
       pub changes_destination_alone : done < length place.turns → ChangesDestinationAlone
       pub does_its_turns : done < length place.turns → DoesItsTurns
       pub tells_frames_and_blocks : TellsFramesAndBlocks

@@ -120,6 +120,7 @@ pub fn turns_in_any_order<D: Domain>()
 
 /// The pushdown theorem, for every domain: in each state that events leave, whatever Run is admitted there, and
 /// whatever events follow, no turn traps; each takes at most as many steps as the program has instructions;
+/// within each, memory outside the granted areas is neither read nor changed, whatever stands there;
 /// each changes no zone but its destination, and that one by blocks at its end, as a Zone Append does that meets
 /// no hold (law `states_are_sound`), leaves other runs' places and other slots, and reads nothing but source blocks;
 /// the appended blocks, the completion, and what a turn leaves at the run's place and in the slots are those that
