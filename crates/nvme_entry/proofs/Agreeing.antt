@@ -9,7 +9,8 @@ use Rattle.nvme_entry.specs.Entry.{asked, command_of, decoded_by, entry_checks, 
 use Rattle.nvme_entry.specs.EntryLaws.{OnlyNamedFieldsCount, Spells}
 use Rattle.nvme_entry.specs.declared.command.Command.{Command}
 use Rattle.nvme_entry.specs.declared.command.Opcode.{Opcode}
-use Rattle.nvme_entry.proofs.Spelled.{code_told, named_by, spelled_by}
+use Rattle.nvme_entry.proofs.Opcodes.{code_told}
+use Rattle.nvme_entry.proofs.Spelled.{named_by, spelled_by}
 
 -- two that are some for the same commands are one
 same_found : (a b : Option Command) → ((c : Command) → a ≡ Some c → b ≡ Some c) → ((c : Command) → b ≡ Some c → a ≡ Some c) → a ≡ b

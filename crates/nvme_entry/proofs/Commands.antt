@@ -4,7 +4,7 @@ use mir.Val.{bool_byte}
 use Rattle.zone_state.specs.declared.action.Action.{Action}
 use Rattle.nvme_entry.specs.steps.EntryFields.{HasFields}
 use Rattle.zone_state.specs.Transition.{action_of}
-use Rattle.nvme_entry.specs.Entry.{asked_blocks, decoded, dwords_of, opcode_code}
+use Rattle.nvme_entry.specs.Entry.{asked_blocks, decoded, dwords_of}
 use Rattle.nvme_entry.specs.EntryLaws.{Spells}
 use Rattle.nvme_entry.specs.Dwords.{dword}
 use Rattle.nvme_entry.specs.Filter.{filter_of}
@@ -19,7 +19,8 @@ use Rattle.nvme_entry.specs.declared.command.TheConstants.{MOST_TRANSFER}
 use Rattle.nvme_entry.specs.declared.encoding.CommandDwords.{CommandDwords}
 use Rattle.nvme_entry.specs.declared.filter.ZoneFilter.{ZoneFilter}
 use Rattle.nvme_entry.proofs.Encodings.{fuse_is}
-use Rattle.nvme_entry.proofs.Spelled.{code_told, count_told, spelled_entries_are_decoded}
+use Rattle.nvme_entry.proofs.Opcodes.{code_told, opcode_code}
+use Rattle.nvme_entry.proofs.Spelled.{count_told, spelled_entries_are_decoded}
 
 flag_back : (flag : Bool) (n : ℕ) → n ≡ bool_byte flag → flag ≡ (n % 2 == 1)
 flag_back true n is = ap (λ (k : ℕ). k % 2 == 1) (sym is)

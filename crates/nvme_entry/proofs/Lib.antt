@@ -10,4 +10,5 @@ mod Unused
 mod CompletionFields
 mod Writes
 mod WrittenAgain
+mod Opcodes
 pub mod Proved

@@ -6,9 +6,9 @@ use Rattle.std.proofs.lemmas.Option.{cond_some, option_and_then_some}
 use Rattle.zone_state.specs.declared.action.Action.{Action}
 use Rattle.zone_state.specs.declared.status.TheConstants.Status.{INVALID_FIELD_IN_COMMAND, INVALID_NAMESPACE_OR_FORMAT}
 use Rattle.zone_state.specs.Transition.{action_of}
-use Rattle.common_definitions.proofs.Proved.{demanded, found_passes, found_where_ok, no_fault, passed as check_passed}
+use Rattle.common_definitions.proofs.Proved.{demanded, found_where_ok, no_fault, passed as check_passed}
 use Rattle.common_definitions.specs.Checks.{first_failed}
-use Rattle.nvme_entry.specs.Entry.{asked, asked_blocks, command_of, decoded_by, dwords_of, entry_checks, fuse_of, namespace_identifier, opcode_code, opcode_of, opcodes, starting_lba}
+use Rattle.nvme_entry.specs.Entry.{asked, asked_blocks, command_of, decoded_by, dwords_of, entry_checks, fuse_of, namespace_identifier, opcode_of, starting_lba}
 use Rattle.nvme_entry.specs.EntryLaws.{AsksFor, FieldsAreSpelled, SpelledEntriesAreDecoded, Spells}
 use Rattle.common_definitions.specs.Bytes.{field}
 use Rattle.nvme_entry.specs.Dwords.{dword}
@@ -22,10 +22,7 @@ use Rattle.nvme_entry.specs.declared.command.StandardCommand.TheVariants.{Write,
 use Rattle.nvme_entry.specs.declared.command.TheConstants.{MOST_TRANSFER}
 use Rattle.nvme_entry.specs.declared.filter.ZoneFilter.{ZoneFilter}
 use Rattle.nvme_entry.proofs.Encodings.{decoded_is}
-
--- an opcode has one code
-pub code_told : (n : ℕ) (o : Opcode) → opcode_of n ≡ Some o → n ≡ opcode_code o
-code_told n o is = sym (eqb-true (opcode_code o) n (found_passes (λ x. opcode_code x == n) opcodes o is))
+use Rattle.nvme_entry.proofs.Opcodes.{code_told, opcode_code}
 
 one : (P : Command → Type 0) (x c : Command) → P x → Some x ≡ Some c → P c
 one P x c has e =

@@ -1,5 +1,5 @@
 -- The fields of a submission queue entry and the command that they name.
-use Rattle.std.specs.Prelude.{ℕ, ◌+◌, ◌*◌, ◌%◌, ◌==◌, nat_le, List, [], ◌∷◌, find, Option, Some, None, Result, Err, if◌then◌else◌, slice_index}
+use Rattle.std.specs.Prelude.{ℕ, ◌+◌, ◌*◌, ◌%◌, ◌==◌, nat_le, List, [], ◌∷◌, Option, Some, None, Result, Err, if◌then◌else◌, slice_index}
 use Rattle.std.specs.Option.{ok_or, option_and_then, option_map}
 use Rattle.common_definitions.specs.Readings.{unless_fault}
 use Rattle.zone_state.specs.declared.action.Action.{Action}
@@ -39,34 +39,18 @@ starting_lba entry = field entry 40 8
 abbrev pub asked_blocks : List ℕ → ℕ
 asked_blocks entry = field entry 48 2 + 1
 
--- Command Dword 0, bits 7:0 (NVM Command Set 1.0, 3.2; ZNS 1.1, 3.4). Those from 80h on are
+-- the opcode with this code, Command Dword 0, bits 7:0 (NVM Command Set 1.0, 3.2; ZNS 1.1, 3.4). Those from 80h on are
 -- left to vendors: the three here are profile.
-abbrev pub opcode_code : Opcode → ℕ
-opcode_code opcode.Write = 0x01
-opcode_code opcode.Read = 0x02
-opcode_code opcode.ZoneManagementSend = 0x79
-opcode_code opcode.ZoneManagementReceive = 0x7A
-opcode_code opcode.ZoneAppend = 0x7D
-opcode_code opcode.Run = 0xC0
-opcode_code opcode.Load = 0xC1
-opcode_code opcode.Result = 0xC2
-
--- all opcodes
-abbrev pub opcodes : List Opcode
-opcodes =
-    opcode.Write
-    ∷ opcode.Read
-    ∷ opcode.ZoneManagementSend
-    ∷ opcode.ZoneManagementReceive
-    ∷ opcode.ZoneAppend
-    ∷ opcode.Run
-    ∷ opcode.Load
-    ∷ opcode.Result
-    ∷ []
-
--- the opcode that has the code, if one has
 abbrev pub opcode_of : ℕ → Option Opcode
-opcode_of code = find (λ o. opcode_code o == code) opcodes
+opcode_of code =
+    if code == 0x01 then Some opcode.Write else
+    if code == 0x02 then Some opcode.Read else
+    if code == 0x79 then Some opcode.ZoneManagementSend else
+    if code == 0x7A then Some opcode.ZoneManagementReceive else
+    if code == 0x7D then Some opcode.ZoneAppend else
+    if code == 0xC0 then Some opcode.Run else
+    if code == 0xC1 then Some opcode.Load else
+    if code == 0xC2 then Some opcode.Result else None
 
 -- Command Dword 12: the number of dwords, which is zero-based (ZNS 1.1, 3.4.2); none where they are more than one command moves
 abbrev pub dwords_of : ℕ → Option ℕ
