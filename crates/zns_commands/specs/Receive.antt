@@ -10,10 +10,7 @@ use Rattle.zns_commands.specs.Transfer.{transfer_checks}
 
 -- the checks, in order (the order is profile): the transfer, the address
 abbrev pub receive_checks : ZonedNamespace → ℕ → ℕ → List ℕ → List (Option Status)
-receive_checks ns lba dwords input =
-    transfer_checks (4 * dwords) 0 input
-    ++ address_check ns lba
-    ∷ []
+receive_checks ns lba dwords input = transfer_checks (4 * dwords) 0 input ++ address_check ns lba ∷ []
 
 -- the report begins at the zone that contains the address
 abbrev pub receive_effect : ZonedNamespace → ℕ → ℕ → ZoneFilter → Bool → Effect
