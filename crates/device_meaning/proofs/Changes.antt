@@ -12,7 +12,7 @@ use Rattle.nvme_entry.specs.declared.command.Command.TheVariants as commands
 use Rattle.nvme_entry.specs.declared.command.LoadCommand.{LoadCommand}
 use Rattle.nvme_entry.specs.declared.command.RunCommand.{RunCommand}
 use Rattle.nvme_entry.specs.declared.command.StandardCommand.{StandardCommand}
-use Rattle.word_domain.specs.Domain.{Operations}
+use Rattle.device_meaning.specs.Judging.{Judge}
 use Rattle.common_definitions.specs.Bytes.{AreBytes}
 use Rattle.zns_commands.specs.Left as kept
 use Rattle.zns_commands.specs.Laws.{Commanded, Faulted, IsSpelled, NamespaceEvent, after}
@@ -63,7 +63,7 @@ pub after_turn : (P : State → Type 0) (s : State) (run : ℕ) → P s
     → P (turned s run).state
 after_turn P s run here first = of_turn (λ (h : Happening). P h.state) s run here first
 
-module _ {D : Type 0} (operations : Operations D) (P : Happening → Type 0) (sub : Submission) (s : State) where
+module _ (judge : Judge) (P : Happening → Type 0) (sub : Submission) (s : State) where
   -- it holds of each thing that the entry can come to
   pub record HoldsOfEach : Type 0 where
     -- it is refused, or a Result: it is answered, no program trapped, and nothing changes
@@ -71,7 +71,7 @@ module _ {D : Type 0} (operations : Operations D) (P : Happening → Type 0) (su
     pub standard : (c : StandardCommand) → decoded sub.entry ≡ Ok (commands.Standard c)
         → P (commanded sub s (meaning s.namespace (holds_at s) c sub.input))
     -- a Load, whatever it comes to
-    pub load : (load : LoadCommand) (h : Happening) → decoded sub.entry ≡ Ok (commands.Load load) → IsLoad operations sub s load h → P h
+    pub load : (load : LoadCommand) (h : Happening) → decoded sub.entry ≡ Ok (commands.Load load) → IsLoad judge sub s load h → P h
     -- a Run that is admitted
     pub start : (command : RunCommand) (run : ℕ) → decoded sub.entry ≡ Ok (commands.Run command) → why_not_run sub s command ≡ None
         → free_place s ≡ Some run → P (start_by None (Some run) sub s command)
@@ -95,26 +95,26 @@ module _ {D : Type 0} (operations : Operations D) (P : Happening → Type 0) (su
     of_result (Some loaded) None h = holds.unchanged SUCCESS loaded.result (other SUCCESS refl)
 
     -- what an entry comes to that names this command
-    of_asked : (starved : Bool) (asked : Result Command Status) → decoded sub.entry ≡ asked → P (submitted operations starved sub s asked)
+    of_asked : (starved : Bool) (asked : Result Command Status) → decoded sub.entry ≡ asked → P (submitted judge starved sub s asked)
     of_asked starved (Err status) is =
         holds.unchanged status [] (failed_other status (subst (λ (r : Result Command Status). FailsOther (result_err r)) is (entry_other sub.entry)))
     of_asked starved (Ok (commands.Standard c)) is = holds.standard c is
     of_asked starved (Ok (commands.Load load)) is =
-        holds.load load (loading operations starved sub s load) is (loading_is operations sub s load starved)
+        holds.load load (loading judge starved sub s load) is (loading_is judge sub s load starved)
     of_asked starved (Ok (commands.Run command)) is = of_run (why_not_run sub s command) (free_place s) command is refl refl
     of_asked starved (Ok (commands.Result slot)) is = of_result (loaded_at s slot) (first_failed (transfer_checks 0 0 sub.input)) (transfer_other 0 0 sub.input)
 
   -- what holds of each thing that an entry can come to holds of what it comes to
-  pub of_entry : HoldsOfEach → (starved : Bool) → P (submitted operations starved sub s (decoded sub.entry))
+  pub of_entry : HoldsOfEach → (starved : Bool) → P (submitted judge starved sub s (decoded sub.entry))
   of_entry holds starved = of_asked holds starved (decoded sub.entry) refl
 
-module _ {D : Type 0} (operations : Operations D) (P : State → Type 0) (s : State) where
+module _ (judge : Judge) (P : State → Type 0) (s : State) where
   -- it holds of the state that the event finds, and after each change that the event can be
   pub record HoldsAfter (e : Event) : Type 0 where
     pub same : P s
     pub step : (step : NamespaceEvent) → kept.holds_of step ≡ holds_at s → (CarriesBytes e → IsSpelled step) → P (with_namespace s (after step s.namespace))
     pub load : (sub : Submission) (load : LoadCommand) (t : State) → (CarriesBytes e → AreBytes sub.input)
-        → (takes : TakesSlot operations sub s load t) → P (with_slot s load.slot (Some (just_loaded takes.program load.limit)))
+        → (takes : TakesSlot judge sub s load t) → P (with_slot s load.slot (Some (just_loaded takes.program load.limit)))
     pub start : (sub : Submission) (command : RunCommand) (run : ℕ) → why_not_run sub s command ≡ None → free_place s ≡ Some run → 1 ≤ command.blocks
         → P (with_place s run (Some (admitted_place sub s command)))
     pub turn : (run : ℕ) (place : Place) (turn : Turn) (later : List Turn) → e ≡ event.Turn run → place_at s run ≡ Some place
@@ -122,7 +122,7 @@ module _ {D : Type 0} (operations : Operations D) (P : State → Type 0) (s : St
 
   module _ (e : Event) (holds : HoldsAfter e) where
     -- it holds of the state that a Load leaves
-    after_load : (sub : Submission) (load : LoadCommand) (h : Happening) → (CarriesBytes e → AreBytes sub.input) → IsLoad operations sub s load h
+    after_load : (sub : Submission) (load : LoadCommand) (h : Happening) → (CarriesBytes e → AreBytes sub.input) → IsLoad judge sub s load h
         → P h.state
     after_load sub load h are is = elim is.state [
       | inl same ↦ subst P (sym same) holds.same
@@ -130,7 +130,7 @@ module _ {D : Type 0} (operations : Operations D) (P : State → Type 0) (s : St
     ]
 
     -- it holds of the state that each thing leaves that an entry can come to
-    after_entry : (sub : Submission) → (CarriesBytes e → AreBytes sub.input) → HoldsOfEach operations (λ h. P h.state) sub s
+    after_entry : (sub : Submission) → (CarriesBytes e → AreBytes sub.input) → HoldsOfEach judge (λ h. P h.state) sub s
     after_entry sub are = record {
       unchanged = λ status output untrapped. holds.same;
       standard = λ c asked. holds.step (Commanded (holds_at s) c sub.input) refl
@@ -140,9 +140,9 @@ module _ {D : Type 0} (operations : Operations D) (P : State → Type 0) (s : St
     }
 
   -- what holds so of a state holds of the state that the event leaves
-  pub after_event : (starved : Bool) (e : Event) → HoldsAfter e → P (happens operations s starved e).state
+  pub after_event : (starved : Bool) (e : Event) → HoldsAfter e → P (happens judge s starved e).state
   after_event starved (event.Submit queue entry input) holds =
       let sub = submission_of queue entry input.items in
-      of_entry operations (λ h. P h.state) sub s (after_entry (event.Submit queue entry input) holds sub (λ has. has)) starved
+      of_entry judge (λ h. P h.state) sub s (after_entry (event.Submit queue entry input) holds sub (λ has. has)) starved
   after_event starved (event.Turn run) holds = after_turn P s run holds.same (λ place turn later. holds.turn run place turn later refl)
   after_event starved (event.Fault zone state) holds = holds.step (Faulted (holds_at s) zone state) refl (λ has. tt)

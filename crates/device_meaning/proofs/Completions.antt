@@ -13,7 +13,7 @@ use Rattle.nvme_entry.specs.Completion.{completion_bytes, status_dword}
 use Rattle.nvme_entry.specs.Dwords.{dword}
 use Rattle.nvme_entry.specs.Entry.{identifier_of}
 use Rattle.nvme_entry.specs.declared.completion.Completion.{Completion}
-use Rattle.word_domain.specs.Domain.{Operations}
+use Rattle.device_meaning.specs.Judging.{Judge}
 use Rattle.zns_commands.specs.Fault.{zone_fault_refusal}
 use Rattle.zns_commands.specs.Meaning.{meaning}
 use Rattle.device_meaning.specs.Completions.{EachIsCompletedOnce, NoCompletionIsLost, active_runs, completes, completions, is_this_command, is_its_run, submissions, submits}
@@ -111,8 +111,8 @@ module _ (queue cid : ℕ) where
   fault_completes (Ok done) = refl
   fault_completes (Err refused) = refl
 
-  module _ {D : Type 0} (operations : Operations D) where
-    entries_keep : (sub : Submission) (s : State) → HoldsOfEach operations (KeepsCount s (asks sub)) sub s
+  module _ (judge : Judge) where
+    entries_keep : (sub : Submission) (s : State) → HoldsOfEach judge (KeepsCount s (asks sub)) sub s
     entries_keep sub s =
         let id = identifier_of sub.entry in
         record {
@@ -131,10 +131,10 @@ module _ (queue cid : ℕ) where
           start = λ command run asked passed free. omega (arith, started_counts s.places run (admitted_place sub s command) free);
         }
 
-    event_keeps : (s : State) (starved : Bool) (e : Event) → KeepsCount s (submits queue cid e) (happens operations s starved e)
+    event_keeps : (s : State) (starved : Bool) (e : Event) → KeepsCount s (submits queue cid e) (happens judge s starved e)
     event_keeps s starved (event.Submit from entry input) =
         let sub = submission_of from entry input.items in
-        of_entry operations (KeepsCount s (asks sub)) sub s (entries_keep sub s) starved
+        of_entry judge (KeepsCount s (asks sub)) sub s (entries_keep sub s) starved
     event_keeps s starved (event.Turn run) =
         of_turn (KeepsCount s false) s run refl (λ place turn later here first. turned_counts s.places run place later turn.ending here)
     event_keeps s starved (event.Fault zone state) =
@@ -143,12 +143,12 @@ module _ (queue cid : ℕ) where
     -- ---- lists of events
 
     events_keep : (s : State) (events : List Occurrence)
-        → completions queue cid (replies_to operations events s) + active_runs queue cid (state_after operations events s)
+        → completions queue cid (replies_to judge events s) + active_runs queue cid (state_after judge events s)
         ≡ submissions queue cid events + active_runs queue cid s
     events_keep s [] = refl
     events_keep s (o ∷ os) =
-        let h = happens operations s o.starved o.event in
-        let replies = sum_by-cons (λ (r : ReplyWithData). cond (completes queue cid r.reply) 1 0) h.reply (replies_to operations os h.state) in
+        let h = happens judge s o.starved o.event in
+        let replies = sum_by-cons (λ (r : ReplyWithData). cond (completes queue cid r.reply) 1 0) h.reply (replies_to judge os h.state) in
         let asked = sum_by-cons (λ (x : Occurrence). cond (submits queue cid x.event) 1 0) o os in
         omega (arith, event_keeps s o.starved o.event, events_keep h.state os, replies, asked)
 
@@ -158,15 +158,15 @@ module _ (queue cid : ℕ) where
       let turn : Occurrence = record { event = event.Turn run; starved = false } in
       omega (arith, sum_by-cons (λ (x : Occurrence). cond (submits queue cid x.event) 1 0) turn (turn_events runs), turns_submit_none runs)
 
-module _ {D : Type 0} (operations : Operations D) where
-  pub no_completion_is_lost : NoCompletionIsLost operations
-  no_completion_is_lost queue cid s events = events_keep queue cid operations s events
+module _ (judge : Judge) where
+  pub no_completion_is_lost : NoCompletionIsLost judge
+  no_completion_is_lost queue cid s events = events_keep queue cid judge s events
 
-  pub each_is_completed_once : EachIsCompletedOnce operations
+  pub each_is_completed_once : EachIsCompletedOnce judge
   each_is_completed_once queue cid s events runs drains =
       let turns = turn_events runs in
-      let end = state_after operations (events ++ turns) s in
-      let state = (events_in_parts operations events turns s).state ∙ sym ((drained_by_turns operations runs (state_after operations events s)).state) in
+      let end = state_after judge (events ++ turns) s in
+      let state = (events_in_parts judge events turns s).state ∙ sym ((drained_by_turns judge runs (state_after judge events s)).state) in
       let none = none_active queue cid end.places (ap lowest_run state ∙ drains.none_left) in
       let asked = sum_by-append (λ (x : Occurrence). cond (submits queue cid x.event) 1 0) events turns in
       omega (arith, no_completion_is_lost queue cid s (events ++ turns), none, asked, turns_submit_none queue cid runs)

@@ -3,8 +3,7 @@ use Rattle.std.proofs.Common.{◌≡◌, ℕ, zero, suc, ◌+◌, ◌≤◌, tru
 use Rattle.std.specs.Prelude.{is_some}
 use Rattle.std.proofs.lemmas.List.Quantifiers.{position-Some}
 use Rattle.std.proofs.lemmas.List.Sums.{sum_by-set}
-use Rattle.word_domain.specs.Domain.{Operations}
-use Rattle.accepted_programs.specs.Laws.{AcceptedNeverTraps}
+use Rattle.device_meaning.specs.Judging.{IsSoundJudge, Judge}
 use Rattle.zone_resources.proofs.Proved.{there}
 use Rattle.device_meaning.specs.EventReplies.{Happening}
 use Rattle.device_meaning.specs.Draining.{Drains, lowest_run, turns_left, turns_left_at}
@@ -32,12 +31,12 @@ one_more : (s : State) (run : ℕ) → lowest_run s ≡ Some run → turns_left 
 one_more s run is less rest =
     (run ∷ rest.0, record { lowest = (is, rest.1.lowest); none_left = rest.1.none_left; few = omega (arith, less, rest.1.few) })
 
-module _ {D : Type 0} (operations : Operations D) (never : AcceptedNeverTraps operations) (block : ℕ) where
+module _ (judge : Judge) (sound : IsSoundJudge judge) (block : ℕ) where
   abbrev Fine : State → Type 0
-  Fine s = IsFine operations never block s
+  Fine s = IsFine judge sound block s
 
   taken_less : (s : State) (run : ℕ) (place : Place) (turns : List Turn) → place_at s run ≡ Some place → place.turns ≡ turns
-      → AppendWhole operations never block turns → turns_left (turned s run).state.places + 1 ≤ turns_left s.places
+      → AppendWhole judge sound block turns → turns_left (turned s run).state.places + 1 ≤ turns_left s.places
   taken_less s run place [] here first are = absurd are.ends
   taken_less s run place (turn ∷ later) here first are =
       let left = place_left place later turn.ending in
@@ -50,23 +49,23 @@ module _ {D : Type 0} (operations : Operations D) (never : AcceptedNeverTraps op
       → turns_left (turned s run).state.places + 1 ≤ turns_left s.places
   found_less s run None h here some = cc
   found_less s run (Some place) h here some =
-      taken_less s run place place.turns here refl (subst (PlaceIsFine operations never block) here (place_fine operations never block s run h))
+      taken_less s run place place.turns here refl (subst (PlaceIsFine judge sound block) here (place_fine judge sound block s run h))
 
   by_lowest : (n : ℕ) (s : State) (low : Option ℕ) → Fine s → turns_left s.places ≤ n → lowest_run s ≡ low
       → ((t : State) → Fine t → turns_left t.places + 1 ≤ n → CanDrain t) → CanDrain s
   by_lowest n s None h few is more = ([], record { lowest = tt; none_left = is; few = omega arith })
   by_lowest n s (Some run) h few is more =
       let less = found_less s run (place_at s run) h refl ((position-Some is_some s.places run None is).1) in
-      one_more s run is less (more (turned s run).state (turn_fine operations never block s run h) (omega (arith, less, few)))
+      one_more s run is less (more (turned s run).state (turn_fine judge sound block s run h) (omega (arith, less, few)))
 
   drains : (n : ℕ) (s : State) → Fine s → turns_left s.places ≤ n → CanDrain s
   drains zero s h few = by_lowest zero s (lowest_run s) h few refl (λ t fine none. absurd (omega (arith, none)))
   drains (suc n) s h few = by_lowest (suc n) s (lowest_run s) h few refl (λ t fine less. drains n t fine (omega (arith, less)))
 
-pub draining_ends : {D : Type 0} (operations : Operations D) → AcceptedNeverTraps operations → DrainingEnds operations
-draining_ends operations never s reached =
-    drains operations never reached.first.block (turns_left s.places) s (reached_fine operations never s reached) (omega arith)
+pub draining_ends : (judge : Judge) → IsSoundJudge judge → DrainingEnds judge
+draining_ends judge sound s reached =
+    drains judge sound reached.first.block (turns_left s.places) s (reached_fine judge sound s reached) (omega arith)
 
-pub turns_leave_fewer : {D : Type 0} (operations : Operations D) → AcceptedNeverTraps operations → TurnsLeaveFewer operations
-turns_leave_fewer operations never s run reached some =
-    found_less operations never reached.first.block s run (place_at s run) (reached_fine operations never s reached) refl some
+pub turns_leave_fewer : (judge : Judge) → IsSoundJudge judge → TurnsLeaveFewer judge
+turns_leave_fewer judge sound s run reached some =
+    found_less judge sound reached.first.block s run (place_at s run) (reached_fine judge sound s reached) refl some

@@ -2,7 +2,7 @@
 use Rattle.std.proofs.Common.{suc, ◌≡◌, ℕ, List, [], ◌∷◌, ◌++◌, map, None, refl, ap, sym, subst, ◌∙◌}
 use Rattle.std.proofs.lemmas.List.{map-append}
 use Rattle.std.proofs.lemmas.List.Sums.{fold-append}
-use Rattle.word_domain.specs.Domain.{Operations}
+use Rattle.device_meaning.specs.Judging.{Judge}
 use Rattle.common_definitions.proofs.Proved.{all_append}
 use Rattle.device_events.specs.Replies.{Joins, ReplyWithData}
 use Rattle.device_meaning.specs.Draining.{AreLowest, Drains, lowest_run, replies_to_turns, state_after_turns}
@@ -15,57 +15,57 @@ use Rattle.device_events.specs.declared.event.Event.{Event}
 pub events_join : EventsJoin
 events_join first later are more = all_append (λ (o : Occurrence). CarriesBytes o.event) first later are more
 
-module _ {D : Type 0} (operations : Operations D) where
+module _ (judge : Judge) where
   abbrev next : Occurrence → State → State
-  next o s = (happens operations s o.starved o.event).state
+  next o s = (happens judge s o.starved o.event).state
 
-  pub one_reply_each : OneReplyEach operations
+  pub one_reply_each : OneReplyEach judge
   one_reply_each [] s = refl
   one_reply_each (o ∷ os) s = ap suc (one_reply_each os (next o s))
 
   replies_to-append : (first later : List Occurrence) (s : State)
-      → replies_to operations (first ++ later) s
-      ≡ replies_to operations first s ++ replies_to operations later (state_after operations first s)
+      → replies_to judge (first ++ later) s
+      ≡ replies_to judge first s ++ replies_to judge later (state_after judge first s)
   replies_to-append [] later s = refl
   replies_to-append (o ∷ os) later s =
-      ap (λ (replies : List ReplyWithData). (happens operations s o.starved o.event).reply ∷ replies) (replies_to-append os later (next o s))
+      ap (λ (replies : List ReplyWithData). (happens judge s o.starved o.event).reply ∷ replies) (replies_to-append os later (next o s))
 
-  pub events_in_parts : EventsInParts operations
+  pub events_in_parts : EventsInParts judge
   events_in_parts first later s = record { replies = replies_to-append first later s; state = fold-append _ s first later }
 
   state_in_parts : (first later : List Occurrence) (old between new : State)
-      → between ≡ state_after operations first old → new ≡ state_after operations later between
-      → new ≡ state_after operations (first ++ later) old
+      → between ≡ state_after judge first old → new ≡ state_after judge later between
+      → new ≡ state_after judge (first ++ later) old
   state_in_parts first later old between new state last =
-      last ∙ ap (state_after operations later) state ∙ sym (fold-append _ old first later)
+      last ∙ ap (state_after judge later) state ∙ sym (fold-append _ old first later)
 
   -- ---- turns as events
 
-  turns_state : (runs : List ℕ) (s : State) → state_after_turns runs s ≡ state_after operations (turn_events runs) s
+  turns_state : (runs : List ℕ) (s : State) → state_after_turns runs s ≡ state_after judge (turn_events runs) s
   turns_state [] s = refl
   turns_state (run ∷ runs) s = turns_state runs (turned s run).state
 
-  turns_replies : (runs : List ℕ) (s : State) → replies_to_turns runs s ≡ replies_to operations (turn_events runs) s
+  turns_replies : (runs : List ℕ) (s : State) → replies_to_turns runs s ≡ replies_to judge (turn_events runs) s
   turns_replies [] s = refl
   turns_replies (run ∷ runs) s =
       ap (λ (replies : List ReplyWithData). (turned s run).reply ∷ replies) (turns_replies runs (turned s run).state)
 
-  pub drained_by_turns : DrainedByTurns operations
+  pub drained_by_turns : DrainedByTurns judge
   drained_by_turns runs s = record { replies = turns_replies runs s; state = turns_state runs s }
 
   -- ---- what takes the replies, in two parts
 
   module _ {T : Type 0} (took : T → T → List ReplyWithData → Type 0) (joins : Joins took) where
-    taken_in_parts : (first later : List Occurrence) (old between : State) (before then after : T) → between ≡ state_after operations first old
-        → took before then (replies_to operations first old) → took then after (replies_to operations later between)
-        → took before after (replies_to operations (first ++ later) old)
+    taken_in_parts : (first later : List Occurrence) (old between : State) (before then after : T) → between ≡ state_after judge first old
+        → took before then (replies_to judge first old) → took then after (replies_to judge later between)
+        → took before after (replies_to judge (first ++ later) old)
     taken_in_parts first later old between before then after state early late =
-        let done = replies_to operations first old in
+        let done = replies_to judge first old in
         subst (took before after) (sym (replies_to-append first later old))
-        (subst (λ (s : State). took before after (done ++ replies_to operations later s)) state
-        (joins before then after done (replies_to operations later between) early late))
+        (subst (λ (s : State). took before after (done ++ replies_to judge later s)) state
+        (joins before then after done (replies_to judge later between) early late))
 
-    pub served_in_parts : ServedInParts operations took
+    pub served_in_parts : ServedInParts judge took
     served_in_parts first later old between new before then after a b = record {
       occurrences = a.occurrences ++ b.occurrences;
       are =
@@ -76,7 +76,7 @@ module _ {D : Type 0} (operations : Operations D) where
       replies = taken_in_parts a.occurrences b.occurrences old between before then after a.state a.replies b.replies;
     }
 
-    pub served_and_drained : ServedAndDrained operations took
+    pub served_and_drained : ServedAndDrained judge took
     served_and_drained events old between new before then after served drained =
         let runs = drained.runs in
         let turns = turn_events runs in

@@ -10,7 +10,7 @@ use Rattle.zone_resources.specs.declared.holds.Holds.{Holds}
 use Rattle.common_definitions.specs.Checks.{first_failed}
 use Rattle.common_definitions.proofs.Proved.{demanded, passed}
 use Rattle.nvme_entry.specs.declared.command.LoadCommand.{LoadCommand}
-use Rattle.word_domain.specs.Domain.{Operations}
+use Rattle.device_meaning.specs.Judging.{Judge}
 use Rattle.image_store.specs.Namespace.{zone_at}
 use Rattle.zns_commands.proofs.Proved.{grows_by_none, held_sources_keep_blocks, shapes_are_kept}
 use Rattle.zone_resources.proofs.Proved.{runs_name_zones, there}
@@ -74,10 +74,10 @@ not_loaded s run place load input at none same =
     let used : in_use s load.slot ≡ true = subst (λ (n : ℕ). list_any (uses n) s.places ≡ true) same (used_at s.places run place at) in
     cc
 
-module _ {D : Type 0} (operations : Operations D) where
+module _ (judge : Judge) where
   event_keeps : (s : State) (starved : Bool) (e : Event) (run : ℕ) (place : Place) → place_at s run ≡ Some place
-      → KeepsFor place s (happens operations s starved e).state
-  event_keeps s starved e run place at = after_event operations (KeepsFor place s) s starved e (record {
+      → KeepsFor place s (happens judge s starved e).state
+  event_keeps s starved e run place at = after_event judge (KeepsFor place s) s starved e (record {
     same = unchanged place s;
     step = λ step same is. record {
       source = held_sources_keep_blocks step s.namespace place.source
@@ -105,5 +105,5 @@ module _ {D : Type 0} (operations : Operations D) where
     };
   })
 
-  pub events_keep_for_runs : EventsKeepForRuns operations
+  pub events_keep_for_runs : EventsKeepForRuns judge
   events_keep_for_runs s o run place at = event_keeps s o.starved o.event run place at

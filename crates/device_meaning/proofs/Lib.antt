@@ -7,6 +7,7 @@ mod Drained
 mod FewBlocks
 mod GrantedAreas
 mod JoinedEvents
+mod Judging
 mod KeptForRuns
 mod Loads
 mod Outcomes

@@ -6,16 +6,11 @@ use Rattle.zone_state.specs.declared.status.TheConstants.Status.{SUCCESS, PROGRA
 use Rattle.common_definitions.specs.Checks.{first_failed}
 use Rattle.nvme_entry.specs.Entry.{identifier_of}
 use Rattle.nvme_entry.specs.declared.command.LoadCommand.{LoadCommand}
-use Rattle.ebpf_decode.specs.Fault.{fault_number}
-use Rattle.ebpf_decode.specs.Reading.{decoded_program}
-use Rattle.ebpf_decode.specs.declared.fault.Fault.{Fault}
 use Rattle.instruction_set.specs.declared.instruction.Instruction.{Instruction}
-use Rattle.word_domain.specs.Domain.{Operations}
-use Rattle.accepted_programs.specs.Accepted.{reason_number, refusal}
-use Rattle.accepted_programs.specs.declared.reason.Refusal.{Refusal}
+use Rattle.device_meaning.specs.Judging.{Judge, ProgramRefused}
 use Rattle.device_meaning.specs.EventReplies.{Happening, Submission, completed, completion}
 use Rattle.device_meaning.specs.Laws.{IsAnswered}
-use Rattle.device_meaning.specs.Happenings.{judged, just_loaded, load_checks, load_unless, loading, read_program, sizes_for}
+use Rattle.device_meaning.specs.Happenings.{judged, just_loaded, load_checks, load_unless, loading, sizes_for}
 use Rattle.device_meaning.specs.State.{State, with_slot}
 use Rattle.device_events.specs.declared.reply.Reply.{Reply}
 use Rattle.device_events.specs.declared.reply.Reply.TheVariants as reply
@@ -29,13 +24,12 @@ is_pending reply.Idle = false
 is_pending reply.FaultTaken = false
 is_pending reply.FaultRefused = false
 
-module _ {D : Type 0} (operations : Operations D) (sub : Submission) (s : State) (load : LoadCommand) where
-  -- no check fails, and the program that the bytes spell is accepted
+module _ (judge : Judge) (sub : Submission) (s : State) (load : LoadCommand) where
+  -- no check fails, and the program that the judge makes of the bytes takes the slot
   pub record TakesSlot (t : State) : Type 0 where
     pub program : List (Option Instruction)
     pub passed : first_failed (load_checks s load sub.input) ≡ None
-    pub read : decoded_program sub.input ≡ Ok program
-    pub accepted : refusal operations program (sizes_for s load) ≡ None
+    pub accepted : judge sub.input (sizes_for s load) ≡ Ok program
     pub taken : t ≡ with_slot s load.slot (Some (just_loaded program load.limit))
 
   -- a Load is answered, no program trapped, and nothing changes or, with success, an accepted program takes its slot
@@ -55,27 +49,22 @@ module _ {D : Type 0} (operations : Operations D) (sub : Submission) (s : State)
     succeeds = inl refl;
   }
 
-  judged_is : (program : List (Option Instruction)) (why : Option Refusal) → first_failed (load_checks s load sub.input) ≡ None
-      → decoded_program sub.input ≡ Ok program → refusal operations program (sizes_for s load) ≡ why → IsLoad (judged sub s load program why)
-  judged_is program (Some why) passed read e = refused_is PROGRAM_REFUSED why.slot (reason_number why.reason) (some_is PROGRAM_REFUSED refl)
-  judged_is program None passed read e = record {
+  judged_is : (made : Result (List (Option Instruction)) ProgramRefused) → first_failed (load_checks s load sub.input) ≡ None
+      → judge sub.input (sizes_for s load) ≡ made → IsLoad (judged sub s load made)
+  judged_is (Err why) passed e = refused_is PROGRAM_REFUSED why.slot why.reason (some_is PROGRAM_REFUSED refl)
+  judged_is (Ok program) passed e = record {
     replied = refl;
     answered = record { status = SUCCESS; code = (other SUCCESS refl).code; dw0 = 0; dw1 = 0; output = []; is = refl; so = λ failed. absurd (failed refl) };
     untrapped = (other SUCCESS refl).differs;
-    state = inr (record { program = program; passed = passed; read = read; accepted = e; taken = refl });
+    state = inr (record { program = program; passed = passed; accepted = e; taken = refl });
     succeeds = inr refl;
   }
 
-  read_is : (read : Result (List (Option Instruction)) Fault) → first_failed (load_checks s load sub.input) ≡ None
-      → decoded_program sub.input ≡ read → IsLoad (read_program operations sub s load read)
-  read_is (Err fault) passed e = refused_is PROGRAM_REFUSED fault.slot (fault_number fault.kind) (some_is PROGRAM_REFUSED refl)
-  read_is (Ok program) passed e = judged_is program (refusal operations program (sizes_for s load)) passed e refl
-
   unless_is : (why : Option Status) (starved : Bool) → first_failed (load_checks s load sub.input) ≡ why
-      → IsLoad (load_unless operations why starved sub s load)
+      → IsLoad (load_unless judge why starved sub s load)
   unless_is (Some status) starved e = refused_is status 0 0 (subst FailsOther e (load_other s load sub.input))
   unless_is None true e = refused_is WANT_OF_MEMORY 0 0 (some_is WANT_OF_MEMORY refl)
-  unless_is None false e = read_is (decoded_program sub.input) e refl
+  unless_is None false e = judged_is (judge sub.input (sizes_for s load)) e refl
 
-  pub loading_is : (starved : Bool) → IsLoad (loading operations starved sub s load)
+  pub loading_is : (starved : Bool) → IsLoad (loading judge starved sub s load)
   loading_is starved = unless_is (first_failed (load_checks s load sub.input)) starved refl

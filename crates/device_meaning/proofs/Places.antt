@@ -8,7 +8,7 @@ use Rattle.common_definitions.proofs.Proved.{demanded, passed}
 use Rattle.zone_resources.specs.Holds.{is_destination, names}
 use Rattle.zone_resources.specs.declared.holds.TheConstants.{RUNS}
 use Rattle.nvme_entry.specs.declared.command.RunCommand.{RunCommand}
-use Rattle.word_domain.specs.Domain.{Operations}
+use Rattle.device_meaning.specs.Judging.{Judge}
 use Rattle.accepted_programs.proofs.Proved.{none_known, set_known}
 use Rattle.image_store.specs.Namespace.{ZonedNamespace}
 use Rattle.zone_resources.proofs.Proved.{runs_name_zones}
@@ -127,10 +127,10 @@ turned_older s run =
 pub turned_apart : (s : State) (run : ℕ) → AreApart s.places → AreApart (turned s run).state.places
 turned_apart s run h = older_apart s.places (turned s run).state.places h (turned_older s run)
 
-module _ {D : Type 0} (operations : Operations D) where
+module _ (judge : Judge) where
   -- after an event no two places have one destination, where no two had before
-  pub event_apart : (s : State) (starved : Bool) (e : Event) → AreApart s.places → AreApart (happens operations s starved e).state.places
-  event_apart s starved e h = after_event operations (λ (t : State). AreApart t.places) s starved e (record {
+  pub event_apart : (s : State) (starved : Bool) (e : Event) → AreApart s.places → AreApart (happens judge s starved e).state.places
+  event_apart s starved e h = after_event judge (λ (t : State). AreApart t.places) s starved e (record {
     same = h;
     step = λ step same is. h;
     load = λ sub load t are takes. h;

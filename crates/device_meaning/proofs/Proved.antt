@@ -1,7 +1,6 @@
 -- Laws of this crate, proved, and lemmas: what the proofs of other crates cite of it.
 use Rattle.std.proofs.Common.{List}
-use Rattle.word_domain.specs.Domain.{Operations}
-use Rattle.accepted_programs.specs.Laws.{AcceptedNeverTraps}
+use Rattle.device_meaning.specs.Judging.{IsSoundJudge, Judge}
 use Rattle.device_events.specs.Replies.{Joins, ReplyWithData}
 use Rattle.device_meaning.specs.Completions.{EachIsCompletedOnce, NoCompletionIsLost}
 use Rattle.device_meaning.specs.JoinedEvents.{EventsInParts, ServedAndDrained}
@@ -16,6 +15,7 @@ use Rattle.device_meaning.proofs.Completions as completions
 use Rattle.device_meaning.proofs.Drained as drained
 use Rattle.device_meaning.proofs.JoinedEvents as joined
 use Rattle.device_meaning.proofs.KeptForRuns as kept
+pub use Rattle.device_meaning.proofs.Judging.{domains_judge_soundly, judged_is_unrefused}
 pub use Rattle.device_meaning.proofs.KeptForRuns.{left_program, not_loaded, same_program}
 pub use Rattle.device_meaning.proofs.GrantedAreas.{IsGrantedRun}
 pub use Rattle.device_meaning.proofs.Loads.{IsLoad, is_pending}
@@ -56,40 +56,40 @@ room_is_open = fitting.room_is_open
 pub room_stays : RoomStays
 room_stays = fitting.room_stays
 
-module _ {D : Type 0} (operations : Operations D) where
-  pub new_is_reached : NewIsReached operations
-  new_is_reached = reached.new_is_reached operations
+module _ (judge : Judge) where
+  pub new_is_reached : NewIsReached judge
+  new_is_reached = reached.new_is_reached judge
 
-  pub events_keep_reached : EventsKeepReached operations
-  events_keep_reached = reached.events_keep_reached operations
+  pub events_keep_reached : EventsKeepReached judge
+  events_keep_reached = reached.events_keep_reached judge
 
-  pub turns_keep_reached : TurnsKeepReached operations
-  turns_keep_reached = reached.turns_keep_reached operations
+  pub turns_keep_reached : TurnsKeepReached judge
+  turns_keep_reached = reached.turns_keep_reached judge
 
-  pub events_in_parts : EventsInParts operations
-  events_in_parts = joined.events_in_parts operations
+  pub events_in_parts : EventsInParts judge
+  events_in_parts = joined.events_in_parts judge
 
-  pub served_and_drained : {T : Type 0} (took : T → T → List ReplyWithData → Type 0) → Joins took → ServedAndDrained operations took
-  served_and_drained = joined.served_and_drained operations
+  pub served_and_drained : {T : Type 0} (took : T → T → List ReplyWithData → Type 0) → Joins took → ServedAndDrained judge took
+  served_and_drained = joined.served_and_drained judge
 
-  pub no_completion_is_lost : NoCompletionIsLost operations
-  no_completion_is_lost = completions.no_completion_is_lost operations
+  pub no_completion_is_lost : NoCompletionIsLost judge
+  no_completion_is_lost = completions.no_completion_is_lost judge
 
-  pub each_is_completed_once : EachIsCompletedOnce operations
-  each_is_completed_once = completions.each_is_completed_once operations
+  pub each_is_completed_once : EachIsCompletedOnce judge
+  each_is_completed_once = completions.each_is_completed_once judge
 
-  pub events_keep_for_runs : EventsKeepForRuns operations
-  events_keep_for_runs = kept.events_keep_for_runs operations
+  pub events_keep_for_runs : EventsKeepForRuns judge
+  events_keep_for_runs = kept.events_keep_for_runs judge
 
-  module _ (never : AcceptedNeverTraps operations) where
-    pub states_are_sound : StatesAreSound operations
-    states_are_sound = states.states_are_sound operations never
+  module _ (sound : IsSoundJudge judge) where
+    pub states_are_sound : StatesAreSound judge
+    states_are_sound = states.states_are_sound judge sound
 
-    pub no_reply_is_trapped : NoReplyIsTrapped operations
-    no_reply_is_trapped = untrapped.no_reply_is_trapped operations never
+    pub no_reply_is_trapped : NoReplyIsTrapped judge
+    no_reply_is_trapped = untrapped.no_reply_is_trapped judge sound
 
-    pub turns_leave_fewer : TurnsLeaveFewer operations
-    turns_leave_fewer = drained.turns_leave_fewer operations never
+    pub turns_leave_fewer : TurnsLeaveFewer judge
+    turns_leave_fewer = drained.turns_leave_fewer judge sound
 
-    pub draining_ends : DrainingEnds operations
-    draining_ends = drained.draining_ends operations never
+    pub draining_ends : DrainingEnds judge
+    draining_ends = drained.draining_ends judge sound

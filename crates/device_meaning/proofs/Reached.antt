@@ -1,6 +1,6 @@
 -- The states that events leave: where they begin, and how events lead on from them.
 use Rattle.std.proofs.Common.{ℕ, List, [], ◌∷◌, ◌++◌, refl, ap, sym, subst, ◌∙◌}
-use Rattle.word_domain.specs.Domain.{Operations}
+use Rattle.device_meaning.specs.Judging.{Judge}
 use Rattle.device_meaning.specs.Events.{AreEvents, state_after}
 use Rattle.device_meaning.specs.JoinedEvents.{turn_events}
 use Rattle.device_meaning.specs.Reached.{EventsKeepReached, IsReached, NewIsReached, TurnsKeepReached}
@@ -11,22 +11,22 @@ turns_are : (runs : List ℕ) → AreEvents (turn_events runs)
 turns_are [] = tt
 turns_are (run ∷ runs) = (tt, turns_are runs)
 
-module _ {D : Type 0} (operations : Operations D) where
-  pub new_is_reached : NewIsReached operations
+module _ (judge : Judge) where
+  pub new_is_reached : NewIsReached judge
   new_is_reached ns is = record { first = ns; events = []; namespace = is; bytes = tt; leaves = refl }
 
-  pub events_keep_reached : EventsKeepReached operations
+  pub events_keep_reached : EventsKeepReached judge
   events_keep_reached s events reached are = record {
     first = reached.first;
     events = reached.events ++ events;
     namespace = reached.namespace;
     bytes = events_join reached.events events reached.bytes are;
     leaves =
-        ap (state_after operations events) reached.leaves
-        ∙ sym ((events_in_parts operations reached.events events (new_state reached.first)).state);
+        ap (state_after judge events) reached.leaves
+        ∙ sym ((events_in_parts judge reached.events events (new_state reached.first)).state);
   }
 
-  pub turns_keep_reached : TurnsKeepReached operations
+  pub turns_keep_reached : TurnsKeepReached judge
   turns_keep_reached s runs reached =
-      subst (IsReached operations) (sym ((drained_by_turns operations runs s).state))
+      subst (IsReached judge) (sym ((drained_by_turns judge runs s).state))
       (events_keep_reached s (turn_events runs) reached (turns_are runs))

@@ -1,5 +1,5 @@
 -- What holds of each state that events leave.
-use Rattle.std.proofs.Common.{◌≡◌, ◌≢◌, ℕ, ◌+◌, ◌/◌, ◌%◌, ◌<◌, ◌≤◌, Bool, true, List, [], ◌∷◌, length, drop, Option, Some, None, slice_get, refl, ap, sym, subst, ◌∙◌, arith, inl, inr, length-take, length-drop}
+use Rattle.std.proofs.Common.{◌≡◌, ◌≢◌, ℕ, ◌+◌, ◌/◌, ◌%◌, ◌<◌, ◌≤◌, Bool, true, List, [], ◌∷◌, length, drop, Option, Some, None, Result, Ok, slice_get, refl, ap, sym, subst, ◌∙◌, arith, inl, inr, length-take, length-drop}
 use Rattle.std.specs.Prelude.{IfSome, is_some, nat_le}
 use Rattle.std.specs.List.{AllByRecursion}
 use Rattle.std.proofs.lemmas.Bool.{leb-true}
@@ -16,16 +16,11 @@ use Rattle.common_definitions.proofs.Proved.{demanded, passed}
 use Rattle.nvme_entry.specs.declared.command.LoadCommand.{LoadCommand}
 use Rattle.nvme_entry.specs.declared.command.RunCommand.{RunCommand}
 use Rattle.nvme_entry.specs.declared.program_slot.TheConstants.{PROGRAM_SLOTS}
-use Rattle.instruction_set.specs.Program.{IsProgram}
-use Rattle.ebpf_decode.proofs.Proved.{decoded_is_spelled}
 use Rattle.program_interface.specs.BlockSize.{IsBlockSize}
 use Rattle.program_interface.specs.RunSizes.{AreSizes, Sizes}
 use Rattle.program_meaning.specs.BlockRun.{BlockRun}
 use Rattle.program_meaning.specs.TrapFree.{IsExit, NeverTraps}
-use Rattle.word_domain.specs.Domain.{Operations}
-use Rattle.accepted_programs.specs.Accepted.{refusal}
-use Rattle.accepted_programs.specs.Laws.{AcceptedNeverTraps}
-use Rattle.accepted_programs.specs.declared.reason.Refusal.{Refusal}
+use Rattle.instruction_set.specs.declared.instruction.Instruction.{Instruction}
 use Rattle.common_definitions.proofs.Proved.{all_at, all_drop, all_from, all_same, all_set, all_take}
 use Rattle.emit_append.specs.Need.{need}
 use Rattle.emit_append.specs.PackedLaw.{FitBlock}
@@ -38,12 +33,13 @@ use Rattle.zns_commands.specs.Left as kept
 use Rattle.zns_commands.specs.Laws.{IsSpelled, NamespaceEvent, after}
 use Rattle.zns_commands.proofs.Proved.{held_destinations_are_left, events_keep_namespaces_sound, shapes_are_kept}
 use Rattle.accepted_programs.proofs.Proved.{none_known, set_known}
-use Rattle.device_meaning.specs.Admission.{Loaded, admission_checks, source_blocks, task_of}
+use Rattle.device_meaning.specs.Admission.{Loaded, admission_checks, sizes_in, source_blocks, task_of}
 use Rattle.device_meaning.specs.EventReplies.{Submission}
 use Rattle.device_meaning.specs.BlockRuns.{Task, block_runs_of, groups_of, no_scratch, start_of}
 use Rattle.device_meaning.specs.Events.{AreEvents, CarriesBytes, Occurrence, state_after}
 use Rattle.device_meaning.specs.Laws.{IsAcceptedIn, IsAppended, RoomIn, StatesAreSound}
 use Rattle.device_meaning.specs.Happenings.{admitted_place, happens, just_loaded, keeping, load_checks, place_left, slots_left, turn_state, turned, why_not_run}
+use Rattle.device_meaning.specs.Judging.{IsSoundJudge, Judge, ProgramRefused}
 use Rattle.device_meaning.specs.Outcome.{Ending, EndsWithLast, Succeeds, Turn, appended_by, nothing_emitted, outcome}
 use Rattle.device_meaning.specs.Reached.{IsReached}
 use Rattle.device_meaning.specs.State.{Place, State, free_place, holds_at, loaded_at, new_state, place_at, with_namespace, with_place, with_slot}
@@ -93,14 +89,15 @@ groups_within task block_runs less h =
 
 -- ---- states
 
-module _ {D : Type 0} (operations : Operations D) (never : AcceptedNeverTraps operations) (block : ℕ) where
+module _ (judge : Judge) (sound : IsSoundJudge judge) (block : ℕ) where
   abbrev granted : ℕ → Sizes
   granted limit = record { block = block; limit = limit }
 
   pub record ProgramIsFine (loaded : Loaded) : Type 0 where
-    pub program : IsProgram loaded.program
+    pub bytes : List ℕ
+    pub are : AreBytes bytes
     pub sizes : AreSizes (granted loaded.limit)
-    pub accepted : refusal operations loaded.program (granted loaded.limit) ≡ None
+    pub accepted : judge bytes (granted loaded.limit) ≡ Ok loaded.program
 
   abbrev pub SlotIsFine : Option Loaded → Type 0
   SlotIsFine slot = IfSome slot ProgramIsFine
@@ -158,16 +155,17 @@ module _ {D : Type 0} (operations : Operations D) (never : AcceptedNeverTraps op
       subst (λ (n : ℕ). load.limit ≤ n) h.size (leb-true load.limit s.namespace.block test)
 
   taken_accepted : (sub : Submission) (s t : State) (load : LoadCommand) (h : IsFine s) → AreBytes sub.input
-      → (takes : TakesSlot operations sub s load t) → ProgramIsFine (just_loaded takes.program load.limit)
+      → (takes : TakesSlot judge sub s load t) → ProgramIsFine (just_loaded takes.program load.limit)
   taken_accepted sub s t load h are takes =
-      let judge : ℕ → Option Refusal = λ n. refusal operations takes.program (record { block = n; limit = load.limit }) in
+      let made : ℕ → Result (List (Option Instruction)) ProgramRefused = λ n. judge sub.input (record { block = n; limit = load.limit }) in
       record {
-        program = (decoded_is_spelled sub.input takes.program are takes.read).0;
+        bytes = sub.input;
+        are = are;
         sizes = record { block_size = subst IsBlockSize h.size h.is.shape.block_size; fits = within s load sub.input h takes.passed };
-        accepted = ap judge (sym h.size) ∙ takes.accepted;
+        accepted = ap made (sym h.size) ∙ takes.accepted;
       }
 
-  load_fine : (sub : Submission) (s t : State) (load : LoadCommand) → IsFine s → AreBytes sub.input → (takes : TakesSlot operations sub s load t)
+  load_fine : (sub : Submission) (s t : State) (load : LoadCommand) → IsFine s → AreBytes sub.input → (takes : TakesSlot judge sub s load t)
       → IsFine (with_slot s load.slot (Some (just_loaded takes.program load.limit)))
   load_fine sub s t load h are takes = record {
     is = h.is;
@@ -185,7 +183,7 @@ module _ {D : Type 0} (operations : Operations D) (never : AcceptedNeverTraps op
   slot_ready ns None command is size h some = cc
   slot_ready ns (Some loaded) command is size h some = record {
     never = subst (λ (n : ℕ). NeverTraps loaded.program loaded.limit n) (sym size)
-        (never loaded.program h.program (granted loaded.limit) h.sizes h.accepted);
+        (sound h.bytes (granted loaded.limit) loaded.program h.are h.sizes h.accepted).never_traps;
     sizes = record { block_size = is.shape.block_size; fits = subst (λ (n : ℕ). loaded.limit ≤ n) (sym size) h.sizes.fits };
     small = omega (arith, block_most is.shape);
   }
@@ -296,7 +294,7 @@ module _ {D : Type 0} (operations : Operations D) (never : AcceptedNeverTraps op
   -- ---- turns
 
   kept_fine : (slot : Option Loaded) (bytes : Option (List ℕ)) → SlotIsFine slot → SlotIsFine (keeping slot bytes)
-  kept_fine (Some loaded) (Some bytes) h = record { program = h.program; sizes = h.sizes; accepted = h.accepted }
+  kept_fine (Some loaded) (Some bytes) h = record { bytes = h.bytes; are = h.are; sizes = h.sizes; accepted = h.accepted }
   kept_fine (Some loaded) None h = h
   kept_fine None bytes h = h
 
@@ -337,8 +335,8 @@ module _ {D : Type 0} (operations : Operations D) (never : AcceptedNeverTraps op
 
   -- ---- events
 
-  event_fine : (s : State) (starved : Bool) (e : Event) → IsFine s → CarriesBytes e → IsFine (happens operations s starved e).state
-  event_fine s starved e h has = after_event operations IsFine s starved e (record {
+  event_fine : (s : State) (starved : Bool) (e : Event) → IsFine s → CarriesBytes e → IsFine (happens judge s starved e).state
+  event_fine s starved e h has = after_event judge IsFine s starved e (record {
     same = h;
     step = λ step same is. step_fine s step h same (is has);
     load = λ sub load t are takes. load_fine sub s t load h (are has) takes;
@@ -347,19 +345,24 @@ module _ {D : Type 0} (operations : Operations D) (never : AcceptedNeverTraps op
   })
 
   -- events leave such a state where they find one
-  pub events_fine : (events : List Occurrence) (s : State) → IsFine s → AreEvents events → IsFine (state_after operations events s)
+  pub events_fine : (events : List Occurrence) (s : State) → IsFine s → AreEvents events → IsFine (state_after judge events s)
   events_fine [] s h are = h
-  events_fine (o ∷ os) s h are = events_fine os (happens operations s o.starved o.event).state (event_fine s o.starved o.event h are.0) are.1
+  events_fine (o ∷ os) s h are = events_fine os (happens judge s o.starved o.event).state (event_fine s o.starved o.event h are.0) are.1
 
   -- each loaded program is accepted
-  programs : (s : State) → IsFine s → (slot : ℕ) (loaded : Loaded) → loaded_at s slot ≡ Some loaded → IsAcceptedIn operations s.namespace loaded
+  programs : (s : State) → IsFine s → (slot : ℕ) (loaded : Loaded) → loaded_at s slot ≡ Some loaded → IsAcceptedIn judge s.namespace loaded
   programs s h slot loaded at =
       let fine = subst SlotIsFine at (all_at SlotIsFine s.slots slot None h.slots tt) in
-      let judge : ℕ → Option Refusal = λ n. refusal operations loaded.program (record { block = n; limit = loaded.limit }) in
+      let made : ℕ → Result (List (Option Instruction)) ProgramRefused = λ n. judge fine.bytes (record { block = n; limit = loaded.limit }) in
+      let accepted = ap made h.size ∙ fine.accepted in
+      let fits = subst (λ (n : ℕ). loaded.limit ≤ n) (sym h.size) fine.sizes.fits in
       record {
-        program = fine.program;
-        limit = subst (λ (n : ℕ). loaded.limit ≤ n) (sym h.size) fine.sizes.fits;
-        accepted = ap judge h.size ∙ fine.accepted;
+        bytes = fine.bytes;
+        are = fine.are;
+        accepted = accepted;
+        limit = fits;
+        safe = sound fine.bytes (sizes_in s.namespace (Some loaded)) loaded.program fine.are
+            (record { block_size = h.is.shape.block_size; fits = fits }) accepted;
       }
 
   -- what the next turn of a run appends is appended
@@ -371,21 +374,21 @@ module _ {D : Type 0} (operations : Operations D) (never : AcceptedNeverTraps op
       are.few.0 (now_room s run place turn later h.apart h.rooms here first) some
 
 -- each state that events leave is such a state
-pub reached_fine : {D : Type 0} (operations : Operations D) (never : AcceptedNeverTraps operations) (s : State) (reached : IsReached operations s)
-    → IsFine operations never reached.first.block s
-reached_fine operations never s reached =
+pub reached_fine : (judge : Judge) (sound : IsSoundJudge judge) (s : State) (reached : IsReached judge s)
+    → IsFine judge sound reached.first.block s
+reached_fine judge sound s reached =
     let ns = reached.first in
-    subst (IsFine operations never ns.block) (sym reached.leaves)
-    (events_fine operations never ns.block reached.events (new_state ns) (new_fine operations never ns.block ns reached.namespace refl) reached.bytes)
+    subst (IsFine judge sound ns.block) (sym reached.leaves)
+    (events_fine judge sound ns.block reached.events (new_state ns) (new_fine judge sound ns.block ns reached.namespace refl) reached.bytes)
 
-pub states_are_sound : {D : Type 0} (operations : Operations D) → AcceptedNeverTraps operations → StatesAreSound operations
-states_are_sound operations never s reached =
-    let h = reached_fine operations never s reached in
+pub states_are_sound : (judge : Judge) → IsSoundJudge judge → StatesAreSound judge
+states_are_sound judge sound s reached =
+    let h = reached_fine judge sound s reached in
     let block = reached.first.block in
     record {
       namespace = h.is;
-      programs = programs operations never block s h;
+      programs = programs judge sound block s h;
       rooms = h.rooms;
-      appends = appends operations never block s h;
-      ends = λ run place here. (subst (PlaceIsFine operations never block) here (place_fine operations never block s run h)).ends;
+      appends = appends judge sound block s h;
+      ends = λ run place here. (subst (PlaceIsFine judge sound block) here (place_fine judge sound block s run h)).ends;
     }

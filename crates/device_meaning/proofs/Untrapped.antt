@@ -4,8 +4,7 @@ use Rattle.zone_state.specs.declared.status.Status.{Status}
 use Rattle.zone_state.specs.declared.status.TheConstants.Status.{SUCCESS, PROGRAM_TRAPPED}
 use Rattle.zone_state.specs.declared.zone.FaultRefused.{FaultRefused}
 use Rattle.nvme_entry.specs.Entry.{identifier_of}
-use Rattle.word_domain.specs.Domain.{Operations}
-use Rattle.accepted_programs.specs.Laws.{AcceptedNeverTraps}
+use Rattle.device_meaning.specs.Judging.{IsSoundJudge, Judge}
 use Rattle.zns_commands.specs.Fault.{zone_fault_refusal}
 use Rattle.zns_commands.specs.Meaning.{meaning}
 use Rattle.zns_commands.proofs.Proved.{statuses_are_standard}
@@ -25,11 +24,11 @@ IsOtherStatus status = status ≢ PROGRAM_TRAPPED
 
 -- ---- entries
 
-module _ {D : Type 0} (operations : Operations D) (sub : Submission) (s : State) where
+module _ (judge : Judge) (sub : Submission) (s : State) where
   abbrev IsUntrapped : Happening → Type 0
   IsUntrapped h = (is_completion h.reply.reply ≡ false) ⊎ IsCompletionOf sub.queue (identifier_of sub.entry) IsOtherStatus h.reply
 
-  entries_untrapped : HoldsOfEach operations IsUntrapped sub s
+  entries_untrapped : HoldsOfEach judge IsUntrapped sub s
   entries_untrapped = record {
     unchanged = λ status output other.
         inr (record { status = status; code = other.code; dw0 = 0; dw1 = 0; output = output; is = refl; so = other.differs });
@@ -86,16 +85,16 @@ fault_untrapped (Err refused) = refl
 
 -- ---- events
 
-module _ {D : Type 0} (operations : Operations D) where
+module _ (judge : Judge) where
   event_untrapped : (s : State) (starved : Bool) (e : Event) → ((run : ℕ) (place : Place) → place_at s run ≡ Some place → EndsWithLast place.turns)
-      → CompletesOnlyWith IsOtherStatus s e (happens operations s starved e).reply
+      → CompletesOnlyWith IsOtherStatus s e (happens judge s starved e).reply
   event_untrapped s starved (event.Submit queue entry input) ends =
       let sub = submission_of queue entry input.items in
-      of_entry operations (IsUntrapped operations sub s) sub s (entries_untrapped operations sub s) starved
+      of_entry judge (IsUntrapped judge sub s) sub s (entries_untrapped judge sub s) starved
   event_untrapped s starved (event.Turn run) ends =
       of_turn (λ (h : Happening). CompletesOnlyWith IsOtherStatus s (event.Turn run) h.reply) s run (inl refl)
       (λ place turn later here first. turn_untrapped s run place turn later turn.ending here (subst EndsWithLast first (ends run place here)) refl)
   event_untrapped s starved (event.Fault zone state) ends = fault_untrapped (zone_fault_refusal s.namespace (holds_at s) zone state)
 
-  pub no_reply_is_trapped : AcceptedNeverTraps operations → NoReplyIsTrapped operations
-  no_reply_is_trapped never s o reached = event_untrapped s o.starved o.event (states_are_sound operations never s reached).ends
+  pub no_reply_is_trapped : IsSoundJudge judge → NoReplyIsTrapped judge
+  no_reply_is_trapped sound s o reached = event_untrapped s o.starved o.event (states_are_sound judge sound s reached).ends

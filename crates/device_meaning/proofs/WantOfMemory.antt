@@ -4,23 +4,23 @@ use Rattle.zone_state.specs.declared.status.Status.{Status}
 use Rattle.nvme_entry.specs.Entry.{decoded}
 use Rattle.nvme_entry.specs.declared.command.Command.{Command}
 use Rattle.nvme_entry.specs.declared.command.Command.TheVariants as commands
-use Rattle.word_domain.specs.Domain.{Operations}
+use Rattle.device_meaning.specs.Judging.{Judge}
 use Rattle.device_meaning.specs.EventReplies.{Submission, submission_of}
 use Rattle.device_meaning.specs.Happenings.{submitted}
 use Rattle.device_meaning.specs.WantOfMemory.{OnlyLoadsWantMemory, is_load}
 use Rattle.device_meaning.specs.State.{State}
 use Rattle.device_events.specs.declared.event.Event.TheVariants as event
 
-module _ {D : Type 0} (operations : Operations D) where
+module _ (judge : Judge) where
   submitted_same : (sub : Submission) (s : State) (asked : Result Command Status) → is_load asked ≡ false
-      → submitted operations true sub s asked ≡ submitted operations false sub s asked
+      → submitted judge true sub s asked ≡ submitted judge false sub s asked
   submitted_same sub s (Err status) no_load = refl
   submitted_same sub s (Ok (commands.Standard c)) no_load = refl
   submitted_same sub s (Ok (commands.Load load)) no_load = absurd cc
   submitted_same sub s (Ok (commands.Run command)) no_load = refl
   submitted_same sub s (Ok (commands.Result slot)) no_load = refl
 
-  pub only_loads_want_memory : OnlyLoadsWantMemory operations
+  pub only_loads_want_memory : OnlyLoadsWantMemory judge
   only_loads_want_memory s (event.Submit queue entry input) no_load =
       submitted_same (submission_of queue entry input.items) s (decoded entry) no_load
   only_loads_want_memory s (event.Turn run) no_load = refl

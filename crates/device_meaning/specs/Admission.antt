@@ -105,13 +105,8 @@ source_blocks ns command = written_from ns (source_zone ns command) (zone_offset
 
 -- what a run is about of this program, of whose groups so many bytes are the most
 abbrev pub task_by : ZonedNamespace → List (Option Instruction) → ℕ → RunCommand → Task
-task_by ns program limit command = record {
-  program = program;
-  sizes = granted_sizes ns limit;
-  argument = command.argument;
-  lba = command.lba;
-  count = command.blocks;
-}
+task_by ns program limit command =
+    record { program = program; sizes = granted_sizes ns limit; argument = command.argument; lba = command.lba; count = command.blocks }
 
 -- what an admitted run is about
 abbrev pub task_of : ZonedNamespace → Option Loaded → RunCommand → Task

@@ -23,13 +23,8 @@ pub record Task : Type 0 where
 
 -- what a block run is told of its block, before which the run had so many
 abbrev pub context : Task → ℕ → List ℕ
-context task index = context_bytes (record {
-  lba = task.lba + index;
-  index = index;
-  count = task.count;
-  block = task.sizes.block;
-  argument = task.argument;
-})
+context task index =
+    context_bytes (record { lba = task.lba + index; index = index; count = task.count; block = task.sizes.block; argument = task.argument })
 
 -- a program on one block, with as much fuel as it has instructions
 abbrev pub block_run_over : List (Option Instruction) → ℕ → List ℕ → List ℕ → List ℕ → BlockRun
@@ -52,8 +47,7 @@ block_runs_from task index scratch (bytes ∷ blocks) =
 -- does the run go on after this block run? Not where R0 isn't 0, nor where the program couldn't go on
 abbrev pub goes_on : End → Bool
 goes_on (end.Exit r0) = r0 == 0
-goes_on (end.Trap slot cause) = false
-goes_on end.OutOfFuel = false
+goes_on _ = false
 
 -- these block runs up to the first after which the run doesn't go on, that one counted, or all of them
 abbrev pub until_ended : List BlockRun → List BlockRun

@@ -1,6 +1,6 @@
 -- Completions: each submission has one, to its queue and with its identifier.
 use Rattle.std.specs.Prelude.{ℕ, Bool, false, ◌≡◌, ◌+◌, ◌%◌, ◌^◌, ◌==◌, ◌&&◌, List, ◌++◌, count_by, Option, Some, None}
-use Rattle.word_domain.specs.Domain.{Operations}
+use Rattle.device_meaning.specs.Judging.{Judge}
 use Rattle.nvme_entry.specs.Dwords.{dword}
 use Rattle.nvme_entry.specs.Entry.{identifier_of}
 use Rattle.device_events.specs.Replies.{ReplyWithData}
@@ -51,14 +51,14 @@ module _ (queue cid : ℕ) where
   active_runs s = count_by is_its_run s.places
 
 -- of each queue and identifier, what is submitted is completed, or is an active run then; and nothing else is completed
-abbrev pub NoCompletionIsLost : {D : Type 0} → Operations D → Type 0
-NoCompletionIsLost operations =
+abbrev pub NoCompletionIsLost : Judge → Type 0
+NoCompletionIsLost judge =
     (queue cid : ℕ) (s : State) (events : List Occurrence)
-    → completions queue cid (replies_to operations events s) + active_runs queue cid (state_after operations events s)
+    → completions queue cid (replies_to judge events s) + active_runs queue cid (state_after judge events s)
     ≡ submissions queue cid events + active_runs queue cid s
 
 -- once turns have drained the device, each submission has one completion, and so has each run that was active before
-abbrev pub EachIsCompletedOnce : {D : Type 0} → Operations D → Type 0
-EachIsCompletedOnce operations =
-    (queue cid : ℕ) (s : State) (events : List Occurrence) (runs : List ℕ) → Drains (state_after operations events s) runs
-    → completions queue cid (replies_to operations (events ++ turn_events runs) s) ≡ submissions queue cid events + active_runs queue cid s
+abbrev pub EachIsCompletedOnce : Judge → Type 0
+EachIsCompletedOnce judge =
+    (queue cid : ℕ) (s : State) (events : List Occurrence) (runs : List ℕ) → Drains (state_after judge events s) runs
+    → completions queue cid (replies_to judge (events ++ turn_events runs) s) ≡ submissions queue cid events + active_runs queue cid s

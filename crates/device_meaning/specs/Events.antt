@@ -2,7 +2,7 @@
 use Rattle.std.specs.Prelude.{ℕ, Bool, ◌≡◌, ◌≤◌, ◌-◌, List, [], ◌∷◌, length, map, take}
 use Rattle.std.specs.List.{AllByRecursion, fold}
 use Rattle.common_definitions.specs.Bytes.{AreBytes}
-use Rattle.word_domain.specs.Domain.{Operations}
+use Rattle.device_meaning.specs.Judging.{Judge}
 use Rattle.device_events.specs.Replies.{ReplyWithData}
 use Rattle.device_meaning.specs.Happenings.{happens}
 use Rattle.device_meaning.specs.State.{State}
@@ -24,15 +24,15 @@ CarriesBytes (event.Fault zone state) = Unit {0}
 abbrev pub AreEvents : List Occurrence → Type 0
 AreEvents events = AllByRecursion (λ o. CarriesBytes o.event) events
 
-module _ {D : Type 0} (operations : Operations D) where
+module _ (judge : Judge) where
   -- the replies to events, in order
   abbrev pub replies_to : List Occurrence → State → List ReplyWithData
   replies_to [] s = []
-  replies_to (o ∷ os) s = (happens operations s o.starved o.event).reply ∷ replies_to os (happens operations s o.starved o.event).state
+  replies_to (o ∷ os) s = (happens judge s o.starved o.event).reply ∷ replies_to os (happens judge s o.starved o.event).state
 
   -- the state after events
   abbrev pub state_after : List Occurrence → State → State
-  state_after events s = fold (λ before o. (happens operations before o.starved o.event).state) s events
+  state_after events s = fold (λ before o. (happens judge before o.starved o.event).state) s events
 
 -- ---- what a device does with events
 
@@ -41,19 +41,19 @@ module _ {D : Type 0} (operations : Operations D) where
 abbrev pub AreOccurrencesOf : List Event → List Occurrence → Type 0
 AreOccurrencesOf events occurrences = map (λ o. o.event) occurrences ≡ events
 
-module _ {D : Type 0} (operations : Operations D) where
+module _ (judge : Judge) where
   -- one event led from one state to the other, with this reply
   pub record HasHappened (e : Event) (old new : State) (reply : ReplyWithData) : Type 0 where
     pub starved : Bool
-    pub state : new ≡ (happens operations old starved e).state
-    pub replied : reply ≡ (happens operations old starved e).reply
+    pub state : new ≡ (happens judge old starved e).state
+    pub replied : reply ≡ (happens judge old starved e).reply
 
   -- events were done; `took` says of their replies that they were taken
   pub record HasServed (events : List Event) (old new : State) (took : List ReplyWithData → Type 0) : Type 0 where
     pub occurrences : List Occurrence
     pub are : AreOccurrencesOf events occurrences
-    pub state : new ≡ state_after operations occurrences old
-    pub replies : took (replies_to operations occurrences old)
+    pub state : new ≡ state_after judge occurrences old
+    pub replies : took (replies_to judge occurrences old)
 
   -- so many events are done, and the reply to the last of them was refused; those before it were taken
   pub record HasStopped (events : List Event) (old new : State) (took : List ReplyWithData → Type 0) (done : ℕ) : Type 0 where
@@ -61,5 +61,5 @@ module _ {D : Type 0} (operations : Operations D) where
     pub within : done ≤ length events
     pub occurrences : List Occurrence
     pub are : AreOccurrencesOf (take done events) occurrences
-    pub state : new ≡ state_after operations occurrences old
-    pub replies : took (replies_to operations (take (done - 1) occurrences) old)
+    pub state : new ≡ state_after judge occurrences old
+    pub replies : took (replies_to judge (take (done - 1) occurrences) old)

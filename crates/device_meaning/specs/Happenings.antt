@@ -10,14 +10,8 @@ use Rattle.nvme_entry.specs.declared.command.Command.{Command}
 use Rattle.nvme_entry.specs.declared.command.Command.TheVariants as commands
 use Rattle.nvme_entry.specs.declared.command.LoadCommand.{LoadCommand}
 use Rattle.nvme_entry.specs.declared.command.RunCommand.{RunCommand}
-use Rattle.ebpf_decode.specs.Fault.{fault_number}
-use Rattle.ebpf_decode.specs.Reading.{decoded_program}
-use Rattle.ebpf_decode.specs.declared.fault.Fault.{Fault}
 use Rattle.instruction_set.specs.declared.instruction.Instruction.{Instruction}
 use Rattle.program_interface.specs.RunSizes.{Sizes}
-use Rattle.word_domain.specs.Domain.{Operations}
-use Rattle.accepted_programs.specs.Accepted.{refusal, reason_number}
-use Rattle.accepted_programs.specs.declared.reason.Refusal.{Refusal}
 use Rattle.image_store.specs.Namespace.{ZonedNamespace, grown_at}
 use Rattle.zns_commands.specs.Effect.{Effect}
 use Rattle.zns_commands.specs.Fault.{zone_fault_refusal, faulted}
@@ -27,6 +21,7 @@ use Rattle.device_meaning.specs.Admission.{Loaded, run_refusal, granted_sizes, s
 use Rattle.device_events.specs.Replies.{ReplyWithData, without_data}
 use Rattle.device_meaning.specs.EventReplies.{Happening, Submission, completion, completed, refused, idle, submission_of}
 use Rattle.device_meaning.specs.BlockRuns.{no_scratch}
+use Rattle.device_meaning.specs.Judging.{Judge, ProgramRefused}
 use Rattle.device_meaning.specs.Outcome.{Turn, Ending, outcome}
 use Rattle.device_meaning.specs.State.{Place, State, holds_at, loaded_at, place_at, in_use, free_place, with_namespace, with_slot, with_place}
 use Rattle.device_events.specs.declared.event.Event.{Event}
@@ -44,34 +39,25 @@ load_checks s load input =
     ∷ demand (not (in_use s load.slot)) PROGRAM_IN_USE
     ∷ []
 
--- why a program isn't accepted: the slot of an instruction, and the reason's number
-abbrev pub program_refused : Submission → ℕ → ℕ → State → Happening
-program_refused sub at reason s = completed sub PROGRAM_REFUSED at reason [] s
-
 -- an accepted program, whose result is zeros
 abbrev pub just_loaded : List (Option Instruction) → ℕ → Loaded
 just_loaded program limit = record { program = program; limit = limit; result = no_scratch }
 
--- an accepted program takes its slot
-abbrev pub judged : Submission → State → LoadCommand → List (Option Instruction) → Option Refusal → Happening
-judged sub s load program (Some why) = program_refused sub why.slot (reason_number why.reason) s
-judged sub s load program None = completed sub SUCCESS 0 0 [] (with_slot s load.slot (Some (just_loaded program load.limit)))
+-- an accepted program takes its slot; of one that is refused it is told where, and for what reason
+abbrev pub judged : Submission → State → LoadCommand → Result (List (Option Instruction)) ProgramRefused → Happening
+judged sub s load (Err why) = completed sub PROGRAM_REFUSED why.slot why.reason [] s
+judged sub s load (Ok program) = completed sub SUCCESS 0 0 [] (with_slot s load.slot (Some (just_loaded program load.limit)))
 
 -- the sizes that a program is judged for
 abbrev pub sizes_for : State → LoadCommand → Sizes
 sizes_for s load = granted_sizes s.namespace load.limit
 
-module _ {D : Type 0} (operations : Operations D) where
-  -- what the bytes of a program come to: they are decoded, and then judged
-  abbrev pub read_program : Submission → State → LoadCommand → Result (List (Option Instruction)) Fault → Happening
-  read_program sub s load (Err fault) = program_refused sub fault.slot (fault_number fault.kind) s
-  read_program sub s load (Ok program) = judged sub s load program (refusal operations program (sizes_for s load))
-
+module _ (judge : Judge) where
   -- where memory is refused, that is told, and nothing else
   abbrev pub load_unless : Option Status → Bool → Submission → State → LoadCommand → Happening
   load_unless (Some status) starved sub s load = refused sub status s
   load_unless None true sub s load = refused sub WANT_OF_MEMORY s
-  load_unless None false sub s load = read_program sub s load (decoded_program sub.input)
+  load_unless None false sub s load = judged sub s load (judge sub.input (sizes_for s load))
 
   -- what a Load comes to
   abbrev pub loading : Bool → Submission → State → LoadCommand → Happening
@@ -188,12 +174,12 @@ faulting s zone state = record {
 abbrev pub commanded : Submission → State → Effect → Happening
 commanded sub s effect = completed sub effect.status effect.dw0 effect.dw1 effect.output (with_namespace s effect.namespace)
 
-module _ {D : Type 0} (operations : Operations D) where
+module _ (judge : Judge) where
   -- what an entry comes to that names this command; only Load asks whether memory is refused
   abbrev pub submitted : Bool → Submission → State → Result Command Status → Happening
   submitted starved sub s (Err status) = refused sub status s
   submitted starved sub s (Ok (commands.Standard c)) = commanded sub s (meaning s.namespace (holds_at s) c sub.input)
-  submitted starved sub s (Ok (commands.Load load)) = loading operations starved sub s load
+  submitted starved sub s (Ok (commands.Load load)) = loading judge starved sub s load
   submitted starved sub s (Ok (commands.Run command)) = starting sub s command
   submitted starved sub s (Ok (commands.Result slot)) = giving_result sub s slot
 

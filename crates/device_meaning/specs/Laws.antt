@@ -1,17 +1,15 @@
 -- Laws of runs: the rest and the outcome of one, and what events and turns leave of what it needs; and what holds of each
 -- state that events leave.
-use Rattle.std.specs.Prelude.{◌≤◌, ◌*◌, ℕ, true, false, ◌≡◌, ◌≢◌, ◌+◌, List, [], ◌∷◌, length, Option, Some, None, ◌⊎◌, is_some}
+use Rattle.std.specs.Prelude.{◌≤◌, ◌*◌, ℕ, true, false, ◌≡◌, ◌≢◌, ◌+◌, List, [], ◌∷◌, length, Option, Some, None, Ok, ◌⊎◌, is_some}
 use Rattle.std.specs.List.{AllByRecursion, concat}
+use Rattle.common_definitions.specs.Bytes.{AreBytes}
 use Rattle.common_definitions.specs.Checks.{first_failed}
 use Rattle.zone_state.specs.State.{is_open}
 use Rattle.zone_state.specs.declared.status.TheConstants.Status.{SUCCESS, PROGRAM_TRAPPED}
 use Rattle.zone_resources.specs.Holds.{no_holds}
 use Rattle.nvme_entry.specs.Entry.{identifier_of}
-use Rattle.instruction_set.specs.Program.{IsProgram}
 use Rattle.program_meaning.specs.BlockRun.{BlockRun}
 use Rattle.program_meaning.specs.TrapFree.{IsExit}
-use Rattle.word_domain.specs.Domain.{Operations}
-use Rattle.accepted_programs.specs.Accepted.{refusal}
 use Rattle.emit_append.specs.Packing.{packed, pending_of, released}
 use Rattle.image_store.specs.Namespace.{ZoneWithBlocks, ZonedNamespace, zone_at, shape, IsNamespace}
 use Rattle.zns_commands.specs.Append.{TakesBlocks, append_checks, append_effect}
@@ -22,6 +20,7 @@ use Rattle.device_meaning.specs.BlockRuns.{Task, block_run, block_runs_of, goes_
 use Rattle.device_meaning.specs.Draining.{Drains, turns_left}
 use Rattle.device_meaning.specs.Events.{Occurrence}
 use Rattle.device_meaning.specs.Happenings.{added, happens, turned}
+use Rattle.device_meaning.specs.Judging.{IsSafeProgram, Judge}
 use Rattle.device_meaning.specs.Outcome.{Ending, EndsWithLast, Progress, Turn, appended_by, at_admission, ending_of, last_turn, outcome, emitted_by, rest, success_of}
 use Rattle.device_meaning.specs.Reached.{IsReached}
 use Rattle.device_meaning.specs.State.{Place, State, loaded_at, place_at}
@@ -98,10 +97,10 @@ pub record KeepsFor (place : Place) (s t : State) : Type 0 where
   pub shape_kept : shape t.namespace ≡ shape s.namespace
 
 -- every event keeps it, the turns of the run and of others among them
-abbrev pub EventsKeepForRuns : {D : Type 0} → Operations D → Type 0
-EventsKeepForRuns operations =
+abbrev pub EventsKeepForRuns : Judge → Type 0
+EventsKeepForRuns judge =
     (s : State) (o : Occurrence) (run : ℕ) (place : Place) → place_at s run ≡ Some place
-    → KeepsFor place s (happens operations s o.starved o.event).state
+    → KeepsFor place s (happens judge s o.starved o.event).state
 
 -- ---- the states that events leave
 
@@ -116,12 +115,15 @@ pub record IsAppended (ns : ZonedNamespace) (z : ℕ) (blocks : List (List ℕ))
   pub passes : first_failed (append_checks ns no_holds (z * ns.size) (length blocks) (concat blocks)) ≡ None
   pub effect : added ns z blocks ≡ (append_effect ns no_holds (z * ns.size) (concat blocks)).namespace
 
-module _ {D : Type 0} (operations : Operations D) where
-  -- a program in its slot is a program, its limit is at most a block, and no reason refuses it
+module _ (judge : Judge) where
+  -- the program of a slot is what the judge made of some bytes, for the sizes that it has there: such a program as a sound judge
+  -- accepts, whose limit is at most a block
   pub record IsAcceptedIn (ns : ZonedNamespace) (loaded : Loaded) : Type 0 where
-    pub program : IsProgram loaded.program
+    pub bytes : List ℕ
+    pub are : AreBytes bytes
+    pub accepted : judge bytes (sizes_in ns (Some loaded)) ≡ Ok loaded.program
     pub limit : loaded.limit ≤ ns.block
-    pub accepted : refusal operations loaded.program (sizes_in ns (Some loaded)) ≡ None
+    pub safe : IsSafeProgram bytes (sizes_in ns (Some loaded)) loaded.program
 
   -- in each state that events leave, the namespace is sound, each loaded program is accepted, what is left of
   -- each run fits, what its next turn appends is appended, and the last of its turns ends it with success
@@ -135,24 +137,24 @@ module _ {D : Type 0} (operations : Operations D) where
     pub ends : (run : ℕ) (place : Place) → place_at s run ≡ Some place → EndsWithLast place.turns
 
 -- what holds of each state that events leave
-abbrev pub StatesAreSound : {D : Type 0} → Operations D → Type 0
-StatesAreSound operations = (s : State) → IsReached operations s → IsSoundState operations s
+abbrev pub StatesAreSound : Judge → Type 0
+StatesAreSound judge = (s : State) → IsReached judge s → IsSoundState judge s
 
 -- in each state that events leave, no reply tells that a program couldn't go on
-abbrev pub NoReplyIsTrapped : {D : Type 0} → Operations D → Type 0
-NoReplyIsTrapped operations =
-    (s : State) (o : Occurrence) → IsReached operations s
-    → CompletesOnlyWith (λ status. status ≢ PROGRAM_TRAPPED) s o.event (happens operations s o.starved o.event).reply
+abbrev pub NoReplyIsTrapped : Judge → Type 0
+NoReplyIsTrapped judge =
+    (s : State) (o : Occurrence) → IsReached judge s
+    → CompletesOnlyWith (λ status. status ≢ PROGRAM_TRAPPED) s o.event (happens judge s o.starved o.event).reply
 
 -- in each state that events leave, a turn of an active run leaves fewer turns
-abbrev pub TurnsLeaveFewer : {D : Type 0} → Operations D → Type 0
-TurnsLeaveFewer operations =
-    (s : State) (run : ℕ) → IsReached operations s → is_some (place_at s run) ≡ true
+abbrev pub TurnsLeaveFewer : Judge → Type 0
+TurnsLeaveFewer judge =
+    (s : State) (run : ℕ) → IsReached judge s → is_some (place_at s run) ≡ true
     → turns_left (turned s run).state.places + 1 ≤ turns_left s.places
 
 -- in each state that events leave, turns of the lowest active run come to an end
-abbrev pub DrainingEnds : {D : Type 0} → Operations D → Type 0
-DrainingEnds operations = (s : State) → IsReached operations s → (runs : List ℕ) × Drains s runs
+abbrev pub DrainingEnds : Judge → Type 0
+DrainingEnds judge = (s : State) → IsReached judge s → (runs : List ℕ) × Drains s runs
 
 -- ---- what the blocks of a turn leave
 

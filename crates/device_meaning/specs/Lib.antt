@@ -1,3 +1,4 @@
+pub mod Judging
 pub mod BlockRuns
 pub mod Admission
 pub mod Outcome

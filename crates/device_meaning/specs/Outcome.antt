@@ -43,22 +43,18 @@ nothing_emitted = record { groups = []; frames = 0; appended = 0 }
 
 -- what was emitted, with a block run's group behind it
 abbrev pub with_group : Emitted → BlockRun → Emitted
-with_group emitted run = record {
-  groups = emitted.groups ++ run.state.group ∷ [];
-  frames = emitted.frames + run.state.frames;
-  appended = emitted.appended;
-}
+with_group emitted run =
+    record { groups = emitted.groups ++ run.state.group ∷ []; frames = emitted.frames + run.state.frames; appended = emitted.appended }
 
 -- what comes to the first blocks, in blocks that begin with them
 abbrev pub coming_to : List (List ℕ) → List (List ℕ) → List (List ℕ)
 coming_to first blocks = drop (length first) blocks
 
--- a turn after which the run goes on appends all blocks so far but the last, less those appended before
+-- a turn after which the run goes on appends what the packing of the groups up to its own has released, all its blocks but the
+-- last, and that of the groups before had not
 abbrev pub middle_turn : ℕ → Emitted → BlockRun → Turn
-middle_turn block emitted run = record {
-  blocks = coming_to (released block emitted.groups) (released block (with_group emitted run).groups);
-  ending = None;
-}
+middle_turn block emitted run =
+    record { blocks = coming_to (released block emitted.groups) (released block (with_group emitted run).groups); ending = None }
 
 -- a run whose last block run ended by EXIT: all blocks are appended, and told with the frames
 abbrev pub succeeded : ℕ → Emitted → Emitted → List ℕ → Turn
@@ -69,10 +65,8 @@ succeeded block before emitted scratch = record {
 
 -- a run whose program couldn't go on: nothing more is appended
 abbrev pub trapped : ℕ → ℕ → Turn
-trapped slot cause = record {
-  blocks = [];
-  ending = Some (record { status = PROGRAM_TRAPPED; dw0 = slot; dw1 = cause; result = None });
-}
+trapped slot cause =
+    record { blocks = []; ending = Some (record { status = PROGRAM_TRAPPED; dw0 = slot; dw1 = cause; result = None }) }
 
 -- the last turn; 9 tells that a block run had no fuel left (profile)
 abbrev pub last_turn_by : End → ℕ → Emitted → BlockRun → Turn

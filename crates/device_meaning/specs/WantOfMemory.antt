@@ -4,7 +4,7 @@ use Rattle.zone_state.specs.declared.status.Status.{Status}
 use Rattle.nvme_entry.specs.Entry.{decoded}
 use Rattle.nvme_entry.specs.declared.command.Command.{Command}
 use Rattle.nvme_entry.specs.declared.command.Command.TheVariants as commands
-use Rattle.word_domain.specs.Domain.{Operations}
+use Rattle.device_meaning.specs.Judging.{Judge}
 use Rattle.device_meaning.specs.Happenings.{happens}
 use Rattle.device_meaning.specs.State.{State}
 use Rattle.device_events.specs.declared.event.Event.{Event}
@@ -26,6 +26,6 @@ wants_memory (event.Fault zone state) = false
 
 -- Whether memory is refused changes nothing of what any other event comes to: Run, turns, Write, Zone Append
 -- and all the others ask for none.
-abbrev pub OnlyLoadsWantMemory : {D : Type 0} → Operations D → Type 0
-OnlyLoadsWantMemory operations =
-    (s : State) (e : Event) → wants_memory e ≡ false → happens operations s true e ≡ happens operations s false e
+abbrev pub OnlyLoadsWantMemory : Judge → Type 0
+OnlyLoadsWantMemory judge =
+    (s : State) (e : Event) → wants_memory e ≡ false → happens judge s true e ≡ happens judge s false e
