@@ -4,7 +4,7 @@ use Rattle.std.specs.Prelude.{◌⊎◌}
 use Rattle.nvme_entry.specs.Entry.{decoded}
 use Rattle.nvme_entry.specs.declared.command.Command.TheVariants as commands
 use Rattle.nvme_entry.specs.declared.command.LoadCommand.{LoadCommand}
-use Rattle.word_domain.specs.Domain.{Operations}
+use Rattle.device_meaning.specs.Judging.{Judge}
 use Rattle.zns_commands.specs.Meaning.{meaning}
 use Rattle.zns_commands.proofs.Proved.{refused_commands_change_nothing, statuses_are_standard}
 use Rattle.device_meaning.specs.EventReplies.{Happening, Submission, submission_of}
@@ -15,13 +15,13 @@ use Rattle.device_meaning.specs.State.{State, holds_at, with_namespace}
 use Rattle.device_events.specs.declared.reply.Reply.TheVariants as reply
 use Rattle.device_meaning.proofs.Proved.{HoldsOfEach, of_entry, IsLoad}
 
-module _ {D : Type 0} (operations : Operations D) (sub : Submission) (s : State) where
+module _ (judge : Judge) (sub : Submission) (s : State) where
   -- a run has begun, or the entry is answered
   abbrev IsReplied : Happening → Type 0
   IsReplied h = ((run : ℕ) × (h.reply ≡ without_data (reply.Pending run))) ⊎ IsAnswered s sub h
 
   -- each entry is replied to so
-  replied : HoldsOfEach operations IsReplied sub s
+  replied : HoldsOfEach judge IsReplied sub s
   replied = record {
     unchanged = λ status output other.
         inr (record { status = status; code = other.code; dw0 = 0; dw1 = 0; output = output; is = refl; so = λ fails. refl });
@@ -44,10 +44,10 @@ module _ {D : Type 0} (operations : Operations D) (sub : Submission) (s : State)
 
   -- the slots stay, or a Load puts its program into one
   abbrev ChangesSlots : Happening → Type 0
-  ChangesSlots h = (h.state.slots ≡ s.slots) ⊎ ((load : LoadCommand) × IsLoaded operations s sub load h)
+  ChangesSlots h = (h.state.slots ≡ s.slots) ⊎ ((load : LoadCommand) × IsLoaded judge s sub load h)
 
   -- a Load that succeeds puts its program into its slot
-  load_changes : (load : LoadCommand) (h : Happening) → decoded sub.entry ≡ Ok (commands.Load load) → IsLoad operations sub s load h
+  load_changes : (load : LoadCommand) (h : Happening) → decoded sub.entry ≡ Ok (commands.Load load) → IsLoad judge sub s load h
       → ChangesSlots h
   load_changes load h asked is = elim is.state [
     | inl same ↦ inl (ap (λ (t : State). t.slots) same)
@@ -58,7 +58,6 @@ module _ {D : Type 0} (operations : Operations D) (sub : Submission) (s : State)
         record {
           asked = asked;
           program = takes.program;
-          read = takes.read;
           accepted = takes.accepted;
           reply = reply;
           state = takes.taken;
@@ -68,7 +67,7 @@ module _ {D : Type 0} (operations : Operations D) (sub : Submission) (s : State)
   ]
 
   -- each entry changes slots only so
-  changes_slots : HoldsOfEach operations ChangesSlots sub s
+  changes_slots : HoldsOfEach judge ChangesSlots sub s
   changes_slots = record {
     unchanged = λ status output untrapped. inl refl;
     standard = λ c asked. inl refl;
@@ -76,13 +75,13 @@ module _ {D : Type 0} (operations : Operations D) (sub : Submission) (s : State)
     start = λ command run asked is at. inl refl;
   }
 
-module _ {D : Type 0} (operations : Operations D) where
-  pub refused_leaves_state : RefusedLeavesState operations
+module _ (judge : Judge) where
+  pub refused_leaves_state : RefusedLeavesState judge
   refused_leaves_state s starved queue entry input =
       let sub = submission_of queue entry input.items in
-      of_entry operations (IsReplied operations sub s) sub s (replied operations sub s) starved
+      of_entry judge (IsReplied judge sub s) sub s (replied judge sub s) starved
 
-  pub only_loads_change_slots : OnlyLoadsChangeSlots operations
+  pub only_loads_change_slots : OnlyLoadsChangeSlots judge
   only_loads_change_slots s starved queue entry input =
       let sub = submission_of queue entry input.items in
-      of_entry operations (ChangesSlots operations sub s) sub s (changes_slots operations sub s) starved
+      of_entry judge (ChangesSlots judge sub s) sub s (changes_slots judge sub s) starved

@@ -5,8 +5,7 @@ use Rattle.std.specs.List.{filter, fold, zip}
 use Rattle.std.proofs.lemmas.Bool.{eqb-true}
 use Rattle.std.proofs.lemmas.Bool.Decides.{eqb_tells}
 use Rattle.std.proofs.lemmas.List.{append-nil}
-use Rattle.word_domain.specs.Domain.{Operations}
-use Rattle.accepted_programs.specs.Laws.{AcceptedNeverTraps}
+use Rattle.device_meaning.specs.Judging.{IsSoundJudge, Judge}
 use Rattle.device_meaning.specs.Admission.{Loaded}
 use Rattle.device_meaning.specs.EventReplies.{Happening}
 use Rattle.device_events.specs.Replies.{ReplyWithData}
@@ -190,5 +189,5 @@ module _ (s : State) (apart : AreApart s.places) (first second : List ℕ) (same
         replies = λ run. ap (λ (x : Seen). x.replies) (all run);
       }
 
-pub turns_in_any_order : {D : Type 0} (operations : Operations D) → AcceptedNeverTraps operations → TurnsInAnyOrder operations
-turns_in_any_order operations never s reached first second same = any_order s (reached_fine operations never s reached).apart first second same
+pub turns_in_any_order : (judge : Judge) → IsSoundJudge judge → TurnsInAnyOrder judge
+turns_in_any_order judge sound s reached first second same = any_order s (reached_fine judge sound s reached).apart first second same

@@ -4,8 +4,7 @@ use Rattle.std.specs.List.{AllByRecursion, concat, flat_map}
 use Rattle.std.proofs.lemmas.List.Sums.{sum_by-cons}
 use Rattle.program_interface.specs.Frame.{frames}
 use Rattle.program_meaning.specs.BlockRun.{BlockRun}
-use Rattle.word_domain.specs.Domain.{Operations}
-use Rattle.accepted_programs.specs.Laws.{AcceptedNeverTraps}
+use Rattle.device_meaning.specs.Judging.{IsSoundJudge, Judge}
 use Rattle.image_store.proofs.Proved.{block_most, block_some}
 use Rattle.emit_append.specs.Unpacking.{unpacked}
 use Rattle.emit_append.specs.PackedLaw.{FitBlock}
@@ -37,18 +36,18 @@ emits task (run ∷ block_runs) done =
       some = (group.some, rest.some);
     }
 
-pub outcome_unpacks : {D : Type 0} (operations : Operations D) → AcceptedNeverTraps operations → OutcomeUnpacks operations
-outcome_unpacks operations never s reached sub command run admitted =
-    let fine = reached_fine operations never s reached in
+pub outcome_unpacks : (judge : Judge) → IsSoundJudge judge → OutcomeUnpacks judge
+outcome_unpacks judge sound s reached sub command run admitted =
+    let fine = reached_fine judge sound s reached in
     let none = admitted.passed in
     let task = task_of s.namespace (loaded_at s command.slot) command in
     let source = source_blocks s.namespace command in
     let block_runs = block_runs_of task source in
     let block = task.sizes.block in
-    let done = block_runs_all_done operations never reached.first.block sub s command fine none in
+    let done = block_runs_all_done judge sound reached.first.block sub s command fine none in
     let given = emits task block_runs done in
-    let sizes = (ready operations never reached.first.block sub s command fine none).sizes in
-    let whole = (outcome_is_packed task source (all_exit operations never reached.first.block sub s command fine none)).blocks in
+    let sizes = (ready judge sound reached.first.block sub s command fine none).sizes in
+    let whole = (outcome_is_packed task source (all_exit judge sound reached.first.block sub s command fine none)).blocks in
     let fit = subst (FitBlock block) given.are.groups (groups_within task block_runs sizes.fits done) in
     let back = packed_frames_read_back block given.records
     (omega (arith, block_some fine.is.shape)) (omega (arith, block_most fine.is.shape)) given.some fit in (

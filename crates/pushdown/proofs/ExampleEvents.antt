@@ -6,7 +6,7 @@ use Rattle.zone_state.specs.declared.state.ZoneState.TheVariants as zone
 use Rattle.nvme_entry.specs.Entry.{decoded}
 use Rattle.instruction_set.specs.declared.instruction.Instruction.{Instruction}
 use Rattle.program_meaning.specs.BlockRun.{block_run_of}
-use Rattle.word_domain.specs.Domain.{Operations}
+use Rattle.device_meaning.specs.Judging.{Judge}
 use Rattle.image_store.specs.Namespace.{ZoneWithBlocks, ZonedNamespace, zone_at}
 use Rattle.device_meaning.specs.EventReplies.{Happening, submission_of}
 use Rattle.device_events.specs.Replies.{ReplyWithData, without_data}
@@ -39,10 +39,10 @@ device ns program limit = record (new_state ns) { slots = slots_with program lim
 abbrev state_in : State → ℕ → ZoneState
 state_in s z = (zone_at s.namespace z).state
 
-module _ {D : Type 0} (operations : Operations D) where
+module _ (judge : Judge) where
   -- an entry in queue 1, with the data beside it
   abbrev pub asks : List ℕ → List ℕ → State → Happening
-  asks entry input s = submitted operations false (submission_of 1 entry input) s (decoded entry)
+  asks entry input s = submitted judge false (submission_of 1 entry input) s (decoded entry)
 
   -- entries without data, one after another
   abbrev replies_asked : List (List ℕ) → State → List ReplyWithData

@@ -5,6 +5,7 @@ use Rattle.std.specs.declared.alloc.Global.{Global}
 use Rattle.zone_state.specs.declared.state.ZoneState.TheVariants as zone
 use Rattle.nvme_entry.specs.declared.command.RunCommand.{RunCommand}
 use Rattle.word_domain.specs.Domain.{Operations}
+use Rattle.device_meaning.specs.Judging.{judge_by}
 use Rattle.common_definitions.proofs.Proved.{all_append, all_same}
 use Rattle.emit_append.proofs.Proved.{AllBytes, FitsByte, by_place}
 use Rattle.image_store.specs.Geometry.{IsShape, Shape}
@@ -77,9 +78,9 @@ module _ {D : Type 0} (operations : Operations D) (there : Ptr) (alloc : Global)
       ∷ []
 
   abbrev state : State
-  state = state_after operations events (new_state (all_empty four))
+  state = state_after (judge_by operations) events (new_state (all_empty four))
 
-  pub is_reached : IsReached operations state
+  pub is_reached : IsReached (judge_by operations) state
   is_reached = record {
     first = all_empty four;
     events = events;

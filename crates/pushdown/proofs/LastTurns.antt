@@ -1,8 +1,7 @@
 -- The last turn of a run completes it, and no other does.
 use Rattle.std.proofs.Common.{◌≡◌, ◌≢◌, ℕ, List, [], ◌∷◌, Option, Some, None, refl, ap, subst, ◌∙◌, inl, inr}
 use Rattle.std.specs.Prelude.{◌⊎◌}
-use Rattle.word_domain.specs.Domain.{Operations}
-use Rattle.accepted_programs.specs.Laws.{AcceptedNeverTraps}
+use Rattle.device_meaning.specs.Judging.{IsSoundJudge, Judge}
 use Rattle.device_meaning.specs.EventReplies.{Happening}
 use Rattle.device_meaning.specs.Happenings.{turn_reply, turned}
 use Rattle.device_meaning.specs.Outcome.{EndsWithLast, Ending, Succeeds, Turn}
@@ -43,6 +42,6 @@ module _ (s : State) (run : ℕ) (place : Place) (turn : Turn) where
     },
   )
 
-pub last_turn_completes : {D : Type 0} (operations : Operations D) → AcceptedNeverTraps operations → LastTurnCompletes operations
-last_turn_completes operations never s reached run place turn later here first =
-    by_later s run place turn later here first (subst EndsWithLast first ((states_are_sound operations never s reached).ends run place here))
+pub last_turn_completes : (judge : Judge) → IsSoundJudge judge → LastTurnCompletes judge
+last_turn_completes judge sound s reached run place turn later here first =
+    by_later s run place turn later here first (subst EndsWithLast first ((states_are_sound judge sound s reached).ends run place here))

@@ -1,6 +1,6 @@
 -- What events keep of a zone that they don't clear, and that they keep the shape of the namespace.
 use Rattle.std.proofs.Common.{◌≡◌, ℕ, Bool, false, List, [], ◌∷◌, refl, ◌∙◌}
-use Rattle.word_domain.specs.Domain.{Operations}
+use Rattle.device_meaning.specs.Judging.{Judge}
 use Rattle.image_store.specs.Namespace.{ZonedNamespace, shape, zone_at}
 use Rattle.zone_state.specs.State.{is_cleared}
 use Rattle.zns_commands.specs.Laws.{NamespaceEvent, after}
@@ -37,11 +37,11 @@ added_keeps ns d z (b ∷ bs) stays = record {
   readable = λ known. uncleared_is_readable (zone_at (added ns d (b ∷ bs)) z).state stays;
 }
 
-module _ {D : Type 0} (operations : Operations D) where
-  event_keeps : (s : State) (starved : Bool) (e : Event) (z : ℕ) → Uncleared (happens operations s starved e).state.namespace z
-      → KeepsZone s.namespace (happens operations s starved e).state.namespace z
+module _ (judge : Judge) where
+  event_keeps : (s : State) (starved : Bool) (e : Event) (z : ℕ) → Uncleared (happens judge s starved e).state.namespace z
+      → KeepsZone s.namespace (happens judge s starved e).state.namespace z
   event_keeps s starved e z =
-      after_event operations (λ (t : State). Uncleared t.namespace z → KeepsZone s.namespace t.namespace z) s starved e (record {
+      after_event judge (λ (t : State). Uncleared t.namespace z → KeepsZone s.namespace t.namespace z) s starved e (record {
         same = λ stays. keeps_itself s.namespace z;
         step = λ step same is stays. step_keeps step s.namespace z stays;
         load = λ sub load t are takes stays. keeps_itself s.namespace z;
@@ -49,19 +49,19 @@ module _ {D : Type 0} (operations : Operations D) where
         turn = λ run place turn later is at first stays. added_keeps s.namespace place.destination z turn.blocks stays;
       })
 
-  pub events_keep : (events : List Occurrence) (s : State) (z : ℕ) → NoEventClears operations z events s
-      → KeepsZone s.namespace (state_after operations events s).namespace z
+  pub events_keep : (events : List Occurrence) (s : State) (z : ℕ) → NoEventClears judge z events s
+      → KeepsZone s.namespace (state_after judge events s).namespace z
   events_keep [] s z none = keeps_itself s.namespace z
   events_keep (o ∷ os) s z none =
-      let next = (happens operations s o.starved o.event).state in
-      keeps_on s.namespace next.namespace (state_after operations os next).namespace z
+      let next = (happens judge s o.starved o.event).state in
+      keeps_on s.namespace next.namespace (state_after judge os next).namespace z
       (event_keeps s o.starved o.event z none.0) (events_keep os next z none.1)
 
-  pub uncleared_zones_keep_blocks : UnclearedZonesKeepBlocks operations
+  pub uncleared_zones_keep_blocks : UnclearedZonesKeepBlocks judge
   uncleared_zones_keep_blocks s events z none = (events_keep events s z none).blocks
 
-  event_shape : (s : State) (starved : Bool) (e : Event) → shape (happens operations s starved e).state.namespace ≡ shape s.namespace
-  event_shape s starved e = after_event operations (λ (t : State). shape t.namespace ≡ shape s.namespace) s starved e (record {
+  event_shape : (s : State) (starved : Bool) (e : Event) → shape (happens judge s starved e).state.namespace ≡ shape s.namespace
+  event_shape s starved e = after_event judge (λ (t : State). shape t.namespace ≡ shape s.namespace) s starved e (record {
     same = refl;
     step = λ step same is. shapes_are_kept step s.namespace;
     load = λ sub load t are takes. refl;
@@ -69,6 +69,6 @@ module _ {D : Type 0} (operations : Operations D) where
     turn = λ run place turn later is at first. added_shape s.namespace place.destination turn.blocks;
   })
 
-  pub events_keep_shapes : EventsKeepShapes operations
+  pub events_keep_shapes : EventsKeepShapes judge
   events_keep_shapes s [] = refl
-  events_keep_shapes s (o ∷ os) = events_keep_shapes (happens operations s o.starved o.event).state os ∙ event_shape s o.starved o.event
+  events_keep_shapes s (o ∷ os) = events_keep_shapes (happens judge s o.starved o.event).state os ∙ event_shape s o.starved o.event

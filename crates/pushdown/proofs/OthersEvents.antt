@@ -3,7 +3,7 @@ use Rattle.std.proofs.Common.{◌≡◌, ◌≢◌, ℕ, ◌<◌, Bool, true, fa
 use Rattle.std.specs.Prelude.{is_none, position, nat_eq}
 use Rattle.std.proofs.lemmas.Bool.{eqb-false}
 use Rattle.std.proofs.lemmas.List.Quantifiers.{position-Some}
-use Rattle.word_domain.specs.Domain.{Operations}
+use Rattle.device_meaning.specs.Judging.{Judge}
 use Rattle.zone_resources.proofs.Proved.{there}
 use Rattle.device_meaning.specs.EventReplies.{Happening}
 use Rattle.pushdown.specs.Laws.{ForeignLeavesTurns, TurnTakesFirst}
@@ -41,11 +41,11 @@ turned_leaves s other run differs =
     after_turn (λ (t : State). place_at t run ≡ place_at s run) s other refl
     (λ p turn later at is. get_or-set_other s.places other run (place_left p later turn.ending) None differs)
 
-module _ {D : Type 0} (operations : Operations D) where
+module _ (judge : Judge) where
   pub foreign_event : (s : State) (starved : Bool) (e : Event) (run : ℕ) (place : Place) → is_turn_of run e ≡ false
-      → place_at s run ≡ Some place → place_at (happens operations s starved e).state run ≡ Some place
+      → place_at s run ≡ Some place → place_at (happens judge s starved e).state run ≡ Some place
   foreign_event s starved e run place foreign at =
-      after_event operations (λ (t : State). place_at t run ≡ Some place) s starved e (record {
+      after_event judge (λ (t : State). place_at t run ≡ Some place) s starved e (record {
         same = at;
         step = λ step same is. at;
         load = λ sub load t are takes. at;
@@ -55,7 +55,7 @@ module _ {D : Type 0} (operations : Operations D) where
             get_or-set_other s.places other run (place_left p later turn.ending) None (not_own run other e is foreign) ∙ at;
       })
 
-  pub foreign_leaves_turns : ForeignLeavesTurns operations
+  pub foreign_leaves_turns : ForeignLeavesTurns judge
   foreign_leaves_turns s o run place foreign at = foreign_event s o.starved o.event run place foreign at
 
 -- ---- a turn of the run itself

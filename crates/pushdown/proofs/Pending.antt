@@ -1,7 +1,7 @@
 -- An entry whose reply is Pending is a Run that is admitted.
 use Rattle.std.proofs.Common.{◌≡◌, ℕ, true, false, Some, refl, ap, ◌∙◌}
 use Rattle.nvme_entry.specs.declared.command.RunCommand.{RunCommand}
-use Rattle.word_domain.specs.Domain.{Operations}
+use Rattle.device_meaning.specs.Judging.{Judge}
 use Rattle.device_meaning.specs.EventReplies.{Happening, Submission, submission_of}
 use Rattle.device_events.specs.Replies.{ReplyWithData, without_data}
 use Rattle.pushdown.specs.Laws.{PendingIsAdmitted}
@@ -22,13 +22,13 @@ other_reply : (t : ReplyWithData) (run : ℕ) → is_pending t.reply ≡ false �
 other_reply t run other is =
     let pends_so : is_pending t.reply ≡ true = ap (λ (x : ReplyWithData). is_pending x.reply) is in cc
 
-module _ {D : Type 0} (operations : Operations D) (sub : Submission) (s : State) (run : ℕ) where
+module _ (judge : Judge) (sub : Submission) (s : State) (run : ℕ) where
   -- where the reply is Pending, a Run is admitted
   abbrev AdmittedIfPending : Happening → Type 0
   AdmittedIfPending h = h.reply ≡ without_data (reply.Pending run) → (command : RunCommand) × IsAdmitted s sub command run
 
   -- it is so of each entry
-  pends : HoldsOfEach operations AdmittedIfPending sub s
+  pends : HoldsOfEach judge AdmittedIfPending sub s
   pends = record {
     unchanged = λ status output untrapped is. absurd (other_reply _ run refl is);
     standard = λ c asked is. absurd (other_reply _ run refl is);
@@ -38,8 +38,8 @@ module _ {D : Type 0} (operations : Operations D) (sub : Submission) (s : State)
         (command, record { asked = asked; passed = passed; free = at ∙ ap Some same });
   }
 
-module _ {D : Type 0} (operations : Operations D) where
-  pub pending_is_admitted : PendingIsAdmitted operations
+module _ (judge : Judge) where
+  pub pending_is_admitted : PendingIsAdmitted judge
   pending_is_admitted s starved queue entry input run is =
       let sub = submission_of queue entry input.items in
-      of_entry operations (AdmittedIfPending operations sub s run) sub s (pends operations sub s run) starved is
+      of_entry judge (AdmittedIfPending judge sub s run) sub s (pends judge sub s run) starved is

@@ -12,8 +12,7 @@ use Rattle.nvme_entry.specs.declared.command.Command.TheVariants as commands
 use Rattle.nvme_entry.specs.declared.command.RunCommand.{RunCommand}
 use Rattle.instruction_set.specs.Program.{instruction_count}
 use Rattle.program_meaning.specs.BlockRun.{BlockRun}
-use Rattle.word_domain.specs.Domain.{Operations}
-use Rattle.accepted_programs.specs.Laws.{AcceptedNeverTraps}
+use Rattle.device_meaning.specs.Judging.{IsSoundJudge, Judge}
 use Rattle.image_store.specs.Namespace.{ZonedNamespace, shape, zone_at}
 use Rattle.image_store.proofs.Proved.{blocks_lie_in_zones, written_is_within, zone_room_is_bounded}
 use Rattle.device_meaning.specs.Admission.{admission_checks, source_blocks, task_of}
@@ -35,7 +34,7 @@ use Rattle.pushdown.proofs.OthersEvents.{free_within}
 
 -- ---- a run that is admitted, and the events after it
 
-module _ {D : Type 0} (operations : Operations D) (s : State) (queue : ℕ) (entry : List ℕ) (input : Vec ℕ Global) (command : RunCommand) (run : ℕ) where
+module _ (judge : Judge) (s : State) (queue : ℕ) (entry : List ℕ) (input : Vec ℕ Global) (command : RunCommand) (run : ℕ) where
   abbrev sub : Submission
   sub = submission_of queue entry input.items
 
@@ -43,12 +42,12 @@ module _ {D : Type 0} (operations : Operations D) (s : State) (queue : ℕ) (ent
   place = admitted_place sub s command
 
   abbrev begun : Bool → Happening
-  begun starved = happens operations s starved (event.Submit queue entry input)
+  begun starved = happens judge s starved (event.Submit queue entry input)
 
   started : (starved : Bool) → IsAdmitted s sub command run
       → begun starved ≡ record { reply = without_data (reply.Pending run); state = with_place s run (Some place) }
   started starved admitted =
-      ap (submitted operations starved sub s) admitted.asked
+      ap (submitted judge starved sub s) admitted.asked
       ∙ ap (λ (why : Option Status). start_by why (free_place s) sub s command) admitted.passed
       ∙ ap (λ (free : Option ℕ). start_by None free sub s command) admitted.free
 
@@ -79,7 +78,7 @@ module _ {D : Type 0} (operations : Operations D) (s : State) (queue : ℕ) (ent
     first = (begun starved).state
 
     abbrev now : State
-    now = state_after operations events first
+    now = state_after judge events first
 
     abbrev done : ℕ
     done = own_turns run events
@@ -87,35 +86,31 @@ module _ {D : Type 0} (operations : Operations D) (s : State) (queue : ℕ) (ent
     same_namespace : first.namespace ≡ s.namespace
     same_namespace = (starts starved admitted).namespace
 
-    ready : Ready operations run place first place.turns
+    ready : Ready judge run place first place.turns
     ready = record {
-      apart = event_apart operations s starved (event.Submit queue entry input) apart;
+      apart = event_apart judge s starved (event.Submit queue entry input) apart;
       at = (starts starved admitted).place;
       on = subst (λ (ns : ZonedNamespace). (zone_at ns place.destination).state ≢ Offline) (sym same_namespace) (destination_on admitted);
       goes = ends;
     }
 
     stands : Stands first now run place place.turns done
-    stands = stand operations run place events done first place.turns ready refl within
+    stands = stand judge run place events done first place.turns ready refl within
 
-    next : Next first now run place place.turns done
+    next : Next now run place place.turns done
     next = next_is first now run place place.turns done stands within
 
     same_blocks : blocks_at first place.destination ≡ blocks_at s place.destination
     same_blocks = ap (λ (ns : ZonedNamespace). (zone_at ns place.destination).blocks) same_namespace
 
-    does_its_turns : DoesItsTurns operations s queue entry input starved command run events
+    does_its_turns : DoesItsTurns judge s queue entry input starved command run events
     does_its_turns = record {
       left = stands.left;
       appended = rw same_blocks at stands.appended;
-      reply = next.reply;
-      then_appended = rw same_blocks at next.then_appended;
-      then_namespace = next.namespace;
-      then_left = next.then_left;
-      then_slots = next.then_slots;
+      does = next.does;
     }
 
-    changes_destination_alone : ChangesDestinationAlone operations s queue entry input starved command run events
+    changes_destination_alone : ChangesDestinationAlone judge s queue entry input starved command run events
     changes_destination_alone =
         let blocks = (get_or place.turns done no_turn).blocks in
         record {
@@ -133,18 +128,18 @@ module _ {D : Type 0} (operations : Operations D) (s : State) (queue : ℕ) (ent
               ap (λ (block : ℕ). of block (source_blocks ns command)) same_size ∙ ap (of s.namespace.block) same_source;
         }
 
-module _ {D : Type 0} (operations : Operations D) where
-  pub admitted_starts : AdmittedStarts operations
-  admitted_starts s starved queue entry input command run admitted = starts operations s queue entry input command run starved admitted
+module _ (judge : Judge) where
+  pub admitted_starts : AdmittedStarts judge
+  admitted_starts s starved queue entry input command run admitted = starts judge s queue entry input command run starved admitted
 
 -- ---- the theorem
 
-module _ {D : Type 0} (operations : Operations D) (never : AcceptedNeverTraps operations) (block : ℕ) (s : State) (fine : IsFine operations never block s)
+module _ (judge : Judge) (sound : IsSoundJudge judge) (block : ℕ) (s : State) (fine : IsFine judge sound block s)
     (queue : ℕ) (entry : List ℕ) (input : Vec ℕ Global) (starved : Bool) (command : RunCommand) (run : ℕ) (events : List Occurrence) where
   abbrev given : Submission
   given = submission_of queue entry input.items
 
-  tells_frames_and_blocks : IsAdmitted s given command run → TellsFramesAndBlocks operations s queue entry input starved command run events
+  tells_frames_and_blocks : IsAdmitted s given command run → TellsFramesAndBlocks judge s queue entry input starved command run events
   tells_frames_and_blocks admitted =
       let none = admitted.passed in
       let ns = s.namespace in
@@ -152,43 +147,43 @@ module _ {D : Type 0} (operations : Operations D) (never : AcceptedNeverTraps op
       let source = source_blocks ns command in
       let block_runs = block_runs_of task source in
       let some : 1 ≤ command.blocks = decoded_has entry (commands.Run command) admitted.asked in
-      let whole = outcome_is_packed task source (all_exit operations never block given s command fine none) in
-      let frames = few_frames task block_runs (block_runs_all_done operations never block given s command fine none) in
+      let whole = outcome_is_packed task source (all_exit judge sound block given s command fine none) in
+      let frames = few_frames task block_runs (block_runs_all_done judge sound block given s command fine none) in
       let few = few_block_runs task 0 no_scratch source in
-      let asked = written operations never block given s command fine none in
+      let asked = written judge sound block given s command fine none in
       let from = zone_at ns (command.lba / ns.size) in
       let inside = blocks_lie_in_zones ns.zones (command.lba / ns.size) 0 (omega (arith, asked, some)) in
       let most = written_is_within from.state (length from.blocks) ns.capacity (fine.is.fits (command.lba / ns.size) inside) in
-      let limit = (is_ready operations never block given s command fine none).sizes.fits in
+      let limit = (is_ready judge sound block given s command fine none).sizes.fits in
       let product = mul-le (length block_runs) task.sizes.limit ns.capacity ns.block
       (omega (arith, few, few_source ns command, asked, most)) limit in
       let shape = fine.is.shape in
-      let room = (admitted_room operations never block given s command fine none).room in
+      let room = (admitted_room judge sound block given s command fine none).room in
       record {
-        ending = whole.ending (some_block_run operations never block given s command fine none some);
+        ending = whole.ending (some_block_run judge sound block given s command fine none some);
         frames = omega (arith, frames, product, zone_room_is_bounded shape);
         blocks = omega (arith, room, shape.capacity_most, shape.size_most);
       }
 
-pub pushdown : {D : Type 0} (operations : Operations D) → AcceptedNeverTraps operations → Pushdown operations
-pushdown operations never s reached queue entry input starved command run after admitted =
+pub pushdown : (judge : Judge) → IsSoundJudge judge → Pushdown judge
+pushdown judge sound s reached queue entry input starved command run after admitted =
     let sub = submission_of queue entry input.items in
-    let fine = reached_fine operations never s reached in
+    let fine = reached_fine judge sound s reached in
     let block = reached.first.block in
     let task = task_of s.namespace (loaded_at s command.slot) command in
     let block_runs = block_runs_of task (source_blocks s.namespace command) in
     let none = admitted.passed in
-    let done = block_runs_all_done operations never block sub s command fine none in
-    let granted = all_granted operations never block sub s command fine none in
-    let ends = (turns_are operations never block sub s command fine none (decoded_has entry (commands.Run command) admitted.asked)).ends in
+    let done = block_runs_all_done judge sound block sub s command fine none in
+    let granted = all_granted judge sound block sub s command fine none in
+    let ends = (turns_are judge sound block sub s command fine none (decoded_has entry (commands.Run command) admitted.asked)).ends in
     record {
-      no_turn_traps = record { exits = all_exit operations never block sub s command fine none; ends = ends };
+      no_turn_traps = record { exits = all_exit judge sound block sub s command fine none; ends = ends };
       few_steps = all_from (IsDone task) (λ (r : BlockRun). r.steps ≤ instruction_count task.program) (λ r h. h.exits.steps) block_runs done;
       stays_in_granted_areas = record {
         from_start = λ index below. (granted index below).from_start;
         keeps = λ index below. (granted index below).keeps;
       };
-      changes_destination_alone = changes_destination_alone operations s queue entry input command run fine.apart starved admitted ends after;
-      does_its_turns = does_its_turns operations s queue entry input command run fine.apart starved admitted ends after;
-      tells_frames_and_blocks = tells_frames_and_blocks operations never block s fine queue entry input starved command run after admitted;
+      changes_destination_alone = changes_destination_alone judge s queue entry input command run fine.apart starved admitted ends after;
+      does_its_turns = does_its_turns judge s queue entry input command run fine.apart starved admitted ends after;
+      tells_frames_and_blocks = tells_frames_and_blocks judge sound block s fine queue entry input starved command run after admitted;
     }

@@ -14,7 +14,7 @@ use Rattle.nvme_entry.specs.declared.command.Command.TheVariants as commands
 use Rattle.nvme_entry.specs.declared.command.StandardCommand.{StandardCommand}
 use Rattle.nvme_entry.specs.declared.command.StandardCommand.TheVariants.{Write, Read, Append}
 use Rattle.nvme_entry.specs.declared.command.TheConstants.{MOST_TRANSFER}
-use Rattle.word_domain.specs.Domain.{Operations}
+use Rattle.device_meaning.specs.Judging.{Judge}
 use Rattle.image_store.specs.Namespace.{ZonedNamespace, zone_at, IsNamespace}
 use Rattle.image_store.proofs.Proved.{blocks_lie_in_zones, written_is_within}
 use Rattle.zns_commands.specs.Address.{zone_number}
@@ -72,19 +72,19 @@ blocks_read ns z front more behind is there some transfer =
 
 -- ---- events
 
-module _ {D : Type 0} (operations : Operations D) where
+module _ (judge : Judge) where
   -- an event that submits a command is completed with the command's meaning
   completed : (e : Event) (c : StandardCommand) (input : List ℕ) (s : State) (starved : Bool)
-      → Submits e (commands.Standard c) input → IsCompleted e s (meaning s.namespace (holds_at s) c input) (happens operations s starved e)
+      → Submits e (commands.Standard c) input → IsCompleted e s (meaning s.namespace (holds_at s) c input) (happens judge s starved e)
   completed (event.Submit queue entry bytes) c input s starved is =
       let sub = submission_of queue entry bytes.items in
-      ap (λ (r : Result Command Status). submitted operations starved sub s r) is.0
+      ap (λ (r : Result Command Status). submitted judge starved sub s r) is.0
       ∙ ap (λ (bytes : List ℕ). commanded sub s (meaning s.namespace (holds_at s) c bytes)) is.1
   completed (event.Turn run) c input s starved is = absurd is
   completed (event.Fault zone state) c input s starved is = absurd is
 
   leaves : (e : Event) (c : StandardCommand) (input : List ℕ) (s : State) (starved : Bool) → Submits e (commands.Standard c) input
-      → (happens operations s starved e).state.namespace ≡ (meaning s.namespace (holds_at s) c input).namespace
+      → (happens judge s starved e).state.namespace ≡ (meaning s.namespace (holds_at s) c input).namespace
   leaves (event.Submit queue entry bytes) c input s starved is =
       ap (λ (h : Happening). h.state.namespace) (completed (event.Submit queue entry bytes) c input s starved is)
   leaves (event.Turn run) c input s starved is = absurd is
@@ -97,36 +97,36 @@ module _ {D : Type 0} (operations : Operations D) where
 
   -- what is read of a namespace is read of a device
   reads : (s : State) (lba blocks : ℕ) (bytes : List ℕ) → AreRead s.namespace lba blocks bytes
-      → ReadsGive operations s lba blocks bytes
+      → ReadsGive judge s lba blocks bytes
   reads s lba blocks bytes is read submits =
-      subst (λ (effect : Effect). IsCompleted read.event s effect (happens operations s read.starved read.event)) (is (holds_at s))
+      subst (λ (effect : Effect). IsCompleted read.event s effect (happens judge s read.starved read.event)) (is (holds_at s))
       (completed read.event (Read lba blocks) [] s read.starved submits)
 
   -- what is left of a zone after a command and after events that don't clear it
   lasts : (s : State) (o : Occurrence) (c : StandardCommand) (input : List ℕ) (events : List Occurrence) (z : ℕ) → Submits o.event (commands.Standard c) input
-      → NoEventClears operations z events (happens operations s o.starved o.event).state
+      → NoEventClears judge z events (happens judge s o.starved o.event).state
       → KeepsZone (meaning s.namespace (holds_at s) c input).namespace
-      (state_after operations events (happens operations s o.starved o.event).state).namespace z
+      (state_after judge events (happens judge s o.starved o.event).state).namespace z
   lasts s o c input events z is none =
-      let then = (happens operations s o.starved o.event).state in
-      let last = state_after operations events then in
-      subst (λ (ns : ZonedNamespace). KeepsZone ns last.namespace z) (leaves o.event c input s o.starved is) (events_keep operations events then z none)
+      let then = (happens judge s o.starved o.event).state in
+      let last = state_after judge events then in
+      subst (λ (ns : ZonedNamespace). KeepsZone ns last.namespace z) (leaves o.event c input s o.starved is) (events_keep judge events then z none)
 
-  pub appended_blocks_read_back : AppendedBlocksReadBack operations
+  pub appended_blocks_read_back : AppendedBlocksReadBack judge
   appended_blocks_read_back s sound o lba blocks input events is succeeded none =
       let ns = s.namespace in
       let c = Append lba blocks in
       let done = meaning ns (holds_at s) c input in
-      let last = state_after operations events (happens operations s o.starved o.event).state in
+      let last = state_after judge events (happens judge s o.starved o.event).state in
       let keeps = lasts s o c input events (zone_number ns lba) is none in
       let later = appended_stays ns (holds_at s) lba blocks input last.namespace sound (has_blocks o.event c input is) succeeded keeps in
       (completed o.event c input s o.starved is, reads last (done.dw0 + done.dw1 * 2 ^ 32) blocks input later)
 
-  pub written_blocks_read_back : WrittenBlocksReadBack operations
+  pub written_blocks_read_back : WrittenBlocksReadBack judge
   written_blocks_read_back s sound o lba blocks input events is succeeded none =
       let ns = s.namespace in
       let c = Write lba blocks in
-      let last = state_after operations events (happens operations s o.starved o.event).state in
+      let last = state_after judge events (happens judge s o.starved o.event).state in
       let keeps = lasts s o c input events (zone_number ns lba) is none in
       let later = written_stays ns (holds_at s) lba blocks input last.namespace sound (has_blocks o.event c input is) succeeded keeps in
       (completed o.event c input s o.starved is, reads last lba blocks input later)
@@ -147,11 +147,11 @@ is_part all at blocks within =
       count = length-take-le blocks (drop at all) (omega arith);
     }
 
-module _ {D : Type 0} (operations : Operations D) where
+module _ (judge : Judge) where
   -- a part of blocks that lie in a zone behind others
   pub part_is_read : (s : State) (z : ℕ) (front all behind : List (List ℕ)) (at blocks : ℕ) → IsNamespace s.namespace
       → blocks_at s z ≡ front ++ (all ++ behind) → at + blocks ≤ length all → 1 ≤ blocks → blocks * s.namespace.block ≤ MOST_TRANSFER
-      → ReadsGive operations s (z * s.namespace.size + length front + at) blocks (concat (take blocks (drop at all)))
+      → ReadsGive judge s (z * s.namespace.size + length front + at) blocks (concat (take blocks (drop at all)))
   part_is_read s z front all behind at blocks is there within some transfer =
       let ns = s.namespace in
       let part = is_part all at blocks within in
@@ -166,28 +166,28 @@ module _ {D : Type 0} (operations : Operations D) where
       let read = blocks_read ns z (front ++ before) more (after ++ behind) is lie (omega (arith, part.count)) long in
       let joined = length-append front before in
       let start : z * ns.size + length (front ++ before) ≡ z * ns.size + length front + at = omega (arith, joined, part.start) in
-      reads operations s (z * ns.size + length front + at) blocks (concat more)
+      reads judge s (z * ns.size + length front + at) blocks (concat more)
       (subst (λ (lba : ℕ). AreRead ns lba blocks (concat more)) start
       (subst (λ (n : ℕ). AreRead ns (z * ns.size + length (front ++ before)) n (concat more)) part.count read))
 
-  pub written_is_read : WrittenIsRead operations
+  pub written_is_read : WrittenIsRead judge
   written_is_read s z at blocks is within some transfer =
       let all = blocks_at s z in
       let same : z * s.namespace.size + 0 + at ≡ z * s.namespace.size + at = omega arith in
-      subst (λ (lba : ℕ). ReadsGive operations s lba blocks (concat (take blocks (drop at all)))) same
+      subst (λ (lba : ℕ). ReadsGive judge s lba blocks (concat (take blocks (drop at all)))) same
       (part_is_read s z [] all [] at blocks is (sym (append-nil all)) within some transfer)
 
   -- blocks of which each is read are read one after another
   pub each_is_read : (s : State) (all : List (List ℕ)) (lba : ℕ)
-      → ((at : ℕ) → at + 1 ≤ length all → ReadsGive operations s (lba + at) 1 (concat (take 1 (drop at all))))
-      → BlocksAreRead operations s lba all
+      → ((at : ℕ) → at + 1 ≤ length all → ReadsGive judge s (lba + at) 1 (concat (take 1 (drop at all))))
+      → BlocksAreRead judge s lba all
   each_is_read s [] lba each = tt
   each_is_read s (b ∷ bs) lba each =
       let first : lba + 0 ≡ lba = omega arith in (
-        subst (λ (n : ℕ). ReadsGive operations s n 1 b) first
-            (subst (λ (bytes : List ℕ). ReadsGive operations s (lba + 0) 1 bytes) (append-nil b) (each 0 (omega arith))),
+        subst (λ (n : ℕ). ReadsGive judge s n 1 b) first
+            (subst (λ (bytes : List ℕ). ReadsGive judge s (lba + 0) 1 bytes) (append-nil b) (each 0 (omega arith))),
         each_is_read s bs (lba + 1)
             (λ at within.
             let next : lba + suc at ≡ lba + 1 + at = omega arith in
-            subst (λ (n : ℕ). ReadsGive operations s n 1 (concat (take 1 (drop at bs)))) next (each (suc at) (omega arith))),
+            subst (λ (n : ℕ). ReadsGive judge s n 1 (concat (take 1 (drop at bs)))) next (each (suc at) (omega arith))),
       )

@@ -5,8 +5,7 @@ use Rattle.std.proofs.Common.{◌≡◌, ◌≢◌, ℕ, Bool, true, false, List
 use Rattle.zone_state.specs.declared.state.FaultState.{FaultState}
 use Rattle.zone_state.specs.declared.status.TheConstants.Status.{SUCCESS}
 use Rattle.zone_state.specs.declared.zone.FaultRefused.{FaultRefused}
-use Rattle.word_domain.specs.Domain.{Operations}
-use Rattle.accepted_programs.specs.Laws.{AcceptedNeverTraps}
+use Rattle.device_meaning.specs.Judging.{IsSoundJudge, Judge}
 use Rattle.zns_commands.specs.Fault.{faulted_by, zone_fault_refusal}
 use Rattle.device_meaning.specs.EventReplies.{CompletesOnlyWith, Happening, is_completion}
 use Rattle.device_meaning.specs.Happenings.{fault_reply, happens, turn_reply, turn_state}
@@ -74,13 +73,13 @@ fault_leaves s zone state (Err refused) = record { idle = λ is. refl; fault = �
 
 -- ---- events
 
-module _ {D : Type 0} (operations : Operations D) where
+module _ (judge : Judge) where
   entry_leaves : (s : State) (starved : Bool) (queue : ℕ) (entry : List ℕ) (input : Vec ℕ Global)
-      → let e = event.Submit queue entry input in LeavesIfRefused s e (happens operations s starved e)
+      → let e = event.Submit queue entry input in LeavesIfRefused s e (happens judge s starved e)
   entry_leaves s starved queue entry input =
       let e = event.Submit queue entry input in
-      let h = happens operations s starved e in
-      elim (refused_leaves_state operations s starved queue entry input) [
+      let h = happens judge s starved e in
+      elim (refused_leaves_state judge s starved queue entry input) [
         | inl pending ↦
             leaves_by s e h is_pending (ap (λ (x : ReplyWithData). is_pending x.reply) pending.1) refl refl
             (inl (ap (λ (x : ReplyWithData). is_completion x.reply) pending.1))
@@ -88,7 +87,7 @@ module _ {D : Type 0} (operations : Operations D) where
       ]
 
   event_leaves : (s : State) (starved : Bool) (e : Event) → ((run : ℕ) (place : Place) → place_at s run ≡ Some place → EndsWithLast place.turns)
-      → LeavesIfRefused s e (happens operations s starved e)
+      → LeavesIfRefused s e (happens judge s starved e)
   event_leaves s starved (event.Submit queue entry input) ends = entry_leaves s starved queue entry input
   event_leaves s starved (event.Turn run) ends =
       of_turn (LeavesIfRefused s (event.Turn run)) s run (record { idle = λ is. refl; fault = λ is. refl; completed = inl refl })
@@ -97,5 +96,5 @@ module _ {D : Type 0} (operations : Operations D) where
       (λ e is. ends_with_success turn later e (subst EndsWithLast first (ends run place here)) is))
   event_leaves s starved (event.Fault zone state) ends = fault_leaves s zone state (zone_fault_refusal s.namespace (holds_at s) zone state)
 
-  pub refused_events_leave_state : AcceptedNeverTraps operations → RefusedEventsLeaveState operations
-  refused_events_leave_state never s o reached = event_leaves s o.starved o.event (states_are_sound operations never s reached).ends
+  pub refused_events_leave_state : IsSoundJudge judge → RefusedEventsLeaveState judge
+  refused_events_leave_state sound s o reached = event_leaves s o.starved o.event (states_are_sound judge sound s reached).ends

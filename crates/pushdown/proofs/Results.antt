@@ -11,8 +11,7 @@ use Rattle.common_definitions.proofs.Proved.{demanded, passed}
 use Rattle.nvme_entry.specs.declared.command.Command.{Command}
 use Rattle.nvme_entry.specs.declared.command.Command.TheVariants as commands
 use Rattle.nvme_entry.specs.declared.command.RunCommand.{RunCommand}
-use Rattle.word_domain.specs.Domain.{Operations}
-use Rattle.accepted_programs.specs.Laws.{AcceptedNeverTraps}
+use Rattle.device_meaning.specs.Judging.{IsSoundJudge, Judge}
 use Rattle.accepted_programs.proofs.Proved.{set_some}
 use Rattle.program_meaning.specs.BlockRun.{BlockRun}
 use Rattle.zns_commands.specs.Effect.{success_effect}
@@ -20,7 +19,7 @@ use Rattle.zns_commands.specs.Transfer.{transfer_checks}
 use Rattle.zone_resources.proofs.Proved.{there}
 use Rattle.device_meaning.specs.Admission.{Loaded, admission_checks}
 use Rattle.device_meaning.specs.BlockRuns.{Task, last_scratch}
-use Rattle.device_meaning.specs.EventReplies.{Submission, completed, submission_of}
+use Rattle.device_meaning.specs.EventReplies.{Happening, Submission, completed, submission_of}
 use Rattle.device_meaning.specs.Events.{Occurrence, state_after}
 use Rattle.device_meaning.specs.Happenings.{happens, just_loaded, keeping, place_left, result_by, slots_left, submitted, take_turn}
 use Rattle.device_meaning.specs.Outcome.{Ending, Turn, ending_of}
@@ -37,10 +36,10 @@ use Rattle.pushdown.proofs.TurnsDone.{left_other}
 
 -- ---- a slot that has a program has one
 
-module _ {D : Type 0} (operations : Operations D) where
+module _ (judge : Judge) where
   event_leaves_some : (s : State) (starved : Bool) (e : Event) (slot : ℕ) → is_some (loaded_at s slot) ≡ true
-      → is_some (loaded_at (happens operations s starved e).state slot) ≡ true
-  event_leaves_some s starved e slot is = after_event operations (λ (t : State). is_some (loaded_at t slot) ≡ true) s starved e (record {
+      → is_some (loaded_at (happens judge s starved e).state slot) ≡ true
+  event_leaves_some s starved e slot is = after_event judge (λ (t : State). is_some (loaded_at t slot) ≡ true) s starved e (record {
     same = is;
     step = λ step same fit. is;
     load = λ sub load t are takes. set_some s.slots load.slot slot (just_loaded takes.program load.limit) is;
@@ -49,10 +48,10 @@ module _ {D : Type 0} (operations : Operations D) where
   })
 
   events_leave_some : (events : List Occurrence) (s : State) (slot : ℕ) → is_some (loaded_at s slot) ≡ true
-      → is_some (loaded_at (state_after operations events s) slot) ≡ true
+      → is_some (loaded_at (state_after judge events s) slot) ≡ true
   events_leave_some [] s slot is = is
   events_leave_some (o ∷ os) s slot is =
-      events_leave_some os (happens operations s o.starved o.event).state slot (event_leaves_some s o.starved o.event slot is)
+      events_leave_some os (happens judge s o.starved o.event).state slot (event_leaves_some s o.starved o.event slot is)
 
 -- ---- the result that the last turn leaves
 
@@ -83,7 +82,7 @@ last_scratch_long task (run ∷ next ∷ block_runs) done some = last_scratch_lo
 
 -- ---- events that don't replace a result
 
-module _ {D : Type 0} (operations : Operations D) (slot : ℕ) where
+module _ (judge : Judge) (slot : ℕ) where
   left_by : (s : State) (run : ℕ) (p : Place) (turn : Turn) (later : List Turn) (ending : Option Ending) → place_at s run ≡ Some p
       → turn.ending ≡ ending → NoRunEnds slot s (take_turn s run p (turn ∷ later)).state
       → get_or (slots_left s p ending) slot None ≡ loaded_at s slot
@@ -99,9 +98,9 @@ module _ {D : Type 0} (operations : Operations D) (slot : ℕ) where
     | inr differs ↦ left_other s p (Some ending) slot (λ equal. differs.1 (sym equal))
   ]
 
-  event_leaves : (s : State) (starved : Bool) (e : Event) → NoRunEnds slot s (happens operations s starved e).state
-      → (LoadSucceeds slot e (happens operations s starved e).reply → ⊥) → loaded_at (happens operations s starved e).state slot ≡ loaded_at s slot
-  event_leaves s starved (event.Submit queue entry input) ends loads = elim (only_loads_change_slots operations s starved queue entry input) [
+  event_leaves : (s : State) (starved : Bool) (e : Event) → NoRunEnds slot s (happens judge s starved e).state
+      → (LoadSucceeds slot e (happens judge s starved e).reply → ⊥) → loaded_at (happens judge s starved e).state slot ≡ loaded_at s slot
+  event_leaves s starved (event.Submit queue entry input) ends loads = elim (only_loads_change_slots judge s starved queue entry input) [
     | inl same ↦ ap (λ (xs : List (Option Loaded)). get_or xs slot None) same
     | inr loaded ↦
         let load = loaded.0 in
@@ -117,82 +116,82 @@ module _ {D : Type 0} (operations : Operations D) (slot : ℕ) where
       (λ p turn later at is. left_by s run p turn later turn.ending at refl) ends
   event_leaves s starved (event.Fault zone state) ends loads = refl
 
-  events_leave : (events : List Occurrence) (s : State) → NoEventReplaces operations slot events s
-      → loaded_at (state_after operations events s) slot ≡ loaded_at s slot
+  events_leave : (events : List Occurrence) (s : State) → NoEventReplaces judge slot events s
+      → loaded_at (state_after judge events s) slot ≡ loaded_at s slot
   events_leave [] s none = refl
   events_leave (o ∷ os) s none =
-      events_leave os (happens operations s o.starved o.event).state none.1.1 ∙ event_leaves s o.starved o.event none.0 none.1.0
+      events_leave os (happens judge s o.starved o.event).state none.1.1 ∙ event_leaves s o.starved o.event none.0 none.1.0
 
 -- ---- Result gives it
 
-module _ {D : Type 0} (operations : Operations D) (s : State) (slot : ℕ) (bytes : List ℕ) (has : HasResult s slot bytes) where
+module _ (judge : Judge) (s : State) (slot : ℕ) (bytes : List ℕ) (has : HasResult s slot bytes) where
   given : (e : Event) (starved : Bool) → Submits e (commands.Result slot) []
-      → IsCompleted e s (success_effect s.namespace 0 bytes) (happens operations s starved e)
+      → IsCompleted e s (success_effect s.namespace 0 bytes) (happens judge s starved e)
   given (event.Submit queue entry input) starved is =
       let sub = submission_of queue entry input.items in
-      ap (λ (r : Result Command Status). submitted operations starved sub s r) is.0
+      ap (λ (r : Result Command Status). submitted judge starved sub s r) is.0
       ∙ ap (λ (xs : List ℕ). result_by (loaded_at s slot) (first_failed (transfer_checks 0 0 xs)) sub s) is.1
       ∙ ap (λ (of : Option Loaded). result_by of None sub s) has.at
       ∙ ap (λ (xs : List ℕ). completed sub SUCCESS 0 0 xs s) has.result
   given (event.Turn run) starved is = absurd is
   given (event.Fault zone state) starved is = absurd is
 
-  result_given : ResultGives operations s slot bytes
+  result_given : ResultGives judge s slot bytes
   result_given o submits = given o.event o.starved submits
 
 -- ---- a run
 
-module _ {D : Type 0} (operations : Operations D) (never : AcceptedNeverTraps operations) (s : State) (reached : IsReached operations s)
+module _ (judge : Judge) (sound : IsSoundJudge judge) (s : State) (reached : IsReached judge s)
     (queue : ℕ) (entry : List ℕ) (input : Vec ℕ Global) (starved : Bool) (command : RunCommand) (run : ℕ) (events later : List Occurrence) where
   abbrev sub : Submission
   sub = submission_of queue entry input.items
 
   abbrev all_block_runs : List BlockRun
-  all_block_runs = block_runs operations s queue entry input starved command run events
+  all_block_runs = block_runs judge s queue entry input starved command run events
 
   abbrev here : Place
-  here = place operations s queue entry input starved command run events
+  here = place judge s queue entry input starved command run events
 
   abbrev before_turn : State
-  before_turn = now operations s queue entry input starved command run events
+  before_turn = now judge s queue entry input starved command run events
 
   abbrev then : State
-  then = after_turn operations s queue entry input starved command run events later
+  then = after_turn judge s queue entry input starved command run events later
 
   module _ (admitted : IsAdmitted s sub command run) where
     has_program : is_some (loaded_at before_turn command.slot) ≡ true
     has_program =
         let checks = admission_checks s.namespace (holds_at s) (is_some (free_place s)) (loaded_at s command.slot) command sub.input in
         let asked : Occurrence = record { event = event.Submit queue entry input; starved = starved } in
-        events_leave_some operations (asked ∷ events) s command.slot
+        events_leave_some judge (asked ∷ events) s command.slot
         (demanded (is_some (loaded_at s command.slot)) NO_SUCH_PROGRAM (passed checks 2 admitted.passed))
 
     leaves_result : own_turns run events + 1 ≡ length here.turns → HasResult then command.slot (last_scratch all_block_runs)
     leaves_result last =
         let k = own_turns run events in
-        let theorem = pushdown operations never s reached queue entry input starved command run events admitted in
+        let theorem = pushdown judge sound s reached queue entry input starved command run events admitted in
         let does = theorem.does_its_turns (omega (arith, last)) in
         let ending = last_ending here.turns k last ∙ theorem.tells_frames_and_blocks.ending in
-        let slots = does.then_slots ∙ ap (slots_left before_turn here) ending in
+        let slots = ap (λ (h : Happening). h.state.slots) does.does ∙ ap (slots_left before_turn here) ending in
         let old = loaded_at before_turn command.slot in
         let new = keeping_has before_turn command.slot (last_scratch all_block_runs) old refl has_program in
         record { loaded = new.loaded; at = ap (λ (xs : List (Option Loaded)). get_or xs command.slot None) slots ∙ new.at; result = new.result }
 
     long : length (last_scratch all_block_runs) ≡ 1024
     long =
-        let fine = reached_fine operations never s reached in
+        let fine = reached_fine judge sound s reached in
         let block = reached.first.block in
-        let some = some_block_run operations never block sub s command fine admitted.passed (decoded_has entry (commands.Run command) admitted.asked) in
-        last_scratch_long (task operations s queue entry input starved command run events) all_block_runs
-        (block_runs_all_done operations never block sub s command fine admitted.passed) some
+        let some = some_block_run judge sound block sub s command fine admitted.passed (decoded_has entry (commands.Run command) admitted.asked) in
+        last_scratch_long (task judge s queue entry input starved command run events) all_block_runs
+        (block_runs_all_done judge sound block sub s command fine admitted.passed) some
 
-pub results_read_back : {D : Type 0} (operations : Operations D) → AcceptedNeverTraps operations → ResultsReadBack operations
-results_read_back operations never s reached queue entry input starved command run events later admitted last none =
-    let has = leaves_result operations never s reached queue entry input starved command run events later admitted last in
-    let then = after_turn operations s queue entry input starved command run events later in
-    let end = state_after operations later then in
-    let same = events_leave operations command.slot later then none in
-    let bytes = last_scratch (block_runs operations s queue entry input starved command run events) in (
-      long operations never s reached queue entry input starved command run events later admitted,
-      result_given operations end command.slot bytes (record { loaded = has.loaded; at = same ∙ has.at; result = has.result }),
+pub results_read_back : (judge : Judge) → IsSoundJudge judge → ResultsReadBack judge
+results_read_back judge sound s reached queue entry input starved command run events later admitted last none =
+    let has = leaves_result judge sound s reached queue entry input starved command run events later admitted last in
+    let then = after_turn judge s queue entry input starved command run events later in
+    let end = state_after judge later then in
+    let same = events_leave judge command.slot later then none in
+    let bytes = last_scratch (block_runs judge s queue entry input starved command run events) in (
+      long judge sound s reached queue entry input starved command run events later admitted,
+      result_given judge end command.slot bytes (record { loaded = has.loaded; at = same ∙ has.at; result = has.result }),
     )

@@ -6,14 +6,14 @@ use Rattle.std.proofs.lemmas.List.Sums.{sum_by-cons}
 use Rattle.zone_state.specs.declared.state.ZoneState.TheVariants.{Offline}
 use Rattle.zone_resources.specs.Holds.{is_destination}
 use Rattle.zone_resources.specs.declared.holds.Holds.{Holds}
-use Rattle.word_domain.specs.Domain.{Operations}
+use Rattle.device_meaning.specs.Judging.{Judge}
 use Rattle.image_store.specs.Namespace.{ZoneWithBlocks, ZonedNamespace, zone_at}
 use Rattle.zns_commands.proofs.Proved.{held_destinations_are_left}
 use Rattle.zone_resources.proofs.Proved.{there}
 use Rattle.device_meaning.specs.Admission.{SameProgram}
 use Rattle.device_meaning.specs.EventReplies.{Happening}
 use Rattle.device_meaning.specs.Events.{Occurrence, state_after}
-use Rattle.device_meaning.specs.Happenings.{added, happens, keeping, place_left, slots_left, turn_reply, turned}
+use Rattle.device_meaning.specs.Happenings.{added, happens, keeping, slots_left, take_turn, turn_reply, turn_state, turned}
 use Rattle.device_meaning.specs.Outcome.{EndsWithLast, Ending, Turn, appended_by}
 use Rattle.zone_resources.specs.Counts.{one_if}
 use Rattle.pushdown.specs.Pushdown.{blocks_at, is_turn_of, no_turn, own_turns}
@@ -25,12 +25,12 @@ use Rattle.pushdown.proofs.OthersEvents.{foreign_event, not_own, turn_takes_firs
 
 -- ---- a foreign event leaves the destination
 
-foreign_zone : {D : Type 0} (operations : Operations D) (s : State) (starved : Bool) (e : Event) (run : ℕ) (place : Place) → is_turn_of run e ≡ false
+foreign_zone : (judge : Judge) (s : State) (starved : Bool) (e : Event) (run : ℕ) (place : Place) → is_turn_of run e ≡ false
     → AreApart s.places → place_at s run ≡ Some place
-    → zone_at (happens operations s starved e).state.namespace place.destination ≡ zone_at s.namespace place.destination
-foreign_zone operations s starved e run place foreign h at =
+    → zone_at (happens judge s starved e).state.namespace place.destination ≡ zone_at s.namespace place.destination
+foreign_zone judge s starved e run place foreign h at =
     let d = place.destination in
-    after_event operations (λ (t : State). zone_at t.namespace d ≡ zone_at s.namespace d) s starved e (record {
+    after_event judge (λ (t : State). zone_at t.namespace d ≡ zone_at s.namespace d) s starved e (record {
       same = refl;
       step = λ step same is.
           held_destinations_are_left step s.namespace d (subst (λ (holds : Holds). is_destination holds d ≡ true) (sym same) (held_at s.places run place at));
@@ -53,8 +53,8 @@ pub record Stands (s now : State) (run : ℕ) (place : Place) (turns : List Turn
   pub apart : AreApart now.places
   pub on : (zone_at now.namespace place.destination).state ≢ Offline
 
-module _ {D : Type 0} (operations : Operations D) where
-  own_event : (s : State) (starved : Bool) (e : Event) (run : ℕ) → is_turn_of run e ≡ true → happens operations s starved e ≡ turned s run
+module _ (judge : Judge) where
+  own_event : (s : State) (starved : Bool) (e : Event) (run : ℕ) → is_turn_of run e ≡ true → happens judge s starved e ≡ turned s run
   own_event s starved (event.Submit queue entry input) run mine = cc
   own_event s starved (event.Turn other) run mine = ap (turned s) (eqb-true other run mine)
   own_event s starved (event.Fault zone state) run mine = cc
@@ -69,22 +69,22 @@ module _ {D : Type 0} (operations : Operations D) where
 
     abbrev Stand : List Occurrence → Type 0
     Stand events = (k : ℕ) (s : State) (turns : List Turn) → Ready s turns → own_turns run events ≡ k → k < length turns
-        → Stands s (state_after operations events s) run place turns k
+        → Stands s (state_after judge events s) run place turns k
 
     abbrev Step : Occurrence → List Occurrence → Bool → Type 0
     Step o os mine = (k : ℕ) (s : State) (turns : List Turn) → is_turn_of run o.event ≡ mine → Ready s turns
         → one_if mine + own_turns run os ≡ k → k < length turns
-        → Stands s (state_after operations (o ∷ os) s) run place turns k
+        → Stands s (state_after judge (o ∷ os) s) run place turns k
 
     foreign_step : (o : Occurrence) (os : List Occurrence) → Stand os → Step o os false
     foreign_step o os rest k s turns mine ready own less =
-        let then = (happens operations s o.starved o.event).state in
+        let then = (happens judge s o.starved o.event).state in
         let here = with_turns place turns in
-        let zone = foreign_zone operations s o.starved o.event run here mine ready.apart ready.at in
+        let zone = foreign_zone judge s o.starved o.event run here mine ready.apart ready.at in
         let later = rest k then turns
         (record {
-          apart = event_apart operations s o.starved o.event ready.apart;
-          at = foreign_event operations s o.starved o.event run here mine ready.at;
+          apart = event_apart judge s o.starved o.event ready.apart;
+          at = foreign_event judge s o.starved o.event run here mine ready.at;
           on = subst (λ (z : ZoneWithBlocks). z.state ≢ Offline) (sym zone) ready.on;
           goes = ready.goes;
         }) (omega (arith, own)) less in
@@ -103,14 +103,14 @@ module _ {D : Type 0} (operations : Operations D) where
         let d = place.destination in
         let here = with_turns place (turn ∷ next ∷ turns) in
         let is = own_event s o.starved o.event run mine in
-        let then = (happens operations s o.starved o.event).state in
+        let then = (happens judge s o.starved o.event).state in
         let took = ap (λ (h : Happening). h.state.namespace) (is ∙ turned_is s run here turn (next ∷ turns) ready.at refl) in
         let new = is_added s.namespace d turn.blocks ready.on in
         let blocks : blocks_at then d ≡ blocks_at s d ++ turn.blocks = ap (λ (ns : ZonedNamespace). (zone_at ns d).blocks) took ∙ new.blocks_is in
         let all = appended_by (take m (next ∷ turns)) in
         let later = rest m then (next ∷ turns)
         (record {
-          apart = event_apart operations s o.starved o.event ready.apart;
+          apart = event_apart judge s o.starved o.event ready.apart;
           at = ap (λ (h : Happening). place_at h.state run) is
               ∙ (turn_takes_first s run here turn (next ∷ turns) ready.at refl).later_left ready.goes.0;
           on = subst (λ (ns : ZonedNamespace). (zone_at ns d).state ≢ Offline) (sym took) new.on;
@@ -135,7 +135,7 @@ module _ {D : Type 0} (operations : Operations D) where
 
 -- ---- the next turn
 
-take_next : (turns : List Turn) (k : ℕ) → k < length turns
+pub take_next : (turns : List Turn) (k : ℕ) → k < length turns
     → appended_by (take k turns) ++ (get_or turns k no_turn).blocks ≡ appended_by (take (k + 1) turns)
 take_next [] k less = absurd (omega (arith, less))
 take_next (turn ∷ turns) zero less = sym (append-nil turn.blocks)
@@ -152,34 +152,30 @@ left_other s place None slot differs = refl
 left_other s place (Some ending) slot differs =
     get_or-set_other s.slots place.slot slot (keeping (loaded_at s place.slot) ending.result) None differs
 
--- ---- the turns that a place had don't matter for what is left
+-- ---- the turns that a place had don't matter for what its next turn does
 
-same_place : (place : Place) (turns later : List Turn) (ending : Option Ending)
-    → place_left (with_turns place turns) later ending ≡ place_left place later ending
-same_place place turns later None = refl
-same_place place turns later (Some ending) = refl
-
-slots_of : (s : State) (place : Place) (turns : List Turn) (ending : Option Ending)
-    → slots_left s (with_turns place turns) ending ≡ slots_left s place ending
-slots_of s place turns None = refl
-slots_of s place turns (Some ending) = refl
+same_turn : (s : State) (run : ℕ) (place : Place) (turns later : List Turn) (blocks : List (List ℕ)) (ending : Option Ending)
+    → let turn : Turn = record { blocks = blocks; ending = ending } in
+    take_turn s run (with_turns place turns) (turn ∷ later)
+    ≡ record { reply = turn_reply run place ending; state = turn_state s run place turn later }
+same_turn s run place turns later blocks None = refl
+same_turn s run place turns later blocks (Some ending) = refl
 
 -- ---- what the next turn does
 
-pub record Next (s now : State) (run : ℕ) (place : Place) (turns : List Turn) (k : ℕ) : Type 0 where
-  pub reply : (turned now run).reply ≡ turn_reply run place (get_or turns k no_turn).ending
+pub record Next (now : State) (run : ℕ) (place : Place) (turns : List Turn) (k : ℕ) : Type 0 where
+  pub does : turned now run ≡ record {
+    reply = turn_reply run place (get_or turns k no_turn).ending;
+    state = turn_state now run place (get_or turns k no_turn) (drop (k + 1) turns);
+  }
   pub namespace : (turned now run).state.namespace ≡ added now.namespace place.destination (get_or turns k no_turn).blocks
   pub at_its_end : blocks_at (turned now run).state place.destination ≡ blocks_at now place.destination ++ (get_or turns k no_turn).blocks
-  pub then_appended : blocks_at (turned now run).state place.destination
-      ≡ blocks_at s place.destination ++ appended_by (take (k + 1) turns)
-  pub then_left : place_at (turned now run).state run ≡ place_left place (drop (k + 1) turns) (get_or turns k no_turn).ending
-  pub then_slots : (turned now run).state.slots ≡ slots_left now place (get_or turns k no_turn).ending
   pub other_runs : (other : ℕ) → other ≢ run → place_at (turned now run).state other ≡ place_at now other
   pub other_slots : (slot : ℕ) → slot ≢ place.slot → loaded_at (turned now run).state slot ≡ loaded_at now slot
   pub program_left : SameProgram (loaded_at now place.slot) (loaded_at (turned now run).state place.slot)
 
 pub next_is : (s now : State) (run : ℕ) (place : Place) (turns : List Turn) (k : ℕ) → Stands s now run place turns k → k < length turns
-    → Next s now run place turns k
+    → Next now run place turns k
 next_is s now run place turns k stands less =
     let d = place.destination in
     let turn = get_or turns k no_turn in
@@ -187,18 +183,10 @@ next_is s now run place turns k stands less =
     let here = with_turns place (drop k turns) in
     let took = turned_is now run here turn later stands.left (drop_more turns k no_turn less) in
     let same = ap (λ (h : Happening). h.state.namespace) took in
-    let grown_by = ap (λ (ns : ZonedNamespace). (zone_at ns d).blocks) same ∙ (is_added now.namespace d turn.blocks stands.on).blocks_is in
     record {
-      reply = ap (λ (h : Happening). h.reply) took;
+      does = took ∙ same_turn now run place (drop k turns) later turn.blocks turn.ending;
       namespace = same;
-      at_its_end = grown_by;
-      then_appended = grown_by ∙ ap (λ (xs : List (List ℕ)). xs ++ turn.blocks) stands.appended
-          ∙ append_assoc (blocks_at s d) (appended_by (take k turns)) turn.blocks
-          ∙ ap (λ (xs : List (List ℕ)). blocks_at s d ++ xs) (take_next turns k less);
-      then_left = ap (λ (h : Happening). place_at h.state run) took
-          ∙ get_or-set_same now.places run (place_left here later turn.ending) None (there now.places run here stands.left)
-          ∙ same_place place (drop k turns) later turn.ending;
-      then_slots = ap (λ (h : Happening). h.state.slots) took ∙ slots_of now place (drop k turns) turn.ending;
+      at_its_end = ap (λ (ns : ZonedNamespace). (zone_at ns d).blocks) same ∙ (is_added now.namespace d turn.blocks stands.on).blocks_is;
       other_runs = turned_leaves now run;
       other_slots = λ slot differs. ap (λ (h : Happening). loaded_at h.state slot) took ∙ left_other now here turn.ending slot differs;
       program_left = subst (λ (h : Happening). SameProgram (loaded_at now place.slot) (loaded_at h.state place.slot)) (sym took)

@@ -1,7 +1,7 @@
 -- Turns of runs, in any order.
 use Rattle.std.specs.Prelude.{ℕ, ◌≡◌, ◌==◌, List, map, count_by, Some}
 use Rattle.std.specs.List.{filter, zip}
-use Rattle.word_domain.specs.Domain.{Operations}
+use Rattle.device_meaning.specs.Judging.{Judge}
 use Rattle.device_meaning.specs.Admission.{SameProgram}
 use Rattle.device_events.specs.Replies.{ReplyWithData}
 use Rattle.device_meaning.specs.Draining.{replies_to_turns, state_after_turns}
@@ -34,5 +34,5 @@ pub record ComeToTheSame (s : State) (first second : List ℕ) : Type 0 where
 
 -- In each state that events leave, turns come to the same in this sense, in any order: all runs there append to
 -- different zones.
-abbrev pub TurnsInAnyOrder : {D : Type 0} → Operations D → Type 0
-TurnsInAnyOrder operations = (s : State) → IsReached operations s → (first second : List ℕ) → AreSameTurns first second → ComeToTheSame s first second
+abbrev pub TurnsInAnyOrder : Judge → Type 0
+TurnsInAnyOrder judge = (s : State) → IsReached judge s → (first second : List ℕ) → AreSameTurns first second → ComeToTheSame s first second

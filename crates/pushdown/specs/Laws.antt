@@ -8,12 +8,10 @@ use Rattle.nvme_entry.specs.Entry.{decoded, identifier_of}
 use Rattle.nvme_entry.specs.declared.command.Command.TheVariants as commands
 use Rattle.nvme_entry.specs.declared.command.LoadCommand.{LoadCommand}
 use Rattle.nvme_entry.specs.declared.command.RunCommand.{RunCommand}
-use Rattle.ebpf_decode.specs.Reading.{decoded_program}
 use Rattle.instruction_set.specs.declared.instruction.Instruction.{Instruction}
 use Rattle.program_interface.specs.Frame.{frames}
 use Rattle.program_meaning.specs.BlockRun.{BlockRun}
-use Rattle.word_domain.specs.Domain.{Operations}
-use Rattle.accepted_programs.specs.Accepted.{refusal}
+use Rattle.device_meaning.specs.Judging.{Judge}
 use Rattle.emit_append.specs.Unpacking.{unpacked}
 use Rattle.device_meaning.specs.Admission.{source_blocks, task_of}
 use Rattle.device_meaning.specs.EventReplies.{CompletesOnlyWith, Happening, IsCompletionOf, Submission, completion, submission_of}
@@ -33,10 +31,10 @@ use Rattle.device_events.specs.declared.reply.Reply.TheVariants as reply
 -- ---- refused entries, and slots
 
 -- the reply to an entry, whatever its command is, is Pending or such a completion
-abbrev pub RefusedLeavesState : {D : Type 0} → Operations D → Type 0
-RefusedLeavesState operations =
+abbrev pub RefusedLeavesState : Judge → Type 0
+RefusedLeavesState judge =
     (s : State) (starved : Bool) (queue : ℕ) (entry : List ℕ) (input : Vec ℕ Global)
-    → let h = happens operations s starved (event.Submit queue entry input) in
+    → let h = happens judge s starved (event.Submit queue entry input) in
     ((run : ℕ) × (h.reply ≡ without_data (reply.Pending run))) ⊎ IsAnswered s (submission_of queue entry input.items) h
 
 -- an event that is refused leaves the state as it was: a turn of no run, a fault that isn't taken, and what is completed
@@ -47,28 +45,27 @@ pub record LeavesIfRefused (s : State) (e : Event) (h : Happening) : Type 0 wher
   pub completed : CompletesOnlyWith (λ status. status ≢ SUCCESS → h.state ≡ s) s e h.reply
 
 -- in each state that events leave, every event that is refused leaves the state
-abbrev pub RefusedEventsLeaveState : {D : Type 0} → Operations D → Type 0
-RefusedEventsLeaveState operations =
-    (s : State) (o : Occurrence) → IsReached operations s → LeavesIfRefused s o.event (happens operations s o.starved o.event)
+abbrev pub RefusedEventsLeaveState : Judge → Type 0
+RefusedEventsLeaveState judge =
+    (s : State) (o : Occurrence) → IsReached judge s → LeavesIfRefused s o.event (happens judge s o.starved o.event)
 
-module _ {D : Type 0} (operations : Operations D) where
-  -- a Load succeeds: its slot gets the program that its data is decoded to, which no reason refuses, with zeros
-  -- as its result, and all else is as it was
+module _ (judge : Judge) where
+  -- a Load succeeds: its slot gets the program that the judge makes of its data, with zeros as its result, and all else is as it
+  -- was
   pub record IsLoaded (s : State) (sub : Submission) (load : LoadCommand) (h : Happening) : Type 0 where
     pub asked : decoded sub.entry ≡ Ok (commands.Load load)
     pub program : List (Option Instruction)
-    pub read : decoded_program sub.input ≡ Ok program
-    pub accepted : refusal operations program (sizes_for s load) ≡ None
+    pub accepted : judge sub.input (sizes_for s load) ≡ Ok program
     pub reply : h.reply ≡ completion sub.queue (identifier_of sub.entry) SUCCESS 0 0 []
     pub state : h.state ≡ with_slot s load.slot (Some (just_loaded program load.limit))
 
 -- an entry leaves the slots as they were, or is such a Load
-abbrev pub OnlyLoadsChangeSlots : {D : Type 0} → Operations D → Type 0
-OnlyLoadsChangeSlots operations =
+abbrev pub OnlyLoadsChangeSlots : Judge → Type 0
+OnlyLoadsChangeSlots judge =
     (s : State) (starved : Bool) (queue : ℕ) (entry : List ℕ) (input : Vec ℕ Global)
-    → let h = happens operations s starved (event.Submit queue entry input) in
+    → let h = happens judge s starved (event.Submit queue entry input) in
     (h.state.slots ≡ s.slots)
-    ⊎ ((load : LoadCommand) × IsLoaded operations s (submission_of queue entry input.items) load h)
+    ⊎ ((load : LoadCommand) × IsLoaded judge s (submission_of queue entry input.items) load h)
 
 -- ---- admission and turns
 
@@ -81,25 +78,25 @@ pub record StartsRun (s : State) (sub : Submission) (command : RunCommand) (run 
   pub slots : h.state.slots ≡ s.slots
 
 -- a Run that is admitted has its outcome at its place
-abbrev pub AdmittedStarts : {D : Type 0} → Operations D → Type 0
-AdmittedStarts operations =
+abbrev pub AdmittedStarts : Judge → Type 0
+AdmittedStarts judge =
     (s : State) (starved : Bool) (queue : ℕ) (entry : List ℕ) (input : Vec ℕ Global) (command : RunCommand) (run : ℕ)
     → let sub = submission_of queue entry input.items in
-    IsAdmitted s sub command run → StartsRun s sub command run (happens operations s starved (event.Submit queue entry input))
+    IsAdmitted s sub command run → StartsRun s sub command run (happens judge s starved (event.Submit queue entry input))
 
 -- and where the reply to an entry is Pending, a Run was admitted
-abbrev pub PendingIsAdmitted : {D : Type 0} → Operations D → Type 0
-PendingIsAdmitted operations =
+abbrev pub PendingIsAdmitted : Judge → Type 0
+PendingIsAdmitted judge =
     (s : State) (starved : Bool) (queue : ℕ) (entry : List ℕ) (input : Vec ℕ Global) (run : ℕ)
-    → (happens operations s starved (event.Submit queue entry input)).reply ≡ without_data (reply.Pending run)
+    → (happens judge s starved (event.Submit queue entry input)).reply ≡ without_data (reply.Pending run)
     → (command : RunCommand) × IsAdmitted s (submission_of queue entry input.items) command run
 
 -- an event that is no turn of a run leaves its turns as they were
-abbrev pub ForeignLeavesTurns : {D : Type 0} → Operations D → Type 0
-ForeignLeavesTurns operations =
+abbrev pub ForeignLeavesTurns : Judge → Type 0
+ForeignLeavesTurns judge =
     (s : State) (o : Occurrence) (run : ℕ) (place : Place)
     → is_turn_of run o.event ≡ false → place_at s run ≡ Some place
-    → place_at (happens operations s o.starved o.event).state run ≡ Some place
+    → place_at (happens judge s o.starved o.event).state run ≡ Some place
 
 -- the first turn of a run is taken: where the run goes on those after it are left, and where it ends its place is
 -- empty
@@ -124,9 +121,9 @@ pub record LeavesLater (run : ℕ) (place : Place) (later : List Turn) (h : Happ
   pub later_left : place_at h.state run ≡ Some (record place { turns = later })
 
 -- in each state that events leave, the last turn of a run completes it, and no other does
-abbrev pub LastTurnCompletes : {D : Type 0} → Operations D → Type 0
-LastTurnCompletes operations =
-    (s : State) → IsReached operations s
+abbrev pub LastTurnCompletes : Judge → Type 0
+LastTurnCompletes judge =
+    (s : State) → IsReached judge s
     → (run : ℕ) (place : Place) (turn : Turn) (later : List Turn) → place_at s run ≡ Some place → place.turns ≡ turn ∷ later
     → ((later ≡ []) × CompletesRun run place (turned s run)) ⊎ ((later ≢ []) × LeavesLater run place later (turned s run))
 
@@ -138,9 +135,9 @@ pub record AreEmitted (block_runs : List BlockRun) (records : List (List (List �
   pub counted : length (flat_map (λ group. group) records) ≡ frames_of block_runs
 
 -- what an admitted run appends reads back as the records that its block runs emit, in order
-abbrev pub OutcomeUnpacks : {D : Type 0} → Operations D → Type 0
-OutcomeUnpacks operations =
-    (s : State) → IsReached operations s
+abbrev pub OutcomeUnpacks : Judge → Type 0
+OutcomeUnpacks judge =
+    (s : State) → IsReached judge s
     → (sub : Submission) (command : RunCommand) (run : ℕ) → IsAdmitted s sub command run
     → let task = task_of s.namespace (loaded_at s command.slot) command in
     let source = source_blocks s.namespace command in

@@ -18,13 +18,13 @@ use Rattle.instruction_set.specs.Program.{instruction_count}
 use Rattle.program_meaning.specs.BlockRun.{BlockRun, block_run_of}
 use Rattle.program_meaning.specs.Granted.{KeepsToGrantedAreas}
 use Rattle.program_meaning.specs.TrapFree.{IsExit}
-use Rattle.word_domain.specs.Domain.{Operations}
+use Rattle.device_meaning.specs.Judging.{IsSoundJudge, Judge}
 use Rattle.image_store.specs.Namespace.{ZonedNamespace, zone_at, shape}
 use Rattle.device_meaning.specs.Admission.{SameProgram, source_blocks, task_of}
 use Rattle.device_meaning.specs.EventReplies.{Happening, Submission, submission_of}
 use Rattle.device_meaning.specs.BlockRuns.{Task, block_runs_of, frames_of, start_of}
 use Rattle.device_meaning.specs.Events.{Occurrence, state_after}
-use Rattle.device_meaning.specs.Happenings.{added, admitted_place, place_left, slots_left, turn_reply, turned, why_not_run}
+use Rattle.device_meaning.specs.Happenings.{admitted_place, turn_reply, turn_state, turned, why_not_run}
 use Rattle.device_meaning.specs.Outcome.{EndsWithLast, Turn, appended_by, ending_of, outcome, success_of}
 use Rattle.device_meaning.specs.Reached.{IsReached}
 use Rattle.device_meaning.specs.State.{Place, State, free_place, loaded_at, place_at}
@@ -36,8 +36,7 @@ use Rattle.device_events.specs.declared.event.Event.TheVariants as event
 -- is the event a turn of this run?
 abbrev pub is_turn_of : ℕ → Event → Bool
 is_turn_of run (event.Turn other) = other == run
-is_turn_of run (event.Submit queue entry input) = false
-is_turn_of run (event.Fault zone state) = false
+is_turn_of run _ = false
 
 -- how many of the events are turns of a run; all others are those of others
 abbrev pub own_turns : ℕ → List Occurrence → ℕ
@@ -61,14 +60,10 @@ no_turn = record { blocks = []; ending = None }
 
 -- ---- the five parts
 
-module _ {D : Type 0} (operations : Operations D) where
+module _ (judge : Judge) where
   -- a Run that is submitted in a state, its number, and the events that follow
   module _ (s : State) (queue : ℕ) (entry : List ℕ) (input : Vec ℕ Global) (starved : Bool) (command : RunCommand) (run : ℕ)
       (events : List Occurrence) where
-    -- the entry of the Run, with the data beside it
-    abbrev pub submission : Submission
-    submission = submission_of queue entry input.items
-
     -- what is fixed at admission: what the run is about, which with the source blocks decides its block runs and its turns
     abbrev pub task : Task
     task = task_of s.namespace (loaded_at s command.slot) command
@@ -83,11 +78,11 @@ module _ {D : Type 0} (operations : Operations D) where
 
     -- the place that it is given
     abbrev pub place : Place
-    place = admitted_place submission s command
+    place = admitted_place (submission_of queue entry input.items) s command
 
     -- the state that the Run and the events leave
     abbrev pub now : State
-    now = state_after operations (record { event = event.Submit queue entry input; starved = starved } ∷ events) s
+    now = state_after judge (record { event = event.Submit queue entry input; starved = starved } ∷ events) s
 
     -- how many of the events are its own turns
     abbrev pub done : ℕ
@@ -134,20 +129,18 @@ module _ {D : Type 0} (operations : Operations D) where
           → outcome (task_of ns (loaded_at s command.slot) command) (source_blocks ns command) ≡ place.turns
 
     -- 4. After k own turns the first k turns of those fixed at admission are done: their blocks stand in order
-    -- directly behind what the destination held at admission, and the others are left. The reply to the next
-    -- turn is what is fixed for it, and it leaves the namespace as a Zone Append of its blocks does that meets
-    -- no hold (`appends` of `StatesAreSound` says so of `added`, where the data of the events is bytes); the
-    -- last one posts the completion, to the queue and with the identifier of the Run, frees the place, and
-    -- leaves the last scratch bytes as the slot's result.
+    -- directly behind what the destination held at admission, and the others are left. The next turn is the first of
+    -- these: the reply is what is fixed for it, and the state is that with its blocks in the destination as a Zone Append
+    -- puts them there that meets no hold (`appends` of `StatesAreSound` says so of `added`, where the data of the events is
+    -- bytes), and the turns after it at the run's place; the last one posts the completion, to the queue and with the
+    -- identifier of the Run, frees the place, and leaves the last scratch bytes as the slot's result.
     pub record DoesItsTurns : Type 0 where
       pub left : place_at now run ≡ Some (record place { turns = drop done place.turns })
       pub appended : blocks_at now place.destination ≡ blocks_at s place.destination ++ appended_by (take done place.turns)
-      pub reply : next.reply ≡ turn_reply run place turn.ending
-      pub then_appended : blocks_at next.state place.destination
-          ≡ blocks_at s place.destination ++ appended_by (take (done + 1) place.turns)
-      pub then_namespace : next.state.namespace ≡ added now.namespace place.destination turn.blocks
-      pub then_left : place_at next.state run ≡ place_left place (drop (done + 1) place.turns) turn.ending
-      pub then_slots : next.state.slots ≡ slots_left now place turn.ending
+      pub does : next ≡ record {
+        reply = turn_reply run place turn.ending;
+        state = turn_state now run place turn (drop (done + 1) place.turns);
+      }
 
     -- 5. The completion tells how many frames were emitted and how many blocks were appended, which fit into the
     -- 32 bits of its dwords.
@@ -166,10 +159,14 @@ module _ {D : Type 0} (operations : Operations D) where
       pub tells_frames_and_blocks : TellsFramesAndBlocks
 
 -- In each state that events leave, whatever Run is admitted there, and whatever events follow, of which any
--- number are the run's own turns. It holds for the operations of every sound domain.
-abbrev pub Pushdown : {D : Type 0} → Operations D → Type 0
-Pushdown operations =
-    (s : State) → IsReached operations s
+-- number are the run's own turns.
+abbrev pub Pushdown : Judge → Type 0
+Pushdown judge =
+    (s : State) → IsReached judge s
     → (queue : ℕ) (entry : List ℕ) (input : Vec ℕ Global) (starved : Bool) (command : RunCommand) (run : ℕ) (after : List Occurrence)
     → IsAdmitted s (submission_of queue entry input.items) command run
-    → IsPushedDown operations s queue entry input starved command run after
+    → IsPushedDown judge s queue entry input starved command run after
+
+-- it holds of every sound judge: of how programs are judged it asks no more than that those accepted never trap
+abbrev pub SoundJudgesPushDown : Type 0
+SoundJudgesPushDown = (judge : Judge) → IsSoundJudge judge → Pushdown judge

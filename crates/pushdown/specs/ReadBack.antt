@@ -11,7 +11,7 @@ use Rattle.nvme_entry.specs.declared.command.RunCommand.{RunCommand}
 use Rattle.nvme_entry.specs.declared.command.StandardCommand.TheVariants.{Write, Read, Append}
 use Rattle.nvme_entry.specs.declared.command.TheConstants.{MOST_TRANSFER}
 use Rattle.program_interface.specs.declared.area.TheConstants.{SCRATCH_BYTES}
-use Rattle.word_domain.specs.Domain.{Operations}
+use Rattle.device_meaning.specs.Judging.{Judge}
 use Rattle.emit_append.specs.Unpacking.{unpacked}
 use Rattle.image_store.specs.Namespace.{zone_at, shape, IsNamespace}
 use Rattle.zone_state.specs.State.{is_cleared}
@@ -57,12 +57,12 @@ LoadSucceeds slot (event.Fault zone state) reply = ⊥
 abbrev pub NoRunEnds : ℕ → State → State → Type 0
 NoRunEnds slot s after = (run : ℕ) → uses slot (place_at s run) ≡ true → is_some (place_at after run) ≡ true
 
-module _ {D : Type 0} (operations : Operations D) where
+module _ (judge : Judge) where
   -- these bytes are read of so many blocks from an address on
   abbrev pub ReadsGive : State → ℕ → ℕ → List ℕ → Type 0
   ReadsGive s lba blocks bytes =
       (read : Occurrence) → Submits read.event (commands.Standard (Read lba blocks)) []
-      → IsCompleted read.event s (success_effect s.namespace 0 bytes) (happens operations s read.starved read.event)
+      → IsCompleted read.event s (success_effect s.namespace 0 bytes) (happens judge s read.starved read.event)
 
   -- these blocks are read from an address on, one block after another
   abbrev pub BlocksAreRead : State → ℕ → List (List ℕ) → Type 0
@@ -73,20 +73,20 @@ module _ {D : Type 0} (operations : Operations D) where
   abbrev pub NoEventClears : ℕ → List Occurrence → State → Type 0
   NoEventClears z [] s = Unit {0}
   NoEventClears z (o ∷ os) s =
-      let after = (happens operations s o.starved o.event).state in
+      let after = (happens judge s o.starved o.event).state in
       (is_cleared (zone_at after.namespace z).state ≡ false) × NoEventClears z os after
 
   -- these bytes are the result of a slot, which Result gives
   abbrev pub ResultGives : State → ℕ → List ℕ → Type 0
   ResultGives s slot bytes =
       (o : Occurrence) → Submits o.event (commands.Result slot) []
-      → IsCompleted o.event s (success_effect s.namespace 0 bytes) (happens operations s o.starved o.event)
+      → IsCompleted o.event s (success_effect s.namespace 0 bytes) (happens judge s o.starved o.event)
 
   -- at none of the events a run of the slot ends, or a Load of it succeeds, so that its result is left
   abbrev pub NoEventReplaces : ℕ → List Occurrence → State → Type 0
   NoEventReplaces slot [] s = Unit {0}
   NoEventReplaces slot (o ∷ os) s =
-      let h = happens operations s o.starved o.event in
+      let h = happens judge s o.starved o.event in
       NoRunEnds slot s h.state × ((¬ LoadSucceeds slot o.event h.reply) × NoEventReplaces slot os h.state)
 
   -- an admitted Run, the events between it and a turn of it, and events after that turn
@@ -94,15 +94,15 @@ module _ {D : Type 0} (operations : Operations D) where
       (events later : List Occurrence) where
     -- the zone that it appends to, as the theorem has it
     abbrev pub destination : ℕ
-    destination = (place operations s queue entry input starved command run events).destination
+    destination = (place judge s queue entry input starved command run events).destination
 
     -- the turns that are fixed at its admission
     abbrev pub turns : List Turn
-    turns = (place operations s queue entry input starved command run events).turns
+    turns = (place judge s queue entry input starved command run events).turns
 
     -- the state after that turn
     abbrev pub after_turn : State
-    after_turn = (next operations s queue entry input starved command run events).state
+    after_turn = (next judge s queue entry input starved command run events).state
 
     -- the logical block that the first of its blocks goes to
     abbrev pub pointer : ℕ
@@ -114,15 +114,15 @@ module _ {D : Type 0} (operations : Operations D) where
     AppendedAreRead =
         let appended = appended_by (take (own_turns run events + 1) turns) in
         (at blocks : ℕ) → at + blocks ≤ length appended → 1 ≤ blocks → blocks * s.namespace.block ≤ MOST_TRANSFER
-        → ReadsGive (state_after operations later after_turn) (pointer + at) blocks (concat (take blocks (drop at appended)))
+        → ReadsGive (state_after judge later after_turn) (pointer + at) blocks (concat (take blocks (drop at appended)))
 
     -- where that turn was the last, the blocks that are read there, one after another, unpack to the records
     -- that the program emitted, in order
     abbrev pub EmittedAreRead : Type 0
     EmittedAreRead =
         let blocks = appended_by turns in
-        (records : List (List (List ℕ))) × (AreEmitted (block_runs operations s queue entry input starved command run events) records
-        × (BlocksAreRead (state_after operations later after_turn) pointer blocks
+        (records : List (List (List ℕ))) × (AreEmitted (block_runs judge s queue entry input starved command run events) records
+        × (BlocksAreRead (state_after judge later after_turn) pointer blocks
         × (unpacked s.namespace.block (concat blocks) ≡ Ok (flat_map (λ group. group) records))))
 
     -- until the destination is reset or goes offline
@@ -135,64 +135,64 @@ module _ {D : Type 0} (operations : Operations D) where
     -- until a run of the slot ends or a Load of it succeeds
     abbrev pub IsResultReadBack : Type 0
     IsResultReadBack =
-        let bytes = last_scratch (block_runs operations s queue entry input starved command run events) in
+        let bytes = last_scratch (block_runs judge s queue entry input starved command run events) in
         own_turns run events + 1 ≡ length turns → NoEventReplaces command.slot later after_turn
-        → (length bytes ≡ SCRATCH_BYTES) × ResultGives (state_after operations later after_turn) command.slot bytes
+        → (length bytes ≡ SCRATCH_BYTES) × ResultGives (state_after judge later after_turn) command.slot bytes
 
 -- no event changes the shape of the namespace
-abbrev pub EventsKeepShapes : {D : Type 0} → Operations D → Type 0
-EventsKeepShapes operations =
-    (s : State) (events : List Occurrence) → shape (state_after operations events s).namespace ≡ shape s.namespace
+abbrev pub EventsKeepShapes : Judge → Type 0
+EventsKeepShapes judge =
+    (s : State) (events : List Occurrence) → shape (state_after judge events s).namespace ≡ shape s.namespace
 
 -- a zone that isn't cleared keeps its blocks, and perhaps has some behind them
-abbrev pub UnclearedZonesKeepBlocks : {D : Type 0} → Operations D → Type 0
-UnclearedZonesKeepBlocks operations =
-    (s : State) (events : List Occurrence) (z : ℕ) → NoEventClears operations z events s
-    → Grows (blocks_at s z) (blocks_at (state_after operations events s) z)
+abbrev pub UnclearedZonesKeepBlocks : Judge → Type 0
+UnclearedZonesKeepBlocks judge =
+    (s : State) (events : List Occurrence) (z : ℕ) → NoEventClears judge z events s
+    → Grows (blocks_at s z) (blocks_at (state_after judge events s) z)
 
 -- a Read of written blocks of a zone, no more than a transfer may be, gives them
-abbrev pub WrittenIsRead : {D : Type 0} → Operations D → Type 0
-WrittenIsRead operations =
+abbrev pub WrittenIsRead : Judge → Type 0
+WrittenIsRead judge =
     (s : State) (z at blocks : ℕ) → IsNamespace s.namespace
     → at + blocks ≤ length (blocks_at s z) → 1 ≤ blocks → blocks * s.namespace.block ≤ MOST_TRANSFER
-    → ReadsGive operations s (z * s.namespace.size + at) blocks (concat (take blocks (drop at (blocks_at s z))))
+    → ReadsGive judge s (z * s.namespace.size + at) blocks (concat (take blocks (drop at (blocks_at s z))))
 
 -- what an Append that succeeds put in is read from the address that its completion tells, whatever
 -- events happen in between, until the zone is reset or goes offline
-abbrev pub AppendedBlocksReadBack : {D : Type 0} → Operations D → Type 0
-AppendedBlocksReadBack operations =
+abbrev pub AppendedBlocksReadBack : Judge → Type 0
+AppendedBlocksReadBack judge =
     (s : State) → IsNamespace s.namespace
     → (o : Occurrence) (lba blocks : ℕ) (input : List ℕ) (events : List Occurrence) → Submits o.event (commands.Standard (Append lba blocks)) input
     → let effect = meaning s.namespace (holds_at s) (Append lba blocks) input in
-    let happening = happens operations s o.starved o.event in
-    effect.status ≡ SUCCESS → NoEventClears operations (zone_number s.namespace lba) events happening.state
+    let happening = happens judge s o.starved o.event in
+    effect.status ≡ SUCCESS → NoEventClears judge (zone_number s.namespace lba) events happening.state
     → IsCompleted o.event s effect happening
-    × ReadsGive operations (state_after operations events happening.state) (effect.dw0 + effect.dw1 * 2 ^ 32) blocks input
+    × ReadsGive judge (state_after judge events happening.state) (effect.dw0 + effect.dw1 * 2 ^ 32) blocks input
 
 -- the same of a Write, which is read from its own address
-abbrev pub WrittenBlocksReadBack : {D : Type 0} → Operations D → Type 0
-WrittenBlocksReadBack operations =
+abbrev pub WrittenBlocksReadBack : Judge → Type 0
+WrittenBlocksReadBack judge =
     (s : State) → IsNamespace s.namespace
     → (o : Occurrence) (lba blocks : ℕ) (input : List ℕ) (events : List Occurrence) → Submits o.event (commands.Standard (Write lba blocks)) input
     → let effect = meaning s.namespace (holds_at s) (Write lba blocks) input in
-    let happening = happens operations s o.starved o.event in
-    effect.status ≡ SUCCESS → NoEventClears operations (zone_number s.namespace lba) events happening.state
-    → IsCompleted o.event s effect happening × ReadsGive operations (state_after operations events happening.state) lba blocks input
+    let happening = happens judge s o.starved o.event in
+    effect.status ≡ SUCCESS → NoEventClears judge (zone_number s.namespace lba) events happening.state
+    → IsCompleted o.event s effect happening × ReadsGive judge (state_after judge events happening.state) lba blocks input
 
 -- the same of what a run appends, in each state that events leave: after each of its turns what it has
 -- appended so far, and after the last one all that its program emitted
-abbrev pub AppendedByRunsReadsBack : {D : Type 0} → Operations D → Type 0
-AppendedByRunsReadsBack operations =
-    (s : State) → IsReached operations s
+abbrev pub AppendedByRunsReadsBack : Judge → Type 0
+AppendedByRunsReadsBack judge =
+    (s : State) → IsReached judge s
     → (queue : ℕ) (entry : List ℕ) (input : Vec ℕ Global) (starved : Bool) (command : RunCommand) (run : ℕ) (events later : List Occurrence)
     → IsAdmitted s (submission_of queue entry input.items) command run
     → AreEvents events → AreEvents later
-    → IsReadBack operations s queue entry input starved command run events later
+    → IsReadBack judge s queue entry input starved command run events later
 
 -- the same of the scratch bytes that the last block run of a run leaves, which Result gives
-abbrev pub ResultsReadBack : {D : Type 0} → Operations D → Type 0
-ResultsReadBack operations =
-    (s : State) → IsReached operations s
+abbrev pub ResultsReadBack : Judge → Type 0
+ResultsReadBack judge =
+    (s : State) → IsReached judge s
     → (queue : ℕ) (entry : List ℕ) (input : Vec ℕ Global) (starved : Bool) (command : RunCommand) (run : ℕ) (events later : List Occurrence)
     → IsAdmitted s (submission_of queue entry input.items) command run
-    → IsResultReadBack operations s queue entry input starved command run events later
+    → IsResultReadBack judge s queue entry input starved command run events later
