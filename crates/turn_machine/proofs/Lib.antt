@@ -1,0 +1,6 @@
+mod Machines
+mod NextTurns
+mod OtherEvents
+mod TurnsTaken
+mod UnderWay
+mod WithoutTurns

@@ -1,0 +1,114 @@
+-- The machine that reads at its turn does what the definitions say.
+use Rattle.std.proofs.Common.{◌≡◌, ℕ, Bool, List, [], ◌∷◌, get_or, Option, Some, None, Result, Ok, Err, refl, ap, sym, subst, ◌∙◌}
+use Rattle.common_definitions.specs.Checks.{first_failed}
+use Rattle.zone_state.specs.declared.status.Status.{Status}
+use Rattle.zone_resources.specs.declared.holds.TheConstants.{RUNS}
+use Rattle.nvme_entry.specs.Entry.{decoded}
+use Rattle.nvme_entry.specs.declared.command.Command.{Command}
+use Rattle.nvme_entry.specs.declared.command.Command.TheVariants as commands
+use Rattle.word_domain.specs.Domain.{Operations}
+use Rattle.accepted_programs.proofs.Proved.{none_known}
+use Rattle.image_store.specs.Namespace.{ZonedNamespace}
+use Rattle.zns_commands.specs.Transfer.{transfer_checks}
+use Rattle.device_meaning.specs.EventReplies.{Happening, Submission, idle, submission_of}
+use Rattle.device_meaning.specs.Events.{Occurrence, replies_to, state_after}
+use Rattle.device_meaning.specs.Happenings.{faulting, happens, submitted, turned, turned_at}
+use Rattle.device_meaning.specs.State.{Place, State, new_state}
+use Rattle.device_meaning.specs.View.{Active}
+use Rattle.device_meaning.proofs.Proved.{decoded_has, events_keep_for_runs}
+use Rattle.device_events.specs.Replies.{ReplyWithData}
+use Rattle.device_events.specs.declared.event.Event.{Event}
+use Rattle.device_events.specs.declared.event.Event.TheVariants as event
+use Rattle.turn_machine.specs.Laws.{Corresponds, FixedAtAdmission}
+use Rattle.turn_machine.specs.Machine.{Machine, happens_now, machine_after, new_machine, replies_now, run_at, submitted_now, turned_now_at, without_turns}
+use Rattle.turn_machine.proofs.OtherEvents.{leaving_follows, starting_follows}
+use Rattle.turn_machine.proofs.TurnsTaken.{Follows, KeepsAll, needs_kept, none_at, turn_follows}
+use Rattle.turn_machine.proofs.UnderWay.{AreUnderWay}
+use Rattle.turn_machine.proofs.WithoutTurns.{command_same, fault_same, load_same, refused_same, result_same, viewed}
+
+-- a machine corresponds to the state that is equal to what is seen of it
+corresponding : (m : Machine) (s : State) → s ≡ viewed m → Corresponds m s
+corresponding m s is = record {
+  namespace = ap (λ (x : State). x.namespace) is;
+  slots = ap (λ (x : State). x.slots) is;
+  places = ap (λ (x : State). x.places) is;
+}
+
+module _ {D : Type 0} (operations : Operations D) where
+  -- ---- one event
+
+  module _ (m : Machine) (under : AreUnderWay m) where
+    -- every event keeps what runs need
+    kept : (starved : Bool) (e : Event) → let t = (happens operations (viewed m) starved e).state in KeepsAll m t.namespace t.slots
+    kept starved e =
+        let s = viewed m in
+        needs_kept m (happens operations s starved e).state
+        (λ run place at. events_keep_for_runs operations s (record { event = e; starved = starved }) run place at)
+
+    entry_follows : (starved : Bool) (sub : Submission) (asked : Result Command Status) → decoded sub.entry ≡ asked
+        → (let t = (submitted operations starved sub (viewed m) asked).state in KeepsAll m t.namespace t.slots)
+        → Follows (submitted operations starved sub (viewed m) asked) (submitted_now operations starved sub m asked)
+    entry_follows starved sub (Err status) is keeps =
+        leaving_follows m under (submitted operations starved sub (viewed m) (Err status)) (submitted operations starved sub (without_turns m) (Err status))
+        (refused_same m sub status) keeps
+    entry_follows starved sub (Ok (commands.Standard c)) is keeps =
+        let asked = Ok (commands.Standard c) in
+        leaving_follows m under (submitted operations starved sub (viewed m) asked) (submitted operations starved sub (without_turns m) asked)
+        (command_same m sub c) keeps
+    entry_follows starved sub (Ok (commands.Load load)) is keeps =
+        let asked = Ok (commands.Load load) in
+        leaving_follows m under (submitted operations starved sub (viewed m) asked) (submitted operations starved sub (without_turns m) asked)
+        (load_same m operations sub load starved) keeps
+    entry_follows starved sub (Ok (commands.Run command)) is keeps =
+        starting_follows m under sub command (decoded_has sub.entry (commands.Run command) is)
+    entry_follows starved sub (Ok (commands.Result slot)) is keeps =
+        let asked = Ok (commands.Result slot) in
+        leaving_follows m under (submitted operations starved sub (viewed m) asked) (submitted operations starved sub (without_turns m) asked)
+        (result_same m sub (get_or m.slots slot None) (first_failed (transfer_checks 0 0 sub.input))) keeps
+
+    turn_comes : (run : ℕ) (at : Option Active) → run_at m run ≡ at → Follows (turned (viewed m) run) (turned_now_at m run at)
+    turn_comes run (Some a) at = turn_follows operations m under run a at
+    turn_comes run None at =
+        let idle_is : turned (viewed m) run ≡ idle (viewed m) = ap (λ (p : Option Place). turned_at (viewed m) run p) (none_at m run at) in
+        subst (λ (h : Happening). Follows h (turned_now_at m run None)) (sym idle_is) (record { reply = refl; state = refl; under_way = under })
+
+    event_follows : (starved : Bool) (e : Event) → Follows (happens operations (viewed m) starved e) (happens_now operations m starved e)
+    event_follows starved (event.Submit queue entry input) =
+        let sub = submission_of queue entry input.items in
+        entry_follows starved sub (decoded entry) refl (kept starved (event.Submit queue entry input))
+    event_follows starved (event.Turn run) = turn_comes run (run_at m run) refl
+    event_follows starved (event.Fault zone state) =
+        leaving_follows m under (faulting (viewed m) zone state) (faulting (without_turns m) zone state) (fault_same m zone state)
+        (kept starved (event.Fault zone state))
+
+  -- ---- lists of events
+
+  replies_follow : (events : List Occurrence) (m : Machine) → AreUnderWay m → replies_now operations events m ≡ replies_to operations events (viewed m)
+  replies_follow [] m under = refl
+  replies_follow (o ∷ os) m under =
+      let h = happens operations (viewed m) o.starved o.event in
+      let g = happens_now operations m o.starved o.event in
+      let first = event_follows m under o.starved o.event in
+      ap (λ (replies : List ReplyWithData). g.reply ∷ replies) (replies_follow os g.machine first.under_way)
+      ∙ ap (λ (s : State). g.reply ∷ replies_to operations os s) (sym first.state)
+      ∙ ap (λ (r : ReplyWithData). r ∷ replies_to operations os h.state) (sym first.reply)
+
+  states_follow : (events : List Occurrence) (m : Machine) → AreUnderWay m
+      → state_after operations events (viewed m) ≡ viewed (machine_after operations events m)
+  states_follow [] m under = refl
+  states_follow (o ∷ os) m under =
+      let first = event_follows m under o.starved o.event in
+      ap (state_after operations os) first.state ∙ states_follow os (happens_now operations m o.starved o.event).machine first.under_way
+
+  new_is_viewed : (ns : ZonedNamespace) → viewed (new_machine ns) ≡ new_state ns
+  new_is_viewed ns = refl
+
+  pub fixed_at_admission : FixedAtAdmission operations
+  fixed_at_admission ns events =
+      let m = new_machine ns in
+      let under : AreUnderWay m = λ run a at. absurd (none_known RUNS run a at) in
+      record {
+        replies = replies_follow events m under ∙ ap (replies_to operations events) (new_is_viewed ns);
+        after = corresponding (machine_after operations events m) (state_after operations events (new_state ns))
+            (sym (ap (state_after operations events) (new_is_viewed ns)) ∙ states_follow events m under);
+      }

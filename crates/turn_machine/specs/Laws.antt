@@ -1,0 +1,27 @@
+-- That a run's outcome is fixed when it is admitted: the machine that reads at its turn does the same.
+use Rattle.std.specs.Prelude.{◌≡◌, List, map}
+use Rattle.word_domain.specs.Domain.{Operations}
+use Rattle.image_store.specs.Namespace.{ZonedNamespace}
+use Rattle.device_meaning.specs.Events.{Occurrence, replies_to, state_after}
+use Rattle.device_meaning.specs.State.{State, new_state}
+use Rattle.device_meaning.specs.View.{seen}
+use Rattle.turn_machine.specs.Machine.{Machine, machine_after, new_machine, replies_now}
+
+-- A machine that reads at its turn and a state that has turns correspond: the same namespace, the same slots, and at each
+-- place the same run, of which the state has the turns that are left where the machine has how far it has come. These
+-- turns are the rest of the run (`rest`) over the source blocks still to come, as they are now (`turns_of`).
+pub record Corresponds (m : Machine) (s : State) : Type 0 where
+  pub namespace : s.namespace ≡ m.namespace
+  pub slots : s.slots ≡ m.slots
+  pub places : s.places ≡ map (seen m.namespace m.slots) m.runs
+
+module _ {D : Type 0} (operations : Operations D) where
+  -- both give the same replies to these events, and correspond after them
+  pub record DoTheSame (ns : ZonedNamespace) (events : List Occurrence) : Type 0 where
+    pub replies : replies_now operations events (new_machine ns) ≡ replies_to operations events (new_state ns)
+    pub after : Corresponds (machine_after operations events (new_machine ns)) (state_after operations events (new_state ns))
+
+-- from every namespace on, whatever events come, a machine that reads each block at its turn does what one does that fixes all
+-- turns of a run when it is admitted
+abbrev pub FixedAtAdmission : {D : Type 0} → Operations D → Type 0
+FixedAtAdmission operations = (ns : ZonedNamespace) (events : List Occurrence) → DoTheSame operations ns events

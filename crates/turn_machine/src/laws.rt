@@ -1,0 +1,13 @@
+//! The law of the machine that reads at its turn. The function does nothing: what it ensures is the law.
+
+ghost use Rattle.turn_machine.specs.Laws.{FixedAtAdmission};
+
+use word_domain::Domain;
+
+/// What a run does is fixed when it is admitted: a machine that keeps only how far a run has come, and at each turn reads the source
+/// block and the program as they are then, gives the same replies to every list of events, from every namespace on, as one
+/// that keeps the turns which were fixed at admission. After them both have the same namespace, the same slots and the same
+/// runs, and the turns that the one has left are the rest of the run from where the other has come to.
+pub fn fixed_at_admission<D: Domain>()
+    ensures { FixedAtAdmission D.operations }
+{}
