@@ -3,4 +3,5 @@ mod NextTurns
 mod OtherEvents
 mod TurnsTaken
 mod UnderWay
+mod Waiting
 mod WithoutTurns

@@ -39,40 +39,41 @@ module _ {D : Type 0} (operations : Operations D) where
 
   module _ (m : Machine) (under : AreUnderWay m) where
     -- every event keeps what runs need
-    kept : (starved : Bool) (e : Event) → let t = (happens operations (viewed m) starved e).state in KeepsAll m t.namespace t.slots
+    pub kept : (starved : Bool) (e : Event) → let t = (happens operations (viewed m) starved e).state in KeepsAll m t.namespace t.slots
     kept starved e =
         let s = viewed m in
         needs_kept m (happens operations s starved e).state
         (λ run place at. events_keep_for_runs operations s (record { event = e; starved = starved }) run place at)
 
-    entry_follows : (starved : Bool) (sub : Submission) (asked : Result Command Status) → decoded sub.entry ≡ asked
-        → (let t = (submitted operations starved sub (viewed m) asked).state in KeepsAll m t.namespace t.slots)
-        → Follows (submitted operations starved sub (viewed m) asked) (submitted_now operations starved sub m asked)
-    entry_follows starved sub (Err status) is keeps =
-        leaving_follows m under (submitted operations starved sub (viewed m) (Err status)) (submitted operations starved sub (without_turns m) (Err status))
-        (refused_same m sub status) keeps
-    entry_follows starved sub (Ok (commands.Standard c)) is keeps =
-        let asked = Ok (commands.Standard c) in
-        leaving_follows m under (submitted operations starved sub (viewed m) asked) (submitted operations starved sub (without_turns m) asked)
-        (command_same m sub c) keeps
-    entry_follows starved sub (Ok (commands.Load load)) is keeps =
-        let asked = Ok (commands.Load load) in
-        leaving_follows m under (submitted operations starved sub (viewed m) asked) (submitted operations starved sub (without_turns m) asked)
-        (load_same m operations sub load starved) keeps
-    entry_follows starved sub (Ok (commands.Run command)) is keeps =
-        starting_follows m under sub command (decoded_has sub.entry (commands.Run command) is)
-    entry_follows starved sub (Ok (commands.Result slot)) is keeps =
-        let asked = Ok (commands.Result slot) in
-        leaving_follows m under (submitted operations starved sub (viewed m) asked) (submitted operations starved sub (without_turns m) asked)
-        (result_same m sub (get_or m.slots slot None) (first_failed (transfer_checks 0 0 sub.input))) keeps
+    -- what an entry comes to that names this command; all but a Run leave the runs
+    module _ (starved : Bool) (sub : Submission) where
+      abbrev from : Result Command Status → Happening
+      from = submitted operations starved sub (viewed m)
+
+      abbrev told : Result Command Status → Happening
+      told = submitted operations starved sub (without_turns m)
+
+      entry_follows : (asked : Result Command Status) → decoded sub.entry ≡ asked → KeepsAll m (from asked).state.namespace (from asked).state.slots
+          → Follows (from asked) (submitted_now operations starved sub m asked)
+      entry_follows (Err status) is keeps = leaving_follows m under (from (Err status)) (told (Err status)) (refused_same m sub status) keeps
+      entry_follows (Ok (commands.Standard c)) is keeps =
+          let asked = Ok (commands.Standard c) in leaving_follows m under (from asked) (told asked) (command_same m sub c) keeps
+      entry_follows (Ok (commands.Load load)) is keeps =
+          let asked = Ok (commands.Load load) in leaving_follows m under (from asked) (told asked) (load_same m operations sub load starved) keeps
+      entry_follows (Ok (commands.Run command)) is keeps =
+          starting_follows m under sub command (decoded_has sub.entry (commands.Run command) is)
+      entry_follows (Ok (commands.Result slot)) is keeps =
+          let asked = Ok (commands.Result slot) in
+          let why = first_failed (transfer_checks 0 0 sub.input) in
+          leaving_follows m under (from asked) (told asked) (result_same m sub (get_or m.slots slot None) why) keeps
 
     turn_comes : (run : ℕ) (at : Option Active) → run_at m run ≡ at → Follows (turned (viewed m) run) (turned_now_at m run at)
     turn_comes run (Some a) at = turn_follows operations m under run a at
     turn_comes run None at =
-        let idle_is : turned (viewed m) run ≡ idle (viewed m) = ap (λ (p : Option Place). turned_at (viewed m) run p) (none_at m run at) in
-        subst (λ (h : Happening). Follows h (turned_now_at m run None)) (sym idle_is) (record { reply = refl; state = refl; under_way = under })
+        let same : Follows (idle (viewed m)) (turned_now_at m run None) = record { reply = refl; state = refl; under_way = under } in
+        subst (λ (p : Option Place). Follows (turned_at (viewed m) run p) (turned_now_at m run None)) (sym (none_at m run at)) same
 
-    event_follows : (starved : Bool) (e : Event) → Follows (happens operations (viewed m) starved e) (happens_now operations m starved e)
+    pub event_follows : (starved : Bool) (e : Event) → Follows (happens operations (viewed m) starved e) (happens_now operations m starved e)
     event_follows starved (event.Submit queue entry input) =
         let sub = submission_of queue entry input.items in
         entry_follows starved sub (decoded entry) refl (kept starved (event.Submit queue entry input))
@@ -83,7 +84,8 @@ module _ {D : Type 0} (operations : Operations D) where
 
   -- ---- lists of events
 
-  replies_follow : (events : List Occurrence) (m : Machine) → AreUnderWay m → replies_now operations events m ≡ replies_to operations events (viewed m)
+  replies_follow : (events : List Occurrence) (m : Machine) → AreUnderWay m
+      → replies_now operations events m ≡ replies_to operations events (viewed m)
   replies_follow [] m under = refl
   replies_follow (o ∷ os) m under =
       let h = happens operations (viewed m) o.starved o.event in
@@ -100,13 +102,21 @@ module _ {D : Type 0} (operations : Operations D) where
       let first = event_follows m under o.starved o.event in
       ap (state_after operations os) first.state ∙ states_follow os (happens_now operations m o.starved o.event).machine first.under_way
 
+  pub after_under_way : (events : List Occurrence) (m : Machine) → AreUnderWay m → AreUnderWay (machine_after operations events m)
+  after_under_way [] m under = under
+  after_under_way (o ∷ os) m under =
+      after_under_way os (happens_now operations m o.starved o.event).machine (event_follows m under o.starved o.event).under_way
+
+  pub new_under_way : (ns : ZonedNamespace) → AreUnderWay (new_machine ns)
+  new_under_way ns run a at = absurd (none_known RUNS run a at)
+
   new_is_viewed : (ns : ZonedNamespace) → viewed (new_machine ns) ≡ new_state ns
   new_is_viewed ns = refl
 
   pub fixed_at_admission : FixedAtAdmission operations
   fixed_at_admission ns events =
       let m = new_machine ns in
-      let under : AreUnderWay m = λ run a at. absurd (none_known RUNS run a at) in
+      let under = new_under_way ns in
       record {
         replies = replies_follow events m under ∙ ap (replies_to operations events) (new_is_viewed ns);
         after = corresponding (machine_after operations events m) (state_after operations events (new_state ns))

@@ -48,14 +48,15 @@ pub none_at : (m : Machine) (run : ℕ) → run_at m run ≡ None → place_at (
 none_at m run at = get_or-map (seen m.namespace m.slots) m.runs run None ∙ ap (seen m.namespace m.slots) at
 
 -- what is kept for the places is kept for the runs
-pub needs_kept : (m : Machine) (t : State) → ((run : ℕ) (place : Place) → place_at (viewed m) run ≡ Some place → KeepsFor place (viewed m) t)
-    → KeepsAll m t.namespace t.slots
+pub needs_kept : (m : Machine) (t : State)
+    → ((run : ℕ) (place : Place) → place_at (viewed m) run ≡ Some place → KeepsFor place (viewed m) t) → KeepsAll m t.namespace t.slots
 needs_kept m t keeps run a at =
     let kept = keeps run (place_of m.namespace m.slots a) (seen_at m run a at) in
     record { shape_kept = kept.shape_kept; source = kept.source; program = kept.program }
 
 -- their places are as they were, and they are under way
-module _ (m : Machine) (under : AreUnderWay m) (later : ZonedNamespace) (slots' : List (Option Loaded)) (keeps : KeepsAll m later slots') where
+module _ (m : Machine) (under : AreUnderWay m) (later : ZonedNamespace) (slots' : List (Option Loaded))
+    (keeps : KeepsAll m later slots') where
   pub places_stay : map (seen later slots') m.runs ≡ map (seen m.namespace m.slots) m.runs
   places_stay =
       same_maps (seen later slots') (seen m.namespace m.slots) refl m.runs
@@ -91,10 +92,12 @@ module _ (m : Machine) (under : AreUnderWay m) (run : ℕ) (a : Active) (at : ru
       left_same (Some ending) is = refl
       left_same None is =
           let with : List Turn → Option Place = λ turns. Some (record place { turns = turns }) in
-          ap (λ (p : Place). Some p) (place_stays m.namespace m.slots then.namespace then.slots (gone_on m a) (next.under_way is) (keeps run a at))
+          ap (λ (p : Place). Some p)
+          (place_stays m.namespace m.slots then.namespace then.slots (gone_on m a) (next.under_way is) (keeps run a at))
           ∙ ap with (next.later_is is)
 
-      left_under_way : (ending : Option Ending) → turn.ending ≡ ending → (b : Active) → run_left m a ending ≡ Some b → IsUnderWay then.namespace b
+      left_under_way : (ending : Option Ending) → turn.ending ≡ ending → (b : Active) → run_left m a ending ≡ Some b
+          → IsUnderWay then.namespace b
       left_under_way (Some ending) is b e = absurd cc
       left_under_way None is b e =
           let same : gone_on m a ≡ b = cc in
@@ -114,14 +117,17 @@ module _ (m : Machine) (under : AreUnderWay m) (run : ℕ) (a : Active) (at : ru
           let state : List (Option Place) → State = λ places. record { namespace = then.namespace; slots = then.slots; places = places } in
           record {
             reply = same_reply turn.ending;
-            state = ap state places_follow ∙ ap (λ (slots : List (Option Loaded)). view_of then.namespace slots runs) (same_slots turn.ending);
+            state =
+                ap state places_follow
+                ∙ ap (λ (slots : List (Option Loaded)). view_of then.namespace slots runs) (same_slots turn.ending);
             under_way = λ other b here. elim (set_known m.runs run other (run_left m a turn.ending) b here) [
               | inl is ↦ left_under_way turn.ending refl b is.1
               | inr is ↦ all_stay m under then.namespace then.slots keeps other b is.1
             ];
           }
 
-module _ {D : Type 0} (operations : Operations D) (m : Machine) (under : AreUnderWay m) (run : ℕ) (a : Active) (at : run_at m run ≡ Some a) where
+module _ {D : Type 0} (operations : Operations D) (m : Machine) (under : AreUnderWay m) (run : ℕ) (a : Active)
+    (at : run_at m run ≡ Some a) where
   -- a turn of an active run
   pub turn_follows : Follows (turned (viewed m) run) (turn_done m run a (turn_now m a))
   turn_follows =

@@ -23,14 +23,16 @@ AreUnderWay m = (run : ℕ) (a : Active) → run_at m run ≡ Some a → IsUnder
 -- ---- what events keep of what a run needs
 
 -- a later namespace and later slots keep what a run of this command needs
-pub record KeepsNeeds (ns : ZonedNamespace) (slots : List (Option Loaded)) (later : ZonedNamespace) (slots' : List (Option Loaded)) (command : RunCommand) : Type 0 where
+pub record KeepsNeeds (ns : ZonedNamespace) (slots : List (Option Loaded)) (later : ZonedNamespace) (slots' : List (Option Loaded))
+    (command : RunCommand) : Type 0 where
   pub shape_kept : shape later ≡ shape ns
   pub source : Grows (zone_at ns (source_zone ns command)).blocks (zone_at later (source_zone ns command)).blocks
   pub program : SameProgram (get_or slots command.slot None) (get_or slots' command.slot None)
 
 module _ (ns : ZonedNamespace) (slots : List (Option Loaded)) (later : ZonedNamespace) (slots' : List (Option Loaded)) where
   -- its place stays what it was,
-  pub place_stays : (a : Active) → IsUnderWay ns a → KeepsNeeds ns slots later slots' a.command → place_of later slots' a ≡ place_of ns slots a
+  pub place_stays : (a : Active) → IsUnderWay ns a → KeepsNeeds ns slots later slots' a.command
+      → place_of later slots' a ≡ place_of ns slots a
   place_stays a h keeps =
       seen_stays ns later slots slots' a (record {
         size = ap (λ (x : Shape). x.size) keeps.shape_kept;
@@ -60,7 +62,7 @@ regroup : (x y z : ℕ) → x + y + z ≡ x + (y + z)
 regroup x y z = omega arith
 
 -- a block of a zone, by the address from which it is so far
-block_behind : (ns : ZonedNamespace) (lba i : ℕ) → lba % ns.size + i < ns.size
+pub block_behind : (ns : ZonedNamespace) (lba i : ℕ) → lba % ns.size + i < ns.size
     → block_at ns (lba + i) ≡ get_or (zone_at ns (lba / ns.size)).blocks (lba % ns.size + i) []
 block_behind ns lba i within =
     let zone = lba / ns.size in

@@ -164,5 +164,6 @@ module _ (m : Machine) where
         ++ demand (nat_le load.limit m.namespace.block) INVALID_FIELD_IN_COMMAND ∷ demand (not used) PROGRAM_IN_USE ∷ [] in
         let why = first_failed (load_checks (viewed m) load sub.input) in
         let made = load_unless operations why starved sub (viewed m) load in
-        subst (λ (used : Bool). IsSame made (load_unless operations (first_failed (checks used)) starved sub (without_turns m) load)) (used_same load.slot)
+        subst (λ (used : Bool). IsSame made (load_unless operations (first_failed (checks used)) starved sub (without_turns m) load))
+        (used_same load.slot)
         (unless_same sub load why starved)

@@ -1,11 +1,13 @@
--- That a run's outcome is fixed when it is admitted: the machine that reads at its turn does the same.
-use Rattle.std.specs.Prelude.{◌≡◌, List, map}
+-- That what a run does is fixed when it is admitted: the machine that reads at its turn does the same, however long a turn waits.
+use Rattle.std.specs.Prelude.{ℕ, ◌≡◌, ◌≢◌, List, map, Some}
+use Rattle.std.specs.List.{AllByRecursion}
 use Rattle.word_domain.specs.Domain.{Operations}
 use Rattle.image_store.specs.Namespace.{ZonedNamespace}
 use Rattle.device_meaning.specs.Events.{Occurrence, replies_to, state_after}
 use Rattle.device_meaning.specs.State.{State, new_state}
-use Rattle.device_meaning.specs.View.{seen}
-use Rattle.turn_machine.specs.Machine.{Machine, machine_after, new_machine, replies_now}
+use Rattle.device_meaning.specs.View.{Active, seen}
+use Rattle.device_events.specs.declared.event.Event.TheVariants as event
+use Rattle.turn_machine.specs.Machine.{Machine, machine_after, new_machine, replies_now, run_at, turn_now}
 
 -- A machine that reads at its turn and a state that has turns correspond: the same namespace, the same slots, and at each
 -- place the same run, of which the state has the turns that are left where the machine has how far it has come. These
@@ -25,3 +27,13 @@ module _ {D : Type 0} (operations : Operations D) where
 -- turns of a run when it is admitted
 abbrev pub FixedAtAdmission : {D : Type 0} → Operations D → Type 0
 FixedAtAdmission operations = (ns : ZonedNamespace) (events : List Occurrence) → DoTheSame operations ns events
+
+-- however long a run waits, its next turn is the same: events that are no turns of its own leave it as far as it has come, and the
+-- turn that it takes then is the one that it would have taken before them
+abbrev pub TurnsMayWait : {D : Type 0} → Operations D → Type 0
+TurnsMayWait operations =
+    (ns : ZonedNamespace) (before after : List Occurrence) (run : ℕ) (a : Active)
+    → let m = machine_after operations before (new_machine ns) in
+    let later = machine_after operations after m in
+    run_at m run ≡ Some a → AllByRecursion (λ o. o.event ≢ event.Turn run) after
+    → (run_at later run ≡ Some a) × (turn_now later a ≡ turn_now m a)

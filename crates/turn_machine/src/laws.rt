@@ -1,6 +1,6 @@
-//! The law of the machine that reads at its turn. The function does nothing: what it ensures is the law.
+//! Laws of the machine that reads at its turn. Each function does nothing: what it ensures is the law.
 
-ghost use Rattle.turn_machine.specs.Laws.{FixedAtAdmission};
+ghost use Rattle.turn_machine.specs.Laws.{FixedAtAdmission, TurnsMayWait};
 
 use word_domain::Domain;
 
@@ -10,4 +10,11 @@ use word_domain::Domain;
 /// runs, and the turns that the one has left are the rest of the run from where the other has come to.
 pub fn fixed_at_admission<D: Domain>()
     ensures { FixedAtAdmission D.operations }
+{}
+
+/// However long a run waits, its next turn is the same: whatever events come to a machine that reads at its turn, but for turns of
+/// the run itself, they leave the run as far as it has come, and what it does at its turn then is what it would have done before
+/// them.
+pub fn turns_may_wait<D: Domain>()
+    ensures { TurnsMayWait D.operations }
 {}
