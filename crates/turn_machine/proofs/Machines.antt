@@ -102,6 +102,7 @@ module _ {D : Type 0} (operations : Operations D) where
       let first = event_follows m under o.starved o.event in
       ap (state_after operations os) first.state ∙ states_follow os (happens_now operations m o.starved o.event).machine first.under_way
 
+  -- runs are under way from the start, and stay so
   pub after_under_way : (events : List Occurrence) (m : Machine) → AreUnderWay m → AreUnderWay (machine_after operations events m)
   after_under_way [] m under = under
   after_under_way (o ∷ os) m under =

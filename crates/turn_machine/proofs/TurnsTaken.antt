@@ -44,6 +44,7 @@ KeepsAll m later slots' = (run : ℕ) (a : Active) → run_at m run ≡ Some a �
 pub seen_at : (m : Machine) (run : ℕ) (a : Active) → run_at m run ≡ Some a → place_at (viewed m) run ≡ Some (place_of m.namespace m.slots a)
 seen_at m run a at = get_or-map (seen m.namespace m.slots) m.runs run None ∙ ap (seen m.namespace m.slots) at
 
+-- a place without a run
 pub none_at : (m : Machine) (run : ℕ) → run_at m run ≡ None → place_at (viewed m) run ≡ None
 none_at m run at = get_or-map (seen m.namespace m.slots) m.runs run None ∙ ap (seen m.namespace m.slots) at
 

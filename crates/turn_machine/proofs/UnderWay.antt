@@ -11,12 +11,13 @@ use Rattle.device_meaning.specs.View.{Active, place_of, to_come}
 use Rattle.device_meaning.proofs.Proved.{seen_stays}
 use Rattle.turn_machine.specs.Machine.{Machine, run_at}
 
--- a run of whose range some block is left, all of which is written, in one zone
+-- a run with some block left; its range is written, and lies in one zone
 pub record IsUnderWay (ns : ZonedNamespace) (a : Active) : Type 0 where
   pub left : a.so_far.index + 1 ≤ a.command.blocks
   pub inside : a.command.lba % ns.size + a.command.blocks ≤ ns.size
   pub written : a.command.lba % ns.size + a.command.blocks ≤ length (zone_at ns (a.command.lba / ns.size)).blocks
 
+-- all active runs are under way
 abbrev pub AreUnderWay : Machine → Type 0
 AreUnderWay m = (run : ℕ) (a : Active) → run_at m run ≡ Some a → IsUnderWay m.namespace a
 
@@ -61,7 +62,7 @@ module _ (ns : ZonedNamespace) (slots : List (Option Loaded)) (later : ZonedName
 regroup : (x y z : ℕ) → x + y + z ≡ x + (y + z)
 regroup x y z = omega arith
 
--- a block of a zone, by the address from which it is so far
+-- the block so far behind another is in the same zone, where the zone reaches that far
 pub block_behind : (ns : ZonedNamespace) (lba i : ℕ) → lba % ns.size + i < ns.size
     → block_at ns (lba + i) ≡ get_or (zone_at ns (lba / ns.size)).blocks (lba % ns.size + i) []
 block_behind ns lba i within =
