@@ -6,13 +6,13 @@ use Rattle.zone_resources.specs.declared.holds.TheConstants.{RUNS}
 use Rattle.nvme_entry.specs.Entry.{decoded}
 use Rattle.nvme_entry.specs.declared.command.Command.{Command}
 use Rattle.nvme_entry.specs.declared.command.Command.TheVariants as commands
-use Rattle.word_domain.specs.Domain.{Operations}
 use Rattle.accepted_programs.proofs.Proved.{none_known}
 use Rattle.image_store.specs.Namespace.{ZonedNamespace}
 use Rattle.zns_commands.specs.Transfer.{transfer_checks}
 use Rattle.device_meaning.specs.EventReplies.{Happening, Submission, idle, submission_of}
 use Rattle.device_meaning.specs.Events.{Occurrence, replies_to, state_after}
 use Rattle.device_meaning.specs.Happenings.{faulting, happens, submitted, turned, turned_at}
+use Rattle.device_meaning.specs.Judging.{Judge}
 use Rattle.device_meaning.specs.State.{Place, State, new_state}
 use Rattle.device_meaning.specs.View.{Active}
 use Rattle.device_meaning.proofs.Proved.{decoded_has, events_keep_for_runs}
@@ -34,32 +34,32 @@ corresponding m s is = record {
   places = ap (λ (x : State). x.places) is;
 }
 
-module _ {D : Type 0} (operations : Operations D) where
+module _ (judge : Judge) where
   -- ---- one event
 
   module _ (m : Machine) (under : AreUnderWay m) where
     -- every event keeps what runs need
-    pub kept : (starved : Bool) (e : Event) → let t = (happens operations (viewed m) starved e).state in KeepsAll m t.namespace t.slots
+    pub kept : (starved : Bool) (e : Event) → let t = (happens judge (viewed m) starved e).state in KeepsAll m t.namespace t.slots
     kept starved e =
         let s = viewed m in
-        needs_kept m (happens operations s starved e).state
-        (λ run place at. events_keep_for_runs operations s (record { event = e; starved = starved }) run place at)
+        needs_kept m (happens judge s starved e).state
+        (λ run place at. events_keep_for_runs judge s (record { event = e; starved = starved }) run place at)
 
     -- what an entry comes to that names this command; all but a Run leave the runs
     module _ (starved : Bool) (sub : Submission) where
       abbrev from : Result Command Status → Happening
-      from = submitted operations starved sub (viewed m)
+      from = submitted judge starved sub (viewed m)
 
       abbrev told : Result Command Status → Happening
-      told = submitted operations starved sub (without_turns m)
+      told = submitted judge starved sub (without_turns m)
 
       entry_follows : (asked : Result Command Status) → decoded sub.entry ≡ asked → KeepsAll m (from asked).state.namespace (from asked).state.slots
-          → Follows (from asked) (submitted_now operations starved sub m asked)
+          → Follows (from asked) (submitted_now judge starved sub m asked)
       entry_follows (Err status) is keeps = leaving_follows m under (from (Err status)) (told (Err status)) (refused_same m sub status) keeps
       entry_follows (Ok (commands.Standard c)) is keeps =
           let asked = Ok (commands.Standard c) in leaving_follows m under (from asked) (told asked) (command_same m sub c) keeps
       entry_follows (Ok (commands.Load load)) is keeps =
-          let asked = Ok (commands.Load load) in leaving_follows m under (from asked) (told asked) (load_same m operations sub load starved) keeps
+          let asked = Ok (commands.Load load) in leaving_follows m under (from asked) (told asked) (load_same m judge sub load starved) keeps
       entry_follows (Ok (commands.Run command)) is keeps =
           starting_follows m under sub command (decoded_has sub.entry (commands.Run command) is)
       entry_follows (Ok (commands.Result slot)) is keeps =
@@ -68,12 +68,12 @@ module _ {D : Type 0} (operations : Operations D) where
           leaving_follows m under (from asked) (told asked) (result_same m sub (get_or m.slots slot None) why) keeps
 
     turn_comes : (run : ℕ) (at : Option Active) → run_at m run ≡ at → Follows (turned (viewed m) run) (turned_now_at m run at)
-    turn_comes run (Some a) at = turn_follows operations m under run a at
+    turn_comes run (Some a) at = turn_follows judge m under run a at
     turn_comes run None at =
         let same : Follows (idle (viewed m)) (turned_now_at m run None) = record { reply = refl; state = refl; under_way = under } in
         subst (λ (p : Option Place). Follows (turned_at (viewed m) run p) (turned_now_at m run None)) (sym (none_at m run at)) same
 
-    pub event_follows : (starved : Bool) (e : Event) → Follows (happens operations (viewed m) starved e) (happens_now operations m starved e)
+    pub event_follows : (starved : Bool) (e : Event) → Follows (happens judge (viewed m) starved e) (happens_now judge m starved e)
     event_follows starved (event.Submit queue entry input) =
         let sub = submission_of queue entry input.items in
         entry_follows starved sub (decoded entry) refl (kept starved (event.Submit queue entry input))
@@ -85,28 +85,28 @@ module _ {D : Type 0} (operations : Operations D) where
   -- ---- lists of events
 
   replies_follow : (events : List Occurrence) (m : Machine) → AreUnderWay m
-      → replies_now operations events m ≡ replies_to operations events (viewed m)
+      → replies_now judge events m ≡ replies_to judge events (viewed m)
   replies_follow [] m under = refl
   replies_follow (o ∷ os) m under =
-      let h = happens operations (viewed m) o.starved o.event in
-      let g = happens_now operations m o.starved o.event in
+      let h = happens judge (viewed m) o.starved o.event in
+      let g = happens_now judge m o.starved o.event in
       let first = event_follows m under o.starved o.event in
       ap (λ (replies : List ReplyWithData). g.reply ∷ replies) (replies_follow os g.machine first.under_way)
-      ∙ ap (λ (s : State). g.reply ∷ replies_to operations os s) (sym first.state)
-      ∙ ap (λ (r : ReplyWithData). r ∷ replies_to operations os h.state) (sym first.reply)
+      ∙ ap (λ (s : State). g.reply ∷ replies_to judge os s) (sym first.state)
+      ∙ ap (λ (r : ReplyWithData). r ∷ replies_to judge os h.state) (sym first.reply)
 
   states_follow : (events : List Occurrence) (m : Machine) → AreUnderWay m
-      → state_after operations events (viewed m) ≡ viewed (machine_after operations events m)
+      → state_after judge events (viewed m) ≡ viewed (machine_after judge events m)
   states_follow [] m under = refl
   states_follow (o ∷ os) m under =
       let first = event_follows m under o.starved o.event in
-      ap (state_after operations os) first.state ∙ states_follow os (happens_now operations m o.starved o.event).machine first.under_way
+      ap (state_after judge os) first.state ∙ states_follow os (happens_now judge m o.starved o.event).machine first.under_way
 
   -- runs are under way from the start, and stay so
-  pub after_under_way : (events : List Occurrence) (m : Machine) → AreUnderWay m → AreUnderWay (machine_after operations events m)
+  pub after_under_way : (events : List Occurrence) (m : Machine) → AreUnderWay m → AreUnderWay (machine_after judge events m)
   after_under_way [] m under = under
   after_under_way (o ∷ os) m under =
-      after_under_way os (happens_now operations m o.starved o.event).machine (event_follows m under o.starved o.event).under_way
+      after_under_way os (happens_now judge m o.starved o.event).machine (event_follows m under o.starved o.event).under_way
 
   pub new_under_way : (ns : ZonedNamespace) → AreUnderWay (new_machine ns)
   new_under_way ns run a at = absurd (none_known RUNS run a at)
@@ -114,12 +114,12 @@ module _ {D : Type 0} (operations : Operations D) where
   new_is_viewed : (ns : ZonedNamespace) → viewed (new_machine ns) ≡ new_state ns
   new_is_viewed ns = refl
 
-  pub fixed_at_admission : FixedAtAdmission operations
-  fixed_at_admission ns events =
-      let m = new_machine ns in
-      let under = new_under_way ns in
-      record {
-        replies = replies_follow events m under ∙ ap (replies_to operations events) (new_is_viewed ns);
-        after = corresponding (machine_after operations events m) (state_after operations events (new_state ns))
-            (sym (ap (state_after operations events) (new_is_viewed ns)) ∙ states_follow events m under);
-      }
+pub fixed_at_admission : FixedAtAdmission
+fixed_at_admission judge ns events =
+    let m = new_machine ns in
+    let under = new_under_way judge ns in
+    record {
+      replies = replies_follow judge events m under ∙ ap (replies_to judge events) (new_is_viewed judge ns);
+      after = corresponding (machine_after judge events m) (state_after judge events (new_state ns))
+          (sym (ap (state_after judge events) (new_is_viewed judge ns)) ∙ states_follow judge events m under);
+    }

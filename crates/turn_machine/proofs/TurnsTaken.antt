@@ -2,12 +2,12 @@
 use Rattle.std.proofs.Common.{◌≡◌, ℕ, zero, suc, false, List, [], ◌∷◌, map, set, get_or, Option, Some, None, refl, ap, sym, subst, ◌∙◌, inl, inr}
 use Rattle.std.proofs.Math.ListN.{get_or-map}
 use Rattle.std.proofs.lemmas.List.{map-set}
-use Rattle.word_domain.specs.Domain.{Operations}
 use Rattle.accepted_programs.proofs.Proved.{set_known}
 use Rattle.image_store.specs.Namespace.{ZonedNamespace}
 use Rattle.device_meaning.specs.Admission.{Loaded}
 use Rattle.device_meaning.specs.EventReplies.{Happening}
 use Rattle.device_meaning.specs.Happenings.{place_left, slots_left, take_turn, turn_reply, turn_state, turned}
+use Rattle.device_meaning.specs.Judging.{Judge}
 use Rattle.device_meaning.specs.Laws.{KeepsFor}
 use Rattle.device_meaning.specs.Outcome.{Ending, Turn}
 use Rattle.device_meaning.specs.State.{Place, State, place_at}
@@ -127,7 +127,7 @@ module _ (m : Machine) (under : AreUnderWay m) (run : ℕ) (a : Active) (at : ru
             ];
           }
 
-module _ {D : Type 0} (operations : Operations D) (m : Machine) (under : AreUnderWay m) (run : ℕ) (a : Active)
+module _ (judge : Judge) (m : Machine) (under : AreUnderWay m) (run : ℕ) (a : Active)
     (at : run_at m run ≡ Some a) where
   -- a turn of an active run
   pub turn_follows : Follows (turned (viewed m) run) (turn_done m run a (turn_now m a))
@@ -139,7 +139,7 @@ module _ {D : Type 0} (operations : Operations D) (m : Machine) (under : AreUnde
       let p = place_of m.namespace m.slots a in
       let is = turned_is s run p turn later (seen_at m run a at) found.1.turns in
       let keeps = needs_kept m (turned s run).state
-      (λ other place here. events_keep_for_runs operations s (record { event = event.Turn run; starved = false }) other place here) in
+      (λ other place here. events_keep_for_runs judge s (record { event = event.Turn run; starved = false }) other place here) in
       let kept : KeepsAll m (turn_state s run p turn later).namespace (turn_state s run p turn later).slots =
       subst (λ (h : Happening). KeepsAll m h.state.namespace h.state.slots) is keeps in
       subst (λ (h : Happening). Follows h (turn_done m run a turn)) (sym is)

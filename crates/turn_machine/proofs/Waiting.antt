@@ -11,7 +11,6 @@ use Rattle.nvme_entry.specs.declared.command.Command.{Command}
 use Rattle.nvme_entry.specs.declared.command.Command.TheVariants as commands
 use Rattle.nvme_entry.specs.declared.command.RunCommand.{RunCommand}
 use Rattle.instruction_set.specs.declared.instruction.Instruction.{Instruction}
-use Rattle.word_domain.specs.Domain.{Operations}
 use Rattle.image_store.specs.Geometry.{Shape}
 use Rattle.image_store.specs.Namespace.{block_at, zone_at}
 use Rattle.device_meaning.specs.Admission.{limit_in, program_in}
@@ -19,6 +18,7 @@ use Rattle.device_meaning.specs.BlockRuns.{Task, block_run, goes_on}
 use Rattle.device_meaning.specs.EventReplies.{Submission, submission_of}
 use Rattle.device_meaning.specs.Events.{Occurrence}
 use Rattle.device_meaning.specs.Happenings.{why_not_run}
+use Rattle.device_meaning.specs.Judging.{Judge}
 use Rattle.device_meaning.specs.Outcome.{Turn}
 use Rattle.device_meaning.specs.State.{State, free_place}
 use Rattle.device_meaning.specs.View.{Active}
@@ -93,9 +93,9 @@ module _ (m : Machine) (run : ℕ) (a : Active) (at : run_at m run ≡ Some a) w
   turned_beside other None differs = at
   turned_beside other (Some b) differs = get_or-set_other m.runs other run (run_left m b (turn_now m b).ending) None differs ∙ at
 
-  module _ {D : Type 0} (operations : Operations D) where
+  module _ (judge : Judge) where
     entry_beside : (starved : Bool) (sub : Submission) (asked : Result Command Status)
-        → run_at (submitted_now operations starved sub m asked).machine run ≡ Some a
+        → run_at (submitted_now judge starved sub m asked).machine run ≡ Some a
     entry_beside starved sub (Err status) = at
     entry_beside starved sub (Ok (commands.Standard c)) = at
     entry_beside starved sub (Ok (commands.Load load)) = at
@@ -103,26 +103,26 @@ module _ (m : Machine) (run : ℕ) (a : Active) (at : run_at m run ≡ Some a) w
         started_beside (why_not_run sub (without_turns m) command) (free_place (without_turns m)) sub command refl
     entry_beside starved sub (Ok (commands.Result slot)) = at
 
-    event_beside : (starved : Bool) (e : Event) → e ≢ event.Turn run → run_at (happens_now operations m starved e).machine run ≡ Some a
+    event_beside : (starved : Bool) (e : Event) → e ≢ event.Turn run → run_at (happens_now judge m starved e).machine run ≡ Some a
     event_beside starved (event.Submit queue entry input) differs =
         entry_beside starved (submission_of queue entry input.items) (decoded entry)
     event_beside starved (event.Turn other) differs = turned_beside other (run_at m other) (λ same. differs (ap event.Turn (sym same)))
     event_beside starved (event.Fault zone state) differs = at
 
-module _ {D : Type 0} (operations : Operations D) where
+module _ (judge : Judge) where
   waits : (events : List Occurrence) (m : Machine) → AreUnderWay m → (run : ℕ) (a : Active) → run_at m run ≡ Some a
       → AllByRecursion (λ o. o.event ≢ event.Turn run) events
-      → (run_at (machine_after operations events m) run ≡ Some a) × (turn_now (machine_after operations events m) a ≡ turn_now m a)
+      → (run_at (machine_after judge events m) run ≡ Some a) × (turn_now (machine_after judge events m) a ≡ turn_now m a)
   waits [] m under run a at others = (at, refl)
   waits (o ∷ os) m under run a at others =
-      let g = happens_now operations m o.starved o.event in
-      let follows = event_follows operations m under o.starved o.event in
+      let g = happens_now judge m o.starved o.event in
+      let follows = event_follows judge m under o.starved o.event in
       let keeps = subst (λ (s : State). KeepsNeeds m.namespace m.slots s.namespace s.slots a.command) follows.state
-      (kept operations m under o.starved o.event run a at) in
-      let later = waits os g.machine follows.under_way run a (event_beside m run a at operations o.starved o.event others.0) others.1 in
+      (kept judge m under o.starved o.event run a at) in
+      let later = waits os g.machine follows.under_way run a (event_beside m run a at judge o.starved o.event others.0) others.1 in
       (later.0, later.1 ∙ same_turn m g.machine a (under run a at) keeps)
 
-  pub turns_may_wait : TurnsMayWait operations
-  turns_may_wait ns before after run a at others =
-      let m = machine_after operations before (new_machine ns) in
-      waits after m (after_under_way operations before (new_machine ns) (new_under_way operations ns)) run a at others
+pub turns_may_wait : TurnsMayWait
+turns_may_wait judge ns before after run a at others =
+    let m = machine_after judge before (new_machine ns) in
+    waits judge after m (after_under_way judge before (new_machine ns) (new_under_way judge ns)) run a at others

@@ -11,19 +11,15 @@ use Rattle.common_definitions.specs.Checks.{demand, first_failed}
 use Rattle.nvme_entry.specs.declared.command.LoadCommand.{LoadCommand}
 use Rattle.nvme_entry.specs.declared.command.RunCommand.{RunCommand}
 use Rattle.nvme_entry.specs.declared.command.StandardCommand.{StandardCommand}
-use Rattle.ebpf_decode.specs.Reading.{decoded_program}
-use Rattle.ebpf_decode.specs.declared.fault.Fault.{Fault}
 use Rattle.instruction_set.specs.declared.instruction.Instruction.{Instruction}
-use Rattle.word_domain.specs.Domain.{Operations}
-use Rattle.accepted_programs.specs.Accepted.{refusal}
-use Rattle.accepted_programs.specs.declared.reason.Refusal.{Refusal}
 use Rattle.zns_commands.specs.Effect.{Effect}
 use Rattle.zns_commands.specs.Fault.{faulted, zone_fault_refusal}
 use Rattle.zns_commands.specs.Meaning.{meaning}
 use Rattle.zns_commands.specs.Transfer.{transfer_checks}
 use Rattle.device_meaning.specs.Admission.{Loaded, run_refusal}
 use Rattle.device_meaning.specs.EventReplies.{Happening, Submission, refused}
-use Rattle.device_meaning.specs.Happenings.{commanded, fault_reply, faulting, judged, load_checks, load_unless, loading, read_program, result_by, sizes_for, why_not_run}
+use Rattle.device_meaning.specs.Happenings.{commanded, fault_reply, faulting, judged, load_checks, load_unless, loading, result_by, sizes_for, why_not_run}
+use Rattle.device_meaning.specs.Judging.{Judge, ProgramRefused}
 use Rattle.device_meaning.specs.State.{Place, State, destination_of, free_place, holds_at, in_use, loaded_at, source_of, uses, with_namespace}
 use Rattle.device_meaning.specs.View.{Active, seen, view_of}
 use Rattle.device_events.specs.Replies.{without_data}
@@ -139,31 +135,26 @@ module _ (m : Machine) where
   pub refused_same : (sub : Submission) (status : Status) → IsSame (refused sub status (viewed m)) (refused sub status (without_turns m))
   refused_same sub status = record { reply = refl; namespace = refl; slots = refl; places = refl }
 
-  judged_same : (sub : Submission) (load : LoadCommand) (program : List (Option Instruction)) (why : Option Refusal)
-      → IsSame (judged sub (viewed m) load program why) (judged sub (without_turns m) load program why)
-  judged_same sub load program (Some why) = record { reply = refl; namespace = refl; slots = refl; places = refl }
-  judged_same sub load program None = record { reply = refl; namespace = refl; slots = refl; places = refl }
+  judged_same : (sub : Submission) (load : LoadCommand) (made : Result (List (Option Instruction)) ProgramRefused)
+      → IsSame (judged sub (viewed m) load made) (judged sub (without_turns m) load made)
+  judged_same sub load (Err why) = record { reply = refl; namespace = refl; slots = refl; places = refl }
+  judged_same sub load (Ok program) = record { reply = refl; namespace = refl; slots = refl; places = refl }
 
-  module _ {D : Type 0} (operations : Operations D) where
-    read_same : (sub : Submission) (load : LoadCommand) (read : Result (List (Option Instruction)) Fault)
-        → IsSame (read_program operations sub (viewed m) load read) (read_program operations sub (without_turns m) load read)
-    read_same sub load (Err fault) = record { reply = refl; namespace = refl; slots = refl; places = refl }
-    read_same sub load (Ok program) = judged_same sub load program (refusal operations program (sizes_for (viewed m) load))
-
+  module _ (judge : Judge) where
     unless_same : (sub : Submission) (load : LoadCommand) (why : Option Status) (starved : Bool)
-        → IsSame (load_unless operations why starved sub (viewed m) load) (load_unless operations why starved sub (without_turns m) load)
+        → IsSame (load_unless judge why starved sub (viewed m) load) (load_unless judge why starved sub (without_turns m) load)
     unless_same sub load (Some status) starved = refused_same sub status
     unless_same sub load None true = refused_same sub WANT_OF_MEMORY
-    unless_same sub load None false = read_same sub load (decoded_program sub.input)
+    unless_same sub load None false = judged_same sub load (judge sub.input (sizes_for (viewed m) load))
 
     pub load_same : (sub : Submission) (load : LoadCommand) (starved : Bool)
-        → IsSame (loading operations starved sub (viewed m) load) (loading operations starved sub (without_turns m) load)
+        → IsSame (loading judge starved sub (viewed m) load) (loading judge starved sub (without_turns m) load)
     load_same sub load starved =
         let checks : Bool → List (Option Status) = λ used.
         transfer_checks load.bytes load.bytes sub.input
         ++ demand (nat_le load.limit m.namespace.block) INVALID_FIELD_IN_COMMAND ∷ demand (not used) PROGRAM_IN_USE ∷ [] in
         let why = first_failed (load_checks (viewed m) load sub.input) in
-        let made = load_unless operations why starved sub (viewed m) load in
-        subst (λ (used : Bool). IsSame made (load_unless operations (first_failed (checks used)) starved sub (without_turns m) load))
+        let made = load_unless judge why starved sub (viewed m) load in
+        subst (λ (used : Bool). IsSame made (load_unless judge (first_failed (checks used)) starved sub (without_turns m) load))
         (used_same load.slot)
         (unless_same sub load why starved)

@@ -1,9 +1,9 @@
 -- That what a run does is fixed when it is admitted: the machine that reads at its turn does the same, however long a turn waits.
 use Rattle.std.specs.Prelude.{ℕ, ◌≡◌, ◌≢◌, List, map, Some}
 use Rattle.std.specs.List.{AllByRecursion}
-use Rattle.word_domain.specs.Domain.{Operations}
 use Rattle.image_store.specs.Namespace.{ZonedNamespace}
 use Rattle.device_meaning.specs.Events.{Occurrence, replies_to, state_after}
+use Rattle.device_meaning.specs.Judging.{Judge}
 use Rattle.device_meaning.specs.State.{State, new_state}
 use Rattle.device_meaning.specs.View.{Active, seen}
 use Rattle.device_events.specs.declared.event.Event.TheVariants as event
@@ -17,23 +17,23 @@ pub record Corresponds (m : Machine) (s : State) : Type 0 where
   pub slots : s.slots ≡ m.slots
   pub places : s.places ≡ map (seen m.namespace m.slots) m.runs
 
-module _ {D : Type 0} (operations : Operations D) where
+module _ (judge : Judge) where
   -- both give the same replies to these events, and correspond after them
   pub record DoTheSame (ns : ZonedNamespace) (events : List Occurrence) : Type 0 where
-    pub replies : replies_now operations events (new_machine ns) ≡ replies_to operations events (new_state ns)
-    pub after : Corresponds (machine_after operations events (new_machine ns)) (state_after operations events (new_state ns))
+    pub replies : replies_now judge events (new_machine ns) ≡ replies_to judge events (new_state ns)
+    pub after : Corresponds (machine_after judge events (new_machine ns)) (state_after judge events (new_state ns))
 
--- from every namespace on, whatever events come, a machine that reads each block at its turn does what one does that fixes all
+-- from every namespace on, whatever events come and whoever judges programs, a machine that reads each block at its turn does what one does that fixes all
 -- turns of a run when it is admitted
-abbrev pub FixedAtAdmission : {D : Type 0} → Operations D → Type 0
-FixedAtAdmission operations = (ns : ZonedNamespace) (events : List Occurrence) → DoTheSame operations ns events
+abbrev pub FixedAtAdmission : Type 0
+FixedAtAdmission = (judge : Judge) (ns : ZonedNamespace) (events : List Occurrence) → DoTheSame judge ns events
 
 -- however long a run waits, its next turn is the same: events that are no turns of its own leave it as far as it has come, and the
 -- turn that it takes then is the one that it would have taken before them
-abbrev pub TurnsMayWait : {D : Type 0} → Operations D → Type 0
-TurnsMayWait operations =
-    (ns : ZonedNamespace) (before after : List Occurrence) (run : ℕ) (a : Active)
-    → let m = machine_after operations before (new_machine ns) in
-    let later = machine_after operations after m in
+abbrev pub TurnsMayWait : Type 0
+TurnsMayWait =
+    (judge : Judge) (ns : ZonedNamespace) (before after : List Occurrence) (run : ℕ) (a : Active)
+    → let m = machine_after judge before (new_machine ns) in
+    let later = machine_after judge after m in
     run_at m run ≡ Some a → AllByRecursion (λ o. o.event ≢ event.Turn run) after
     → (run_at later run ≡ Some a) × (turn_now later a ≡ turn_now m a)

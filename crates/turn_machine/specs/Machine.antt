@@ -11,13 +11,13 @@ use Rattle.nvme_entry.specs.declared.command.Command.TheVariants as commands
 use Rattle.nvme_entry.specs.declared.command.RunCommand.{RunCommand}
 use Rattle.nvme_entry.specs.declared.program_slot.TheConstants.{PROGRAM_SLOTS}
 use Rattle.program_meaning.specs.BlockRun.{BlockRun}
-use Rattle.word_domain.specs.Domain.{Operations}
 use Rattle.image_store.specs.Namespace.{ZonedNamespace, block_at}
 use Rattle.device_meaning.specs.Admission.{Loaded, destination_zone, source_zone, task_of}
 use Rattle.device_meaning.specs.BlockRuns.{Task, block_run, goes_on}
 use Rattle.device_meaning.specs.EventReplies.{Happening, Submission, idle, refused, submission_of}
 use Rattle.device_meaning.specs.Events.{Occurrence}
 use Rattle.device_meaning.specs.Happenings.{added, faulting, slots_left, submitted, turn_reply, why_not_run}
+use Rattle.device_meaning.specs.Judging.{Judge}
 use Rattle.device_meaning.specs.Laws.{further, next_turn}
 use Rattle.device_meaning.specs.Outcome.{Ending, Progress, Turn, emitted_by, last_turn}
 use Rattle.device_meaning.specs.State.{Place, State, free_place}
@@ -128,11 +128,11 @@ turned_now_at m run (Some a) = turn_done m run a (turn_now m a)
 
 -- ---- events
 
-module _ {D : Type 0} (operations : Operations D) where
+module _ (judge : Judge) where
   -- what an entry comes to that names this command
   abbrev pub submitted_now : Bool → Submission → Machine → Result Command Status → Answered
   submitted_now starved sub m (Ok (commands.Run command)) = starting_now sub m command
-  submitted_now starved sub m asked = leaving_runs m (submitted operations starved sub (without_turns m) asked)
+  submitted_now starved sub m asked = leaving_runs m (submitted judge starved sub (without_turns m) asked)
 
   -- what an event comes to, where memory is refused or not
   abbrev pub happens_now : Machine → Bool → Event → Answered
