@@ -8,7 +8,7 @@ use Rattle.nvme_entry.specs.declared.command.RunCommand.{RunCommand}
 use Rattle.instruction_set.specs.declared.instruction.Instruction.{Instruction}
 use Rattle.program_meaning.proofs.Proved.{the_value}
 use Rattle.accepted_programs.proofs.Proved.{set_known, set_some}
-use Rattle.interval_domain.specs.Intervals.{intervals}
+use Rattle.device_meaning.specs.Judging.{interval_judge}
 use Rattle.verifier.specs.Verified.{program_of, sizes_of}
 use Rattle.image_store.specs.Geometry.{Shape}
 use Rattle.image_store.specs.Namespace.{ZonedNamespace, shape, zone_at}
@@ -70,7 +70,7 @@ module _ (ns : ZonedNamespace) (slots : List (Option LoadedProgram)) (runs : Lis
   turns_are : place.turns ≡ turns_of ns code limit (active_of a)
   turns_are = ap (λ (o : Option Loaded). rest (task_of ns o a.command) (active_of a).so_far (to_come ns (active_of a))) slot_is
 
-  fits_on : IsReached intervals s → FitsOn ns code limit a
+  fits_on : IsReached interval_judge s → FitsOn ns code limit a
   fits_on reached =
       let sound = reached_is_sound s reached in
       record {
@@ -82,7 +82,7 @@ module _ (ns : ZonedNamespace) (slots : List (Option LoadedProgram)) (runs : Lis
             (subst (RoomIn ns.capacity (zone_at ns (zone_number ns a.command.destination))) turns_are (sound.rooms k place here));
       }
 
-  fits_in : IsReached intervals s → FitsIn ns (get_or slots a.command.slot None) a
+  fits_in : IsReached interval_judge s → FitsIn ns (get_or slots a.command.slot None) a
   fits_in reached = subst (λ (o : Option LoadedProgram). FitsIn ns o a) (sym loaded) (accepted, fits_on reached)
 
   -- ---- the first of its turns is done, and its program and its place are these
@@ -107,7 +107,7 @@ module _ (ns : ZonedNamespace) (slots : List (Option LoadedProgram)) (runs : Lis
 
     keeps : (j : ℕ) (b : ActiveRun) → get_or runs j None ≡ Some b → KeepsFor (place_of ns (map loaded_slot slots) (active_of b)) s after
     keeps j b there =
-        events_keep_for_runs intervals s (record { event = event.Turn k; starved = false }) j (place_of ns (map loaded_slot slots) (active_of b))
+        events_keep_for_runs interval_judge s (record { event = event.Turn k; starved = false }) j (place_of ns (map loaded_slot slots) (active_of b))
         (placed_at ns slots runs j b there)
 
     same_shape : shape new ≡ shape ns
@@ -261,7 +261,7 @@ module _ (ns : ZonedNamespace) (slots : List (Option LoadedProgram)) (runs : Lis
 
 -- the run at a place fits, with the program of its slot
 pub fits_at : (ns : ZonedNamespace) (slots : List (Option LoadedProgram)) (runs : List (Option ActiveRun)) (k : ℕ) (place : Option ActiveRun)
-    → IsReady ns slots runs → IsReached intervals (device_state ns slots runs) → get_or runs k None ≡ place → FitsAt ns slots place
+    → IsReady ns slots runs → IsReached interval_judge (device_state ns slots runs) → get_or runs k None ≡ place → FitsAt ns slots place
 fits_at ns slots runs k None ready reached at = tt
 fits_at ns slots runs k (Some a) ready reached at =
     let own = ready.running k a at in fits_in ns slots runs ready k a at own.program own.loaded reached

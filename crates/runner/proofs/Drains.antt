@@ -4,7 +4,7 @@ use Rattle.std.specs.Prelude.{is_some}
 use Rattle.std.proofs.lemmas.List.{length-take, take_at, nil_from_length}
 use Rattle.std.proofs.lemmas.List.Quantifiers.{position-Some}
 use Rattle.std.proofs.lemmas.List.Sums.{fold-append, sum_by-cons}
-use Rattle.interval_domain.specs.Intervals.{intervals}
+use Rattle.device_meaning.specs.Judging.{interval_judge}
 use Rattle.nvme_entry.specs.declared.command.TheConstants.{MOST_BLOCKS}
 use Rattle.image_store.specs.Namespace.{ZonedNamespace, zone_at}
 use Rattle.zns_commands.specs.Address.{zone_number}
@@ -20,12 +20,12 @@ use Rattle.runner.specs.steps.Ready.{FitsNamespace}
 use Rattle.device_meaning.specs.Reached.{IsReached}
 use Rattle.runner.specs.declared.active_run.ActiveRun.{ActiveRun}
 use Rattle.runner.specs.declared.loaded_program.LoadedProgram.{LoadedProgram}
-use Rattle.runner.proofs.Reached.{never}
+use Rattle.runner.proofs.Reached.{sound}
 
 -- ---- fewer turns are left
 
-pub turn_less : (s : State) (run : ℕ) → IsReached intervals s → lowest_run s ≡ Some run → turns_left (turned s run).state.places + 1 ≤ turns_left s.places
-turn_less s run reached low = turns_leave_fewer intervals never s run reached ((position-Some is_some s.places run None low).1)
+pub turn_less : (s : State) (run : ℕ) → IsReached interval_judge s → lowest_run s ≡ Some run → turns_left (turned s run).state.places + 1 ≤ turns_left s.places
+turn_less s run reached low = turns_leave_fewer interval_judge sound s run reached ((position-Some is_some s.places run None low).1)
 
 -- a run has at most as many turns left as it has source blocks
 few_of : (ns : ZonedNamespace) (slots : List (Option LoadedProgram)) (a : ActiveRun) → FitsNamespace ns a
@@ -85,7 +85,7 @@ module _ {T : Type 0} (took : T → T → List ReplyWithData → Type 0) (joins 
       turns_replies-append d.runs (run ∷ []) old
       ∙ ap (λ (x : ReplyWithData). replies_to_turns d.runs old ++ x ∷ []) (sym (replied ∙ ap (λ (s : State). (turned s run).reply) d.state))
 
-  module _ (d : IsDraining old now (took first then) done) (reached : IsReached intervals now) (low : lowest_run now ≡ Some run) (step : new ≡ (turned now run).state) where
+  module _ (d : IsDraining old now (took first then) done) (reached : IsReached interval_judge now) (low : lowest_run now ≡ Some run) (step : new ≡ (turned now run).state) where
     more_few : done + 1 + turns_left new.places ≤ turns_left old.places
     more_few =
         let less = turn_less now run reached low in

@@ -4,7 +4,7 @@ use Rattle.std.specs.Prelude.{Vec}
 use Rattle.std.specs.declared.alloc.Global.{Global}
 use Rattle.common_definitions.specs.Bytes.{AreBytes}
 use Rattle.nvme_entry.specs.Entry.{decoded}
-use Rattle.interval_domain.specs.Intervals.{intervals}
+use Rattle.device_meaning.specs.Judging.{interval_judge}
 use Rattle.device_meaning.specs.EventReplies.{Happening, Submission, submission_of}
 use Rattle.device_events.specs.Replies.{ReplyWithData}
 use Rattle.device_meaning.specs.Events.{CarriesBytes, HasHappened, Occurrence}
@@ -18,12 +18,12 @@ use Rattle.runner.specs.declared.submission.Submission.{Submission as GivenSubmi
 use Rattle.device_meaning.specs.Reached.{IsReached}
 
 -- one more event leaves a state that events leave
-pub reached_more : (s t : State) (o : Occurrence) → IsReached intervals s → CarriesBytes o.event → t ≡ (happens intervals s o.starved o.event).state → IsReached intervals t
-reached_more s t o reached has step = subst (IsReached intervals) (sym step) (events_keep_reached intervals s (o ∷ []) reached (has, tt))
+pub reached_more : (s t : State) (o : Occurrence) → IsReached interval_judge s → CarriesBytes o.event → t ≡ (happens interval_judge s o.starved o.event).state → IsReached interval_judge t
+reached_more s t o reached has step = subst (IsReached interval_judge) (sym step) (events_keep_reached interval_judge s (o ∷ []) reached (has, tt))
 
 -- ---- one event
 
-reached_by : (e : Event) (old new : State) (reply : ReplyWithData) → IsReached intervals old → CarriesBytes e → HasHappened intervals e old new reply → IsReached intervals new
+reached_by : (e : Event) (old new : State) (reply : ReplyWithData) → IsReached interval_judge old → CarriesBytes e → HasHappened interval_judge e old new reply → IsReached interval_judge new
 reached_by e old new reply reached has happened =
     let o : Occurrence = record { event = e; starved = happened.starved } in reached_more old new o reached has happened.state
 
@@ -37,11 +37,11 @@ as_submitted sub queue entry input same_queue same_entry same_input =
 
 pub submission_happened : (queue : ℕ) (entry : List ℕ) (input : Vec ℕ Global) (given : GivenSubmission) (old new : State) (reply : ReplyWithData)
     → given.queue ≡ queue → given.entry.now ≡ entry → given.input.now ≡ input.items
-    → HasSubmitted given (decoded given.entry.now) old new reply → HasHappened intervals (event.Submit queue entry input) old new reply
+    → HasSubmitted given (decoded given.entry.now) old new reply → HasHappened interval_judge (event.Submit queue entry input) old new reply
 submission_happened queue entry input given old new reply same_queue same_entry same_input h =
     let told = as_submitted (as_submission given) queue entry input.items same_queue same_entry same_input in
-    let happening : happens intervals old h.starved (event.Submit queue entry input) ≡ record { reply = reply; state = new } =
-    ap (λ (x : Submission). submitted intervals h.starved x old (decoded x.entry)) (sym told) ∙ h.happening in
+    let happening : happens interval_judge old h.starved (event.Submit queue entry input) ≡ record { reply = reply; state = new } =
+    ap (λ (x : Submission). submitted interval_judge h.starved x old (decoded x.entry)) (sym told) ∙ h.happening in
     record {
       starved = h.starved;
       state = sym (ap (λ (x : Happening). x.state) happening);
@@ -49,8 +49,8 @@ submission_happened queue entry input given old new reply same_queue same_entry 
     }
 
 pub submission_reached : (queue : ℕ) (entry : List ℕ) (input : Vec ℕ Global) (given : GivenSubmission) (old new : State) (reply : ReplyWithData)
-    → IsReached intervals old → AreBytes input.items → given.queue ≡ queue → given.entry.now ≡ entry → given.input.now ≡ input.items
-    → HasSubmitted given (decoded given.entry.now) old new reply → IsReached intervals new
+    → IsReached interval_judge old → AreBytes input.items → given.queue ≡ queue → given.entry.now ≡ entry → given.input.now ≡ input.items
+    → HasSubmitted given (decoded given.entry.now) old new reply → IsReached interval_judge new
 submission_reached queue entry input given old new reply reached bytes same_queue same_entry same_input h =
     reached_by (event.Submit queue entry input) old new reply reached bytes
     (submission_happened queue entry input given old new reply same_queue same_entry same_input h)

@@ -1,5 +1,5 @@
 -- A program that is put into a slot that no run uses.
-use Rattle.std.proofs.Common.{◌≡◌, ◌≢◌, ℕ, Bool, false, List, [], ◌∷◌, map, set, get_or, Option, Some, None, refl, ap, sym, subst, ◌∙◌, inl, inr, get_or-set_other}
+use Rattle.std.proofs.Common.{◌≡◌, ◌≢◌, ℕ, Bool, false, List, [], ◌∷◌, map, set, get_or, Option, Some, None, Result, refl, ap, sym, subst, ◌∙◌, inl, inr, get_or-set_other}
 use Rattle.std.specs.Prelude.{◌==◌, ◌||◌}
 use Rattle.std.specs.List.{list_any}
 use Rattle.std.proofs.lemmas.List.{map-set}
@@ -9,7 +9,11 @@ use Rattle.common_definitions.specs.Checks.{first_failed}
 use Rattle.nvme_entry.specs.declared.command.LoadCommand.{LoadCommand}
 use Rattle.program_interface.specs.RunSizes.{Sizes}
 use Rattle.accepted_programs.proofs.Proved.{set_known}
+use Rattle.accepted_programs.specs.declared.reason.Refusal.{Refusal}
+use Rattle.ebpf_decode.specs.declared.fault.Fault.{Fault}
+use Rattle.instruction_set.specs.declared.instruction.Instruction.{Instruction}
 use Rattle.interval_domain.specs.Intervals.{intervals}
+use Rattle.device_meaning.specs.Judging.{accepted_unless, interval_judge, judged_by}
 use Rattle.verifier.specs.Verified.{program_of, sizes_of}
 use Rattle.image_store.specs.Namespace.{ZonedNamespace, zone_at}
 use Rattle.zns_commands.specs.Answer.{refused_answer, success_answer}
@@ -18,7 +22,7 @@ use Rattle.zns_commands.proofs.Proved.{grows_by_none}
 use Rattle.device_meaning.specs.Admission.{Loaded, SameProgram}
 use Rattle.device_meaning.specs.EventReplies.{completed, submission_of}
 use Rattle.device_meaning.specs.BlockRuns.{no_scratch}
-use Rattle.device_meaning.specs.Happenings.{judged, just_loaded, load_checks, load_unless, read_program, sizes_for}
+use Rattle.device_meaning.specs.Happenings.{judged, just_loaded, load_checks, load_unless, sizes_for}
 use Rattle.device_meaning.specs.State.{Place, State, in_use, loaded_at, with_slot}
 use Rattle.device_meaning.specs.View.{place_of}
 use Rattle.device_meaning.proofs.Proved.{not_loaded, same_program}
@@ -76,9 +80,10 @@ module _ (ns : ZonedNamespace) (slots : List (Option LoadedProgram)) (runs : Lis
     starved = false;
     happening = λ queue entry.
         let sub = submission_of queue entry input in
-        ap (λ (why : Option Status). load_unless intervals why false sub s load) loadable.checks
-        ∙ ap (read_program intervals sub s load) loadable.accepted.spelled
-        ∙ ap (judged sub s load (program_of new.prepared)) loadable.accepted.accepted
+        ap (λ (why : Option Status). load_unless interval_judge why false sub s load) loadable.checks
+        ∙ ap (λ (read : Result (List (Option Instruction)) Fault). judged sub s load (judged_by intervals (sizes_for s load) read))
+        loadable.accepted.spelled
+        ∙ ap (λ (why : Option Refusal). judged sub s load (accepted_unless (program_of new.prepared) why)) loadable.accepted.accepted
         ∙ ap (λ (t : State). completed sub SUCCESS 0 0 [] t) (sym (put blank));
   }
 
@@ -107,7 +112,7 @@ pub refuses_checked : (load : LoadCommand) (input : List ℕ) (s : State) (statu
 refuses_checked load input s status why = record {
   starved = false;
   happening = λ queue entry.
-      ap (λ (o : Option Status). load_unless intervals o false (submission_of queue entry input) s load) (sym why);
+      ap (λ (o : Option Status). load_unless interval_judge o false (submission_of queue entry input) s load) (sym why);
 }
 
 pub refuses_read : (load : LoadCommand) (input : List ℕ) (s : State) (sizes : Sizes) (answer : Answer) → None ≡ first_failed (load_checks s load input)
@@ -115,6 +120,6 @@ pub refuses_read : (load : LoadCommand) (input : List ℕ) (s : State) (sizes : 
 refuses_read load input s sizes answer why same refused = record {
   starved = refused.starved;
   happening = λ queue entry.
-      ap (λ (o : Option Status). load_unless intervals o refused.starved (submission_of queue entry input) s load) (sym why)
+      ap (λ (o : Option Status). load_unless interval_judge o refused.starved (submission_of queue entry input) s load) (sym why)
       ∙ refused.happening queue entry s load (sym same);
 }

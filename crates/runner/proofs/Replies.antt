@@ -5,7 +5,7 @@ use Rattle.zone_state.specs.declared.status.Status.{Status}
 use Rattle.nvme_entry.specs.Completion.{completion_bytes}
 use Rattle.nvme_entry.specs.Entry.{identifier_of}
 use Rattle.nvme_entry.specs.declared.command.Command.{Command}
-use Rattle.interval_domain.specs.Intervals.{intervals}
+use Rattle.device_meaning.specs.Judging.{interval_judge}
 use Rattle.zns_commands.specs.Answer.{refused_answer}
 use Rattle.zns_commands.specs.declared.answer.Answer.{Answer}
 use Rattle.device_meaning.specs.EventReplies.{Happening, Submission, completed, refused}
@@ -22,7 +22,7 @@ module _ (told : GivenSubmission) (asked : Result Command Status) (old new : Sta
   sub = as_submission told
 
   -- an answer with its bytes, as a reply and the bytes in front
-  pub replied : (bytes : List ℕ) → submitted intervals starved sub old asked ≡ answered sub answer bytes new
+  pub replied : (bytes : List ℕ) → submitted interval_judge starved sub old asked ≡ answered sub answer bytes new
       → r ≡ complete_reply sub.queue (identifier_of sub.entry) answer → answer.length ≤ length bytes
       → HasSubmitted told asked old new (with_data r bytes)
   replied bytes is as_reply within =
@@ -33,14 +33,14 @@ module _ (told : GivenSubmission) (asked : Result Command Status) (old new : Sta
       record { starved = starved; happening = is ∙ ap counting (length-take-le answer.length bytes within) ∙ ap replying (sym as_reply) }
 
   -- an answer without data
-  pub replied_alone : (bytes : List ℕ) → submitted intervals starved sub old asked ≡ answered sub answer [] new
+  pub replied_alone : (bytes : List ℕ) → submitted interval_judge starved sub old asked ≡ answered sub answer [] new
       → r ≡ complete_reply sub.queue (identifier_of sub.entry) answer → answer.length ≡ 0
       → HasSubmitted told asked old new (with_data r bytes)
   replied_alone bytes is as_reply none =
       let same = ap (λ (n : ℕ). take n []) none ∙ sym (ap (λ (n : ℕ). take n bytes) none) in
       replied bytes (is ∙ ap (λ (output : List ℕ). completed sub answer.status answer.dw0 answer.dw1 output new) same) as_reply (omega (arith, none))
 
-  pub replied_refusal : (status : Status) → submitted intervals starved sub old asked ≡ refused sub status old
+  pub replied_refusal : (status : Status) → submitted interval_judge starved sub old asked ≡ refused sub status old
       → r ≡ complete_reply sub.queue (identifier_of sub.entry) answer → answer ≡ refused_answer status → new ≡ old
       → HasSubmitted told asked old new (without_data r)
   replied_refusal status is as_reply refusing same =

@@ -1,7 +1,7 @@
 //! The device, to which events happen.
 
 ghost use Rattle.std.specs.Prelude.{◌≡◌, ◌≤◌, ◌<◌, ◌+◌, ◌*◌, ◌^◌, length, take, drop, OnOk, IfErr};
-ghost use Rattle.interval_domain.specs.Intervals.{intervals};
+ghost use Rattle.device_meaning.specs.Judging.{interval_judge};
 ghost use Rattle.nvme_entry.specs.declared.command.TheConstants.{MOST_BLOCKS};
 ghost use Rattle.device_events.specs.Replies.{data_length};
 ghost use Rattle.device_meaning.specs.Draining.{HasDrained, HasStoppedDraining, lowest_run, turns_left};
@@ -61,7 +61,7 @@ impl Device {
     /// A device with the namespace of an image, without a program or a run, in a state that events leave.
     pub fn new(alloc: Global, image: Image) -> Device
         ensures value { result ≡ new_state image }
-        ensures reached { IsReached intervals result }
+        ensures reached { IsReached interval_judge result }
     {
         let namespace = Namespace::new(image);
         // Brings in what holds of each namespace.
@@ -78,7 +78,7 @@ impl Device {
     /// The namespace as an image. The device is in a state that events leave.
     pub fn image(&self) -> &Image
         ensures value { result.now ≡ self.now.namespace }
-        ensures reached { IsReached intervals self.now }
+        ensures reached { IsReached interval_judge self.now }
     {
         self.namespace.image()
     }
@@ -88,10 +88,10 @@ impl Device {
     /// transfer; what lies behind it stays. The device is then in a state that events leave.
     pub fn apply(&mut self, event: &Event, output: &mut [u8]) -> Reply
         requires { MOST_TRANSFER ≤ length output.old }
-        ensures happened { HasHappened intervals event.now self.old self.new (record { reply = result; bytes = take (data_length result) output.new }) }
+        ensures happened { HasHappened interval_judge event.now self.old self.new (record { reply = result; bytes = take (data_length result) output.new }) }
         ensures rest { drop (data_length result) output.new ≡ drop (data_length result) output.old }
         ensures within { data_length result ≤ length output.new }
-        ensures reached { IsReached intervals self.new }
+        ensures reached { IsReached interval_judge self.new }
     {
         match event {
             Event::Submit {
@@ -127,7 +127,7 @@ impl Device {
         ensures reply { result ≡ (faulting self.old zone state).reply.reply }
         ensures state { self.new ≡ (faulting self.old zone state).state }
         ensures no_data { data_length result ≡ 0 }
-        ensures reached { IsReached intervals self.new }
+        ensures reached { IsReached interval_judge self.new }
     {
         match self.namespace.fault(zone, state, &holds(&self.runs)) {
             Ok(()) => Reply::FaultTaken,
@@ -150,7 +150,7 @@ impl Device {
         requires counts { O.refusals out.old + 1 < 2 ^ 64 }
         ensures served { HasServedOne event.now self.old self.new (O.took out.old out.new) result }
         ensures refused { CountsFailure (O.refusals out.old) (O.refusals out.new) result }
-        ensures reached { IsReached intervals self.new }
+        ensures reached { IsReached interval_judge self.new }
     {
         let reply = self.apply(event, output);
         out.take(reply, &output[..reply.data_length()])
@@ -171,10 +171,10 @@ impl Device {
     ) -> Result<(), Stopped>
         requires room { MOST_TRANSFER ≤ length output.old }
         requires counts { O.refusals out.old + 1 < 2 ^ 64 }
-        ensures served { OnOk result (HasServed intervals events.now self.old self.new (O.took out.old out.new)) }
-        ensures stopped { IfErr result (λ stopped. HasStopped intervals events.now self.old self.new (O.took out.old out.new) stopped.done) }
+        ensures served { OnOk result (HasServed interval_judge events.now self.old self.new (O.took out.old out.new)) }
+        ensures stopped { IfErr result (λ stopped. HasStopped interval_judge events.now self.old self.new (O.took out.old out.new) stopped.done) }
         ensures refused { CountsFailure (O.refusals out.old) (O.refusals out.new) result }
-        ensures reached { IsReached intervals self.new }
+        ensures reached { IsReached interval_judge self.new }
     {
         for (index, event) in events.iter().enumerate() {
             match self.serve_one(event, output, out) {
@@ -190,7 +190,7 @@ impl Device {
     /// The number of the run that a turn is given next, where all runs are to end: the lowest.
     fn lowest_run(&self) -> Option<u8>
         ensures lowest { result ≡ lowest_run self.now }
-        ensures reached { IsReached intervals self.now }
+        ensures reached { IsReached interval_judge self.now }
         ensures few { turns_left self.now.places ≤ MOST_BLOCKS * RUNS }
     {
         places::lowest_run(&self.runs)
@@ -209,7 +209,7 @@ impl Device {
         ensures drained { OnOk result (HasDrained self.old self.new (O.took out.old out.new)) }
         ensures stopped { IfErr result (λ stopped. HasStoppedDraining self.old self.new (O.took out.old out.new) stopped.done) }
         ensures refused { CountsFailure (O.refusals out.old) (O.refusals out.new) result }
-        ensures reached { IsReached intervals self.new }
+        ensures reached { IsReached interval_judge self.new }
     {
         let mut done = 0;
         while let Some(run) = self.lowest_run() {

@@ -1,7 +1,7 @@
 //! Turns.
 
 ghost use Rattle.std.specs.Prelude.{◌≡◌, ◌<◌, ◌≤◌, ◌+◌, ◌^◌, [], ◌∷◌, length, IsNone};
-ghost use Rattle.interval_domain.specs.Intervals.{intervals};
+ghost use Rattle.device_meaning.specs.Judging.{interval_judge};
 ghost use Rattle.program_interface.specs.declared.block_size.TheConstants.{LARGEST_BLOCK};
 ghost use Rattle.emit_append.specs.Packer.{after_put, given_by_finish, given_by_put, new_packer};
 ghost use Rattle.common_definitions.specs.Bytes.{padded};
@@ -193,7 +193,7 @@ pub fn turn(
     run: u8,
 ) -> Reply
     requires ready { IsReady namespace.old slots.old runs.old }
-    requires reached { IsReached intervals (device_state namespace.old slots.old runs.old) }
+    requires reached { IsReached interval_judge (device_state namespace.old slots.old runs.old) }
     ensures turned { IsTurned (device_state namespace.old slots.old runs.old) run namespace.new slots.new runs.new result }
     ensures no_data { data_length result ≡ 0 }
 {

@@ -6,7 +6,7 @@ use Rattle.nvme_entry.specs.declared.command.Command.{Command}
 use Rattle.nvme_entry.specs.declared.command.LoadCommand.{LoadCommand}
 use Rattle.nvme_entry.specs.declared.command.RunCommand.{RunCommand}
 use Rattle.nvme_entry.specs.declared.command.StandardCommand.{StandardCommand}
-use Rattle.interval_domain.specs.Intervals.{intervals}
+use Rattle.device_meaning.specs.Judging.{interval_judge}
 use Rattle.image_store.specs.Namespace.{ZonedNamespace}
 use Rattle.zns_commands.specs.Meaning.{meaning}
 use Rattle.zns_commands.specs.declared.answer.Answer.{Answer}
@@ -54,7 +54,7 @@ pub record HasLoaded (load : LoadCommand) (input : List ℕ) (old new : State) (
   pub starved : Bool
   pub happening : (queue : ℕ) (entry : List ℕ)
       → let sub = submission_of queue entry input in
-      loading intervals starved sub old load ≡ answered sub answer [] new
+      loading interval_judge starved sub old load ≡ answered sub answer [] new
 
 -- a Result with this data beside it was answered so, and changes nothing
 abbrev pub GivesResult : ℕ → List ℕ → State → Answer → List ℕ → Type 0
@@ -80,4 +80,4 @@ Refuses command input s status =
 -- an entry that asks for this led from one state to the other, with this reply
 pub record HasSubmitted (given : GivenSubmission) (asked : Result Command Status) (old new : State) (reply : ReplyWithData) : Type 0 where
   pub starved : Bool
-  pub happening : submitted intervals starved (as_submission given) old asked ≡ record { reply = reply; state = new }
+  pub happening : submitted interval_judge starved (as_submission given) old asked ≡ record { reply = reply; state = new }

@@ -7,6 +7,7 @@ use Rattle.ebpf_decode.specs.Reading.{decoded_program}
 use Rattle.instruction_set.specs.declared.instruction.Instruction.{Instruction}
 use Rattle.program_interface.specs.RunSizes.{Sizes}
 use Rattle.interval_domain.specs.Intervals.{intervals}
+use Rattle.device_meaning.specs.Judging.{interval_judge}
 use Rattle.image_store.specs.Namespace.{ZonedNamespace}
 use Rattle.accepted_programs.specs.Accepted.{refusal}
 use Rattle.zns_commands.specs.declared.answer.Answer.{Answer}
@@ -38,7 +39,7 @@ pub record IsNotAccepted (bytes : List ℕ) (sizes : Sizes) (answer : Answer) : 
   pub starved : Bool
   pub happening : (queue : ℕ) (entry : List ℕ) (s : State) (load : LoadCommand) → sizes_for s load ≡ sizes
       → let sub = submission_of queue entry bytes in
-      load_unless intervals None starved sub s load ≡ answered sub answer [] s
+      load_unless interval_judge None starved sub s load ≡ answered sub answer [] s
   pub no_data : answer.length ≡ 0
 
 -- a Load that no check refuses, whose program is accepted for the sizes that it asks for

@@ -1,7 +1,7 @@
 -- What holds of all that a device has.
 use Rattle.std.specs.Prelude.{ℕ, ◌≡◌, ◌≢◌, ◌<◌, ◌≤◌, ◌+◌, ◌*◌, ◌^◌, List, length, get_or, Option, Some, None}
 use Rattle.program_interface.specs.declared.block_size.TheConstants.{LARGEST_BLOCK}
-use Rattle.interval_domain.specs.Intervals.{intervals}
+use Rattle.device_meaning.specs.Judging.{interval_judge}
 use Rattle.verifier.specs.Verified.{sizes_of}
 use Rattle.nvme_entry.specs.declared.command.TheConstants.{MOST_BLOCKS}
 use Rattle.image_store.specs.Namespace.{ZonedNamespace, zone_at}
@@ -49,4 +49,4 @@ pub record IsReady (ns : ZonedNamespace) (slots : List (Option LoadedProgram)) (
 -- what holds of each device that there is: all that it has is ready, and events led to its state
 pub record IsDevice (ns : ZonedNamespace) (slots : List (Option LoadedProgram)) (runs : List (Option ActiveRun)) : Type 0 where
   pub ready : IsReady ns slots runs
-  pub reached : IsReached intervals (device_state ns slots runs)
+  pub reached : IsReached interval_judge (device_state ns slots runs)

@@ -1,6 +1,6 @@
 use Rattle.std.proofs.Common.{false, subst, sym, ◌∙◌}
 use Rattle.common_definitions.specs.Bytes.{AreBytes}
-use Rattle.interval_domain.specs.Intervals.{intervals}
+use Rattle.device_meaning.specs.Judging.{interval_judge}
 use Rattle.device_meaning.specs.Events.{HasHappened}
 use Rattle.device_meaning.specs.State.{State}
 use Rattle.device_events.specs.declared.event.Event.{Event}
@@ -58,5 +58,5 @@ returns-in-Submit-clause-happened c =
     let reply = with_data c.submit.result c.submit.new.output in
     let happened = submission_happened e.queue e.entry e.input made.result old new reply made.ensures.queue made.ensures.entry
     (made.ensures.input ∙ c.as_slice.ensures.value) c.submit.ensures.submitted in
-    subst (λ (x : Event). HasHappened intervals x c.args.self.now new reply) (sym e.is)
-    (subst (λ (s : State). HasHappened intervals (event.Submit e.queue e.entry e.input) s new reply) c.self.view_is happened)
+    subst (λ (x : Event). HasHappened interval_judge x c.args.self.now new reply) (sym e.is)
+    (subst (λ (s : State). HasHappened interval_judge (event.Submit e.queue e.entry e.input) s new reply) c.self.view_is happened)
