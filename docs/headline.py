@@ -27,30 +27,30 @@ this device. `[SP]`: a standard's, with a choice of the profile. `[-]`: neither 
 
 THEOREM = ("pushdown/specs/Pushdown.antt", "Pushdown")
 HAPPENED = ("device_meaning/specs/Events.antt", "HasHappened")
-FILES = (
-    *("pushdown/src/laws.rt", "word_domain/src/domain.rt", "interval_domain/src/intervals.rt"),
-    *("device_laws/src/laws.rt", "runner/src/device.rt"),
-)
+JUDGING = "device_meaning/specs/Judging.antt"
+FILES = ("pushdown/src/laws.rt", "device_laws/src/laws.rt", "runner/src/device.rt")
 
 CODE = """## The theorem and what ties the code to it
 
-`pushdown/specs/Pushdown.antt`, which stands whole [at the end](#16-the-theorem):
+`pushdown/specs/Pushdown.antt`, which stands whole [at the end](#14-the-theorem):
 
 {theorem}
-The law, `pushdown/src/laws.rt`. A function that does nothing: what it ensures is proved, for each type with the trait `Domain`.
+A judge says what a Load makes of a program's bytes. The theorem holds of every sound one, by a law of `pushdown/src/laws.rt`, a
+function that does nothing: what it ensures is proved.
 
 {law}
-What that asks of a type, `word_domain/src/domain.rt` (its other functions are tied to these operations):
+So of how programs are read and judged nothing has to be read to know what is proved of runs, but what a sound judge is,
+`{judging}`:
 
-{domain}
-The device judges programs by a type that has it, `interval_domain/src/intervals.rt`,
+{sound}
+The device's judge decodes the bytes and looks for a reason to refuse the program, by what intervals tell of its words (the same file),
 
-{intervals}
-and so the theorem holds of what it accepts, `device_laws/src/laws.rt`:
+{judge}
+and it is sound, so that the theorem holds of the device (`device_laws/src/laws.rt`):
 
-{device_law}
-It is always in a state that events leave, and does what the definitions say, `runner/src/device.rt`. A clause sees a `Device` as
-a `State`, the one that `view` gives of its fields:
+{device_laws}
+A device is always in a state that events leave, and does what the definitions say, `runner/src/device.rt`. A clause sees a `Device`
+as a `State`, the one that `view` gives of its fields:
 
 {device}
 where, in `device_meaning/specs/Events.antt`:
@@ -91,10 +91,10 @@ def members(lines: List[str], begins: str, names: Set[str]) -> List[str]:
 
 
 def brought_in(lines: List[str]) -> Dict[str, str]:
-    """The definitions that a file's `ghost use` lines bring in, each with its module."""
+    """The definitions that a file's `use` or `ghost use` lines bring in, each with its module."""
     found: Dict[str, str] = {}
     for line in lines:
-        match = re.match(r" *ghost use (\S+)\.\{(.*)\};$", line)
+        match = re.match(r" *(?:ghost )?use (\S+)\.\{(.*)\};?$", line)
         for name in match[2].split(", ") if match else []:
             found[name] = match[1]  # type: ignore[index]
     return found
@@ -124,19 +124,21 @@ def definition(crates: Path, path: str, name: str) -> str:
 
 def text(crates: Path, below: Set[str]) -> str:
     """The part of the page on the theorem, its law, and the code's contracts. `below` are the names of what the page has."""
-    laws, domains, interval, device_laws, devices = ((crates / file).read_text().splitlines() for file in FILES)
-    law, device_law = function(laws, "pushdown"), function(device_laws, "pushdown")
-    intervals = members(interval, r"impl Domain for Intervals ", {"operations"}) + ["}"]
-    domain = members(domains, r"pub trait Domain\b", {"is_fact", "contains", "operations"}) + function(domains, "sound") + ["}"]
+    laws, device_laws, devices = ((crates / file).read_text().splitlines() for file in FILES)
+    judging = (crates / JUDGING).read_text().splitlines()
+    sound = "\n".join(definition(crates, JUDGING, name) for name in ("IsSafeProgram", "IsSoundJudge"))
+    judge = "\n".join(definition(crates, JUDGING, name) for name in ("judged_by", "judge_by", "interval_judge"))
+    device_law = [*function(device_laws, "judges_soundly"), "", *function(device_laws, "pushdown")]
     model = members(devices, r"impl Model for Device ", {"Value", "view"}) + ["}", ""]
     device = model + ["impl Device {", *function(devices, "image"), "", *function(devices, "apply"), "}"]
     return CODE.format(
         theorem=definition(crates, *THEOREM),
-        law=indented(law),
-        domain=indented(domain),
-        intervals=indented(intervals),
-        device_law=indented(device_law),
+        law=indented(function(laws, "sound_judges_push_down")) + "\n" + definition(crates, THEOREM[0], "SoundJudgesPushDown"),
+        judging=JUDGING,
+        sound=sound,
+        judge=judge,
+        device_laws=indented(device_law),
         device=indented(device),
         happened=definition(crates, *HAPPENED),
-        named=not_below(crates, [(domain, domains), (intervals, interval), (device_law, device_laws), (device, devices)], below),
+        named=not_below(crates, [((sound + judge).split("\n"), judging), (device_law, device_laws), (device, devices)], below),
     )

@@ -2,7 +2,7 @@
 use denote.RawPtr.{block_ptr}
 use Rattle.std.proofs.Common.{◌≢◌, ℕ, ◌<◌, ◌^◌, false, List, [], ◌∷◌, ◌++◌, length, replicate, Vec, refl, lit<, lit≤, arith}
 use Rattle.std.specs.declared.alloc.Global.{Global}
-use Rattle.interval_domain.specs.Intervals.{intervals}
+use Rattle.device_meaning.specs.Judging.{interval_judge}
 use Rattle.nvme_entry.specs.declared.command.RunCommand.{RunCommand}
 use Rattle.program_meaning.specs.BlockRun.{block_run_of}
 use Rattle.common_definitions.proofs.Proved.{all_append, all_same}
@@ -145,9 +145,9 @@ events =
     ∷ []
 
 abbrev state : State
-state = state_after intervals events (new_state (all_empty four))
+state = state_after interval_judge events (new_state (all_empty four))
 
-is_reached : IsReached intervals state
+is_reached : IsReached interval_judge state
 is_reached = record {
   first = all_empty four;
   events = events;

@@ -2,7 +2,7 @@
 -- another queue is done between its turns.
 use Rattle.std.specs.Prelude.{ℕ, false, ◌≡◌, ◌≢◌, List, [], ◌∷◌, length, map, get_or, Vec, None}
 use Rattle.std.specs.declared.alloc.Global.{Global}
-use Rattle.interval_domain.specs.Intervals.{intervals}
+use Rattle.device_meaning.specs.Judging.{interval_judge}
 use Rattle.zone_state.specs.declared.status.TheConstants.Status.{SUCCESS}
 use Rattle.nvme_entry.specs.Entry.{identifier_of}
 use Rattle.nvme_entry.specs.declared.command.RunCommand.{RunCommand}
@@ -34,7 +34,7 @@ pub record AppendsBetween (turns : List Turn) : Type 0 where
 pub record PushdownIsMet : Type 0 where
   -- a state that events leave
   pub state : State
-  pub reached : IsReached intervals state
+  pub reached : IsReached interval_judge state
   -- a Run that is admitted there, and its turns
   pub queue : ℕ
   pub entry : List ℕ
@@ -52,7 +52,7 @@ pub record PushdownIsMet : Type 0 where
   -- the replies to the Run, its first turn, the other command, and the two turns behind it: the run's completion tells three
   -- frames and three blocks
   pub replies :
-      replies_to intervals (interleaved (event.Submit queue entry input) run (event.Submit other_queue other_entry other_input)) state
+      replies_to interval_judge (interleaved (event.Submit queue entry input) run (event.Submit other_queue other_entry other_input)) state
       ≡ without_data (reply.Pending run)
       ∷ without_data (reply.Pending run)
       ∷ completion other_queue (identifier_of other_entry) SUCCESS given_back 0 []

@@ -1,9 +1,9 @@
 //! Laws of a device, which judges programs by intervals, in the states that events leave from an image on.
-//! Each function does nothing: what it ensures is the law. Four are of its own: where a device begins, that what is
-//! saved loads again, and that there is a Run of which the pushdown theorem speaks. The others are those laws of
+//! Each function does nothing: what it ensures is the law. Five are of its own: where a device begins, that it judges soundly,
+//! that what is saved loads again, and that there is a Run of which the pushdown theorem speaks. The others are those laws of
 //! `pushdown` that a device's user asks for, of intervals; the rest hold of a device too, by the trait `Domain`.
 
-ghost use Rattle.interval_domain.specs.Intervals.{intervals};
+ghost use Rattle.device_meaning.specs.Judging.{IsSoundJudge, interval_judge};
 ghost use Rattle.pushdown.specs.AnyOrder.{TurnsInAnyOrder};
 ghost use Rattle.device_meaning.specs.Completions.{EachIsCompletedOnce, NoCompletionIsLost};
 ghost use Rattle.device_meaning.specs.Laws.{DrainingEnds, NoReplyIsTrapped, StatesAreSound};
@@ -24,14 +24,19 @@ pub fn loaded_is_reached()
     ensures { LoadedIsReached }
 {}
 
+/// A device judges soundly: the bytes of a Load spell each program that it accepts, and that program never traps.
+pub fn judges_soundly()
+    ensures { IsSoundJudge interval_judge }
+{}
+
 /// From each state that events leave, events lead to another.
 pub fn events_keep_reached()
-    ensures { EventsKeepReached intervals }
+    ensures { EventsKeepReached interval_judge }
 {}
 
 /// So do turns, as those that drain a device are.
 pub fn turns_keep_reached()
-    ensures { TurnsKeepReached intervals }
+    ensures { TurnsKeepReached interval_judge }
 {}
 
 /// In every state that events leave, the open and active zones are within the limits, each zone's state fits its
@@ -39,30 +44,30 @@ pub fn turns_keep_reached()
 /// into its destination, which is open as long as it isn't filled, no append of a run's turns can be refused, and the last of
 /// a run's turns ends it with success.
 pub fn states_are_sound()
-    ensures { StatesAreSound intervals }
+    ensures { StatesAreSound interval_judge }
 {}
 
 /// In every state that events leave, no reply to any event is a completion with Program Trapped.
 pub fn no_reply_is_trapped()
-    ensures { NoReplyIsTrapped intervals }
+    ensures { NoReplyIsTrapped interval_judge }
 {}
 
 /// Whatever events come, what is submitted is completed once, to its queue and with its identifier, or is an active run still,
 /// and nothing else is completed. Once turns have drained the device, each has its one completion.
 pub fn each_is_completed_once()
-    ensures so_far { NoCompletionIsLost intervals }
-    ensures drained { EachIsCompletedOnce intervals }
+    ensures so_far { NoCompletionIsLost interval_judge }
+    ensures drained { EachIsCompletedOnce interval_judge }
 {}
 
 /// In every state that events leave, the last turn of a run is answered with the run's completion, a success, and any other with
 /// Pending.
 pub fn last_turn_completes()
-    ensures { LastTurnCompletes intervals }
+    ensures { LastTurnCompletes interval_judge }
 {}
 
 /// In every state that events leave, turns of the lowest active run come to an end.
 pub fn draining_ends()
-    ensures { DrainingEnds intervals }
+    ensures { DrainingEnds interval_judge }
 {}
 
 /// What is saved loads again as the same namespace, whatever events happened before.
@@ -73,48 +78,48 @@ pub fn saved_states_load()
 /// The reply to an entry is Pending, or its completion with a status. One whose status isn't success leaves the
 /// state as it was, whatever its command is.
 pub fn refused_leaves_state()
-    ensures { RefusedLeavesState intervals }
+    ensures { RefusedLeavesState interval_judge }
 {}
 
 /// In every state that events leave, an event that is refused leaves the state as it was: a turn of no run, a fault that isn't
 /// taken, and what is completed with a status that isn't success.
 pub fn refused_events_leave_state()
-    ensures { RefusedEventsLeaveState intervals }
+    ensures { RefusedEventsLeaveState interval_judge }
 {}
 
 /// An entry leaves the slots as they were, unless it is a Load that succeeds: it changes its own slot and nothing
-/// else, to the program that its data is decoded to, which no reason refuses, with zeros as its result.
+/// else, to the program that is made of its data, with zeros as its result.
 pub fn only_loads_change_slots()
-    ensures { OnlyLoadsChangeSlots intervals }
+    ensures { OnlyLoadsChangeSlots interval_judge }
 {}
 
 /// What an Append that succeeds puts in is what a Read of the assigned address gives, whatever events happen
 /// in between, until the zone is reset or goes offline. It holds in every state with a sound
 /// namespace, as those are that events leave.
 pub fn appended_blocks_read_back()
-    ensures { AppendedBlocksReadBack intervals }
+    ensures { AppendedBlocksReadBack interval_judge }
 {}
 
 /// The same of a Write, at its own address.
 pub fn written_blocks_read_back()
-    ensures { WrittenBlocksReadBack intervals }
+    ensures { WrittenBlocksReadBack interval_judge }
 {}
 
 /// What a run appends is read back so from where its destination ended at admission. After its last turn the
 /// blocks that are read unpack to the records that its program emitted, in order.
 pub fn appended_by_runs_reads_back()
-    ensures { AppendedByRunsReadsBack intervals }
+    ensures { AppendedByRunsReadsBack interval_judge }
 {}
 
 /// After a run's last turn a Result of its slot gives the 1024 scratch bytes that its last block run left,
 /// whatever events happen then, until a run of the slot ends or a Load of it succeeds.
 pub fn results_read_back()
-    ensures { ResultsReadBack intervals }
+    ensures { ResultsReadBack interval_judge }
 {}
 
 /// Turns come to the same in any order, but for the result of a slot that two active runs share.
 pub fn turns_in_any_order()
-    ensures { TurnsInAnyOrder intervals }
+    ensures { TurnsInAnyOrder interval_judge }
 {}
 
 /// The pushdown theorem, as the law of this name of `pushdown` says it, holds of each Run that a device admits: no
@@ -123,7 +128,7 @@ pub fn turns_in_any_order()
 /// source blocks; the appended blocks, the completion, and what a turn leaves at the run's place and in the slots are
 /// those that are fixed at admission; and the numbers that the completion tells fit into its 32 bits.
 pub fn pushdown()
-    ensures { Pushdown intervals }
+    ensures { Pushdown interval_judge }
 {}
 
 /// There is a Run of which that law speaks: in a state that events leave it is admitted, its program emits three frames over

@@ -1,7 +1,7 @@
-use Rattle.interval_domain.specs.Intervals.{intervals}
+use Rattle.device_meaning.specs.Judging.{interval_judge}
 use Rattle.pushdown.proofs.Proved.{pushdown}
-use Rattle.device_laws.proofs.Reached.{never}
+use Rattle.device_laws.proofs.Reached.{sound}
 use Rattle.device_laws.proofs.laws.pushdown.Goals as goal
 
 pub returns : goal.returns
-returns c = pushdown intervals never
+returns c = pushdown interval_judge sound

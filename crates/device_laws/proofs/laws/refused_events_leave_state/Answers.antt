@@ -1,7 +1,7 @@
-use Rattle.interval_domain.specs.Intervals.{intervals}
+use Rattle.device_meaning.specs.Judging.{interval_judge}
 use Rattle.pushdown.proofs.Proved.{refused_events_leave_state}
-use Rattle.device_laws.proofs.Reached.{never}
+use Rattle.device_laws.proofs.Reached.{sound}
 use Rattle.device_laws.proofs.laws.refused_events_leave_state.Goals as goal
 
 pub returns : goal.returns
-returns c = refused_events_leave_state intervals never
+returns c = refused_events_leave_state interval_judge sound
