@@ -8,7 +8,7 @@ use interp::Machine;
 use interval_domain::Intervals;
 use program_interface::{CONTEXT_BYTES, LARGEST_BLOCK, SCRATCH_BYTES};
 use program_meaning::End;
-use verified_run::{Exit, Prepared};
+use verified_run::{Exit, Prepared, StepCount};
 use verifier::Verified;
 
 /// How an accepted program is run.
@@ -38,7 +38,7 @@ pub fn run(
     let mut machine = Machine::new(block, context, scratch);
     match form {
         Form::Checked => run_checked(verified, &mut machine, group),
-        Form::Prepared => Some(program.run(&mut machine, group)),
+        Form::Prepared => Some(program.run(&mut machine, group, &mut StepCount::new())),
     }
 }
 

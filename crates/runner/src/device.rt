@@ -23,6 +23,7 @@ use nvme_entry::{MOST_TRANSFER, PROGRAM_SLOTS};
 use program_interface::LARGEST_BLOCK;
 use std::alloc::Global;
 use std::marker::Model;
+use verified_run::StepCount;
 use zns_commands::{FaultRefused, FaultState, Image, Namespace};
 use zone_resources::RUNS;
 
@@ -43,6 +44,8 @@ pub struct Device {
     runs: [Option<ActiveRun>; RUNS],
     /// Where a turn's program emits to.
     group: [u8; LARGEST_BLOCK],
+    /// The steps of its turns.
+    count: StepCount,
 }
 
 impl Model for Device {
@@ -72,6 +75,7 @@ impl Device {
             slots: [None, None, None, None, None, None, None, None],
             runs: [None, None, None, None, None, None, None, None],
             group: [0; LARGEST_BLOCK],
+            count: StepCount::new(),
         }
     }
 
@@ -115,6 +119,7 @@ impl Device {
                     &mut self.slots,
                     &mut self.runs,
                     &mut self.group,
+                    &mut self.count,
                     *run,
                 )
             }

@@ -1,6 +1,6 @@
 //! Turns.
 
-ghost use Rattle.std.specs.Prelude.{◌≡◌, ◌<◌, ◌≤◌, ◌+◌, ◌^◌, [], ◌∷◌, length, IsNone};
+ghost use Rattle.std.specs.Prelude.{◌≡◌, ◌<◌, ◌≤◌, ◌+◌, ◌^◌, [], ◌∷◌, get_or, length, None, IsNone};
 ghost use Rattle.device_meaning.specs.Judging.{interval_judge};
 ghost use Rattle.program_interface.specs.declared.block_size.TheConstants.{LARGEST_BLOCK};
 ghost use Rattle.emit_append.specs.Packer.{after_put, given_by_finish, given_by_put, new_packer};
@@ -10,7 +10,7 @@ ghost use Rattle.device_meaning.specs.Happenings.{added};
 ghost use Rattle.runner.specs.DeviceState.{active_of, device_state};
 ghost use Rattle.runner.specs.steps.Ready.{FitsNamespace, IsReady};
 ghost use Rattle.device_meaning.specs.Reached.{IsReached};
-ghost use Rattle.runner.specs.steps.Turning.{FitsAt, FitsIn, FitsOn, HasRoom, HasRunNext, IsTaking, IsTurned, Keeps, PlaceTurned, SlotTurned, Turned, next_block, with_packer};
+ghost use Rattle.runner.specs.steps.Turning.{FitsAt, FitsIn, FitsOn, HasRoom, HasRunNext, IsTaking, IsTurned, Keeps, PlaceTurned, SlotTurned, Turned, next_block, next_block_run, steps_by, steps_of_turn, with_packer};
 
 use crate::active_run::ActiveRun;
 use crate::block_run::run_block;
@@ -20,7 +20,7 @@ use device_events::Reply;
 use nvme_entry::{PROGRAM_SLOTS, Status};
 use program_interface::{Context, LARGEST_BLOCK};
 use program_meaning::TrapFree;
-use verified_run::{Exit, Prepared};
+use verified_run::{Exit, Prepared, StepCount};
 use zns_commands::{Answer, Namespace};
 use zone_resources::RUNS;
 
@@ -42,11 +42,13 @@ fn run_next<V: TrapFree + Drop>(
     prepared: &Prepared<V>,
     active: &mut ActiveRun,
     group: &mut [u8; LARGEST_BLOCK],
+    count: &mut StepCount,
 ) -> Exit
     requires fits { FitsNamespace namespace.now active.old }
     requires block { V.block prepared.now ≡ namespace.now.block }
     requires limit { V.limit prepared.now ≤ namespace.now.block }
     ensures next { HasRunNext namespace.now (V.code prepared.now) (V.limit prepared.now) active.old active.new result group.new }
+    ensures counts { count.new.steps ≡ count.old.steps + result.steps }
     ensures limit { result.group_length ≤ namespace.now.block }
     ensures few { result.frames ≤ LARGEST_BLOCK }
     ensures within { result.group_length ≤ length group.new }
@@ -66,6 +68,7 @@ fn run_next<V: TrapFree + Drop>(
         &context.encode(),
         &mut active.scratch,
         group,
+        count,
     )
 }
 
@@ -118,14 +121,17 @@ fn advance<V: TrapFree + Drop>(
     prepared: &Prepared<V>,
     active: &mut ActiveRun,
     group: &mut [u8; LARGEST_BLOCK],
+    count: &mut StepCount,
 ) -> Option<Answer>
     requires fits { FitsOn namespace.old (V.code prepared.now) (V.limit prepared.now) active.old }
     requires block { V.block prepared.now ≡ namespace.old.block }
     ensures turn { Turned namespace.old namespace.new (V.code prepared.now) (V.limit prepared.now) active.old active.new result }
+    ensures counts { count.new.steps ≡ count.old.steps
+        + (next_block_run namespace.old (V.code prepared.now) (V.limit prepared.now) (active_of active.old)).steps }
     ensures kept { Keeps active.old active.new }
     ensures fits { IsNone result → FitsNamespace namespace.new active.new }
 {
-    let exit = run_next(namespace, prepared, active, group);
+    let exit = run_next(namespace, prepared, active, group, count);
     put(namespace, active, &group[..exit.group_length]);
     active.index += 1;
     active.frames += exit.frames as u32;
@@ -148,14 +154,16 @@ fn advance_by_slot(
     slot: &mut Option<LoadedProgram>,
     active: &mut ActiveRun,
     group: &mut [u8; LARGEST_BLOCK],
+    count: &mut StepCount,
 ) -> Option<Answer>
     requires { FitsIn namespace.old slot.old active.old }
-    ensures { SlotTurned namespace.old namespace.new slot.old slot.new active.old active.new result }
+    ensures turned { SlotTurned namespace.old namespace.new slot.old slot.new active.old active.new result }
+    ensures counts { count.new.steps ≡ count.old.steps + steps_by namespace.old slot.old active.old }
 {
     let Some(loaded) = slot else {
         unreachable!();
     };
-    let answer = advance(namespace, &loaded.prepared, active, group)?;
+    let answer = advance(namespace, &loaded.prepared, active, group, count)?;
     loaded.result = active.scratch;
     Some(answer)
 }
@@ -166,17 +174,19 @@ fn turn_place(
     slots: &mut [Option<LoadedProgram>; PROGRAM_SLOTS],
     place: &mut Option<ActiveRun>,
     group: &mut [u8; LARGEST_BLOCK],
+    count: &mut StepCount,
     run: u8,
 ) -> Reply
     requires { FitsAt namespace.old slots.old place.old }
     ensures turned { PlaceTurned namespace.old namespace.new slots.old slots.new run place.old place.new result }
+    ensures counts { count.new.steps ≡ count.old.steps + steps_of_turn namespace.old slots.old place.old }
     ensures no_data { data_length result ≡ 0 }
 {
     let Some(active) = place else {
         return Reply::Idle;
     };
     let slot = active.command.slot.index();
-    let Some(answer) = advance_by_slot(namespace, &mut slots[slot], active, group) else {
+    let Some(answer) = advance_by_slot(namespace, &mut slots[slot], active, group, count) else {
         return Reply::Pending { run };
     };
     let reply = complete(active.queue, active.cid, answer);
@@ -190,16 +200,18 @@ pub fn turn(
     slots: &mut [Option<LoadedProgram>; PROGRAM_SLOTS],
     runs: &mut [Option<ActiveRun>; RUNS],
     group: &mut [u8; LARGEST_BLOCK],
+    count: &mut StepCount,
     run: u8,
 ) -> Reply
     requires ready { IsReady namespace.old slots.old runs.old }
     requires reached { IsReached interval_judge (device_state namespace.old slots.old runs.old) }
     ensures turned { IsTurned (device_state namespace.old slots.old runs.old) run namespace.new slots.new runs.new result }
+    ensures counts { count.new.steps ≡ count.old.steps + steps_of_turn namespace.old slots.old (get_or runs.old run None) }
     ensures no_data { data_length result ≡ 0 }
 {
     let place = usize::from(run);
     if place >= RUNS {
         return Reply::Idle;
     }
-    turn_place(namespace, slots, &mut runs[place], group, run)
+    turn_place(namespace, slots, &mut runs[place], group, count, run)
 }

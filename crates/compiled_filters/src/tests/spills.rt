@@ -22,7 +22,7 @@ use program_meaning::End;
 use std::alloc::Global;
 use std::process::Abort;
 use std::test::Fail;
-use verified_run::Prepared;
+use verified_run::{Prepared, StepCount};
 use verifier::{Verified, verify};
 
 /// The LBA of each block.
@@ -145,7 +145,11 @@ fn over_superinstructions(
     assert!(rt; sizes.block().bytes() as usize == BLOCK);
     assert!(rt; sizes.limit() as usize <= BLOCK);
     let mut group = [0; BLOCK];
-    let exit = prepared.run(&mut Machine::new(block, context, scratch), &mut group);
+    let exit = prepared.run(
+        &mut Machine::new(block, context, scratch),
+        &mut group,
+        &mut StepCount::new(),
+    );
     Left {
         r0: exit.r0,
         group_length: exit.group_length,

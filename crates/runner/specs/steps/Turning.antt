@@ -38,6 +38,16 @@ next_block ns a = get_or (zone_at ns (source_zone ns a.command)).blocks (zone_of
 abbrev pub next_block_run : ZonedNamespace → List (Option Instruction) → ℕ → Active → BlockRun
 next_block_run ns program limit a = block_run (task_by ns program limit a.command) a.so_far.index a.so_far.scratch (next_block ns a)
 
+-- the steps of the one block run of a turn of a run, by the program of its slot
+abbrev pub steps_by : ZonedNamespace → Option LoadedProgram → ActiveRun → ℕ
+steps_by ns None a = 0
+steps_by ns (Some p) a = (next_block_run ns (program_of p.prepared) (sizes_of p.prepared).limit (active_of a)).steps
+
+-- the steps of a turn of the run at a place, if one is there
+abbrev pub steps_of_turn : ZonedNamespace → List (Option LoadedProgram) → Option ActiveRun → ℕ
+steps_of_turn ns slots None = 0
+steps_of_turn ns slots (Some a) = steps_by ns (get_or slots a.command.slot None) a
+
 -- the program has run on the block that a run reads next, and of the run changed the scratch bytes alone
 pub record HasRunNext (ns : ZonedNamespace) (program : List (Option Instruction)) (limit : ℕ) (old new : ActiveRun)
     (told : Exit) (bytes : List ℕ) : Type 0 where

@@ -12,7 +12,7 @@ use std::test::Fail;
 use test_inputs::numbers::Numbers;
 use test_inputs::programs::{ADDING_THREE, GROWING, MATCHING, RETURNING, Text};
 use test_inputs::sizes::sizes;
-use verified_run::Prepared;
+use verified_run::{Prepared, StepCount};
 use verifier::{Verified, verify};
 
 /// The most bytes that a program of these tests emits for a block.
@@ -85,6 +85,7 @@ fn compare_on(
     let exit = prepared.run(
         &mut Machine::new(block, context, other_scratch),
         &mut other_group,
+        &mut StepCount::new(),
     );
     assert_eq!(rt; end, End::Exit { r0: exit.r0 });
     assert_eq!(rt; machine.steps(), exit.steps);
@@ -142,6 +143,7 @@ fn a_record_as_long_as_the_block_says(rt: HostRuntime) -> Result<(), Fail> {
     let exit = prepared.run(
         &mut Machine::new(&block, &context, &mut scratch),
         &mut group,
+        &mut StepCount::new(),
     );
     assert_eq!(rt;
         (exit.r0, exit.steps, exit.group_length, exit.frames),

@@ -10,11 +10,11 @@ pub returns-in_default-advance_by_slot-clause-turned : goal.returns-in_default-a
 returns-in_default-advance_by_slot-clause-turned c = λ runs at ready.
     more_there c.args.namespace.now c.advance_by_slot.new.namespace c.args.slots.now c.args.run c.index-slot.result c.in-Some.active
     c.advance_by_slot.new.active c.index-slots-slot.result c.advance_by_slot.new.slot c.index-slot.ensures.value (omega arith) runs (at ∙ c.in-Some.is) ready
-    c.in_default-advance_by_slot.ensures
+    c.in_default-advance_by_slot.ensures.turned
 
 pub returns-clause-turned : goal.returns-clause-turned
 returns-clause-turned c = λ runs at ready.
     rw c.complete-reply.ensures
     (last_there c.args.namespace.now c.advance_by_slot.new.namespace c.args.slots.now c.args.run c.index-slot.result c.in-Some.active
     c.advance_by_slot.new.active c.index-slots-slot.result c.advance_by_slot.new.slot c.index-slot.ensures.value (omega arith) runs (at ∙ c.in-Some.is) ready
-    c.in-Some-advance_by_slot.answer c.in-Some-advance_by_slot.ensures)
+    c.in-Some-advance_by_slot.answer c.in-Some-advance_by_slot.ensures.turned)
