@@ -1,8 +1,8 @@
 //! The bytes of instructions and programs.
 
-ghost use Rattle.std.specs.Prelude.{◌≡◌, ◌<◌, ◌≤◌, ◌%◌, ◌/◌, ◌^◌, ◌++◌, ◌⊎◌, length, IfSome, IfOk, OnErr, OnOk};
+ghost use Rattle.std.specs.Prelude.{◌≡◌, ◌<◌, ◌≤◌, ◌%◌, ◌/◌, ◌^◌, ◌++◌, length, IfSome, IfOk, OnErr, OnOk};
 ghost use Rattle.std.specs.Int.{w32, cast_signed};
-ghost use Rattle.instruction_set.specs.Spelling.{access_opcode, first_slot, operation_opcode, program_bytes, second_slot, slot_bytes, source_bit, source_immediate, source_register, spelling};
+ghost use Rattle.instruction_set.specs.Spelling.{access_opcode, first_slot, operation_opcode, program_bytes, second_slot, source_bit, source_immediate, source_register, spelling};
 
 use crate::fields::to_bytes;
 use instruction_set::codes::{CALL, EXIT, IMM, JA, LD, LDX, MEM, MEMSX, NEG, ST, STX};
@@ -216,18 +216,20 @@ fn second_slot(instruction: &Instruction) -> Option<Fields>
 ///
 /// # Errors
 ///
-/// Want of memory. What was there stays then, and the first 8 bytes of the wide instruction may stand behind it.
+/// Want of memory. What was there stays then, and nothing stands behind it.
 pub fn push_instruction(bytes: &mut Vec<u8>, instruction: &Instruction) -> Result<(), AllocError>
     ensures added { OnOk result (bytes.new.items ≡ bytes.old.items ++ spelling instruction.now) }
-    ensures kept { OnErr result ((bytes.new.items ≡ bytes.old.items) ⊎ (bytes.new.items ≡ bytes.old.items ++ slot_bytes (first_slot instruction.now))) }
+    ensures kept { OnErr result (bytes.new.items ≡ bytes.old.items) }
 {
     let first = to_bytes(first_slot(instruction));
+    let Some(second) = second_slot(instruction) else {
+        return bytes.extend_from_slice(&first);
+    };
+    let second = to_bytes(second);
+    // so that the first half isn't added where the second can't be
+    bytes.reserve(first.len() + second.len())?;
     bytes.extend_from_slice(&first)?;
-    if let Some(second) = second_slot(instruction) {
-        let second = to_bytes(second);
-        bytes.extend_from_slice(&second)?;
-    }
-    Ok(())
+    bytes.extend_from_slice(&second)
 }
 
 fn encode_slots(alloc: Global, slots: &[Option<Instruction>]) -> Result<Vec<u8>, AllocError>
