@@ -1,5 +1,5 @@
 -- A run does its turns, whatever comes between.
-use Rattle.std.proofs.Common.{◌≡◌, ◌≢◌, ℕ, zero, suc, ◌+◌, ◌<◌, Bool, true, false, List, [], ◌∷◌, ◌++◌, length, get_or, take, drop, Option, Some, None, refl, ap, sym, subst, ◌∙◌, arith, append_assoc, get_or-set_other, get_or-set_same}
+use Rattle.std.proofs.Common.{◌≡◌, ◌≢◌, ℕ, zero, suc, ◌+◌, ◌<◌, Bool, true, false, List, [], ◌∷◌, ◌++◌, length, get_or, take, drop, Option, Some, None, refl, ap, sym, subst, ◌∙◌, arith, append_assoc, get_or-set_other}
 use Rattle.std.proofs.lemmas.Bool.{eqb-true}
 use Rattle.std.proofs.lemmas.List.{append-nil, drop_more}
 use Rattle.std.proofs.lemmas.List.Sums.{sum_by-cons}
@@ -9,7 +9,6 @@ use Rattle.zone_resources.specs.declared.holds.Holds.{Holds}
 use Rattle.device_meaning.specs.Judging.{Judge}
 use Rattle.image_store.specs.Namespace.{ZoneWithBlocks, ZonedNamespace, zone_at}
 use Rattle.zns_commands.proofs.Proved.{held_destinations_are_left}
-use Rattle.zone_resources.proofs.Proved.{there}
 use Rattle.device_meaning.specs.Admission.{SameProgram}
 use Rattle.device_meaning.specs.EventReplies.{Happening}
 use Rattle.device_meaning.specs.Events.{Occurrence, state_after}
