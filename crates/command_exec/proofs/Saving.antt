@@ -3,7 +3,7 @@ use Rattle.std.proofs.Common.{◌≡◌, ℕ, List, map, Option, Result, Ok, Err
 use Rattle.clap.specs.declared.parser.matches.ArgMatches.{ArgMatches}
 use Rattle.image_store.specs.Namespace.{ZonedNamespace}
 use Rattle.image_text.specs.Text.{text}
-use Rattle.interval_domain.specs.Intervals.{intervals}
+use Rattle.device_meaning.specs.Judging.{interval_judge}
 use Rattle.device_events.specs.Printed.{Printed}
 use Rattle.common_definitions.specs.Failures.{CountsFailure}
 use Rattle.device_events.specs.Replies.{Joins, ReplyWithData}
@@ -32,7 +32,7 @@ took_joins a b c first later early late = (late.0 ∙ early.0, prints_in_parts r
 
 -- events, of which the reply to the last was refused
 pub stops_in_events : (events : List Event) (old new : State) (took : List ReplyWithData → Type 0) (done : ℕ)
-    → HasStopped intervals events old new took done → HasBegun events old new
+    → HasStopped interval_judge events old new took done → HasBegun events old new
 stops_in_events events old new took done stopped = InEvents done (record {
   some = stopped.some;
   within = stopped.within;
@@ -42,13 +42,13 @@ stops_in_events events old new took done stopped = InEvents done (record {
   replies = tt;
 })
 
-module _ (events : List Event) (old between new : State) (before then after : ℕ × Printed) (served : HasServed intervals events old between (Took before then)) where
+module _ (events : List Event) (old between new : State) (before then after : ℕ × Printed) (served : HasServed interval_judge events old between (Took before then)) where
   -- a drain, behind events that were all done
   pub serves_and_drains : (result : Result (Unit {0}) Stopped) → then.1.refusals ≡ before.1.refusals → CountsFailure then.1.refusals after.1.refusals result
       → OnOk result (HasDrained between new (Took then after)) → OnOk result (DoesAll events old new before.1.bytes after.1.bytes)
   serves_and_drains (Err error) none count drained = tt
   serves_and_drains (Ok done) none count drained =
-      let did = served_and_drained intervals Took took_joins events old between new before then after served drained in
+      let did = served_and_drained interval_judge Took took_joins events old between new before then after served drained in
       record {
         occurrences = did.occurrences;
         are = did.are;

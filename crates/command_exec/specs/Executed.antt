@@ -3,7 +3,7 @@ use Rattle.std.specs.Prelude.{◌≡◌, ℕ, List, map, flat_map, Option, Ok, I
 use Rattle.std.specs.Io.KnownBytes.{Appends}
 use Rattle.image_store.specs.Namespace.{ZonedNamespace}
 use Rattle.image_text.specs.Text.{text}
-use Rattle.interval_domain.specs.Intervals.{intervals}
+use Rattle.device_meaning.specs.Judging.{interval_judge}
 use Rattle.device_events.specs.Replies.{ReplyWithData}
 use Rattle.device_meaning.specs.Draining.{HasStoppedDraining}
 use Rattle.device_meaning.specs.Events.{HasServed, HasStopped}
@@ -28,7 +28,7 @@ HasPrinted before after replies = Appends before after (flat_map reply_line repl
 
 -- the events are done, and the turns behind them, and the line of each reply is printed
 abbrev pub DoesAll : List Event → State → State → Option (List ℕ) → Option (List ℕ) → Type 0
-DoesAll events old new printed printed_after = HasServedAndDrained intervals events old new (HasPrinted printed printed_after)
+DoesAll events old new printed printed_after = HasServedAndDrained interval_judge events old new (HasPrinted printed printed_after)
 
 -- nothing is said of what was printed
 abbrev pub Untold : List ReplyWithData → Type 0
@@ -37,8 +37,8 @@ Untold replies = Unit {0}
 -- the first of some events were done, one or more; or all of them, and then the first of the turns behind them, one or
 -- more
 pub data HasBegun (events : List Event) (old new : State) : Type 0 where
-  InEvents : (done : ℕ) (stopped : HasStopped intervals events old new Untold done) → HasBegun events old new
-  InTurns : (between : State) (done : ℕ) (served : HasServed intervals events old between Untold)
+  InEvents : (done : ℕ) (stopped : HasStopped interval_judge events old new Untold done) → HasBegun events old new
+  InTurns : (between : State) (done : ℕ) (served : HasServed interval_judge events old between Untold)
       (stopped : HasStoppedDraining between new Untold done) → HasBegun events old new
 
 -- all is done on a namespace, and the file has the text of the namespace that is left
