@@ -26,6 +26,8 @@ this device. `[SP]`: a standard's, with a choice of the profile. `[-]`: neither 
 """
 
 THEOREM = ("pushdown/specs/Pushdown.antt", "Pushdown")
+# the law, whose premise is to be read too
+LAW = (THEOREM[0], "SoundJudgesPushDown")
 HAPPENED = ("device_meaning/specs/Events.antt", "HasHappened")
 JUDGING = "device_meaning/specs/Judging.antt"
 FILES = ("pushdown/src/laws.rt", "device_laws/src/laws.rt", "runner/src/device.rt")
@@ -133,7 +135,7 @@ def text(crates: Path, below: Set[str]) -> str:
     device = model + ["impl Device {", *function(devices, "image"), "", *function(devices, "apply"), "}"]
     return CODE.format(
         theorem=definition(crates, *THEOREM),
-        law=indented(function(laws, "sound_judges_push_down")) + "\n" + definition(crates, THEOREM[0], "SoundJudgesPushDown"),
+        law=indented(function(laws, "sound_judges_push_down")) + "\n" + definition(crates, *LAW),
         judging=JUDGING,
         sound=sound,
         judge=judge,

@@ -309,7 +309,7 @@ def told(closure: Closure) -> str:
 def pages() -> Dict[Path, str]:
     """The page, and docs/theorem.md with what that tells of it."""
     closure = Closure(CRATES)
-    closure.reach(headline.THEOREM)
+    closure.reach(headline.LAW)
     text, parts = sections(closure)
     top = headline.text(CRATES, {key[-1] for key in closure.items})
     theorem = DOCS / "theorem.md"
