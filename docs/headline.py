@@ -30,7 +30,7 @@ THEOREM = ("pushdown/specs/Pushdown.antt", "Pushdown")
 LAW = (THEOREM[0], "SoundJudgesPushDown")
 HAPPENED = ("device_meaning/specs/Events.antt", "HasHappened")
 JUDGING = "device_meaning/specs/Judging.antt"
-FILES = ("pushdown/src/laws.rt", "device_laws/src/laws.rt", "runner/src/device.rt")
+FILES = ("pushdown/src/laws.rt", "device_laws/src/laws.rt", "runner/src/device_state.rt", "runner/src/device.rt")
 
 CODE = """## The theorem and what ties the code to it
 
@@ -52,7 +52,7 @@ and it is sound, so that the theorem holds of the device (`device_laws/src/laws.
 
 {device_laws}
 A device is always in a state that events leave, and does what the definitions say, `runner/src/device.rt`. A clause sees a `Device`
-as a `State`, the one that `view` gives of its fields:
+as a `State`, that of its `DeviceState` (`runner/src/device_state.rt`), whose `view` gives it of the namespace, slots and runs:
 
 {device}
 where, in `device_meaning/specs/Events.antt`:
@@ -126,11 +126,12 @@ def definition(crates: Path, path: str, name: str) -> str:
 
 def text(crates: Path, below: Set[str]) -> str:
     """The part of the page on the theorem, its law, and the code's contracts. `below` are the names of what the page has."""
-    laws, device_laws, devices = ((crates / file).read_text().splitlines() for file in FILES)
+    laws, device_laws, states, devices = ((crates / file).read_text().splitlines() for file in FILES)
     judging = (crates / JUDGING).read_text().splitlines()
     sound = "\n".join(definition(crates, JUDGING, name) for name in ("IsSafeProgram", "IsSoundJudge"))
     judge = "\n".join(definition(crates, JUDGING, name) for name in ("judged_by", "judge_by", "interval_judge"))
     device_law = [*function(device_laws, "judges_soundly"), "", *function(device_laws, "pushdown")]
+    state = members(states, r"impl Model for DeviceState ", {"Value", "view"}) + ["}", ""]
     model = members(devices, r"impl Model for Device ", {"Value", "view"}) + ["}", ""]
     device = model + ["impl Device {", *function(devices, "image"), "", *function(devices, "apply"), "}"]
     return CODE.format(
@@ -140,7 +141,11 @@ def text(crates: Path, below: Set[str]) -> str:
         sound=sound,
         judge=judge,
         device_laws=indented(device_law),
-        device=indented(device),
+        device=indented(state + device),
         happened=definition(crates, *HAPPENED),
-        named=not_below(crates, [((sound + judge).split("\n"), judging), (device_law, device_laws), (device, devices)], below),
+        named=not_below(
+            crates,
+            [((sound + judge).split("\n"), judging), (device_law, device_laws), (state, states), (device, devices)],
+            below,
+        ),
     )

@@ -1,7 +1,7 @@
 -- The checks of a run, of their parts.
 use Rattle.std.proofs.Common.{◌≡◌, ℕ, List, ◌∷◌, ◌++◌, length, get_or, Bool, true, Option, Some, None, refl, ap, sym, ◌∙◌}
 use Rattle.std.specs.Option.{option_or}
-use Rattle.std.specs.Prelude.{◌==◌, is_none, is_some, position}
+use Rattle.std.specs.Prelude.{◌==◌, is_some, option_map}
 use Rattle.std.proofs.Math.ListN.{get_or-map}
 use Rattle.zone_state.specs.declared.status.Status.{Status}
 use Rattle.zone_state.specs.declared.status.TheConstants.Status.{INVALID_FIELD_IN_COMMAND, NO_SUCH_PROGRAM, NO_RUN_FREE}
@@ -9,23 +9,19 @@ use Rattle.zone_resources.specs.declared.holds.Holds.{Holds}
 use Rattle.common_definitions.specs.Checks.{demand, first_failed}
 use Rattle.common_definitions.proofs.Proved.{joined}
 use Rattle.nvme_entry.specs.declared.command.RunCommand.{RunCommand}
+use Rattle.program_interface.specs.RunSizes.{Sizes}
 use Rattle.image_store.specs.Namespace.{ZonedNamespace}
 use Rattle.image_store.specs.declared.geometry.ZoneBlock.{ZoneBlock}
 use Rattle.emit_append.specs.Need.{need}
 use Rattle.verifier.specs.Verified.{sizes_of}
 use Rattle.zns_commands.specs.Address.{zone_block_in}
-use Rattle.device_meaning.specs.Admission.{Loaded, address_checks, destination_checks, destination_zone, run_refusal, sizes_in, source_checks}
-use Rattle.device_meaning.specs.EventReplies.{Submission}
-use Rattle.device_meaning.specs.Happenings.{why_not_run}
-use Rattle.device_meaning.specs.State.{loaded_at}
-use Rattle.runner.specs.steps.Admitting.{AreZonesOf, refusal_by}
+use Rattle.device_meaning.specs.Admission.{Loaded, address_checks, destination_checks, destination_zone, granted_sizes, run_refusal, sizes_in, source_checks}
+use Rattle.device_meaning.specs.State.{State, free_place, holds_at, loaded_at}
+use Rattle.runner.specs.steps.Admitting.{AreZonesOf, refusal_by, sizes_at}
 use Rattle.runner.specs.DeviceState.{loaded_slot, device_state}
-use Rattle.runner.specs.steps.ActiveRuns.{held_by}
-use Rattle.runner.specs.steps.Ready.{IsReady}
+use Rattle.runner.specs.steps.Ready.{IsForBlocks, IsReady}
 use Rattle.runner.specs.declared.active_run.ActiveRun.{ActiveRun}
 use Rattle.runner.specs.declared.loaded_program.LoadedProgram.{LoadedProgram}
-use Rattle.runner.proofs.Holding.{holds_are}
-use Rattle.runner.proofs.Numbers.{free_is}
 
 passes : (first rest : Option Status) → first ≡ None → option_or first rest ≡ rest
 passes first rest none = rw none refl
@@ -59,37 +55,42 @@ last_decides ns holds place_free slot command input source destination blocks no
     ∙ ap (λ (b : Bool). option_or (demand b NO_RUN_FREE) (option_or from to)) free
     ∙ passes from to from_none)
 
--- what a device tests is what is said of its state
+-- what is granted to the program of a slot tells that there is one, and its sizes
+pub granted_there : (ns : ZonedNamespace) (slot : Option Loaded) (sizes : Sizes) → Some sizes ≡ option_map (λ (loaded : Loaded). granted_sizes ns loaded.limit) slot
+    → (is_some slot ≡ true) × (sizes ≡ sizes_in ns slot)
+granted_there ns None sizes granted = absurd (cc granted)
+granted_there ns (Some loaded) sizes granted = (refl, cc granted)
+
+-- the same, by what a device tests before
+pub destination_decides : (s : State) (command : RunCommand) (input : List ℕ) (sizes : Sizes) (source : ZoneBlock) (destination run blocks : ℕ) (holds : Holds)
+    → true ≡ (length input == 0) → Some sizes ≡ sizes_at s command.slot
+    → AreZonesOf s.namespace command source destination → None ≡ first_failed (address_checks s.namespace command)
+    → Some run ≡ free_place s → None ≡ first_failed (source_checks s.namespace source command.blocks)
+    → holds ≡ holds_at s → blocks ≡ need command.blocks sizes
+    → first_failed (destination_checks s.namespace holds destination blocks) ≡ refusal_by s command input
+destination_decides s command input sizes source destination run blocks holds no_input granted zones addresses free sources held enough =
+    let loaded = granted_there s.namespace (loaded_at s command.slot) sizes granted in
+    ap (λ (h : Holds). first_failed (destination_checks s.namespace h destination blocks)) held
+    ∙ last_decides s.namespace (holds_at s) (is_some (free_place s)) (loaded_at s command.slot) command input source destination blocks
+    (sym no_input) loaded.0 zones (sym addresses) (ap is_some (sym free)) (sym sources) (enough ∙ ap (need command.blocks) loaded.1)
+
+-- ---- the sizes that the program of a slot was accepted for
+
+-- by what a device keeps in the slot
+abbrev pub sizes_known : Option LoadedProgram → Option Sizes
+sizes_known = option_map (λ (p : LoadedProgram). sizes_of p.prepared)
+
+-- where it is for the blocks of the namespace, the limit of what is loaded tells them
+sizes_by : (ns : ZonedNamespace) (o : Option LoadedProgram) → ((p : LoadedProgram) → o ≡ Some p → IsForBlocks ns p)
+    → option_map (λ (loaded : Loaded). granted_sizes ns loaded.limit) (loaded_slot o) ≡ sizes_known o
+sizes_by ns None accepted = refl
+sizes_by ns (Some p) accepted = ap (λ (block : ℕ). Some (record { block = block; limit = (sizes_of p.prepared).limit })) (sym (accepted p refl))
+
 module _ (ns : ZonedNamespace) (slots : List (Option LoadedProgram)) (runs : List (Option ActiveRun)) where
   pub program_is : (slot : ℕ) → loaded_at (device_state ns slots runs) slot ≡ loaded_slot (get_or slots slot None)
   program_is slot = get_or-map loaded_slot slots slot None
 
-  -- the sizes that the program of a slot was accepted for
-  granted : (slot : ℕ) (p : LoadedProgram) → IsReady ns slots runs → get_or slots slot None ≡ Some p
-      → sizes_of p.prepared ≡ sizes_in ns (loaded_slot (get_or slots slot None))
-  granted slot p ready at =
-      ap (λ (block : ℕ). record { block = block; limit = (sizes_of p.prepared).limit }) (ready.programs slot p at)
-      ∙ ap (λ (o : Option LoadedProgram). sizes_in ns (loaded_slot o)) (sym at)
-
-  -- the same, by what a device tests before
-  pub destination_decides : (command : RunCommand) (input : List ℕ) (p : LoadedProgram) (source : ZoneBlock) (destination run blocks : ℕ) (holds : Holds)
-      → IsReady ns slots runs → true ≡ (length input == 0) → get_or slots command.slot None ≡ Some p
-      → AreZonesOf ns command source destination → None ≡ first_failed (address_checks ns command)
-      → Some run ≡ position is_none runs → None ≡ first_failed (source_checks ns source command.blocks)
-      → holds ≡ held_by runs → blocks ≡ need command.blocks (sizes_of p.prepared)
-      → first_failed (destination_checks ns holds destination blocks)
-      ≡ refusal_by ns slots runs command input
-  destination_decides command input p source destination run blocks holds ready no_input at zones addresses free sources held enough =
-      ap (λ (h : Holds). first_failed (destination_checks ns h destination blocks)) held
-      ∙ last_decides ns (held_by runs) (is_some (position is_none runs)) (loaded_slot (get_or slots command.slot None)) command input source destination blocks
-      (sym no_input) (ap (λ (o : Option LoadedProgram). is_some (loaded_slot o)) at) zones (sym addresses) (ap is_some (sym free)) (sym sources)
-      (enough ∙ ap (need command.blocks) (granted command.slot p ready at))
-
-  pub why_is : (sub : Submission) (command : RunCommand) → IsReady ns slots runs
-      → why_not_run sub (device_state ns slots runs) command
-      ≡ refusal_by ns slots runs command sub.input
-  why_is sub command ready =
-      let s = device_state ns slots runs in
-      ap (λ (holds : Holds). run_refusal ns holds (is_some (position is_none s.places)) (loaded_at s command.slot) command sub.input) (sym (holds_are ns slots runs ready))
-      ∙ ap (λ (free : Option ℕ). run_refusal ns (held_by runs) (is_some free) (loaded_at s command.slot) command sub.input) (free_is ns slots runs)
-      ∙ ap (λ (slot : Option Loaded). run_refusal ns (held_by runs) (is_some (position is_none runs)) slot command sub.input) (program_is command.slot)
+  pub sizes_are : (slot : ℕ) → IsReady ns slots runs → sizes_at (device_state ns slots runs) slot ≡ sizes_known (get_or slots slot None)
+  sizes_are slot ready =
+      ap (option_map (λ (loaded : Loaded). granted_sizes ns loaded.limit)) (program_is slot)
+      ∙ sizes_by ns (get_or slots slot None) (λ p at. ready.programs slot p at)

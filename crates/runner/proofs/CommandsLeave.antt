@@ -14,13 +14,13 @@ use Rattle.zns_commands.specs.Laws.{Commanded, Faulted, NamespaceEvent, after}
 use Rattle.zns_commands.specs.Meaning.{meaning}
 use Rattle.zns_commands.specs.declared.answer.Answer.{Answer}
 use Rattle.zns_commands.proofs.Proved.{held_sources_keep_blocks, shapes_are_kept}
-use Rattle.device_meaning.specs.EventReplies.{Submission}
+use Rattle.device_meaning.specs.EventReplies.{submission_of}
 use Rattle.device_meaning.specs.Happenings.{commanded, faulting}
 use Rattle.device_meaning.specs.State.{Place, holds_at, with_namespace}
 use Rattle.zone_resources.proofs.Proved.{runs_name_zones}
-use Rattle.runner.specs.steps.Answered.{answered}
+use Rattle.runner.specs.steps.Answered.{HasExecuted, answered}
 use Rattle.runner.specs.DeviceState.{loaded_slot, device_state}
-use Rattle.runner.specs.steps.ActiveRuns.{held_by, source_held}
+use Rattle.runner.specs.steps.ActiveRuns.{source_held}
 use Rattle.runner.specs.steps.Ready.{IsReady}
 use Rattle.runner.specs.declared.active_run.ActiveRun.{ActiveRun}
 use Rattle.runner.specs.declared.loaded_program.LoadedProgram.{LoadedProgram}
@@ -67,42 +67,41 @@ source_there runs k a at = runs_name_zones source_held a.source.zone runs k a at
 
 -- where an event heeds what the active runs hold
 event_leaves : (ns : ZonedNamespace) (slots : List (Option LoadedProgram)) (runs : List (Option ActiveRun)) (event : NamespaceEvent) → IsReady ns slots runs
-    → holds_of event ≡ held_by runs → IsLeft ns (after event ns) slots runs
+    → holds_of event ≡ holds_at (device_state ns slots runs) → IsLeft ns (after event ns) slots runs
 event_leaves ns slots runs event ready heeds =
     is_left ns (after event ns) slots runs ready (shapes_are_kept event ns)
     (λ k a at.
     held_sources_keep_blocks event ns a.source.zone
-    (ap (λ (holds : Holds). is_source holds a.source.zone) heeds ∙ source_there runs k a at))
+    (ap (λ (holds : Holds). is_source holds a.source.zone) (heeds ∙ sym (holds_are ns slots runs ready)) ∙ source_there runs k a at))
 
 -- ---- a fault
 
 pub fault_leaves : (ns new : ZonedNamespace) (slots : List (Option LoadedProgram)) (runs : List (Option ActiveRun)) (holds : Holds) (zone : ℕ) (fault : FaultState)
-    → IsReady ns slots runs → holds ≡ held_by runs → new ≡ faulted ns holds zone fault
+    → IsReady ns slots runs → holds ≡ holds_at (device_state ns slots runs) → new ≡ faulted ns holds zone fault
     → IsReady new slots runs × (device_state new slots runs ≡ (faulting (device_state ns slots runs) zone fault).state)
 fault_leaves ns new slots runs holds zone fault ready heeds is =
     let s = device_state ns slots runs in
     let left : IsLeft ns new slots runs =
     subst (λ (later : ZonedNamespace). IsLeft ns later slots runs) (sym is) (event_leaves ns slots runs (Faulted holds zone fault) ready heeds) in (
       left.ready,
-      left.state ∙ ap (with_namespace s) (is ∙ ap (λ (h : Holds). faulted ns h zone fault) (heeds ∙ holds_are ns slots runs ready)),
+      left.state ∙ ap (with_namespace s) (is ∙ ap (λ (h : Holds). faulted ns h zone fault) heeds),
     )
 
 -- ---- a standard command
 
 pub command_leaves : (ns new : ZonedNamespace) (slots : List (Option LoadedProgram)) (runs : List (Option ActiveRun)) (holds : Holds) (command : StandardCommand)
-    (input bytes : List ℕ) (answer : Answer) → IsReady ns slots runs → holds ≡ held_by runs
+    (input bytes : List ℕ) (answer : Answer) → IsReady ns slots runs → holds ≡ holds_at (device_state ns slots runs)
     → effect_of_answer answer new bytes ≡ meaning ns holds command input
-    → IsReady new slots runs
-    × ((sub : Submission) → commanded sub (device_state ns slots runs) (meaning ns (holds_at (device_state ns slots runs)) command input)
-    ≡ answered sub answer bytes (device_state new slots runs))
+    → IsReady new slots runs × HasExecuted command input (device_state ns slots runs) (device_state new slots runs) answer bytes
 command_leaves ns new slots runs holds command input bytes answer ready heeds is =
     let s = device_state ns slots runs in
     let later = ap (λ (o : Effect). o.namespace) is in
     let left : IsLeft ns new slots runs =
     subst (λ (m : ZonedNamespace). IsLeft ns m slots runs) (sym later) (event_leaves ns slots runs (Commanded holds command input) ready heeds) in (
       left.ready,
-      λ sub.
-          ap (λ (h : Holds). commanded sub s (meaning ns h command input)) (sym (heeds ∙ holds_are ns slots runs ready))
+      λ queue entry.
+          let sub = submission_of queue entry input in
+          ap (λ (h : Holds). commanded sub s (meaning ns h command input)) (sym heeds)
           ∙ ap (commanded sub s) (sym is)
           ∙ ap (answered sub answer bytes) (sym left.state),
     )

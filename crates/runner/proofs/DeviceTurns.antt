@@ -3,7 +3,7 @@ use Rattle.std.proofs.Common.{◌≡◌, ℕ, ◌<◌, ◌≤◌, false, List, [
 use Rattle.std.specs.Prelude.{is_some}
 use Rattle.std.proofs.Math.ListN.{get_or-map}
 use Rattle.std.proofs.Math.Seq.{map-set_same}
-use Rattle.std.proofs.lemmas.List.{map-set, set-get_or}
+use Rattle.std.proofs.lemmas.List.{get_or_past, map-set, set-get_or}
 use Rattle.nvme_entry.specs.declared.command.RunCommand.{RunCommand}
 use Rattle.instruction_set.specs.declared.instruction.Instruction.{Instruction}
 use Rattle.program_meaning.proofs.Proved.{the_value}
@@ -265,6 +265,13 @@ pub fits_at : (ns : ZonedNamespace) (slots : List (Option LoadedProgram)) (runs 
 fits_at ns slots runs k None ready reached at = tt
 fits_at ns slots runs k (Some a) ready reached at =
     let own = ready.running k a at in fits_in ns slots runs ready k a at own.program own.loaded reached
+
+-- no run is at a place that there isn't
+pub idles_past : (ns : ZonedNamespace) (slots : List (Option LoadedProgram)) (runs : List (Option ActiveRun)) (s : State) (k : ℕ) → device_state ns slots runs ≡ s
+    → length runs ≤ k → turned s k ≡ idle s
+idles_past ns slots runs s k view past =
+    let free = place_is ns slots runs k ∙ ap (λ (o : Option ActiveRun). seen ns (map loaded_slot slots) (running o)) (get_or_past runs k None past) in
+    ap (turned_at s k) (ap (λ (t : State). place_at t k) (sym view) ∙ free)
 
 -- no run is there
 idles : (ns : ZonedNamespace) (slots : List (Option LoadedProgram)) (runs : List (Option ActiveRun)) (k : ℕ) → IsReady ns slots runs

@@ -30,7 +30,7 @@ module _ {X Y : Type 0} (f : X → Y) where
   mapped_none None = refl
   mapped_none (Some x) = refl
 
-  mapped_some : (x : Option X) → is_some (option_map f x) ≡ is_some x
+  pub mapped_some : (x : Option X) → is_some (option_map f x) ≡ is_some x
   mapped_some None = refl
   mapped_some (Some x) = refl
 

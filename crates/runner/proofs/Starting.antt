@@ -1,6 +1,6 @@
 -- The state in which a run has begun.
 use Rattle.std.proofs.Common.{◌≡◌, ℕ, List, map, set, get_or, Option, Some, None, ap, sym, ◌∙◌, inl, inr, subst, arith}
-use Rattle.std.specs.Prelude.{is_none, position}
+use Rattle.std.specs.Prelude.{is_some}
 use Rattle.std.proofs.lemmas.List.{map-set}
 use Rattle.zone_state.specs.declared.status.Status.{Status}
 use Rattle.nvme_entry.specs.declared.command.RunCommand.{RunCommand}
@@ -18,14 +18,19 @@ use Rattle.device_events.specs.declared.reply.Reply.TheVariants as reply
 use Rattle.device_meaning.proofs.Proved.{seen_at_admission}
 use Rattle.runner.specs.steps.Admitting.{IsAdmission, refusal_by}
 use Rattle.runner.specs.steps.Answered.{Refuses, Starts}
-use Rattle.runner.specs.DeviceState.{active_of, loaded_slot, running, device_state}
+use Rattle.runner.specs.DeviceState.{active_of, loaded_of, loaded_slot, running, device_state}
 use Rattle.runner.specs.steps.ActiveRuns.{new_active}
 use Rattle.runner.specs.steps.Ready.{IsReady, IsRunning}
 use Rattle.runner.specs.declared.active_run.ActiveRun.{ActiveRun}
 use Rattle.runner.specs.declared.admission.Admitted.{Admitted}
 use Rattle.runner.specs.declared.loaded_program.LoadedProgram.{LoadedProgram}
-use Rattle.runner.proofs.Admissions.{why_is}
-use Rattle.runner.proofs.Numbers.{free_is}
+use Rattle.runner.proofs.Admissions.{program_is}
+use Rattle.runner.proofs.Numbers.{mapped_some}
+
+-- a check of a run has failed
+pub refuses : (s : State) (command : RunCommand) (input : List ℕ) (status : Status) → Some status ≡ refusal_by s command input → Refuses command input s status
+refuses s command input status fails queue entry =
+    ap (λ (why : Option Status). start_by why (free_place s) (submission_of queue entry input) s command) (sym fails)
 
 module _ (ns : ZonedNamespace) (slots : List (Option LoadedProgram)) (runs : List (Option ActiveRun)) where
   -- a run put at a place, seen
@@ -36,36 +41,29 @@ module _ (ns : ZonedNamespace) (slots : List (Option LoadedProgram)) (runs : Lis
       (ap (map (seen ns (map loaded_slot slots))) (map-set running runs run (Some a))
       ∙ map-set (seen ns (map loaded_slot slots)) (map running runs) run (Some (active_of a)))
 
-  pub starts : (command : RunCommand) (queue cid block : ℕ) (admitted : Admitted) (input : List ℕ) → IsReady ns slots runs
-      → position is_none runs ≡ Some admitted.run
-      → None ≡ refusal_by ns slots runs command input
-      → Starts command queue cid input (device_state ns slots runs)
+  pub starts : (s : State) (command : RunCommand) (queue cid block : ℕ) (admitted : Admitted) (input : List ℕ) → device_state ns slots runs ≡ s
+      → free_place s ≡ Some admitted.run → None ≡ refusal_by s command input
+      → Starts command queue cid input s
       (device_state ns slots (set runs admitted.run (Some (new_active queue cid command admitted.source admitted.destination block)))) admitted.run
-  starts command queue cid block admitted input ready free passes entry named =
-      let s = device_state ns slots runs in
+  starts s command queue cid block admitted input view free passes entry named =
       let sub = submission_of queue entry input in
       let a = new_active queue cid command admitted.source admitted.destination block in
       let begins : active_of a ≡ begun sub command =
       ap (λ (n : ℕ). record { queue = queue; cid = n; command = command; so_far = at_admission }) (sym named) in
-      ap (λ (why : Option Status). start_by why (free_place s) sub s command) (why_is ns slots runs sub command ready ∙ sym passes)
-      ∙ ap (λ (number : Option ℕ). start_by None number sub s command) (free_is ns slots runs ∙ free)
+      ap (λ (why : Option Status). start_by why (free_place s) sub s command) (sym passes)
+      ∙ ap (λ (number : Option ℕ). start_by None number sub s command) free
       ∙ ap (λ (place : Place). record { reply = without_data (reply.Pending admitted.run); state = with_place s admitted.run (Some place) })
-      (sym (seen_at_admission sub s command) ∙ ap (place_of ns (map loaded_slot slots)) (sym begins))
+      (sym (seen_at_admission sub s command) ∙ ap (place_of s.namespace s.slots) (sym begins))
+      ∙ ap (λ (t : State). record { reply = without_data (reply.Pending admitted.run); state = with_place t admitted.run (Some (place_of t.namespace t.slots (active_of a))) })
+      (sym view)
       ∙ ap (λ (t : State). record { reply = without_data (reply.Pending admitted.run); state = t }) (sym (placed admitted.run a))
 
-  pub refuses : (command : RunCommand) (input : List ℕ) (status : Status) → IsReady ns slots runs
-      → Some status ≡ refusal_by ns slots runs command input
-      → Refuses command input (device_state ns slots runs) status
-  refuses command input status ready fails queue entry =
-      let s = device_state ns slots runs in
-      let sub = submission_of queue entry input in
-      ap (λ (why : Option Status). start_by why (free_place s) sub s command) (why_is ns slots runs sub command ready ∙ sym fails)
-
   -- a run that has just begun is one of a device
-  pub is_running : (command : RunCommand) (queue cid block : ℕ) (admitted : Admitted) → IsReady ns slots runs → IsAdmission ns slots runs command admitted
+  pub is_running : (command : RunCommand) (queue cid block : ℕ) (admitted : Admitted) → IsReady ns slots runs → IsAdmission (device_state ns slots runs) command admitted
       → block ≡ ns.block → IsRunning ns slots (new_active queue cid command admitted.source admitted.destination block)
   is_running command queue cid block admitted ready is same =
-      let at = the_value (get_or slots command.slot None) is.loaded in
+      let there = ap is_some (program_is ns slots runs command.slot) ∙ mapped_some loaded_of (get_or slots command.slot None) in
+      let at = the_value (get_or slots command.slot None) (sym there ∙ is.loaded) in
       record {
         program = at.0;
         loaded = at.1;

@@ -6,15 +6,13 @@ ghost use Rattle.common_definitions.specs.Checks.{first_failed};
 ghost use Rattle.device_meaning.specs.Admission.{address_checks, destination_checks, source_checks};
 ghost use Rattle.runner.specs.steps.Admitting.{AreZonesOf, IsAdmission, refusal_by};
 ghost use Rattle.runner.specs.steps.Answered.{Refuses, Starts};
-ghost use Rattle.runner.specs.DeviceState.{device_state};
-ghost use Rattle.runner.specs.steps.Ready.{AreWritten, IsReady};
+ghost use Rattle.runner.specs.steps.Ready.{AreWritten};
 
 use crate::active_run::ActiveRun;
-use crate::loaded_program::LoadedProgram;
-use crate::places::{free_place, holds};
+use crate::device_state::DeviceState;
 use emit_append::blocks_needed;
 use image_store::ZoneBlock;
-use nvme_entry::{BlockCount, PROGRAM_SLOTS, RunCommand, Status};
+use nvme_entry::{BlockCount, RunCommand, Status};
 use zns_commands::{
     Holds, Namespace, check_readable, check_transfer, check_within_zone, first_block, lowest,
 };
@@ -35,23 +33,19 @@ struct Admitted {
 ///
 /// The status of the first check that fails. Nothing is started then.
 pub fn start(
-    namespace: &Namespace,
-    slots: &[Option<LoadedProgram>; PROGRAM_SLOTS],
-    runs: &mut [Option<ActiveRun>; RUNS],
+    state: &mut DeviceState,
     queue: u16,
     cid: u16,
     command: &RunCommand,
     input: &[u8],
 ) -> Result<u8, Status>
-    requires ready { IsReady namespace.now slots.now runs.old }
-    ensures ok { IfOk result (Starts command.now queue cid input.now (device_state namespace.now slots.now runs.old) (device_state namespace.now slots.now runs.new)) }
-    ensures err { IfErr result (Refuses command.now input.now (device_state namespace.now slots.now runs.old)) }
-    ensures kept { OnErr result (runs.new ≡ runs.old) }
-    ensures ready { IsReady namespace.now slots.now runs.new }
+    ensures ok { IfOk result (Starts command.now queue cid input.now state.old state.new) }
+    ensures err { IfErr result (Refuses command.now input.now state.old) }
+    ensures kept { OnErr result (state.new ≡ state.old) }
 {
-    let admitted = admit(namespace, slots, runs, command, input)?;
-    let block = namespace.geometry().block();
-    runs[usize::from(admitted.run)] = Some(ActiveRun::new(
+    let admitted = admit(state, command, input)?;
+    let block = state.namespace.geometry().block();
+    state.runs[usize::from(admitted.run)] = Some(ActiveRun::new(
         queue,
         cid,
         *command,
@@ -63,28 +57,23 @@ pub fn start(
 }
 
 /// Tests a run.
-fn admit(
-    namespace: &Namespace,
-    slots: &[Option<LoadedProgram>; PROGRAM_SLOTS],
-    runs: &[Option<ActiveRun>; RUNS],
-    command: &RunCommand,
-    input: &[u8],
-) -> Result<Admitted, Status>
-    requires { IsReady namespace.now slots.now runs.now }
-    ensures why { result_err result ≡ refusal_by namespace.now slots.now runs.now command.now input.now }
-    ensures admission { IfOk result (IsAdmission namespace.now slots.now runs.now command.now) }
+fn admit(state: &DeviceState, command: &RunCommand, input: &[u8]) -> Result<Admitted, Status>
+    ensures why { result_err result ≡ refusal_by state.now command.now input.now }
+    ensures admission { IfOk result (IsAdmission state.now command.now) }
+    ensures inside { IfOk result (λ admitted. admitted.run < RUNS) }
 {
     check_transfer(0, 0, input)?;
-    let Some(loaded) = &slots[command.slot.index()] else {
+    let Some(sizes) = state.sizes(command.slot) else {
         return Err(Status::NO_SUCH_PROGRAM);
     };
+    let namespace = state.namespace();
     let (source, destination) = source_and_destination(namespace, command)?;
-    let Some(run) = free_place(runs) else {
+    let Some(run) = state.free_place() else {
         return Err(Status::NO_RUN_FREE);
     };
     check_source(namespace, source, command.blocks)?;
-    let blocks = blocks_needed(command.blocks.get(), loaded.prepared.verified().sizes());
-    check_destination(namespace, &holds(runs), destination, blocks)?;
+    let blocks = blocks_needed(command.blocks.get(), sizes);
+    check_destination(namespace, &state.holds(), destination, blocks)?;
     Ok(Admitted {
         run,
         source,

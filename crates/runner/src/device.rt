@@ -6,25 +6,21 @@ ghost use Rattle.nvme_entry.specs.declared.command.TheConstants.{MOST_BLOCKS};
 ghost use Rattle.device_events.specs.Replies.{data_length};
 ghost use Rattle.device_meaning.specs.Draining.{HasDrained, HasStoppedDraining, lowest_run, turns_left};
 ghost use Rattle.device_meaning.specs.Events.{HasHappened, HasServed, HasStopped};
-ghost use Rattle.device_meaning.specs.Happenings.{faulting};
 ghost use Rattle.device_meaning.specs.State.{new_state};
 ghost use Rattle.device_meaning.specs.Reached.{IsReached};
 ghost use Rattle.common_definitions.specs.Failures.{CountsFailure};
 ghost use Rattle.runner.specs.steps.ServedOne.{HasServedOne};
 
-use crate::active_run::ActiveRun;
-use crate::loaded_program::LoadedProgram;
-use crate::places;
-use crate::places::holds;
+use crate::device_state::DeviceState;
 use crate::submission::{Submission, submit};
 use crate::turn::turn;
 use device_events::{Event, NotTaken, Out, Reply};
-use nvme_entry::{MOST_TRANSFER, PROGRAM_SLOTS};
+use nvme_entry::MOST_TRANSFER;
 use program_interface::LARGEST_BLOCK;
 use std::alloc::Global;
 use std::marker::Model;
 use verified_run::StepCount;
-use zns_commands::{FaultRefused, FaultState, Image, Namespace};
+use zns_commands::Image;
 use zone_resources::RUNS;
 
 /// A reply was refused.
@@ -39,9 +35,7 @@ pub struct Stopped {
 pub struct Device {
     /// What a Load takes its memory from.
     alloc: Global,
-    namespace: Namespace,
-    slots: [Option<LoadedProgram>; PROGRAM_SLOTS],
-    runs: [Option<ActiveRun>; RUNS],
+    state: DeviceState,
     /// Where a turn's program emits to.
     group: [u8; LARGEST_BLOCK],
     /// The steps of its turns.
@@ -49,15 +43,15 @@ pub struct Device {
 }
 
 impl Model for Device {
+    ghost use Rattle.device_meaning.specs.Judging.{interval_judge};
+    ghost use Rattle.device_meaning.specs.Reached.{IsReached};
     ghost use Rattle.device_meaning.specs.State.{State};
-    ghost use Rattle.runner.specs.DeviceState.{device_state};
-    ghost use Rattle.runner.specs.steps.Ready.{IsDevice};
 
     ghost Value = { State };
 
-    ghost view = { λ d. device_state d.namespace d.slots d.runs };
+    ghost view = { λ d. d.state };
 
-    ghost invariant = { λ d. IsDevice d.namespace d.slots d.runs };
+    ghost invariant = { λ d. IsReached interval_judge d.state };
 }
 
 impl Device {
@@ -66,14 +60,9 @@ impl Device {
         ensures value { result ≡ new_state image }
         ensures reached { IsReached interval_judge result }
     {
-        let namespace = Namespace::new(image);
-        // Brings in what holds of each namespace.
-        let _ = namespace.geometry();
         Device {
             alloc,
-            namespace,
-            slots: [None, None, None, None, None, None, None, None],
-            runs: [None, None, None, None, None, None, None, None],
+            state: DeviceState::new(image),
             group: [0; LARGEST_BLOCK],
             count: StepCount::new(),
         }
@@ -84,7 +73,7 @@ impl Device {
         ensures value { result.now ≡ self.now.namespace }
         ensures reached { IsReached interval_judge self.now }
     {
-        self.namespace.image()
+        self.state.namespace().image()
     }
 
     /// Does one event: the reply with its data, and the state behind it, are those that the definitions of
@@ -104,39 +93,10 @@ impl Device {
                 input,
             } => {
                 let submission = Submission::new(*queue, entry, input.as_slice());
-                submit(
-                    self.alloc,
-                    &mut self.namespace,
-                    &mut self.slots,
-                    &mut self.runs,
-                    &submission,
-                    output,
-                )
+                submit(self.alloc, &mut self.state, &submission, output)
             }
-            Event::Turn { run } => {
-                turn(
-                    &mut self.namespace,
-                    &mut self.slots,
-                    &mut self.runs,
-                    &mut self.group,
-                    &mut self.count,
-                    *run,
-                )
-            }
-            Event::Fault { zone, state } => self.fault(*zone, *state),
-        }
-    }
-
-    /// Brings a zone into the state of a fault.
-    fn fault(&mut self, zone: u32, state: FaultState) -> Reply
-        ensures reply { result ≡ (faulting self.old zone state).reply.reply }
-        ensures state { self.new ≡ (faulting self.old zone state).state }
-        ensures no_data { data_length result ≡ 0 }
-        ensures reached { IsReached interval_judge self.new }
-    {
-        match self.namespace.fault(zone, state, &holds(&self.runs)) {
-            Ok(()) => Reply::FaultTaken,
-            Err(FaultRefused) => Reply::FaultRefused,
+            Event::Turn { run } => turn(&mut self.state, &mut self.group, &mut self.count, *run),
+            Event::Fault { zone, state } => self.state.fault(*zone, *state),
         }
     }
 
@@ -198,7 +158,7 @@ impl Device {
         ensures reached { IsReached interval_judge self.now }
         ensures few { turns_left self.now.places ≤ MOST_BLOCKS * RUNS }
     {
-        places::lowest_run(&self.runs)
+        self.state.lowest_run()
     }
 
     /// Gives turns, always to the run of the lowest number, until no run is left, and hands out the reply to each: the

@@ -6,6 +6,7 @@ mod admission;
 mod block_run;
 mod completion;
 mod device;
+mod device_state;
 mod load;
 mod loaded_program;
 mod places;

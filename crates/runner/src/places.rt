@@ -1,11 +1,22 @@
 //! The places for active runs.
 
-ghost use Rattle.std.specs.Prelude.{◌≡◌, is_none, is_some, length, position};
+ghost use Rattle.std.specs.Prelude.{◌≡◌, ◌<◌, is_none, is_some, length, position, IfSome};
+ghost use Rattle.std.specs.List.{list_any};
 ghost use Rattle.runner.specs.steps.ActiveRuns.{destination_held, held_by, source_held};
+ghost use Rattle.runner.specs.steps.Loading.{uses_slot};
 
 use crate::active_run::ActiveRun;
+use nvme_entry::ProgramSlot;
 use zns_commands::Holds;
 use zone_resources::RUNS;
+
+/// How many places there are.
+pub fn count(runs: &[Option<ActiveRun>; RUNS]) -> usize
+    ensures value { result ≡ RUNS }
+    ensures places { result ≡ length runs.now }
+{
+    runs.len()
+}
 
 /// The lowest number that an active run has.
 pub fn lowest_run(runs: &[Option<ActiveRun>; RUNS]) -> Option<u8>
@@ -18,10 +29,28 @@ pub fn lowest_run(runs: &[Option<ActiveRun>; RUNS]) -> Option<u8>
 
 /// The number of the lowest place that is free.
 pub fn free_place(runs: &[Option<ActiveRun>; RUNS]) -> Option<u8>
-    ensures { result ≡ position is_none runs.now }
+    ensures lowest { result ≡ position is_none runs.now }
+    ensures inside { IfSome result (λ run. run < RUNS) }
 {
     let run = runs.iter().position(|run| run.is_none())?;
     Some(run as u8)
+}
+
+/// Does an active run use the program of a slot?
+pub fn is_in_use(runs: &[Option<ActiveRun>; RUNS], slot: ProgramSlot) -> bool
+    ensures { result ≡ list_any (uses_slot slot) runs.now }
+{
+    runs.iter().any(|run| uses(run, slot))
+}
+
+/// Does the run at a place use it?
+fn uses(run: &Option<ActiveRun>, slot: ProgramSlot) -> bool
+    ensures { result ≡ uses_slot slot run.now }
+{
+    match run {
+        Some(active) => active.command.slot == slot,
+        None => false,
+    }
 }
 
 /// The zones that the active runs read from and append to.

@@ -6,23 +6,24 @@ ghost use Rattle.program_interface.specs.declared.block_size.TheConstants.{LARGE
 ghost use Rattle.emit_append.specs.Packer.{after_put, given_by_finish, given_by_put, new_packer};
 ghost use Rattle.common_definitions.specs.Bytes.{padded};
 ghost use Rattle.device_events.specs.Replies.{data_length};
-ghost use Rattle.device_meaning.specs.Happenings.{added};
-ghost use Rattle.runner.specs.DeviceState.{active_of, device_state};
-ghost use Rattle.runner.specs.steps.Ready.{FitsNamespace, IsReady};
+ghost use Rattle.device_meaning.specs.Happenings.{added, turned};
+ghost use Rattle.runner.specs.DeviceState.{active_of};
+ghost use Rattle.runner.specs.steps.Ready.{FitsNamespace};
 ghost use Rattle.device_meaning.specs.Reached.{IsReached};
-ghost use Rattle.runner.specs.steps.Turning.{FitsAt, FitsIn, FitsOn, HasRoom, HasRunNext, IsTaking, IsTurned, Keeps, PlaceTurned, SlotTurned, Turned, next_block, next_block_run, steps_by, steps_of_turn, with_packer};
+ghost use Rattle.runner.specs.steps.Turning.{FitsAt, FitsIn, FitsOn, HasRoom, HasRunNext, IsTaking, Keeps, PlaceTurned, SlotTurned, Turned, next_block, next_block_run, steps_by, steps_of_turn, with_packer};
 
 use crate::active_run::ActiveRun;
 use crate::block_run::run_block;
 use crate::completion::complete;
+use crate::device_state::DeviceState;
 use crate::loaded_program::LoadedProgram;
+use crate::places;
 use device_events::Reply;
 use nvme_entry::{PROGRAM_SLOTS, Status};
 use program_interface::{Context, LARGEST_BLOCK};
 use program_meaning::TrapFree;
 use verified_run::{Exit, Prepared, StepCount};
 use zns_commands::{Answer, Namespace};
-use zone_resources::RUNS;
 
 /// The block that a run reads next.
 fn source_block<'a>(namespace: &'a Namespace, active: &ActiveRun) -> &'a [u8]
@@ -196,22 +197,20 @@ fn turn_place(
 
 /// Gives a run a turn.
 pub fn turn(
-    namespace: &mut Namespace,
-    slots: &mut [Option<LoadedProgram>; PROGRAM_SLOTS],
-    runs: &mut [Option<ActiveRun>; RUNS],
+    state: &mut DeviceState,
     group: &mut [u8; LARGEST_BLOCK],
     count: &mut StepCount,
     run: u8,
 ) -> Reply
-    requires ready { IsReady namespace.old slots.old runs.old }
-    requires reached { IsReached interval_judge (device_state namespace.old slots.old runs.old) }
-    ensures turned { IsTurned (device_state namespace.old slots.old runs.old) run namespace.new slots.new runs.new result }
-    ensures counts { count.new.steps ≡ count.old.steps + steps_of_turn namespace.old slots.old (get_or runs.old run None) }
+    requires reached { IsReached interval_judge state.old }
+    ensures reply { result ≡ (turned state.old run).reply.reply }
+    ensures state { state.new ≡ (turned state.old run).state }
     ensures no_data { data_length result ≡ 0 }
 {
     let place = usize::from(run);
-    if place >= RUNS {
+    if place >= places::count(&state.runs) {
         return Reply::Idle;
     }
-    turn_place(namespace, slots, &mut runs[place], group, count, run)
+    let place = &mut state.runs[place];
+    turn_place(&mut state.namespace, &mut state.slots, place, group, count, run)
 }

@@ -1,5 +1,5 @@
 -- What the answers of commands come to.
-use Rattle.std.specs.Prelude.{ℕ, Bool, ◌≡◌, List, [], take, Option, Result}
+use Rattle.std.specs.Prelude.{ℕ, Bool, ◌≡◌, List, [], take, Result}
 use Rattle.zone_state.specs.declared.status.Status.{Status}
 use Rattle.nvme_entry.specs.Entry.{identifier_of}
 use Rattle.nvme_entry.specs.declared.command.Command.{Command}
@@ -7,7 +7,6 @@ use Rattle.nvme_entry.specs.declared.command.LoadCommand.{LoadCommand}
 use Rattle.nvme_entry.specs.declared.command.RunCommand.{RunCommand}
 use Rattle.nvme_entry.specs.declared.command.StandardCommand.{StandardCommand}
 use Rattle.device_meaning.specs.Judging.{interval_judge}
-use Rattle.image_store.specs.Namespace.{ZonedNamespace}
 use Rattle.zns_commands.specs.Meaning.{meaning}
 use Rattle.zns_commands.specs.declared.answer.Answer.{Answer}
 use Rattle.device_meaning.specs.EventReplies.{Happening, Submission, completed, completion_reply, refused, submission_of}
@@ -16,10 +15,6 @@ use Rattle.device_meaning.specs.Happenings.{commanded, giving_result, loading, s
 use Rattle.device_meaning.specs.State.{State, holds_at}
 use Rattle.device_events.specs.declared.reply.Reply.{Reply}
 use Rattle.device_events.specs.declared.reply.Reply.TheVariants as reply
-use Rattle.runner.specs.DeviceState.{device_state}
-use Rattle.runner.specs.steps.Ready.{IsReady}
-use Rattle.runner.specs.declared.active_run.ActiveRun.{ActiveRun}
-use Rattle.runner.specs.declared.loaded_program.LoadedProgram.{LoadedProgram}
 use Rattle.runner.specs.declared.submission.Submission.{Submission as GivenSubmission}
 
 -- an entry as the code has it, with the data beside it
@@ -38,15 +33,12 @@ with_data reply bytes = record { reply = reply; bytes = take (data_length reply)
 abbrev pub complete_reply : ℕ → ℕ → Answer → Reply
 complete_reply queue cid answer = completion_reply queue cid answer.status answer.dw0 answer.dw1 answer.length
 
--- a standard command led from one namespace to the other, and was answered so; all that a device has
--- besides is left, where its runs can go on by the programs that its slots have
-pub record HasExecuted (asked : StandardCommand) (input : List ℕ) (ns later : ZonedNamespace) (runs : List (Option ActiveRun))
-    (answer : Answer) (bytes : List ℕ) : Type 0 where
-  pub ready : (slots : List (Option LoadedProgram)) → IsReady ns slots runs → IsReady later slots runs
-  pub happening : (slots : List (Option LoadedProgram)) → IsReady ns slots runs → (queue : ℕ) (entry : List ℕ)
-      → let sub = submission_of queue entry input in
-      let s = device_state ns slots runs in
-      commanded sub s (meaning ns (holds_at s) asked input) ≡ answered sub answer bytes (device_state later slots runs)
+-- a standard command with this data beside it was answered so, and led from one state to the other
+abbrev pub HasExecuted : StandardCommand → List ℕ → State → State → Answer → List ℕ → Type 0
+HasExecuted asked input old new answer bytes =
+    (queue : ℕ) (entry : List ℕ)
+    → let sub = submission_of queue entry input in
+    commanded sub old (meaning old.namespace (holds_at old) asked input) ≡ answered sub answer bytes new
 
 -- a Load of these bytes was answered so, whatever its queue and its entry, and led from one state to the
 -- other; memory may have been refused to it

@@ -8,20 +8,13 @@ use Rattle.instruction_set.specs.declared.instruction.Instruction.{Instruction}
 use Rattle.program_interface.specs.RunSizes.{Sizes}
 use Rattle.interval_domain.specs.Intervals.{intervals}
 use Rattle.device_meaning.specs.Judging.{interval_judge}
-use Rattle.image_store.specs.Namespace.{ZonedNamespace}
 use Rattle.accepted_programs.specs.Accepted.{refusal}
 use Rattle.zns_commands.specs.declared.answer.Answer.{Answer}
 use Rattle.device_meaning.specs.EventReplies.{submission_of}
 use Rattle.device_meaning.specs.Happenings.{load_checks, load_unless, sizes_for}
 use Rattle.device_meaning.specs.State.{State}
-use Rattle.runner.specs.DeviceState.{device_state}
 use Rattle.runner.specs.steps.Answered.{answered}
 use Rattle.runner.specs.declared.active_run.ActiveRun.{ActiveRun}
-use Rattle.runner.specs.declared.loaded_program.LoadedProgram.{LoadedProgram}
-
--- this holds of the state beside this namespace and these runs, whatever programs the slots have
-abbrev pub WithAnySlots : ZonedNamespace → List (Option ActiveRun) → (State → Type 0) → Type 0
-WithAnySlots ns runs P = (slots : List (Option LoadedProgram)) → P (device_state ns slots runs)
 
 -- does the run at a place, if there is one, use the program of this slot?
 abbrev pub uses_slot : ℕ → Option ActiveRun → Bool

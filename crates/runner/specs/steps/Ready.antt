@@ -1,14 +1,11 @@
 -- What holds of all that a device has.
 use Rattle.std.specs.Prelude.{ℕ, ◌≡◌, ◌≢◌, ◌<◌, ◌≤◌, ◌+◌, ◌*◌, ◌^◌, List, length, get_or, Option, Some, None}
 use Rattle.program_interface.specs.declared.block_size.TheConstants.{LARGEST_BLOCK}
-use Rattle.device_meaning.specs.Judging.{interval_judge}
 use Rattle.verifier.specs.Verified.{sizes_of}
 use Rattle.nvme_entry.specs.declared.command.TheConstants.{MOST_BLOCKS}
 use Rattle.image_store.specs.Namespace.{ZonedNamespace, zone_at}
 use Rattle.image_store.specs.declared.geometry.ZoneBlock.{ZoneBlock}
 use Rattle.zns_commands.specs.Address.{zone_number, zone_block_in}
-use Rattle.device_meaning.specs.Reached.{IsReached}
-use Rattle.runner.specs.DeviceState.{device_state}
 use Rattle.runner.specs.declared.active_run.ActiveRun.{ActiveRun}
 use Rattle.runner.specs.declared.loaded_program.LoadedProgram.{LoadedProgram}
 
@@ -45,8 +42,3 @@ pub record IsRunning (ns : ZonedNamespace) (slots : List (Option LoadedProgram))
 pub record IsReady (ns : ZonedNamespace) (slots : List (Option LoadedProgram)) (runs : List (Option ActiveRun)) : Type 0 where
   pub programs : (k : ℕ) (p : LoadedProgram) → get_or slots k None ≡ Some p → IsForBlocks ns p
   pub running : (k : ℕ) (a : ActiveRun) → get_or runs k None ≡ Some a → IsRunning ns slots a
-
--- what holds of each device that there is: all that it has is ready, and events led to its state
-pub record IsDevice (ns : ZonedNamespace) (slots : List (Option LoadedProgram)) (runs : List (Option ActiveRun)) : Type 0 where
-  pub ready : IsReady ns slots runs
-  pub reached : IsReached interval_judge (device_state ns slots runs)

@@ -1,14 +1,24 @@
+use Rattle.std.proofs.Common.{subst, sym}
+use Rattle.verifier.specs.Verified.{program_of, sizes_of}
+use Rattle.device_meaning.specs.State.{State}
+use Rattle.runner.specs.DeviceState.{device_state}
+use Rattle.runner.specs.steps.Answered.{HasLoaded}
+use Rattle.runner.specs.steps.Loading.{IsLoadable}
 use Rattle.runner.proofs.Loads.{loaded_ready, loads}
 use Rattle.runner.proofs.load.load.Goals as goal
 
 pub returns-in-Ok-clause-loaded : goal.returns-in-Ok-clause-loaded
 returns-in-Ok-clause-loaded c =
-    let loadable = rw (← c.new.ensures.prepared) at (c.in-Ok.ensures.ok c.args.slots.now) in
-    rw (c.index.ensures.value, c.success.ensures)
-    (loads c.args.namespace.now c.args.slots.now c.args.runs.now c.args.command.now c.args.input.now c.new.result c.requires.ready loadable c.new.ensures.result)
+    let d = c.state.inside in
+    let loadable = rw (← c.new.ensures.prepared) at
+    (subst (λ (s : State). IsLoadable c.args.command.now c.args.input.now s (program_of c.in-Ok.prepared) (sizes_of c.in-Ok.prepared)) (sym c.state.view_is) c.in-Ok.ensures.ok) in
+    rw (c.index.ensures.value, c.success.ensures, ← c.state.view_is)
+    (loads d.namespace d.slots d.runs c.args.command.now c.args.input.now c.new.result c.state.invariant loadable c.new.ensures.result)
 
-pub returns-in-Ok-clause-ready : goal.returns-in-Ok-clause-ready
-returns-in-Ok-clause-ready c =
-    let loadable = rw (← c.new.ensures.prepared) at (c.in-Ok.ensures.ok c.args.slots.now) in
+pub invariant_of-state : goal.invariant_of-state
+invariant_of-state c =
+    let d = c.state.inside in
+    let loadable = rw (← c.new.ensures.prepared) at
+    (subst (λ (s : State). IsLoadable c.args.command.now c.args.input.now s (program_of c.in-Ok.prepared) (sizes_of c.in-Ok.prepared)) (sym c.state.view_is) c.in-Ok.ensures.ok) in
     rw c.index.ensures.value
-    (loaded_ready c.args.namespace.now c.args.slots.now c.args.runs.now c.args.command.now c.args.input.now c.new.result c.requires.ready loadable)
+    (loaded_ready d.namespace d.slots d.runs c.args.command.now c.args.input.now c.new.result c.state.invariant loadable)

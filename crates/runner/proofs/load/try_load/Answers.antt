@@ -2,7 +2,6 @@ use Rattle.std.proofs.Common.{sym, subst}
 use Rattle.std.proofs.lemmas.Result.{IfOk-weaker, MatchResult-weaker}
 use Rattle.program_interface.specs.RunSizes.{Sizes}
 use Rattle.verifier.specs.Verified.{program_of, sizes_of}
-use Rattle.runner.specs.DeviceState.{device_state}
 use Rattle.runner.specs.steps.Loading.{IsAccepted}
 use Rattle.runner.proofs.Loads.{refuses_checked, refuses_read}
 use Rattle.runner.proofs.load.try_load.Goals as goal
@@ -10,8 +9,8 @@ use Rattle.runner.proofs.load.try_load.Goals as goal
 pub returns-in-Ok-clause-ok : goal.returns-in-Ok-clause-ok
 returns-in-Ok-clause-ok c =
     IfOk-weaker c.read_program.result _ _
-    (λ v accepted slots. record {
-      checks = sym (c.in-Ok.ensures.why slots);
+    (λ v accepted. record {
+      checks = sym c.in-Ok.ensures.why;
       accepted = subst (λ (sizes : Sizes). IsAccepted c.args.input.now sizes (program_of v) (sizes_of v)) c.in-Ok.ensures.sizes accepted;
     })
     c.read_program.ensures.ok
@@ -19,9 +18,8 @@ returns-in-Ok-clause-ok c =
 pub returns-in-Ok-clause-err : goal.returns-in-Ok-clause-err
 returns-in-Ok-clause-err c =
     MatchResult-weaker c.read_program.result c.read_program.ensures.err (λ v none. none)
-    (λ answer refused slots. refuses_read c.args.command.now c.args.input.now (device_state c.args.namespace.now slots c.args.runs.now) c.in-Ok.sizes answer
-    (c.in-Ok.ensures.why slots) c.in-Ok.ensures.sizes refused)
+    (λ answer refused. refuses_read c.args.command.now c.args.input.now c.args.state.now c.in-Ok.sizes answer c.in-Ok.ensures.why c.in-Ok.ensures.sizes refused)
 
 pub returns-in-Err-clause-err : goal.returns-in-Err-clause-err
-returns-in-Err-clause-err c = λ slots.
-    rw c.refused.ensures (refuses_checked c.args.command.now c.args.input.now (device_state c.args.namespace.now slots c.args.runs.now) c.in-Err.status (c.in-Err.ensures.why slots))
+returns-in-Err-clause-err c =
+    rw c.refused.ensures (refuses_checked c.args.command.now c.args.input.now c.args.state.now c.in-Err.status c.in-Err.ensures.why)

@@ -4,7 +4,6 @@ use Rattle.device_meaning.specs.Judging.{interval_judge}
 use Rattle.device_meaning.specs.EventReplies.{Happening}
 use Rattle.device_meaning.specs.Happenings.{submitted}
 use Rattle.runner.specs.steps.Answered.{as_submission}
-use Rattle.runner.specs.DeviceState.{device_state}
 use Rattle.runner.proofs.Replies.{replied, replied_alone}
 use Rattle.runner.proofs.submission.perform.Goals as goal
 
@@ -13,10 +12,10 @@ returns-in-Standard-clause-submitted c =
     let a = c.args in
     let told = a.submission.now in
     let sub = as_submission told in
-    let old = device_state a.namespace.now a.slots.now a.runs.now in
+    let old = a.state.now in
     let asking : Command → Happening = λ x. submitted interval_judge false sub old (Ok x) in
-    replied told (Ok a.command) old (device_state c.execute.new.namespace a.slots.now a.runs.now) false c.execute.result c.reply_with.result c.execute.new.output
-    (ap asking c.in-Standard.is ∙ c.execute.ensures.left.happening a.slots.now c.requires.ready told.queue told.entry.now)
+    replied told (Ok a.command) old c.execute.new.state false c.execute.result c.reply_with.result c.execute.new.output
+    (ap asking c.in-Standard.is ∙ c.execute.ensures.executed told.queue told.entry.now)
     c.reply_with.ensures c.execute.ensures.within
 
 pub returns-in-Load-clause-submitted : goal.returns-in-Load-clause-submitted
@@ -24,10 +23,10 @@ returns-in-Load-clause-submitted c =
     let a = c.args in
     let told = a.submission.now in
     let sub = as_submission told in
-    let old = device_state a.namespace.now a.slots.now a.runs.now in
+    let old = a.state.now in
     let loaded = c.load.ensures.loaded in
     let asking : Command → Happening = λ x. submitted interval_judge loaded.starved sub old (Ok x) in
-    replied_alone told (Ok a.command) old (device_state a.namespace.now c.load.new.slots a.runs.now) loaded.starved c.load.result c.reply_with-in-Load.result a.output.now
+    replied_alone told (Ok a.command) old c.load.new.state loaded.starved c.load.result c.reply_with-in-Load.result a.output.now
     (ap asking c.in-Load.is ∙ loaded.happening told.queue told.entry.now)
     c.reply_with-in-Load.ensures c.load.ensures.no_data
 
@@ -36,8 +35,8 @@ returns-in-Result-clause-submitted c =
     let a = c.args in
     let told = a.submission.now in
     let sub = as_submission told in
-    let old = device_state a.namespace.now a.slots.now a.runs.now in
+    let old = a.state.now in
     let asking : Command → Happening = λ x. submitted interval_judge false sub old (Ok x) in
     replied told (Ok a.command) old old false c.give_result.result c.reply_with-in-Result.result c.give_result.new.output
-    (ap asking c.in-Result.is ∙ c.give_result.ensures.gives a.namespace.now a.runs.now told.queue told.entry.now)
+    (ap asking c.in-Result.is ∙ c.give_result.ensures.gives told.queue told.entry.now)
     c.reply_with-in-Result.ensures c.give_result.ensures.within

@@ -5,7 +5,7 @@ use Rattle.device_meaning.specs.Draining.{lowest_run, turns_left}
 use Rattle.device_meaning.specs.State.{State}
 use Rattle.runner.proofs.Drains.{few_left}
 use Rattle.runner.proofs.Numbers.{lowest_is}
-use Rattle.runner.proofs.device.Device.lowest_run.Goals as goal
+use Rattle.runner.proofs.device_state.DeviceState.lowest_run.Goals as goal
 
 pub returns-clause-lowest : goal.returns-clause-lowest
 returns-clause-lowest c =
@@ -15,6 +15,5 @@ returns-clause-lowest c =
 pub returns-clause-few : goal.returns-clause-few
 returns-clause-few c =
     let d = c.self.inside in
-    let ready = c.self.invariant.ready in
-    let few = few_left d.namespace d.slots d.runs (λ k a at. (ready.running k a at).fits) in
+    let few = few_left d.namespace d.slots d.runs (λ k a at. (c.self.invariant.running k a at).fits) in
     subst (λ (s : State). turns_left s.places ≤ MOST_BLOCKS * RUNS) c.self.view_is (omega (arith, few, c.lowest_run.ensures.size))
