@@ -1,8 +1,6 @@
 use Rattle.std.proofs.Common.{subst, sym}
 use Rattle.verifier.specs.Verified.{program_of, sizes_of}
 use Rattle.device_meaning.specs.State.{State}
-use Rattle.runner.specs.DeviceState.{device_state}
-use Rattle.runner.specs.steps.Answered.{HasLoaded}
 use Rattle.runner.specs.steps.Loading.{IsLoadable}
 use Rattle.runner.proofs.Loads.{loaded_ready, loads}
 use Rattle.runner.proofs.load.load.Goals as goal
