@@ -1,5 +1,6 @@
 -- One event that happened: the state behind it is one that events leave, and a submitted entry is such an event.
-use Rattle.std.proofs.Common.{◌≡◌, ℕ, List, [], ◌∷◌, ap, sym, subst, ◌∙◌}
+use Rattle.std.proofs.Common.{◌≡◌, ◌<◌, ◌^◌, ℕ, List, [], ◌∷◌, length, refl, ap, sym, subst, ◌∙◌, arith}
+use denote.RawPtr.{block_ptr}
 use Rattle.std.specs.Prelude.{Vec}
 use Rattle.std.specs.declared.alloc.Global.{Global}
 use Rattle.common_definitions.specs.Bytes.{AreBytes}
@@ -13,6 +14,7 @@ use Rattle.device_meaning.specs.State.{State}
 use Rattle.device_events.specs.declared.event.Event.{Event}
 use Rattle.device_events.specs.declared.event.Event.TheVariants as event
 use Rattle.device_meaning.proofs.Proved.{events_keep_reached}
+use Rattle.runner.specs.Taken.{HasTaken}
 use Rattle.runner.specs.steps.Answered.{HasSubmitted, as_submission}
 use Rattle.runner.specs.declared.submission.Submission.{Submission as GivenSubmission}
 use Rattle.device_meaning.specs.Reached.{IsReached}
@@ -54,3 +56,31 @@ pub submission_reached : (queue : ℕ) (entry : List ℕ) (input : Vec ℕ Globa
 submission_reached queue entry input given old new reply reached bytes same_queue same_entry same_input h =
     reached_by (event.Submit queue entry input) old new reply reached bytes
     (submission_happened queue entry input given old new reply same_queue same_entry same_input h)
+
+-- ---- an entry with its data where that lies
+
+-- data as an event has it; where it lies is of no matter
+abbrev pub in_memory : (bytes : List ℕ) → length bytes < 2 ^ 63 → Vec ℕ Global
+in_memory bytes small = record {
+  ptr = block_ptr 0 0;
+  len = length bytes;
+  cap = length bytes;
+  alloc = record { memory = record { seal = tt } };
+  items = bytes;
+  ok = (refl, omega arith);
+  small = small;
+}
+
+pub submission_taken : (queue : ℕ) (entry input : List ℕ) (given : GivenSubmission) (old new : State) (reply : ReplyWithData)
+    → length input < 2 ^ 63 → given.queue ≡ queue → given.entry.now ≡ entry → given.input.now ≡ input
+    → HasSubmitted given (decoded given.entry.now) old new reply → HasTaken queue entry input old new reply
+submission_taken queue entry input given old new reply small same_queue same_entry same_input h = record {
+  carried = in_memory input small;
+  bytes = refl;
+  happened = submission_happened queue entry (in_memory input small) given old new reply same_queue same_entry same_input h;
+}
+
+pub taken_reached : (queue : ℕ) (entry input : List ℕ) (given : GivenSubmission) (old new : State) (reply : ReplyWithData)
+    → length input < 2 ^ 63 → IsReached interval_judge old → AreBytes input → given.queue ≡ queue → given.entry.now ≡ entry → given.input.now ≡ input
+    → HasSubmitted given (decoded given.entry.now) old new reply → IsReached interval_judge new
+taken_reached queue entry input given old new reply small = submission_reached queue entry (in_memory input small) given old new reply

@@ -1,2 +1,3 @@
 pub mod DeviceState
+pub mod Taken
 pub mod steps

@@ -9,6 +9,7 @@ ghost use Rattle.device_meaning.specs.Events.{HasHappened, HasServed, HasStopped
 ghost use Rattle.device_meaning.specs.State.{new_state};
 ghost use Rattle.device_meaning.specs.Reached.{IsReached};
 ghost use Rattle.common_definitions.specs.Failures.{CountsFailure};
+ghost use Rattle.runner.specs.Taken.{HasTaken};
 ghost use Rattle.runner.specs.steps.ServedOne.{HasServedOne};
 
 use crate::device_state::DeviceState;
@@ -100,6 +101,19 @@ impl Device {
         }
     }
 
+    /// Does the event of an entry that is submitted to a queue with data beside it, as [`Device::apply`] does, from the
+    /// data where it lies. `output` is as there. The device is then in a state that events leave.
+    pub fn submit(&mut self, queue: u16, entry: &[u8; 64], input: &[u8], output: &mut [u8]) -> Reply
+        requires { MOST_TRANSFER ≤ length output.old }
+        ensures submitted { HasTaken queue entry.now input.now self.old self.new (record { reply = result; bytes = take (data_length result) output.new }) }
+        ensures rest { drop (data_length result) output.new ≡ drop (data_length result) output.old }
+        ensures within { data_length result ≤ length output.new }
+        ensures reached { IsReached interval_judge self.new }
+    {
+        let submission = Submission::new(queue, entry, input);
+        submit(self.alloc, &mut self.state, &submission, output)
+    }
+
     /// Does one event, and hands out the reply with its data.
     ///
     /// # Errors
@@ -153,7 +167,7 @@ impl Device {
     }
 
     /// The number of the run that a turn is given next, where all runs are to end: the lowest.
-    fn lowest_run(&self) -> Option<u8>
+    pub fn lowest_run(&self) -> Option<u8>
         ensures lowest { result ≡ lowest_run self.now }
         ensures reached { IsReached interval_judge self.now }
         ensures few { turns_left self.now.places ≤ MOST_BLOCKS * RUNS }

@@ -1,6 +1,6 @@
 //! Entries that hosts submit.
 
-ghost use Rattle.std.specs.Prelude.{◌≡◌, ◌≤◌, drop, length, Ok};
+ghost use Rattle.std.specs.Prelude.{◌≡◌, ◌≤◌, ◌<◌, ◌^◌, drop, length, Ok};
 ghost use Rattle.common_definitions.specs.Bytes.{AreBytes};
 ghost use Rattle.nvme_entry.specs.Entry.{decoded, identifier_of};
 ghost use Rattle.nvme_entry.specs.declared.command.Command.TheVariants as commands;
@@ -32,6 +32,7 @@ impl<'a> Submission<'a> {
         ensures entry { result.entry.now ≡ entry.now }
         ensures input { result.input.now ≡ input.now }
         ensures bytes { AreBytes input.now }
+        ensures small { length input.now < 2 ^ 63 }
     {
         Submission {
             queue,
