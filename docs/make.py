@@ -41,7 +41,7 @@ INSIDE = {
     *("command_explain: Waiting::new", "command_explain: Waiting::complete", "command_explain: explain::no_replies"),
 }
 
-FUNCTION = re.compile(r"(|    )(pub )?(?:pub\(\w+\) )?(?:const )?fn (\w+)")
+FUNCTION = re.compile(r"(|    )(pub )?(?:pub\(\w+\) )?(?:const )?(?:unsafe )?(?:extern \"C\" )?fn (\w+)")
 OWNER = re.compile(r"(?:pub )?(trait|impl)\b(?:<(?:[^<>]|<[^<>]*>)*>)? ?(?:(.*) for )?(\w+)")
 TYPE = re.compile(r"pub (?:struct|enum) (\w+)")
 GHOST = re.compile(r"    ghost (\w+)(:| =) \{")

@@ -1,0 +1,5 @@
+pub mod Numbers
+pub mod Opening
+pub mod Asking
+pub mod Saving
+pub mod Lying

@@ -1,0 +1,173 @@
+//! An event that C asks for.
+
+ghost use Rattle.std.specs.Prelude.{ℕ, ◌≡◌, ◌≤◌, ◌≢◌, List, length, IfSome, None};
+ghost use Rattle.nvme_entry.specs.declared.command.TheConstants.{MOST_TRANSFER};
+ghost use Rattle.device_library.specs.Asking.{Asked, Calls, Happens, IsAsked, head_of, most_number, refusal, reply_number};
+ghost use Rattle.device_library.specs.declared.numbers.TheConstants.{SUBMIT};
+
+use crate::handle::Handle;
+use crate::numbers::{
+    COMPLETION, FAULT_OFFLINE, FAULT_READ_ONLY, FAULT_REFUSED, FAULT_TAKEN, IDLE, NO_DEVICE,
+    NUMBER_TOO_LARGE, PENDING, SUBMIT, TURN, UNKNOWN_KIND, WRONG_SIZE,
+};
+use nvme_entry::MOST_TRANSFER;
+use runner::{Device, Event, Reply};
+use zone_state::FaultState;
+
+/// The bytes of an entry (NVMe Base 2.0, 3.3.3.1).
+const ENTRY_BYTES: usize = 64;
+
+/// What is told of a reply beside its data.
+#[repr(C)]
+#[derive(Clone, Copy)]
+pub struct ReplyHead {
+    /// How many bytes of data go with it.
+    pub length: usize,
+    /// The queue of a completion, or the run that is pending.
+    pub number: u32,
+    /// The completion's bytes (NVMe Base 2.0, 3.3.3.2), zeros of another reply.
+    pub completion: [u8; 16],
+}
+
+/// Does the event that is asked for, and gives the number of what became of it.
+pub fn call(
+    handle: &mut Handle,
+    kind: u32,
+    number: u32,
+    entry: &[u8],
+    input: &[u8],
+    reply: &mut ReplyHead,
+    output: &mut [u8],
+) -> u32
+    ensures { Calls (record { kind = kind; number = number; entry = entry.now; input = input.now })
+        (record { handle = handle.old; reply = reply.old; output = output.old })
+        (record { handle = handle.new; reply = reply.new; output = output.new }) result }
+{
+    let Some(device) = &mut handle.device else {
+        return NO_DEVICE;
+    };
+    if let Some(why) = refusal(kind, number, entry, output) {
+        return why;
+    }
+    let told = happen(device, kind, number, entry, input, output);
+    *reply = head_of(told);
+    reply_number(told)
+}
+
+/// Why nothing can happen that is asked for.
+fn refusal(kind: u32, number: u32, entry: &[u8], output: &[u8]) -> Option<u32>
+    ensures { result ≡ refusal kind number (length entry.now) (length output.now) }
+{
+    let Some(most) = most_number(kind) else {
+        return Some(UNKNOWN_KIND);
+    };
+    if number > most {
+        return Some(NUMBER_TOO_LARGE);
+    }
+    if kind == SUBMIT && entry.len() != ENTRY_BYTES {
+        return Some(WRONG_SIZE);
+    }
+    if output.len() < MOST_TRANSFER {
+        return Some(WRONG_SIZE);
+    }
+    None
+}
+
+/// The largest number that goes with a kind: of a queue, a run or a zone.
+fn most_number(kind: u32) -> Option<u32>
+    ensures { result ≡ most_number kind }
+{
+    if kind == SUBMIT {
+        Some(65_535)
+    } else if kind == TURN {
+        Some(255)
+    } else if kind == FAULT_READ_ONLY || kind == FAULT_OFFLINE {
+        Some(u32::MAX)
+    } else {
+        None
+    }
+}
+
+/// Does an event that nothing refuses.
+fn happen(
+    device: &mut Device,
+    kind: u32,
+    number: u32,
+    entry: &[u8],
+    input: &[u8],
+    output: &mut [u8],
+) -> Reply
+    requires { refusal kind number (length entry.now) (length output.old) ≡ None }
+    ensures { Happens (record { kind = kind; number = number; entry = entry.now; input = input.now })
+        device.old device.new result output.old output.new }
+{
+    if kind == SUBMIT {
+        let mut bytes = [0; ENTRY_BYTES];
+        bytes.copy_from_slice(entry);
+        device.submit(number as u16, &bytes, input, output)
+    } else {
+        device.apply(&turn_or_fault(kind, number), output)
+    }
+}
+
+/// The turn or fault of a kind.
+fn turn_or_fault(kind: u32, number: u32) -> Event
+    requires kind { kind ≢ SUBMIT }
+    requires number { IfSome (most_number kind) (λ most. number ≤ most) }
+    requires known { most_number kind ≢ None }
+    ensures { (entry input : List ℕ) → IsAsked (record { kind = kind; number = number; entry = entry; input = input }) result }
+{
+    if kind == TURN {
+        Event::Turn { run: number as u8 }
+    } else if kind == FAULT_READ_ONLY {
+        Event::Fault {
+            zone: number,
+            state: FaultState::ReadOnly,
+        }
+    } else {
+        Event::Fault {
+            zone: number,
+            state: FaultState::Offline,
+        }
+    }
+}
+
+/// What is told of a reply beside its data.
+fn head_of(reply: Reply) -> ReplyHead
+    ensures { result ≡ head_of reply }
+{
+    match reply {
+        Reply::Complete {
+            queue,
+            entry,
+            length,
+        } => ReplyHead {
+            length,
+            number: u32::from(queue),
+            completion: entry,
+        },
+        Reply::Pending { run } => ReplyHead {
+            length: 0,
+            number: u32::from(run),
+            completion: [0; 16],
+        },
+        Reply::Idle | Reply::FaultTaken | Reply::FaultRefused => ReplyHead {
+            length: 0,
+            number: 0,
+            completion: [0; 16],
+        },
+    }
+}
+
+/// The number of a reply.
+fn reply_number(reply: Reply) -> u32
+    ensures { result ≡ reply_number reply }
+{
+    match reply {
+        Reply::Complete { .. } => COMPLETION,
+        Reply::Pending { .. } => PENDING,
+        Reply::Idle => IDLE,
+        Reply::FaultTaken => FAULT_TAKEN,
+        Reply::FaultRefused => FAULT_REFUSED,
+    }
+}

@@ -1,0 +1,116 @@
+/* Calls that are refused, faults, and want of memory: calls IMAGE. Prints what fails, and how many checks there were. */
+#include "pifnjarl_device.h"
+
+#include <stdio.h>
+#include <stdlib.h>
+#include <string.h>
+
+static unsigned passed, failed;
+static long requests_left = -1;
+
+/* The linker puts this in malloc's place: it refuses a request, where none is left. */
+void *__real_malloc(size_t size);
+void *__wrap_malloc(size_t size);
+void *__wrap_malloc(size_t size)
+{
+    if (requests_left == 0)
+        return NULL;
+    if (requests_left > 0)
+        requests_left--;
+    return __real_malloc(size);
+}
+
+static void check(int holds, const char *what)
+{
+    if (holds) {
+        passed++;
+    } else {
+        failed++;
+        printf("failed: %s\n", what);
+    }
+}
+
+#define CHECK(holds) check(holds, #holds)
+
+static unsigned char output[PIFNJARL_TRANSFER_BYTES], before[PIFNJARL_TRANSFER_BYTES], entry[PIFNJARL_ENTRY_BYTES];
+static struct pifnjarl_device *device;
+static struct pifnjarl_reply reply;
+
+static enum pifnjarl_result happens(uint32_t kind, uint32_t number)
+{
+    struct pifnjarl_event event = {.kind = kind, .number = number, .entry = entry};
+    return pifnjarl_do(device, &event, &reply, output, sizeof output);
+}
+
+static void refusals(void)
+{
+    struct pifnjarl_event event = {.kind = PIFNJARL_SUBMIT, .entry = entry};
+    CHECK(pifnjarl_do(NULL, &event, &reply, output, sizeof output) == PIFNJARL_NO_DEVICE);
+    CHECK(pifnjarl_do(device, NULL, &reply, output, sizeof output) == PIFNJARL_NULL_POINTER);
+    CHECK(pifnjarl_do(device, &event, NULL, output, sizeof output) == PIFNJARL_NULL_POINTER);
+    CHECK(pifnjarl_do(device, &event, &reply, NULL, 1) == PIFNJARL_NULL_POINTER);
+    CHECK(pifnjarl_do(device, &event, &reply, NULL, 0) == PIFNJARL_WRONG_SIZE);
+    memcpy(before, output, sizeof output);
+    CHECK(pifnjarl_do(device, &event, &reply, output, sizeof output - 1) == PIFNJARL_WRONG_SIZE);
+    event.entry = NULL;
+    CHECK(pifnjarl_do(device, &event, &reply, output, sizeof output) == PIFNJARL_NULL_POINTER);
+    CHECK(happens(0, 0) == PIFNJARL_UNKNOWN_KIND);
+    CHECK(happens(5, 0) == PIFNJARL_UNKNOWN_KIND);
+    CHECK(happens(PIFNJARL_SUBMIT, 65536) == PIFNJARL_NUMBER_TOO_LARGE);
+    CHECK(happens(PIFNJARL_TURN, 256) == PIFNJARL_NUMBER_TOO_LARGE);
+    CHECK(memcmp(before, output, sizeof output) == 0);
+    CHECK(pifnjarl_lowest_run(NULL) == PIFNJARL_NO_RUN);
+    CHECK(pifnjarl_save_path(device, "/nowhere/image") == PIFNJARL_CANNOT_WRITE);
+    pifnjarl_close(NULL);
+}
+
+static void events(void)
+{
+    CHECK(happens(PIFNJARL_TURN, 255) == PIFNJARL_IDLE);
+    CHECK(happens(PIFNJARL_SUBMIT, 65535) == PIFNJARL_COMPLETION && reply.number == 65535 && reply.data_bytes == 0);
+    CHECK(happens(PIFNJARL_FAULT_READ_ONLY, 3) == PIFNJARL_FAULT_TAKEN);
+    CHECK(happens(PIFNJARL_FAULT_OFFLINE, 3) == PIFNJARL_FAULT_TAKEN);
+    CHECK(happens(PIFNJARL_FAULT_READ_ONLY, 3) == PIFNJARL_FAULT_REFUSED);
+    CHECK(happens(PIFNJARL_FAULT_OFFLINE, UINT32_MAX) == PIFNJARL_FAULT_REFUSED);
+    CHECK(pifnjarl_lowest_run(device) == PIFNJARL_NO_RUN);
+}
+
+/* An image that is saved opens again, and is saved as the same; each request for memory is refused in turn. */
+static void images(void)
+{
+    static unsigned char image[1 << 20], again[1 << 20];
+    size_t count = 0, second = 0;
+    struct pifnjarl_device *other = NULL;
+    CHECK(pifnjarl_save(device, NULL, 0, &count) == PIFNJARL_WRONG_SIZE);
+    CHECK(pifnjarl_save(device, image, count - 1, &count) == PIFNJARL_WRONG_SIZE && image[0] == 0);
+    CHECK(pifnjarl_save(device, image, sizeof image, &count) == PIFNJARL_DONE);
+    CHECK(pifnjarl_open(image, count - 1, &other) == PIFNJARL_IMAGE_TRUNCATED && other == NULL);
+    CHECK(pifnjarl_open(image, count + 1, &other) == PIFNJARL_IMAGE_TRAILING && pifnjarl_open(output, count, &other) == PIFNJARL_IMAGE_MAGIC);
+    CHECK(pifnjarl_open(NULL, 0, &other) == PIFNJARL_IMAGE_TRUNCATED && pifnjarl_open(NULL, 1, &other) == PIFNJARL_NULL_POINTER);
+    enum pifnjarl_result opened = PIFNJARL_WANT_OF_MEMORY;
+    for (long requests = 0; opened == PIFNJARL_WANT_OF_MEMORY; requests++) {
+        requests_left = requests;
+        opened = pifnjarl_open(image, count, &other);
+        requests_left = -1;
+        CHECK((opened == PIFNJARL_DONE) == (other != NULL));
+    }
+    CHECK(opened == PIFNJARL_DONE);
+    requests_left = 0;
+    CHECK(pifnjarl_save(other, again, sizeof again, &second) == PIFNJARL_WANT_OF_MEMORY);
+    requests_left = -1;
+    CHECK(pifnjarl_save(other, again, sizeof again, &second) == PIFNJARL_DONE && count == second && memcmp(image, again, count) == 0);
+    pifnjarl_close(other);
+}
+
+int main(int count, char **words)
+{
+    if (count != 2 || pifnjarl_open_path("/nowhere/image", &device) != PIFNJARL_CANNOT_READ || device != NULL
+        || pifnjarl_open_path(words[1], &device) != PIFNJARL_DONE)
+        return 2;
+    refusals();
+    events();
+    images();
+    pifnjarl_close(device);
+    printf("%u checks, %u failed\n", passed + failed, failed);
+    return failed != 0;
+}

@@ -1,0 +1,236 @@
+/* The part of the library that is C: memory for a handle, null pointers, files, and words. The rest is crates/device_library. */
+#define _POSIX_C_SOURCE 200809L
+#include "pifnjarl_device.h"
+
+#include <errno.h>
+#include <fcntl.h>
+#include <stdbool.h>
+#include <stdio.h>
+#include <stdlib.h>
+#include <string.h>
+#include <sys/stat.h>
+#include <unistd.h>
+
+/* crates/device_library/src/exports.rt: a slice is a pointer, which isn't null, and a length */
+size_t device_library_handle_bytes(void);
+void device_library_open(unsigned char *device, const unsigned char *image, size_t image_bytes);
+uint32_t device_library_opened(unsigned char *device);
+uint32_t device_library_event(unsigned char *device, uint32_t kind, uint32_t number, const unsigned char *entry, size_t entry_bytes,
+                              const unsigned char *data, size_t data_bytes, struct pifnjarl_reply *reply,
+                              unsigned char *output, size_t output_bytes);
+uint32_t device_library_lowest_run(unsigned char *device);
+size_t device_library_save(unsigned char *device, unsigned char *image, size_t room);
+void device_library_end(unsigned char *device);
+
+/* where a slice of no bytes lies */
+static unsigned char nowhere[1];
+
+static bool lacks(const void *bytes, size_t count)
+{
+    return bytes == NULL && count != 0;
+}
+
+static const unsigned char *read_at(const void *bytes)
+{
+    return bytes == NULL ? nowhere : bytes;
+}
+
+static unsigned char *handle_of(struct pifnjarl_device *device)
+{
+    return (unsigned char *)device;
+}
+
+enum pifnjarl_result pifnjarl_open(const void *image, size_t image_bytes, struct pifnjarl_device **device)
+{
+    if (device == NULL)
+        return PIFNJARL_NULL_POINTER;
+    *device = NULL;
+    if (lacks(image, image_bytes))
+        return PIFNJARL_NULL_POINTER;
+    /* memory of malloc is aligned to 16 */
+    unsigned char *handle = malloc(device_library_handle_bytes());
+    if (handle == NULL)
+        return PIFNJARL_WANT_OF_MEMORY;
+    device_library_open(handle, read_at(image), image_bytes);
+    enum pifnjarl_result opened = device_library_opened(handle);
+    if (opened != PIFNJARL_DONE)
+        pifnjarl_close((struct pifnjarl_device *)handle);
+    else
+        *device = (struct pifnjarl_device *)handle;
+    return opened;
+}
+
+/* Reads a file of so many bytes. */
+static bool read_all(int file, unsigned char *bytes, size_t count)
+{
+    while (count > 0) {
+        ssize_t done = read(file, bytes, count);
+        if (done < 0 && errno == EINTR)
+            continue;
+        if (done <= 0) {
+            if (done == 0)
+                errno = EIO; /* the file was cut meanwhile */
+            return false;
+        }
+        bytes += done;
+        count -= (size_t)done;
+    }
+    return true;
+}
+
+enum pifnjarl_result pifnjarl_open_path(const char *path, struct pifnjarl_device **device)
+{
+    if (device == NULL)
+        return PIFNJARL_NULL_POINTER;
+    *device = NULL;
+    if (path == NULL)
+        return PIFNJARL_NULL_POINTER;
+    int file = open(path, O_RDONLY | O_CLOEXEC);
+    if (file < 0)
+        return PIFNJARL_CANNOT_READ;
+    enum pifnjarl_result opened = PIFNJARL_CANNOT_READ;
+    struct stat about;
+    unsigned char *bytes = NULL;
+    if (fstat(file, &about) == 0) {
+        size_t count = (size_t)about.st_size;
+        bytes = malloc(count + 1);
+        if (bytes == NULL)
+            opened = PIFNJARL_WANT_OF_MEMORY;
+        else if (read_all(file, bytes, count))
+            opened = pifnjarl_open(bytes, count, device);
+    }
+    int cause = errno;
+    free(bytes);
+    close(file);
+    errno = cause;
+    return opened;
+}
+
+enum pifnjarl_result pifnjarl_do(struct pifnjarl_device *device, const struct pifnjarl_event *event, struct pifnjarl_reply *reply,
+                                 void *output, size_t output_bytes)
+{
+    if (device == NULL)
+        return PIFNJARL_NO_DEVICE;
+    if (event == NULL || reply == NULL || lacks(output, output_bytes))
+        return PIFNJARL_NULL_POINTER;
+    bool submits = event->kind == PIFNJARL_SUBMIT;
+    if (submits && (event->entry == NULL || lacks(event->data, event->data_bytes)))
+        return PIFNJARL_NULL_POINTER;
+    return device_library_event(handle_of(device), event->kind, event->number, submits ? event->entry : nowhere,
+                                submits ? PIFNJARL_ENTRY_BYTES : 0, submits ? read_at(event->data) : nowhere,
+                                submits ? event->data_bytes : 0, reply, output == NULL ? nowhere : output, output_bytes);
+}
+
+uint32_t pifnjarl_lowest_run(struct pifnjarl_device *device)
+{
+    return device == NULL ? PIFNJARL_NO_RUN : device_library_lowest_run(handle_of(device));
+}
+
+enum pifnjarl_result pifnjarl_save(struct pifnjarl_device *device, void *image, size_t room, size_t *image_bytes)
+{
+    if (device == NULL)
+        return PIFNJARL_NO_DEVICE;
+    if (image_bytes == NULL || lacks(image, room))
+        return PIFNJARL_NULL_POINTER;
+    size_t count = device_library_save(handle_of(device), image == NULL ? nowhere : image, room);
+    if (count == 0)
+        return PIFNJARL_WANT_OF_MEMORY;
+    *image_bytes = count;
+    return count > room ? PIFNJARL_WRONG_SIZE : PIFNJARL_DONE;
+}
+
+/* Writes bytes to a file, and brings them to the disk. */
+static bool write_all(int file, const unsigned char *bytes, size_t count)
+{
+    while (count > 0) {
+        ssize_t done = write(file, bytes, count);
+        if (done < 0 && errno == EINTR)
+            continue;
+        if (done < 0)
+            return false;
+        bytes += done;
+        count -= (size_t)done;
+    }
+    return fsync(file) == 0;
+}
+
+/* Writes bytes to a file that isn't there yet, with the permissions of the one that it is to replace. */
+static bool write_anew(const char *unfinished, const char *path, const unsigned char *bytes, size_t count)
+{
+    struct stat before;
+    int file = open(unfinished, O_WRONLY | O_CREAT | O_EXCL | O_CLOEXEC, 0666);
+    if (file < 0)
+        return false;
+    bool written = (stat(path, &before) != 0 || fchmod(file, before.st_mode & 07777) == 0) && write_all(file, bytes, count);
+    if (close(file) != 0)
+        written = false;
+    if (!written || rename(unfinished, path) != 0) {
+        int cause = errno;
+        unlink(unfinished);
+        errno = cause;
+        return false;
+    }
+    return true;
+}
+
+enum pifnjarl_result pifnjarl_save_path(struct pifnjarl_device *device, const char *path)
+{
+    size_t count;
+    if (path == NULL)
+        return PIFNJARL_NULL_POINTER;
+    enum pifnjarl_result saved = pifnjarl_save(device, NULL, 0, &count);
+    if (saved != PIFNJARL_WRONG_SIZE)
+        return saved;
+    unsigned char *bytes = malloc(count);
+    size_t name_bytes = strlen(path) + sizeof ".unfinished";
+    char *unfinished = malloc(name_bytes);
+    if (bytes == NULL || unfinished == NULL) {
+        saved = PIFNJARL_WANT_OF_MEMORY;
+    } else {
+        saved = pifnjarl_save(device, bytes, count, &count);
+        snprintf(unfinished, name_bytes, "%s.unfinished", path);
+        if (saved == PIFNJARL_DONE && !write_anew(unfinished, path, bytes, count))
+            saved = PIFNJARL_CANNOT_WRITE;
+    }
+    int cause = errno;
+    free(unfinished);
+    free(bytes);
+    errno = cause;
+    return saved;
+}
+
+void pifnjarl_close(struct pifnjarl_device *device)
+{
+    if (device == NULL)
+        return;
+    device_library_end(handle_of(device));
+    free(device);
+}
+
+const char *pifnjarl_words(enum pifnjarl_result result)
+{
+    switch (result) {
+    case PIFNJARL_DONE: return "done";
+    case PIFNJARL_COMPLETION: return "completion";
+    case PIFNJARL_PENDING: return "pending";
+    case PIFNJARL_IDLE: return "idle";
+    case PIFNJARL_FAULT_TAKEN: return "fault taken";
+    case PIFNJARL_FAULT_REFUSED: return "fault refused";
+    case PIFNJARL_WANT_OF_MEMORY: return "want of memory";
+    case PIFNJARL_IMAGE_TRUNCATED: return "no image: cut short";
+    case PIFNJARL_IMAGE_MAGIC: return "no image: it begins otherwise";
+    case PIFNJARL_IMAGE_HEADER: return "no image: its header";
+    case PIFNJARL_IMAGE_ZONE_ROW: return "no image: the row of a zone";
+    case PIFNJARL_IMAGE_LIMITS: return "no image: too many open or active zones";
+    case PIFNJARL_IMAGE_TRAILING: return "no image: bytes follow its last block";
+    case PIFNJARL_IMAGE_TOTAL: return "no image: the number of its written blocks";
+    case PIFNJARL_NO_DEVICE: return "no device";
+    case PIFNJARL_WRONG_SIZE: return "wrong size";
+    case PIFNJARL_UNKNOWN_KIND: return "unknown kind";
+    case PIFNJARL_NUMBER_TOO_LARGE: return "number too large";
+    case PIFNJARL_NULL_POINTER: return "null pointer";
+    case PIFNJARL_CANNOT_READ: return "cannot read";
+    case PIFNJARL_CANNOT_WRITE: return "cannot write";
+    }
+    return "no result";
+}
