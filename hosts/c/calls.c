@@ -85,7 +85,8 @@ static void images(void)
     CHECK(pifnjarl_save(device, image, count - 1, &count) == PIFNJARL_WRONG_SIZE && image[0] == 0);
     CHECK(pifnjarl_save(device, image, sizeof image, &count) == PIFNJARL_DONE);
     CHECK(pifnjarl_open(image, count - 1, &other) == PIFNJARL_IMAGE_TRUNCATED && other == NULL);
-    CHECK(pifnjarl_open(image, count + 1, &other) == PIFNJARL_IMAGE_TRAILING && pifnjarl_open(output, count, &other) == PIFNJARL_IMAGE_MAGIC);
+    CHECK(pifnjarl_open(image, count + 1, &other) == PIFNJARL_IMAGE_TRAILING);
+    CHECK(pifnjarl_open(output, count, &other) == PIFNJARL_IMAGE_MAGIC);
     CHECK(pifnjarl_open(NULL, 0, &other) == PIFNJARL_IMAGE_TRUNCATED && pifnjarl_open(NULL, 1, &other) == PIFNJARL_NULL_POINTER);
     enum pifnjarl_result opened = PIFNJARL_WANT_OF_MEMORY;
     for (long requests = 0; opened == PIFNJARL_WANT_OF_MEMORY; requests++) {

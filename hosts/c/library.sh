@@ -9,7 +9,11 @@ crate=$here/../../crates/device_library
 kit=$(dirname "$(dirname "$(realpath "$(command -v rt)")")")
 built=$crate/out/libdevice_library.a
 mkdir -p "$folder"
-if [ ! -e "$built" ] || [ -n "$(find "$here/../../crates" "$here/../../crates.txt" -name out -prune -o \( -name '*.rt' -o -name '*.antt' -o -name crates.txt \) -newer "$built" -print)" ]; then
+newer() {
+    find "$here/../../crates" "$here/../../crates.txt" -name out -prune -o \
+        \( -name '*.rt' -o -name '*.antt' -o -name crates.txt \) -newer "$built" -print
+}
+if [ ! -e "$built" ] || [ -n "$(newer)" ]; then
     (cd "$crate" && rt lib >&2)
 fi
 parts=$(mktemp -d)

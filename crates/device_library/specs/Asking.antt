@@ -14,7 +14,8 @@ use Rattle.device_meaning.specs.Events.{HasHappened}
 use Rattle.device_meaning.specs.State.{State}
 use Rattle.device_library.specs.declared.event.ReplyHead.{ReplyHead}
 use Rattle.device_library.specs.declared.handle.Handle.{Handle}
-use Rattle.device_library.specs.declared.numbers.TheConstants.{SUBMIT, TURN, FAULT_READ_ONLY, FAULT_OFFLINE, COMPLETION, PENDING, IDLE, FAULT_TAKEN, FAULT_REFUSED}
+use Rattle.device_library.specs.declared.numbers.TheConstants.{SUBMIT, TURN, FAULT_READ_ONLY, FAULT_OFFLINE}
+use Rattle.device_library.specs.declared.numbers.TheConstants.{COMPLETION, PENDING, IDLE, FAULT_TAKEN, FAULT_REFUSED}
 use Rattle.device_library.specs.declared.numbers.TheConstants.{NO_DEVICE, NUMBER_TOO_LARGE, UNKNOWN_KIND, WRONG_SIZE}
 
 -- what is asked for: the kind of an event; the queue, the run or the zone; and of a submission the entry and the data beside it

@@ -5,7 +5,8 @@ use Rattle.image_text.specs.Fault.{load_number}
 use Rattle.image_text.specs.declared.fault.HeaderFault.{HeaderFault}
 use Rattle.image_text.specs.declared.fault.ZoneRowFault.{ZoneRowFault}
 use Rattle.image_text.specs.declared.fault.LoadFault.TheVariants as load
-use Rattle.device_library.specs.declared.numbers.TheConstants.{SUBMIT, TURN, FAULT_READ_ONLY, FAULT_OFFLINE, DONE, COMPLETION, PENDING, IDLE, FAULT_TAKEN, FAULT_REFUSED}
+use Rattle.device_library.specs.declared.numbers.TheConstants.{SUBMIT, TURN, FAULT_READ_ONLY, FAULT_OFFLINE}
+use Rattle.device_library.specs.declared.numbers.TheConstants.{DONE, COMPLETION, PENDING, IDLE, FAULT_TAKEN, FAULT_REFUSED}
 use Rattle.device_library.specs.declared.numbers.TheConstants.{NO_DEVICE, WRONG_SIZE, UNKNOWN_KIND, NUMBER_TOO_LARGE, NO_RUN}
 
 -- each constant is the number of the header (profile)

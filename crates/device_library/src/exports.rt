@@ -55,7 +55,8 @@ pub unsafe extern "C" fn device_library_event(
     ghost h: { Handle }
     requires* { sem 𝓛 (lies device h) }
     ensures* { sem 𝓛 (lies_some device (λ w. Calls (record { kind = kind; number = number; entry = entry.now; input = input.now })
-        (record { handle = h; reply = reply.old; output = output.old }) (record { handle = w; reply = reply.new; output = output.new }) result)) }
+        (record { handle = h; reply = reply.old; output = output.old })
+        (record { handle = w; reply = reply.new; output = output.new }) result)) }
 {
     call(
         &mut *(device as *mut Handle),

@@ -81,6 +81,7 @@ submission_taken queue entry input given old new reply small same_queue same_ent
 }
 
 pub taken_reached : (queue : ℕ) (entry input : List ℕ) (given : GivenSubmission) (old new : State) (reply : ReplyWithData)
-    → length input < 2 ^ 63 → IsReached interval_judge old → AreBytes input → given.queue ≡ queue → given.entry.now ≡ entry → given.input.now ≡ input
+    → length input < 2 ^ 63 → IsReached interval_judge old → AreBytes input
+    → given.queue ≡ queue → given.entry.now ≡ entry → given.input.now ≡ input
     → HasSubmitted given (decoded given.entry.now) old new reply → IsReached interval_judge new
 taken_reached queue entry input given old new reply small = submission_reached queue entry (in_memory input small) given old new reply

@@ -105,7 +105,8 @@ impl Device {
     /// data where it lies. `output` is as there. The device is then in a state that events leave.
     pub fn submit(&mut self, queue: u16, entry: &[u8; 64], input: &[u8], output: &mut [u8]) -> Reply
         requires { MOST_TRANSFER ≤ length output.old }
-        ensures submitted { HasTaken queue entry.now input.now self.old self.new (record { reply = result; bytes = take (data_length result) output.new }) }
+        ensures submitted { HasTaken queue entry.now input.now self.old self.new
+            (record { reply = result; bytes = take (data_length result) output.new }) }
         ensures rest { drop (data_length result) output.new ≡ drop (data_length result) output.old }
         ensures within { data_length result ≤ length output.new }
         ensures reached { IsReached interval_judge self.new }
