@@ -1,7 +1,6 @@
 -- What a call does that asks for an event.
 use Rattle.std.specs.Prelude.{ℕ, true, nat_le, ◌≡◌, ◌==◌, List, [], ◌∷◌, length, take, drop, replicate, Option, Some, None, if◌then◌else◌}
 use Rattle.common_definitions.specs.Checks.{demand, first_failed}
-use Rattle.interval_domain.specs.Intervals.{intervals}
 use Rattle.zone_state.specs.declared.state.FaultState.{FaultState}
 use Rattle.zone_state.specs.declared.state.FaultState.TheVariants as fault
 use Rattle.nvme_entry.specs.declared.command.TheConstants.{MOST_TRANSFER}
@@ -11,6 +10,7 @@ use Rattle.device_events.specs.declared.event.Event.TheVariants as event
 use Rattle.device_events.specs.declared.reply.Reply.{Reply}
 use Rattle.device_events.specs.declared.reply.Reply.TheVariants as reply
 use Rattle.device_meaning.specs.Events.{HasHappened}
+use Rattle.device_meaning.specs.Judging.{interval_judge}
 use Rattle.device_meaning.specs.State.{State}
 use Rattle.device_library.specs.declared.event.ReplyHead.{ReplyHead}
 use Rattle.device_library.specs.declared.handle.Handle.{Handle}
@@ -89,7 +89,7 @@ reply_number reply.FaultRefused = FAULT_REFUSED
 pub record Happens (asked : Asked) (old new : State) (reply : Reply) (before after : List ℕ) : Type 0 where
   pub event : Event
   pub asked_for : IsAsked asked event
-  pub happened : HasHappened intervals event old new (record { reply = reply; bytes = take (data_length reply) after })
+  pub happened : HasHappened interval_judge event old new (record { reply = reply; bytes = take (data_length reply) after })
   pub rest : drop (data_length reply) after ≡ drop (data_length reply) before
 
 -- all that a call may change
