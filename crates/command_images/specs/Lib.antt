@@ -1,3 +1,4 @@
 pub mod Images
 pub mod UserTold
+pub mod Zones
 pub mod steps

@@ -1,6 +1,9 @@
 //! The command `zones`: the states of an image's zones.
 
-ghost use Rattle.std.specs.Prelude.{◌≡◌};
+ghost use Rattle.std.specs.Prelude.{◌≡◌, OnOk};
+ghost use Rattle.std.specs.Io.KnownBytes.{Appends};
+ghost use Rattle.command_images.specs.Images.{image_of};
+ghost use Rattle.command_images.specs.Zones.{PrintsZones, zone_line, zone_lines_from};
 
 use crate::image_file::{self, IMAGE};
 use clap::{Arg, ArgMatches, Command};
@@ -41,7 +44,8 @@ pub fn subcommand<'a>(alloc: Global) -> Result<Command<'a>, AllocError> {
         .arg(image)
 }
 
-/// Runs the command, which makes no file: each has the bytes that it had. What is printed isn't said.
+/// Prints the zones of the namespace that the image file's bytes stand for, in order, each on a line and nothing else: its
+/// number, the word for its state and how many of its blocks are written. It makes no file: each has the bytes that it had.
 ///
 /// # Errors
 ///
@@ -52,6 +56,8 @@ pub fn zones<'a, F: Files, O: Write>(
     files: &mut F,
     out: &mut O,
 ) -> Result<(), Failure<'a>>
+    ensures printed { let bytes = F.contents files.old (image_of matches.now) in
+        OnOk result (PrintsZones F.Reader.tells bytes (O.contents out.old) (O.contents out.new)) }
     ensures made { F.made files.new ≡ F.made files.old }
     ensures contents { F.contents files.new ≡ F.contents files.old }
 {
@@ -60,11 +66,20 @@ pub fn zones<'a, F: Files, O: Write>(
 }
 
 /// Prints each zone on a line.
-fn print<O: Write>(zones: &[Zone], out: &mut O) -> io::Result<()> {
+fn print<O: Write>(zones: &[Zone], out: &mut O) -> io::Result<()>
+    ensures { OnOk result (Appends (O.contents out.old) (O.contents out.new) (zone_lines_from 0 zones.now)) }
+{
     for (number, zone) in zones.iter().enumerate() {
-        let state = zone.state().word();
-        let written = zone.written();
-        writeln!(out, "{number} {state} {written}")?;
+        print_zone(number, zone, out)?;
     }
     Ok(())
+}
+
+/// Prints a zone on a line.
+fn print_zone<O: Write>(number: usize, zone: &Zone, out: &mut O) -> io::Result<()>
+    ensures { OnOk result (Appends (O.contents out.old) (O.contents out.new) (zone_line number zone.now)) }
+{
+    let state = zone.state().word();
+    let written = zone.written();
+    writeln!(out, "{number} {state} {written}")
 }
