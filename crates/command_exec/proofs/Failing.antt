@@ -9,7 +9,7 @@ use Rattle.command_files.specs.declared.failure.Failure.{Failure}
 use Rattle.command_files.specs.declared.failure.Failure.TheVariants.{CannotPrint, CannotRead, CannotWrite, LineRefused, NoMemory}
 use Rattle.command_files.proofs.Proved.{read_holds, same_name, unread_holds}
 use Rattle.command_images.specs.UserTold.{IsUnheld, LoadingFails, UpgradeFails}
-use Rattle.command_exec.specs.UserTold.{ExecFails}
+use Rattle.command_exec.specs.UserTold.{ExecFails, PrintsNothing}
 use Rattle.command_exec.specs.steps.Told.{SavingFails}
 
 -- what was done can't be saved
@@ -48,3 +48,20 @@ module _ (reads : Type 0) (contents : List ℕ → Option (List ℕ)) (path comm
   exec_of_saving image is_named (CannotRead told cause) is = inl (same_name is is_named)
   exec_of_saving image is_named NoMemory is = tt
   exec_of_saving image is_named _ is = absurd is
+
+-- nothing was printed
+pub quiet : (path : List ℕ) (before after : Option (List ℕ)) → after ≡ before → (failure : Failure) → PrintsNothing path before after failure
+quiet path before after same CannotPrint = tt
+quiet path before after same (CannotWrite told cause) = tt
+quiet path before after same (CannotRead told cause) = λ _. same
+quiet path before after same NoMemory = tt
+quiet path before after same _ = same
+
+-- what was done can't be saved, of which nothing is said
+pub quiet_of_saving : (image : Bor (List ℕ)) (path : List ℕ) (before after : Option (List ℕ)) → image.now ≡ path → (failure : Failure) → SavingFails image failure
+    → PrintsNothing path before after failure
+quiet_of_saving image path before after is_named CannotPrint is = tt
+quiet_of_saving image path before after is_named (CannotWrite told cause) is = tt
+quiet_of_saving image path before after is_named (CannotRead told cause) is = λ differs. absurd (differs (same_name is is_named))
+quiet_of_saving image path before after is_named NoMemory is = tt
+quiet_of_saving image path before after is_named _ is = absurd is

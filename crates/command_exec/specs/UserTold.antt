@@ -1,8 +1,8 @@
 -- Why `exec` ends before its work is done (profile).
-use Rattle.std.specs.Prelude.{◌≡◌, ◌⊎◌, ℕ, List, Option, Err, IfSome}
+use Rattle.std.specs.Prelude.{◌≡◌, ◌≢◌, ◌⊎◌, ℕ, List, Option, Err, IfSome}
 use Rattle.event_text.specs.CommandFile.{events_in}
 use Rattle.command_files.specs.declared.failure.Failure.{Failure}
-use Rattle.command_files.specs.declared.failure.Failure.TheVariants.{CannotPrint, CannotRead, CannotWrite, LineRefused}
+use Rattle.command_files.specs.declared.failure.Failure.TheVariants.{CannotPrint, CannotRead, CannotWrite, LineRefused, NoMemory}
 use Rattle.command_images.specs.UserTold.{LoadingFails}
 
 -- why `exec` ends before its work is done: standard output fails; the image file can't be written; it or the command file can't
@@ -15,3 +15,13 @@ ExecFails reads contents path commands (CannotRead told cause) = (told.now ≡ p
 ExecFails reads contents path commands (LineRefused told number fault) =
     (told.now ≡ commands) × IfSome (contents commands) (λ bytes. events_in bytes ≡ Err number)
 ExecFails reads contents path commands failure = LoadingFails reads (contents path) path failure
+
+-- what is printed where `exec` ends before its work is done: nothing, where a line of the command file or the image is refused, or
+-- another file than the image can't be read. Where standard output fails, or the image, or memory is wanting, it isn't said: events may
+-- have been done by then
+abbrev pub PrintsNothing : List ℕ → Option (List ℕ) → Option (List ℕ) → Failure → Type 0
+PrintsNothing path before after CannotPrint = Unit {0}
+PrintsNothing path before after (CannotWrite told cause) = Unit {0}
+PrintsNothing path before after (CannotRead told cause) = told.now ≢ path → after ≡ before
+PrintsNothing path before after NoMemory = Unit {0}
+PrintsNothing path before after _ = after ≡ before

@@ -5,7 +5,7 @@ ghost use Rattle.command_files.specs.Made.{KeepsModes, KeepsOthers, MakesAtMost}
 ghost use Rattle.command_files.specs.Surroundings.{around};
 ghost use Rattle.command_images.specs.Images.{image_of};
 ghost use Rattle.command_exec.specs.Executed.{DoesAll, Executes, ExecutesFirst, HasBegun, SavesAll, SavesFirst, commands_of};
-ghost use Rattle.command_exec.specs.UserTold.{ExecFails};
+ghost use Rattle.command_exec.specs.UserTold.{ExecFails, PrintsNothing};
 ghost use Rattle.command_exec.specs.steps.Told.{SavingFails};
 
 use clap::{Arg, ArgMatches, Command};
@@ -85,8 +85,8 @@ pub fn subcommand<'a>(alloc: Global) -> Result<Command<'a>, AllocError> {
 /// the line of each reply, in order and nothing else; and makes one file, in the image file's place, unless that has it
 /// already: the text of the namespace that they leave. Where standard output fails, it is the text of what the first of
 /// them leave. On each other failure no file is made, but for what [`Files::finish`] says, and what is told is the
-/// first fault of the image, the lowest line that is refused, or by its name which file can't be read or written. Every
-/// other file has the bytes that it had.
+/// first fault of the image, the lowest line that is refused, or by its name which file can't be read or written; nothing was
+/// printed where a line or the image is refused, or the command file can't be read. Every other file has the bytes that it had.
 ///
 /// # Errors
 ///
@@ -101,6 +101,7 @@ pub fn exec<'a, F: Files, O: Write>(
         OnOk result (Executes here matches.now (O.contents out.old) (O.contents out.new)) }
     ensures stopped { let here = around F.Files F.Reader.tells F.Writer.tells files.old files.new in
         result ≡ Err Failure.CannotPrint → ExecutesFirst here matches.now }
+    ensures quiet { IfErr result (PrintsNothing (image_of matches.now) (O.contents out.old) (O.contents out.new)) }
     ensures failed { IfErr result (ExecFails F.Reader.tells (F.contents files.old) (image_of matches.now) (commands_of matches.now)) }
     ensures made { OnOk result (MakesAtMost (image_of matches.now) (F.made files.old) (F.made files.new)) }
     ensures one { result ≡ Err Failure.CannotPrint → MakesAtMost (image_of matches.now) (F.made files.old) (F.made files.new) }

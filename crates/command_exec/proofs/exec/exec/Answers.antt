@@ -3,7 +3,7 @@ use Rattle.std.proofs.lemmas.Result.{err_from_is_err_and, IfErr-weaker, on_ok_we
 use Rattle.command_files.proofs.Proved.{others_kept}
 use Rattle.command_images.specs.Images.{image_of}
 use Rattle.command_exec.specs.Executed.{commands_of}
-use Rattle.command_exec.proofs.Failing.{exec_of_commands, exec_of_loading, exec_of_reading, exec_of_saving}
+use Rattle.command_exec.proofs.Failing.{quiet, quiet_of_saving, exec_of_commands, exec_of_loading, exec_of_reading, exec_of_saving}
 use Rattle.command_exec.proofs.Saving.{executes, executes_first}
 use Rattle.command_exec.proofs.exec.exec.Goals as goal
 
@@ -58,3 +58,20 @@ pub returns-in-Ok-clause-others_stopped : goal.returns-in-Ok-clause-others_stopp
 returns-in-Ok-clause-others_stopped g c = λ stops.
     others_kept c.required-path.result.now _ _ _ _ c.required-path.ensures (c.read.ensures.contents ∙ c.load_to_replace.ensures.contents)
     (c.run.ensures.others_stopped stops)
+
+pub returns-in_err-image-clause-quiet : goal.returns-in_err-image-clause-quiet
+returns-in_err-image-clause-quiet g c =
+    let p = err_from_is_err_and c.from_residual.result c.from_residual.ensures.1 in
+    rw p.1 (quiet (image_of c.args.matches.now) _ _ (search rules) p.0)
+
+pub returns-in_err-file-clause-quiet : goal.returns-in_err-file-clause-quiet
+returns-in_err-file-clause-quiet g c =
+    let p = err_from_is_err_and c.from_residual-in_err-file.result c.from_residual-in_err-file.ensures.1 in
+    rw p.1 (quiet (image_of c.args.matches.now) _ _ (search rules) p.0)
+
+pub returns-clause-quiet : goal.returns-clause-quiet
+returns-clause-quiet g c = quiet (image_of c.args.matches.now) _ _ (search rules) c.of_commands.result
+
+pub returns-in-Ok-clause-quiet : goal.returns-in-Ok-clause-quiet
+returns-in-Ok-clause-quiet g c =
+    IfErr-weaker c.run.result _ _ (quiet_of_saving c.required-path.result (image_of c.args.matches.now) _ _ c.required-path.ensures) c.run.ensures.failed
