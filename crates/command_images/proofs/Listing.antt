@@ -1,5 +1,5 @@
 -- The lines of zones.
-use Rattle.std.proofs.Common.{◌≡◌, ℕ, zero, suc, ◌+◌, ◌<◌, List, [], ◌∷◌, ◌++◌, length, take, get_or, Option, Result, Ok, Err, OnOk, OnErr, IfSome, refl, sym, ap, ◌∙◌, arith, subst, append-nil, append_assoc, add-zero, add-one}
+use Rattle.std.proofs.Common.{◌≡◌, ℕ, zero, suc, ◌+◌, ◌<◌, List, [], ◌∷◌, ◌++◌, length, take, get_or, Option, Result, Ok, Err, OnOk, OnErr, sym, ap, ◌∙◌, arith, subst, append-nil, append_assoc, add-zero, add-one}
 use Rattle.std.specs.Io.KnownBytes.{Appends}
 use Rattle.image_store.specs.Namespace.{ZonedNamespace, counted_zones}
 use Rattle.zone_state.specs.Zone.{CountedZone}
