@@ -1,0 +1,3 @@
+pub mod Headers
+pub mod Streams
+pub mod Growing
