@@ -1,0 +1,173 @@
+-- Events that are done one after another, and what is written for them.
+use Rattle.std.proofs.Common.{◌≡◌, ℕ, suc, ◌+◌, ◌%◌, ◌≤◌, Bool, true, false, cond, not, List, [], ◌∷◌, ◌++◌, append-nil, length, length-append, map, Option, Some, None, refl, ap, subst, sym, ◌∙◌, arith}
+use Rattle.std.specs.Prelude.{flat_map}
+use Rattle.std.specs.Io.KnownBytes.{Appends, Consumes, Keeps}
+use Rattle.std.proofs.KnownBytes.{Appends-nil, Appends-trans}
+use Rattle.std.proofs.lemmas.List.{map-append}
+use Rattle.std.proofs.lemmas.List.Concat.{flat_map-append}
+use Rattle.interval_domain.specs.Intervals.{intervals}
+use Rattle.device_events.specs.Replies.{Joins, ReplyWithData}
+use Rattle.device_events.specs.declared.event.Event.{Event}
+use Rattle.device_events.specs.declared.event.Event.TheVariants as event
+use Rattle.device_events.specs.declared.reply.Reply.{Reply}
+use Rattle.device_meaning.specs.Events.{HasHappened, HasServed, Occurrence, replies_to, state_after}
+use Rattle.device_meaning.specs.State.{State}
+use Rattle.device_meaning.proofs.Proved.{events_in_parts}
+use Rattle.event_frames.specs.Frames.{drained_frame, reply_frame}
+use Rattle.live_serve.specs.Served.{Answers, Drains, GaveTurn, GivesTurns, HasReplied, TookTurns, is_idle, of_runs, turns_round}
+
+-- ---- events in parts
+
+module _ {T : Type 0} (took : T → T → List ReplyWithData → Type 0) (joins : Joins took) where
+  pub served_in_parts : (first later : List Event) (old between new : State) (before then after : T)
+      → HasServed intervals first old between (took before then) → HasServed intervals later between new (took then after)
+      → HasServed intervals (first ++ later) old new (took before after)
+  served_in_parts first later old between new before then after a b =
+      let parts = events_in_parts intervals a.occurrences b.occurrences old in
+      record {
+        occurrences = a.occurrences ++ b.occurrences;
+        are =
+            map-append (λ (o : Occurrence). o.event) a.occurrences b.occurrences
+            ∙ ap (λ (events : List Event). events ++ map (λ (o : Occurrence). o.event) b.occurrences) a.are
+            ∙ ap (λ (events : List Event). first ++ events) b.are;
+        state = b.state ∙ ap (λ (s : State). state_after intervals b.occurrences s) a.state ∙ sym parts.state;
+        replies = subst (took before after) (sym parts.replies)
+            (joins before then after (replies_to intervals a.occurrences old) (replies_to intervals b.occurrences (state_after intervals a.occurrences old))
+            a.replies (subst (λ (s : State). took then after (replies_to intervals b.occurrences s)) a.state b.replies));
+      }
+
+-- one event happened
+pub served_one : (took : List ReplyWithData → Type 0) (e : Event) (old new : State) (r : ReplyWithData) → HasHappened intervals e old new r → took (r ∷ [])
+    → HasServed intervals (e ∷ []) old new took
+served_one took e old new r happened t = record {
+  occurrences = record { event = e; starved = happened.starved } ∷ [];
+  are = refl;
+  state = happened.state;
+  replies = subst took (ap (λ (x : ReplyWithData). x ∷ []) happened.replied) t;
+}
+
+-- its reply was written
+pub answered : (e : Event) (old new : State) (reply : Reply) (frame : List ℕ) (before after : Option (List ℕ)) → HasReplied e old new reply frame
+    → Appends before after frame → Answers (e ∷ []) old new before after
+answered e old new reply frame before after replied written =
+    let r : ReplyWithData = record { reply = reply; bytes = replied.bytes } in
+    served_one (λ (replies : List ReplyWithData). Appends before after (flat_map reply_frame replies)) e old new r replied.happened
+    (subst (Appends before after) (replied.frame_is ∙ sym (append-nil (reply_frame r))) written)
+
+-- so it is, where what was written is that frame
+pub answered_in : (e : Event) (old new : State) (reply : Reply) (frame slice : List ℕ) (before after : Option (List ℕ)) → HasReplied e old new reply frame
+    → slice ≡ frame → Appends before after slice → Answers (e ∷ []) old new before after
+answered_in e old new reply frame slice before after replied same written =
+    answered e old new reply frame before after replied (subst (Appends before after) same written)
+
+-- turns were given, and then how many they were was written
+pub drained : (most given : ℕ) (old new : State) (before between after : Option (List ℕ)) (slice cleared frame : List ℕ)
+    → GivesTurns most given old new before between → cleared ≡ [] → frame ≡ cleared ++ drained_frame given → slice ≡ frame
+    → Appends between after slice → Drains most old new before after
+drained most given old new before between after slice cleared frame gives none frame_is same written = record {
+  given = given;
+  written = between;
+  turns = gives;
+  drained = subst (Appends between after) (same ∙ frame_is ∙ ap (λ (x : List ℕ). x ++ drained_frame given) none) written;
+}
+
+-- ---- turns
+
+kept : (b : Bool) (x : ReplyWithData) (xs ys : List ReplyWithData) → cond b (x ∷ xs) xs ++ ys ≡ cond b (x ∷ (xs ++ ys)) (xs ++ ys)
+kept true x xs ys = refl
+kept false x xs ys = refl
+
+of_both : (first later : List ReplyWithData) → of_runs (first ++ later) ≡ of_runs first ++ of_runs later
+of_both [] later = refl
+of_both (x ∷ xs) later =
+    ap (λ (rest : List ReplyWithData). cond (not (is_idle x.reply)) (x ∷ rest) rest) (of_both xs later)
+    ∙ sym (kept (not (is_idle x.reply)) x (of_runs xs) (of_runs later))
+
+turns_join : Joins TookTurns
+turns_join a b c first later early late = (
+  subst (Appends a.0 c.0) (sym (ap (flat_map reply_frame) (of_both first later) ∙ flat_map-append reply_frame (of_runs first) (of_runs later)))
+      (Appends-trans a.0 b.0 c.0 (flat_map reply_frame (of_runs first)) (flat_map reply_frame (of_runs later)) early.0 late.0),
+  omega (arith, early.1, late.1, ap length (of_both first later), length-append (of_runs first) (of_runs later)),
+)
+
+-- a turn of a number that no run has
+pub gave_none : (run : ℕ) (old new : State) (reply : Reply) (frame : List ℕ) (before : Option (List ℕ)) → HasReplied (event.Turn run) old new reply frame
+    → is_idle reply ≡ true → GaveTurn run false old new before before
+gave_none run old new reply frame before replied idle count =
+    let r : ReplyWithData = record { reply = reply; bytes = replied.bytes } in
+    let none : of_runs (r ∷ []) ≡ [] = ap (λ (b : Bool). cond (not b) (r ∷ []) []) idle in
+    served_one (TookTurns (before, count) (before, count)) (event.Turn run) old new r replied.happened
+    (subst (Appends before before) (sym (ap (flat_map reply_frame) none)) (Appends-nil before), omega (arith, ap length none))
+
+-- a turn of a run
+pub gave_one : (run : ℕ) (old new : State) (reply : Reply) (frame : List ℕ) (before after : Option (List ℕ)) → HasReplied (event.Turn run) old new reply frame
+    → is_idle reply ≡ false → Appends before after frame → GaveTurn run true old new before after
+gave_one run old new reply frame before after replied busy written count =
+    let r : ReplyWithData = record { reply = reply; bytes = replied.bytes } in
+    let one : of_runs (r ∷ []) ≡ r ∷ [] = ap (λ (b : Bool). cond (not b) (r ∷ []) []) busy in
+    served_one (TookTurns (before, count) (after, count + 1)) (event.Turn run) old new r replied.happened (
+      subst (Appends before after) (replied.frame_is ∙ sym (append-nil (reply_frame r)) ∙ sym (ap (flat_map reply_frame) one)) written,
+      omega (arith, ap length one),
+    )
+
+-- turns went round the runs, and so many were given
+pub record GoesRound (most given idle run : ℕ) (old new : State) (before after : Option (List ℕ)) : Type 0 where
+  pub tries : ℕ
+  pub served : HasServed intervals (turns_round tries) old new (TookTurns (before, 0) (after, given))
+  pub run_is : run ≡ tries % 8
+  pub few : given ≤ most
+  pub still : idle ≤ 8
+
+pub goes_begun : (most : ℕ) (s : State) (before : Option (List ℕ)) → GoesRound most 0 0 0 s s before before
+goes_begun most s before = record {
+  tries = 0;
+  served = record { occurrences = []; are = refl; state = refl; replies = (Appends-nil before, refl) };
+  run_is = omega arith;
+  few = omega arith;
+  still = omega arith;
+}
+
+pub goes_on : (most given given' idle idle' run run' : ℕ) (was : Bool) (old between new : State) (before then after : Option (List ℕ))
+    → GoesRound most given idle run old between before then → GaveTurn run was between new then after → given' ≡ cond was (given + 1) given
+    → given' ≤ most → idle' ≤ 8 → run' ≡ (run + 1) % 8 → GoesRound most given' idle' run' old new before after
+goes_on most given given' idle idle' run run' was old between new before then after round gave given_is few still run_is =
+    let more = served_in_parts TookTurns turns_join (turns_round round.tries) (event.Turn run ∷ []) old between new (before, 0) (then, given) (after, cond was (given + 1) given)
+    round.served (gave given) in
+    record {
+      tries = suc round.tries;
+      served = subst (λ (n : ℕ). HasServed intervals (turns_round round.tries ++ event.Turn n ∷ []) old new (TookTurns (before, 0) (after, given'))) round.run_is
+          (subst (λ (n : ℕ). HasServed intervals (turns_round round.tries ++ event.Turn run ∷ []) old new (TookTurns (before, 0) (after, n))) (sym given_is) more);
+      run_is = omega (arith, run_is, round.run_is);
+      few = few;
+      still = still;
+    }
+
+pub goes_done : (most given idle run : ℕ) (old new : State) (before after : Option (List ℕ)) → GoesRound most given idle run old new before after
+    → GivesTurns most given old new before after
+goes_done most given idle run old new before after round = record { tries = round.tries; served = round.served; few = round.few }
+
+-- ---- bytes that are known
+
+-- what was written is handed on
+pub then_kept : (a b c : Option (List ℕ)) (bytes : List ℕ) → Appends a b bytes → Keeps b c → Appends a c bytes
+then_kept None b c bytes written kept = tt
+then_kept (Some xs) None c bytes written kept = absurd written
+then_kept (Some xs) (Some ys) None bytes written kept = absurd kept
+then_kept (Some xs) (Some ys) (Some zs) bytes written kept = kept ∙ written
+
+-- what is read behind reads that failed
+pub first_kept : (a b c : Option (List ℕ)) (bytes : List ℕ) → Keeps a b → Consumes b c bytes → Consumes a c bytes
+first_kept None b c bytes kept reads = tt
+first_kept (Some xs) None c bytes kept reads = absurd kept
+first_kept (Some xs) (Some ys) None bytes kept reads = absurd reads
+first_kept (Some xs) (Some ys) (Some zs) bytes kept reads = sym kept ∙ reads
+
+pub kept_both : (a b c : Option (List ℕ)) → Keeps a b → Keeps b c → Keeps a c
+kept_both None b c first then = tt
+kept_both (Some xs) None c first then = absurd first
+kept_both (Some xs) (Some ys) None first then = absurd then
+kept_both (Some xs) (Some ys) (Some zs) first then = then ∙ first
+
+pub kept_same : (a : Option (List ℕ)) → Keeps a a
+kept_same None = tt
+kept_same (Some xs) = refl
