@@ -107,7 +107,8 @@ impl Session {
         ensures whole { OnOk result (self.now.pending ≡ []) }
         ensures healthy { OnOk result (self.now.fault ≡ None) }
         ensures again { (fault : StreamFault) → self.now.fault ≡ Some fault → result ≡ Err fault }
-        ensures cut_off { self.now.fault ≡ None → IfErr result (λ fault. fault ≡ StreamFault.CutOff (behind self.now.place (length self.now.pending))) }
+        ensures cut_off { self.now.fault ≡ None
+            → IfErr result (λ fault. fault ≡ StreamFault.CutOff (behind self.now.place (length self.now.pending))) }
     {
         if let Some(fault) = self.fault {
             return Err(fault);
