@@ -5,7 +5,7 @@ use Rattle.std.specs.Io.KnownBytes.{Appends, Consumes, Keeps}
 use Rattle.std.proofs.KnownBytes.{Appends-nil, Appends-trans}
 use Rattle.std.proofs.lemmas.List.{map-append}
 use Rattle.std.proofs.lemmas.List.Concat.{flat_map-append}
-use Rattle.interval_domain.specs.Intervals.{intervals}
+use Rattle.device_meaning.specs.Judging.{interval_judge}
 use Rattle.device_events.specs.Replies.{Joins, ReplyWithData}
 use Rattle.device_events.specs.declared.event.Event.{Event}
 use Rattle.device_events.specs.declared.event.Event.TheVariants as event
@@ -20,25 +20,25 @@ use Rattle.live_serve.specs.Served.{Answers, Drains, GaveTurn, GivesTurns, HasRe
 
 module _ {T : Type 0} (took : T → T → List ReplyWithData → Type 0) (joins : Joins took) where
   pub served_in_parts : (first later : List Event) (old between new : State) (before then after : T)
-      → HasServed intervals first old between (took before then) → HasServed intervals later between new (took then after)
-      → HasServed intervals (first ++ later) old new (took before after)
+      → HasServed interval_judge first old between (took before then) → HasServed interval_judge later between new (took then after)
+      → HasServed interval_judge (first ++ later) old new (took before after)
   served_in_parts first later old between new before then after a b =
-      let parts = events_in_parts intervals a.occurrences b.occurrences old in
+      let parts = events_in_parts interval_judge a.occurrences b.occurrences old in
       record {
         occurrences = a.occurrences ++ b.occurrences;
         are =
             map-append (λ (o : Occurrence). o.event) a.occurrences b.occurrences
             ∙ ap (λ (events : List Event). events ++ map (λ (o : Occurrence). o.event) b.occurrences) a.are
             ∙ ap (λ (events : List Event). first ++ events) b.are;
-        state = b.state ∙ ap (λ (s : State). state_after intervals b.occurrences s) a.state ∙ sym parts.state;
+        state = b.state ∙ ap (λ (s : State). state_after interval_judge b.occurrences s) a.state ∙ sym parts.state;
         replies = subst (took before after) (sym parts.replies)
-            (joins before then after (replies_to intervals a.occurrences old) (replies_to intervals b.occurrences (state_after intervals a.occurrences old))
-            a.replies (subst (λ (s : State). took then after (replies_to intervals b.occurrences s)) a.state b.replies));
+            (joins before then after (replies_to interval_judge a.occurrences old) (replies_to interval_judge b.occurrences (state_after interval_judge a.occurrences old))
+            a.replies (subst (λ (s : State). took then after (replies_to interval_judge b.occurrences s)) a.state b.replies));
       }
 
 -- one event happened
-pub served_one : (took : List ReplyWithData → Type 0) (e : Event) (old new : State) (r : ReplyWithData) → HasHappened intervals e old new r → took (r ∷ [])
-    → HasServed intervals (e ∷ []) old new took
+pub served_one : (took : List ReplyWithData → Type 0) (e : Event) (old new : State) (r : ReplyWithData) → HasHappened interval_judge e old new r → took (r ∷ [])
+    → HasServed interval_judge (e ∷ []) old new took
 served_one took e old new r happened t = record {
   occurrences = record { event = e; starved = happened.starved } ∷ [];
   are = refl;
@@ -113,7 +113,7 @@ gave_one run old new reply frame before after replied busy written count =
 -- turns went round the runs, and so many were given
 pub record GoesRound (most given idle run : ℕ) (old new : State) (before after : Option (List ℕ)) : Type 0 where
   pub tries : ℕ
-  pub served : HasServed intervals (turns_round tries) old new (TookTurns (before, 0) (after, given))
+  pub served : HasServed interval_judge (turns_round tries) old new (TookTurns (before, 0) (after, given))
   pub run_is : run ≡ tries % 8
   pub few : given ≤ most
   pub still : idle ≤ 8
@@ -135,8 +135,8 @@ goes_on most given given' idle idle' run run' was old between new before then af
     round.served (gave given) in
     record {
       tries = suc round.tries;
-      served = subst (λ (n : ℕ). HasServed intervals (turns_round round.tries ++ event.Turn n ∷ []) old new (TookTurns (before, 0) (after, given'))) round.run_is
-          (subst (λ (n : ℕ). HasServed intervals (turns_round round.tries ++ event.Turn run ∷ []) old new (TookTurns (before, 0) (after, n))) (sym given_is) more);
+      served = subst (λ (n : ℕ). HasServed interval_judge (turns_round round.tries ++ event.Turn n ∷ []) old new (TookTurns (before, 0) (after, given'))) round.run_is
+          (subst (λ (n : ℕ). HasServed interval_judge (turns_round round.tries ++ event.Turn run ∷ []) old new (TookTurns (before, 0) (after, n))) (sym given_is) more);
       run_is = omega (arith, run_is, round.run_is);
       few = few;
       still = still;

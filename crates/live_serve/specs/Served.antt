@@ -1,7 +1,7 @@
 -- What a device does that is served: requests that are done, and what is written for them (profile).
 use Rattle.std.specs.Prelude.{ℕ, zero, suc, Bool, true, false, not, ◌≡◌, ◌≤◌, ◌%◌, ◌+◌, if◌then◌else◌, List, [], ◌∷◌, ◌++◌, filter, flat_map, length, Option, IfSome}
 use Rattle.std.specs.Io.KnownBytes.{Appends, Consumes}
-use Rattle.interval_domain.specs.Intervals.{intervals}
+use Rattle.device_meaning.specs.Judging.{interval_judge}
 use Rattle.device_events.specs.Replies.{ReplyWithData}
 use Rattle.device_events.specs.declared.event.Event.{Event}
 use Rattle.device_events.specs.declared.event.Event.TheVariants as event
@@ -18,12 +18,12 @@ use Rattle.event_frames.specs.declared.request.Request.TheVariants as request
 -- an event happened, and this is the frame of the reply to it
 pub record HasReplied (e : Event) (old new : State) (reply : Reply) (frame : List ℕ) : Type 0 where
   pub bytes : List ℕ
-  pub happened : HasHappened intervals e old new (record { reply = reply; bytes = bytes })
+  pub happened : HasHappened interval_judge e old new (record { reply = reply; bytes = bytes })
   pub frame_is : frame ≡ frame_of reply bytes
 
 -- events were done, and behind what was written before came the frames of the replies to them, in order, and nothing else
 abbrev pub Answers : List Event → State → State → Option (List ℕ) → Option (List ℕ) → Type 0
-Answers events old new before after = HasServed intervals events old new (λ replies. Appends before after (flat_map reply_frame replies))
+Answers events old new before after = HasServed interval_judge events old new (λ replies. Appends before after (flat_map reply_frame replies))
 
 -- ---- turns, round the runs
 
@@ -52,13 +52,13 @@ TookTurns old new replies = Appends old.0 new.0 (flat_map reply_frame (of_runs r
 abbrev pub GaveTurn : ℕ → Bool → State → State → Option (List ℕ) → Option (List ℕ) → Type 0
 GaveTurn run was old new before after =
     (count : ℕ)
-    → HasServed intervals (event.Turn run ∷ []) old new (TookTurns (before, count) (after, if was then count + 1 else count))
+    → HasServed interval_judge (event.Turn run ∷ []) old new (TookTurns (before, count) (after, if was then count + 1 else count))
 
 -- turns went round the runs, each of which was given one at a time, and each reply was written but that to the turn of a number
 -- that no run has; that many were given, and no more than were wanted
 pub record GivesTurns (most given : ℕ) (old new : State) (before after : Option (List ℕ)) : Type 0 where
   pub tries : ℕ
-  pub served : HasServed intervals (turns_round tries) old new (TookTurns (before, 0) (after, given))
+  pub served : HasServed interval_judge (turns_round tries) old new (TookTurns (before, 0) (after, given))
   pub few : given ≤ most
 
 -- ---- requests
