@@ -1,6 +1,7 @@
 -- What a failure is printed as (profile).
 use Rattle.std.specs.Prelude.{◌≡◌, ℕ, List, [], ◌∷◌, ◌++◌, codes, Option, IfSome}
 use Rattle.std.specs.Fmt.{decimal}
+use Rattle.std.specs.String.{string_bytes}
 use Rattle.std.specs.Io.KnownBytes.{Appends}
 use Rattle.ebpf_asm.specs.Fault.{fault_number as assembly_number}
 use Rattle.ebpf_asm.specs.declared.refusal.AssemblyRefusal.{AssemblyRefusal}
@@ -19,7 +20,7 @@ use Rattle.command_files.specs.declared.data_fault.DataFault.{DataFault}
 use Rattle.command_files.specs.declared.failure.Failure.{Failure}
 use Rattle.command_files.specs.declared.file_cause.FileCause.{FileCause}
 use Rattle.command_files.specs.declared.file_cause.FileCause.TheVariants.{Other}
-use Rattle.command_files.specs.declared.failure.Failure.TheVariants.{CommandLine, NotText, NotInRange, CannotRead, CannotWrite, NotAnImage, CannotPrint, NoMemory, LineRefused, ReplyRefused, GeometryRefused, NotABlock, EmitExceedsBlock, ImageRefused, AssemblyRefused, ProgramRefused, FrameRefused, DataRefused, NotAccepted}
+use Rattle.command_files.specs.declared.failure.Failure.TheVariants.{CommandLine, NotText, NotInRange, CannotRead, CannotWrite, NotAnImage, CannotPrint, NoMemory, LineRefused, ReplyRefused, WordsRefused, CommandsRefused, GeometryRefused, NotABlock, EmitExceedsBlock, ImageRefused, AssemblyRefused, ProgramRefused, FrameRefused, DataRefused, NotAccepted}
 
 -- a text: one that is said here, one around words that another crate has, one that another crate has, or none
 pub data Text : Type 0 where
@@ -81,6 +82,19 @@ line_failure_text path number = sentence (line_front path number) (line_behind n
 abbrev pub reply_failure_text : List ℕ → ℕ → Text
 reply_failure_text path number = Said (at_line path number (codes "not one that `exec` prints"))
 
+-- a line of words that asks for no entry
+abbrev pub words_failure_text : List ℕ → ℕ → List ℕ → Text
+words_failure_text path number words = Said (at_line path number words)
+
+-- the line for scripts of commands that were refused: how many they are
+abbrev pub commands_behind : ℕ → List ℕ
+commands_behind commands = codes "commands refused " ++ decimal commands
+
+-- commands that were refused: the line of the first, and that line
+abbrev pub commands_text : List ℕ → ℕ → ℕ → Text
+commands_text path number commands =
+    Said (line_front path number ++ codes "the first command that was refused" ++ 10 ∷ commands_behind commands ++ 10 ∷ [])
+
 -- numbers that are no geometry, with the number of what is wrong first
 abbrev pub geometry_text : GeometryRefusal → Text
 geometry_text refusal = sentence [] (codes "geometry refused " ++ decimal (geometry_number refusal))
@@ -132,6 +146,8 @@ failure_text CannotPrint = line (codes "cannot write -")
 failure_text NoMemory = line (codes "no memory")
 failure_text (LineRefused path number fault) = line_failure_text (shown path.now) number
 failure_text (ReplyRefused path number) = reply_failure_text (shown path.now) number
+failure_text (WordsRefused path number status told) = words_failure_text (shown path.now) number (string_bytes told)
+failure_text (CommandsRefused path number commands) = commands_text (shown path.now) number commands
 failure_text (GeometryRefused refusal) = geometry_text refusal
 failure_text (NotABlock path bytes) = not_a_block_text (shown path.now) bytes
 failure_text (EmitExceedsBlock emit block) = emit_text emit block

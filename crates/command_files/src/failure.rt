@@ -53,6 +53,19 @@ pub enum Failure<'a> {
         path: &'a str,
         line: usize,
     },
+    /// A line of words that asks for no entry: with the exit status, what is told of them.
+    WordsRefused {
+        path: &'a str,
+        line: usize,
+        status: u8,
+        told: String,
+    },
+    /// So many commands of a command file were refused, the first that of this line.
+    CommandsRefused {
+        path: &'a str,
+        line: usize,
+        commands: u64,
+    },
     /// Numbers that are no geometry.
     GeometryRefused(GeometryRefusal),
     /// A file of so many bytes, where a block is wanted and none has as many.
@@ -144,6 +157,8 @@ impl<'a> Failure<'a> {
             | Failure::FrameRefused { .. }
             | Failure::DataRefused { .. }
             | Failure::NotAccepted => 3,
+            Failure::CommandsRefused { .. } => 4,
+            Failure::WordsRefused { status, .. } => *status,
         }
     }
 }
@@ -152,7 +167,7 @@ impl<'a> Failure<'a> {
 #[derive(Drop)]
 pub struct Conclusion {
     /// The exit status: 0 where all was done, 1 where a file failed or memory was wanting, 2 for a wrong
-    /// command line, 3 for input that is refused.
+    /// command line, 3 for input that is refused, 4 for commands that the device refused.
     pub status: u8,
     /// What printing why the work wasn't done came to.
     pub told: io::Result<()>,

@@ -3,7 +3,7 @@
 ghost use Rattle.std.specs.Prelude.{◌++◌, IfSome, OnOk};
 ghost use Rattle.std.specs.Io.KnownBytes.{Appends};
 ghost use Rattle.command_files.specs.Shown.{shown};
-ghost use Rattle.command_files.specs.Lines.{IsPrinted, IsTold, PrintsRefusal, PrintsSentence, assembly_text, at_line, cause_sentence, data_failure_text, emit_text, frame_text, geometry_text, image_text, line, line_front, line_failure_text, not_an_image_text, not_a_block_text, program_text, range_text, reply_failure_text, unread_text, unwritten_text};
+ghost use Rattle.command_files.specs.Lines.{IsPrinted, IsTold, PrintsRefusal, PrintsSentence, assembly_text, at_line, cause_sentence, commands_text, data_failure_text, emit_text, frame_text, geometry_text, image_text, line, line_front, line_failure_text, not_an_image_text, not_a_block_text, program_text, range_text, reply_failure_text, unread_text, unwritten_text};
 
 use crate::data_fault::DataFault;
 use crate::failure::Failure;
@@ -49,6 +49,17 @@ impl Failure<'_> {
                 print_line_fault(out, path, *line, *fault)
             }
             Failure::ReplyRefused { path, line } => print_reply(out, path, *line),
+            Failure::WordsRefused {
+                path,
+                line,
+                told,
+                ..
+            } => print_at_line(out, path, *line, told.as_str()),
+            Failure::CommandsRefused {
+                path,
+                line,
+                commands,
+            } => print_commands(out, path, *line, *commands),
             Failure::GeometryRefused(refusal) => print_geometry(out, *refusal),
             Failure::NotABlock { path, bytes } => print_not_a_block(out, path, *bytes),
             Failure::EmitExceedsBlock { emit, block } => print_emit(out, *emit, *block),
@@ -136,6 +147,13 @@ fn print_reply<W: Write>(out: &mut W, path: &str, number: usize) -> io::Result<(
     ensures { OnOk result (IsPrinted (reply_failure_text (shown path.now) number) (W.contents out.old) (W.contents out.new)) }
 {
     print_at_line(out, path, number, "not one that `exec` prints")
+}
+
+fn print_commands<W: Write>(out: &mut W, path: &str, number: usize, commands: u64) -> io::Result<()>
+    ensures { OnOk result (IsPrinted (commands_text (shown path.now) number commands) (W.contents out.old) (W.contents out.new)) }
+{
+    print_line_words(out, path, number, "the first command that was refused")?;
+    print_line(out, format_args!("commands refused {commands}"))
 }
 
 fn print_geometry<W: Write>(out: &mut W, refusal: GeometryRefusal) -> io::Result<()>
