@@ -1,7 +1,8 @@
-//! The commands that make an image, list its zones and save it in the last version, and images in files.
+//! The commands that make an image, list and report its zones and save it in the last version, and images in files.
 #![tactic(auto)]
 
 pub mod format;
 pub mod image_file;
+pub mod report;
 pub mod upgrade;
 pub mod zones;

@@ -1,0 +1,195 @@
+//! The command `report`: an image's geometry, its limits and its zones, as tools for zoned block devices have them.
+
+ghost use Rattle.std.specs.Prelude.{◌≡◌};
+
+use crate::image_file::{self, IMAGE};
+use clap::{Arg, ArgAction, ArgMatches, Command};
+use command_files::arguments::{and_argument, required};
+use command_files::{Failure, Files, printed};
+use image_store::Image;
+use std::alloc::{AllocError, Global};
+use std::io::{self, Write};
+use zone_state::{Zone, ZoneState};
+
+/// The command's name.
+pub const NAME: &str = "report";
+
+const JSON: &str = "json";
+
+const LONG_ABOUT: &str = "\
+Prints an image's geometry and how much of its limits is in use, on the first line, and behind it each zone on a line, \
+as `blkzone report` of Linux has it. All lengths and addresses are in logical blocks, not in sectors of 512 bytes.
+
+  start      the zone's lowest logical block address
+  len, cap   how many blocks the zone has, and how many of them can be written
+  wptr       the write pointer, counted from the zone's start: how many blocks are written, of a full zone `len`
+  zcond      the zone's state: 1(em) empty, 2(oi) opened by a write, 3(oe) opened by a command, 4(cl) closed, 13(ro) read only, \
+14(fu) full, 15(of) offline
+
+No zone wants a reset or is written out of order, and all have the same type.
+
+With --json one JSON object is printed, on a line: `block_bytes`, `zone_count`, `zone_size` and `zone_capacity` in blocks, \
+`open_zones` and `open_limit`, `active_zones` and `active_limit`, and `zones`, a list with an object for each zone: its \
+`number`, its `start`, its `state` as `zscli zones` prints it, its `condition`, the state's number, and `written`, how many of its \
+blocks are written.
+
+Of a file that is no image, `image refused REASON` tells the first fault.";
+
+const EXAMPLE: &str = "\
+Example:
+
+  zscli report zoned.img";
+
+/// How the command stands on the command line.
+///
+/// # Errors
+///
+/// Want of memory.
+pub fn subcommand<'a>(alloc: Global) -> Result<Command<'a>, AllocError> {
+    let image = Arg::new(alloc, IMAGE).required(true).help("The image");
+    let json = Arg::new(alloc, JSON)
+        .long(JSON)
+        .action(ArgAction::SetTrue)
+        .help("Print one JSON object");
+    let command = Command::new(alloc, NAME)
+        .about("Prints an image's geometry, limits and zones, as `blkzone report` has them")
+        .long_about(LONG_ABOUT)
+        .after_help(EXAMPLE);
+    let command = and_argument(Ok(command), image);
+    and_argument(command, json)
+}
+
+/// Runs the command, which makes no file: each has the bytes that it had. What is printed isn't said.
+///
+/// # Errors
+///
+/// The image can't be read or is refused, standard output fails, or memory is wanting.
+pub fn report<'a, F: Files, O: Write>(
+    alloc: Global,
+    matches: &ArgMatches<'a>,
+    files: &mut F,
+    out: &mut O,
+) -> Result<(), Failure<'a>>
+    ensures made { F.made files.new ≡ F.made files.old }
+    ensures contents { F.contents files.new ≡ F.contents files.old }
+{
+    let image = image_file::load(alloc, required(matches, IMAGE), files)?;
+    if matches.get_flag(JSON) {
+        printed(print_json(&image, out))
+    } else {
+        printed(print(&image, out))
+    }
+}
+
+/// Prints the geometry and the limits on a line, and each zone on one behind it.
+fn print<O: Write>(image: &Image, out: &mut O) -> io::Result<()> {
+    let geometry = image.geometry();
+    let size = geometry.size();
+    print_head(image, out)?;
+    for (number, zone) in image.zones().iter().enumerate() {
+        print_zone(number as u64 * u64::from(size), size, zone, out)?;
+    }
+    Ok(())
+}
+
+/// Prints the geometry, and how many zones are open and active of those that may be.
+fn print_head<O: Write>(image: &Image, out: &mut O) -> io::Result<()> {
+    let geometry = image.geometry();
+    let block = geometry.block().bytes();
+    let zones = geometry.zones();
+    let size = geometry.size();
+    let capacity = geometry.capacity();
+    let limits = geometry.limits();
+    let counts = image.counts();
+    let open = counts.opened;
+    let active = counts.active;
+    let open_limit = limits.open_limit;
+    let active_limit = limits.active_limit;
+    writeln!(
+        out,
+        "block {block} bytes, {zones} zones of {size} blocks, capacity {capacity} blocks, \
+         open {open} of {open_limit}, active {active} of {active_limit}"
+    )
+}
+
+/// Prints a zone that begins at this address and has so many blocks.
+fn print_zone<O: Write>(start: u64, size: u32, zone: &Zone, out: &mut O) -> io::Result<()> {
+    let capacity = zone.capacity();
+    let pointer = match zone.state() {
+        ZoneState::Full => size,
+        _ => zone.written(),
+    };
+    let code = zone.state().code();
+    let short = short_name(zone.state());
+    writeln!(
+        out,
+        "  start: {start:#011x}, len {size:#08x}, cap {capacity:#08x}, wptr {pointer:#08x} reset:0 non-seq:0, \
+         zcond:{code:2}({short}) [type: 2(SEQ_WRITE_REQUIRED)]"
+    )
+}
+
+/// The two letters by which `blkzone` of Linux tells a state.
+fn short_name(state: ZoneState) -> &'static str {
+    match state {
+        ZoneState::Empty => "em",
+        ZoneState::ImplicitlyOpened => "oi",
+        ZoneState::ExplicitlyOpened => "oe",
+        ZoneState::Closed => "cl",
+        ZoneState::ReadOnly => "ro",
+        ZoneState::Full => "fu",
+        ZoneState::Offline => "of",
+    }
+}
+
+/// Prints the same as one JSON object on a line. Its values are numbers, and words of lower case letters alone.
+fn print_json<O: Write>(image: &Image, out: &mut O) -> io::Result<()> {
+    let geometry = image.geometry();
+    let size = geometry.size();
+    print_json_head(image, out)?;
+    for (number, zone) in image.zones().iter().enumerate() {
+        if number > 0 {
+            write!(out, ",")?;
+        }
+        print_json_zone(number, number as u64 * u64::from(size), zone, out)?;
+    }
+    writeln!(out, "]}}")
+}
+
+/// Prints the beginning of the object, up to the zones.
+fn print_json_head<O: Write>(image: &Image, out: &mut O) -> io::Result<()> {
+    let geometry = image.geometry();
+    let block = geometry.block().bytes();
+    let zones = geometry.zones();
+    let size = geometry.size();
+    let capacity = geometry.capacity();
+    let limits = geometry.limits();
+    let counts = image.counts();
+    let open = counts.opened;
+    let active = counts.active;
+    let open_limit = limits.open_limit;
+    let active_limit = limits.active_limit;
+    write!(
+        out,
+        "{{\"block_bytes\":{block},\"zone_count\":{zones},\"zone_size\":{size},\"zone_capacity\":{capacity},"
+    )?;
+    write!(
+        out,
+        "\"open_zones\":{open},\"open_limit\":{open_limit},\"active_zones\":{active},\"active_limit\":{active_limit},\"zones\":["
+    )
+}
+
+/// Prints the object of a zone.
+fn print_json_zone<O: Write>(
+    number: usize,
+    start: u64,
+    zone: &Zone,
+    out: &mut O,
+) -> io::Result<()> {
+    let state = zone.state().word();
+    let code = zone.state().code();
+    let written = zone.written();
+    write!(
+        out,
+        "{{\"number\":{number},\"start\":{start},\"state\":\"{state}\",\"condition\":{code},\"written\":{written}}}"
+    )
+}
