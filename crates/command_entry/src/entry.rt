@@ -125,7 +125,7 @@ fn submit<'a, F: Files, O: Write>(
 }
 
 /// What the words of the kind of entry that has this name ask for.
-fn words_asked<'a, F: Files>(
+pub(crate) fn words_asked<'a, F: Files>(
     alloc: Global,
     command_line: &mut Command<'a>,
     name: &str,

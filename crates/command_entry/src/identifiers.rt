@@ -38,6 +38,14 @@ impl Identifiers {
         };
         Ok(Identifiers { queue, cid })
     }
+
+    /// Those of another entry for the same words: the same queue, and no identifier that the words name.
+    pub(crate) fn behind(self) -> Identifiers {
+        Identifiers {
+            queue: self.queue,
+            cid: None,
+        }
+    }
 }
 
 /// A command that takes the words of [`Identifiers`] too, and a command file to which the line is added.

@@ -1,13 +1,20 @@
-//! The command `entry`: lines of a command file, made of words.
+//! The commands `entry` and `entries`: lines of a command file, made of words.
 #![tactic(auto)]
 
 mod adding;
 mod asked;
+mod command_text;
 mod data_file;
+pub mod entries;
 pub mod entry;
+mod event_line;
 mod identifiers;
+mod numbering;
 mod numbers;
+mod pieces;
 mod printing;
 mod programs;
 mod transfers;
+mod worded_lines;
+mod wrong_line;
 mod zones;

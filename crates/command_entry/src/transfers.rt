@@ -3,15 +3,17 @@
 ghost use Rattle.std.specs.Prelude.{◌≡◌};
 
 use crate::asked::Asked;
-use crate::data_file::{read_data, whole_blocks};
+use crate::data_file::{read_blocks, read_data, whole_blocks};
 use crate::identifiers::and_identifiers;
 use crate::numbers::{BLOCKS, LBA, address, blocks, blocks_option, lba_option};
+use clap::parser::ValueSource;
 use clap::{ArgMatches, Command};
 use command_files::arguments::{
     BLOCK_OPTION, and_argument, block_option, block_size, number_or_hexadecimal, option, required,
 };
 use command_files::{Failure, Files};
 use nvme_entry::{BlockCount, StandardCommand};
+use program_interface::BlockSize;
 use std::alloc::{AllocError, Global};
 
 pub(crate) const APPEND: &str = "append";
@@ -121,4 +123,49 @@ fn address_and_data<'a, F: Files>(
     let data = read_data(path, files)?;
     let blocks = whole_blocks(path, data.len(), block)?;
     Ok((lba, blocks, data))
+}
+
+/// Blocks of a file, of any length, and where they go.
+#[derive(Drop)]
+pub(crate) struct Moved<'a> {
+    /// A logical block address, as the words have it.
+    pub(crate) lba: u64,
+    /// The size of a block.
+    pub(crate) block: BlockSize,
+    /// The name of the file.
+    pub(crate) path: &'a str,
+    /// Its bytes: whole blocks.
+    pub(crate) data: Vec<u8>,
+}
+
+/// The address that the words name, and the blocks of the file, of this size where the words say none.
+pub(crate) fn moved_blocks<'a, F: Files>(
+    matches: &ArgMatches<'a>,
+    block: BlockSize,
+    files: &mut F,
+) -> Result<Moved<'a>, Failure<'a>>
+    ensures made { F.made files.new ≡ F.made files.old }
+    ensures contents { F.contents files.new ≡ F.contents files.old }
+{
+    let lba = address(matches, LBA)?;
+    let block = match matches.value_source(BLOCK_OPTION) {
+        Some(ValueSource::CommandLine) => block_size(number_or_hexadecimal(
+            matches,
+            BLOCK_OPTION,
+        )?)?,
+        _ => block,
+    };
+    let path = required(matches, DATA);
+    let data = read_blocks(path, block, files)?;
+    Ok(Moved {
+        lba,
+        block,
+        path,
+        data,
+    })
+}
+
+/// The address and the number of blocks that the words of a `read` name.
+pub(crate) fn range<'a>(matches: &ArgMatches<'a>) -> Result<(u64, BlockCount), Failure<'a>> {
+    Ok((address(matches, LBA)?, blocks(matches, BLOCKS)?))
 }
