@@ -182,6 +182,6 @@ fn print_refusal<O: Write>(completion: &Completion, out: &mut O) -> io::Result<(
 }
 
 /// The logical block address that Dwords 0 and 1 of an append spell (ZNS 1.1, 3.4.1).
-fn appended_lba(completion: &Completion) -> u64 {
+pub(crate) fn appended_lba(completion: &Completion) -> u64 {
     u64::from(completion.dw0) + (u64::from(completion.dw1) << 32)
 }

@@ -4,9 +4,10 @@ ghost use Rattle.std.specs.Prelude.{◌≡◌};
 ghost use Rattle.command_explain.specs.steps.Told.{told_of_replies};
 
 use crate::completion_words::{Answered, print_completion};
+use crate::json::{print_completion_json, print_other_json};
 use crate::pairing::Pairing;
 use crate::submissions::{Submission, submissions};
-use clap::{Arg, ArgMatches, Command};
+use clap::{Arg, ArgAction, ArgMatches, Command};
 use command_files::arguments::{and_argument, option, required};
 use command_files::{Failure, Files, printed, read};
 use device_events::Reply;
@@ -21,6 +22,17 @@ pub const NAME: &str = "explain";
 const FILE: &str = "FILE";
 
 const COMMANDS: &str = "commands";
+
+const JSON: &str = "json";
+
+/// How replies are told.
+#[derive(Clone, Copy)]
+enum Form {
+    /// In words, for people.
+    Words,
+    /// Each as a JSON object.
+    Json,
+}
 
 const LONG_ABOUT: &str = "\
 Says in words what each line that `exec` printed tells: of a completion the queue, the command identifier and \
@@ -37,6 +49,8 @@ names the command file and the line of the submission, and says why. It is none 
 this queue and identifier as the command file has submissions, and none but the last of these is a run, whose completion \
 comes later; lines may have been cut out, but not moved. So give each command of a queue an identifier of its own, as \
 `zscli entry` does with --into.
+
+With --json each line tells one as a JSON object. `reply` is `completion`, `pending` with its `run`, `idle`, `done`, `refused`, or `unknown`, of 16 bytes that are no completion, with their `queue`. A completion has `queue`, `identifier`, `refused` (true or false), `status_type`, `status_code` and `status`, its words; `dword0`, `dword1` and `data_bytes`. With --commands it has `line`, that of the submission, or null where none is left; and where one is, `guess` (true or false) and `command`, its word for `zscli entry`, or null where the entry is no command; of an append that succeeded `lba`, and of such a run `records` and `blocks`. More fields may come.
 
 Of a file with a line that `exec` does not print nothing is explained, and `line LINE refused` tells the lowest.";
 
@@ -58,12 +72,17 @@ pub fn subcommand<'a>(alloc: Global) -> Result<Command<'a>, AllocError> {
     let commands = option(alloc, COMMANDS, "COMMANDS").help(
         "The command file that `exec` was given",
     );
+    let json = Arg::new(alloc, JSON)
+        .long(JSON)
+        .action(ArgAction::SetTrue)
+        .help("Print each as a JSON object");
     let command = Command::new(alloc, NAME)
         .about("Says in words what `exec` printed")
         .long_about(LONG_ABOUT)
         .after_help(EXAMPLE);
     let command = and_argument(Ok(command), file);
-    and_argument(command, commands)
+    let command = and_argument(command, commands);
+    and_argument(command, json)
 }
 
 /// Runs the command, which makes no file: each has the bytes that it had. What is printed isn't said.
@@ -90,7 +109,12 @@ pub fn explain<'a, F: Files, O: Write>(
         }
         None => None,
     };
-    printed(print_replies(told.as_slice(), &mut pairing, out))
+    let form = if matches.get_flag(JSON) {
+        Form::Json
+    } else {
+        Form::Words
+    };
+    printed(print_replies(told.as_slice(), &mut pairing, form, out))
 }
 
 /// The submissions of a command file.
@@ -119,14 +143,15 @@ fn no_replies<'a>(path: &'a str, fault: RepliesFault) -> Failure<'a>
     }
 }
 
-/// Prints each reply in words.
+/// Prints each reply.
 fn print_replies<O: Write>(
     replies: &[ToldReply],
     pairing: &mut Option<Pairing<'_>>,
+    form: Form,
     out: &mut O,
 ) -> io::Result<()> {
     for told in replies {
-        print_reply(told.reply, told.bytes.as_slice(), pairing, out)?;
+        print_reply(told.reply, told.bytes.as_slice(), pairing, form, out)?;
     }
     Ok(())
 }
@@ -135,19 +160,39 @@ fn print_reply<O: Write>(
     reply: Reply,
     data: &[u8],
     pairing: &mut Option<Pairing<'_>>,
+    form: Form,
     out: &mut O,
 ) -> io::Result<()> {
-    match reply {
-        Reply::Complete { queue, entry, .. } => match completion_from(queue, &entry) {
+    match (reply, form) {
+        (Reply::Complete { queue, entry, .. }, _) => match completion_from(queue, &entry) {
             Some(completion) => {
                 let answered = answered(pairing, &completion);
-                print_completion(&completion, data, &answered, out)
+                match form {
+                    Form::Words => print_completion(&completion, data, &answered, out),
+                    Form::Json => print_completion_json(&completion, data.len(), &answered, out),
+                }
             }
-            None => writeln!(
-                out,
-                "queue {queue}: 16 bytes that are no completion of this device"
-            ),
+            None => print_unknown(queue, form, out),
         },
+        (_, Form::Words) => print_other(reply, out),
+        (_, Form::Json) => print_other_json(reply, out),
+    }
+}
+
+/// Prints that 16 bytes from this queue are no completion.
+fn print_unknown<O: Write>(queue: u16, form: Form, out: &mut O) -> io::Result<()> {
+    match form {
+        Form::Words => writeln!(
+            out,
+            "queue {queue}: 16 bytes that are no completion of this device"
+        ),
+        Form::Json => writeln!(out, "{{\"reply\":\"unknown\",\"queue\":{queue}}}"),
+    }
+}
+
+/// Prints a reply that is no completion in words.
+fn print_other<O: Write>(reply: Reply, out: &mut O) -> io::Result<()> {
+    match reply {
         Reply::Pending { run } => writeln!(
             out,
             "pending {run}: run {run} was admitted, or had a turn, and has turns left"
@@ -158,6 +203,7 @@ fn print_reply<O: Write>(
             out,
             "refused: a fault of a zone that does not exist, that a run uses, or that is Offline and cannot become Read Only"
         ),
+        Reply::Complete { .. } => Ok(()),
     }
 }
 

@@ -1,10 +1,11 @@
-//! The command that says in words what `exec` printed.
+//! The command that says in words, or as JSON, what `exec` printed.
 #![tactic(auto)]
 
 mod command_words;
 mod completion_words;
 pub mod explain;
 mod fitting;
+mod json;
 mod pairing;
 mod refusal_words;
 mod report_words;
