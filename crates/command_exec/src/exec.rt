@@ -8,11 +8,13 @@ ghost use Rattle.command_exec.specs.Executed.{DoesAll, Executes, ExecutesFirst, 
 ghost use Rattle.command_exec.specs.UserTold.{ExecFails, PrintsNothing};
 ghost use Rattle.command_exec.specs.steps.Told.{SavingFails};
 
+use crate::fail::Refused;
+use crate::watched::{Refusals, Watched};
 use clap::{Arg, ArgMatches, Command};
 use command_files::arguments::{and_argument, required};
 use command_files::{Failure, Files, read};
 use command_images::image_file::{self, IMAGE};
-use event_text::Lines;
+use event_text::{Lines, event_lines};
 use runner::{Device, Event, Stopped};
 use std::alloc::{AllocError, Global};
 use std::io::Write;
@@ -21,7 +23,7 @@ use zns_commands::{Image, MOST_TRANSFER};
 /// The command's name.
 pub const NAME: &str = "exec";
 
-const COMMANDS: &str = "COMMANDS";
+pub(crate) const COMMANDS: &str = "COMMANDS";
 
 const LONG_ABOUT: &str = "\
 Runs the events of a command file on an image, one after another. Then it gives turns to the runs that \
@@ -87,6 +89,7 @@ pub fn subcommand<'a>(alloc: Global) -> Result<Command<'a>, AllocError> {
 /// them leave. On each other failure no file is made, but for what [`Files::finish`] says, and what is told is the
 /// first fault of the image, the lowest line that is refused, or by its name which file can't be read or written; nothing was
 /// printed where a line or the image is refused, or the command file can't be read. Every other file has the bytes that it had.
+/// What it gives are the commands that were refused, where some were.
 ///
 /// # Errors
 ///
@@ -96,7 +99,7 @@ pub fn exec<'a, F: Files, O: Write>(
     matches: &ArgMatches<'a>,
     files: &mut F,
     out: &mut O,
-) -> Result<(), Failure<'a>>
+) -> Result<Option<Refused>, Failure<'a>>
     ensures executed { let here = around F.Files F.Reader.tells F.Writer.tells files.old files.new in
         OnOk result (Executes here matches.now (O.contents out.old) (O.contents out.new)) }
     ensures stopped { let here = around F.Files F.Reader.tells F.Writer.tells files.old files.new in
@@ -117,23 +120,35 @@ pub fn exec<'a, F: Files, O: Write>(
     let commands = required(matches, COMMANDS);
     let file = read(commands, files)?;
     match event_text::parse(alloc, file.as_slice()) {
-        Ok(events) => run(alloc, image, events.as_slice(), path, files, out),
+        Ok(events) => {
+            let numbers = event_lines(alloc, file.as_slice())?;
+            run(
+                alloc,
+                image,
+                events.as_slice(),
+                numbers.as_slice(),
+                path,
+                files,
+                out,
+            )
+        }
         Err(fault) => Err(Failure::of_commands(commands, fault)),
     }
 }
 
 /// Runs the events on an image and then the turns that are left, prints a line for each, and saves the image as they left it:
-/// all of them, or where standard output fails, those that were done by then.
+/// all of them, or where standard output fails, those that were done by then. Of the events the numbers are their lines.
 // The device stands in this frame, which isn't to stand on the stack yet while the command line is read.
 #[inline(never)]
 fn run<'a, F: Files, O: Write>(
     alloc: Global,
     image: Image,
     events: &[Event],
+    numbers: &[usize],
     path: &'a str,
     files: &mut F,
     out: &mut O,
-) -> Result<(), Failure<'a>>
+) -> Result<Option<Refused>, Failure<'a>>
     requires { F.held files.old ≡ Some path.now }
     ensures saved { let here = around F.Files F.Reader.tells F.Writer.tells files.old files.new in
         OnOk result (SavesAll here events.now image path.now (O.contents out.old) (O.contents out.new)) }
@@ -148,18 +163,29 @@ fn run<'a, F: Files, O: Write>(
     ensures contents { IfErr result (λ failure. failure ≢ Failure.CannotPrint → F.contents files.new ≡ F.contents files.old) }
     ensures modes { OnOk result (KeepsModes (F.modes files.old) (F.modes files.new)) }
 {
-    let mut lines = Lines::new(alloc, out)?;
+    let lines = Lines::new(alloc, out)?;
+    let mut watched = Watched::new(lines);
     let mut output = vec![in alloc; 0; MOST_TRANSFER]?;
     let mut device = Device::new(alloc, image);
-    let done = serve_and_drain(&mut device, events, output.as_mut_slice(), &mut lines);
+    let done = serve_and_drain(&mut device, events, output.as_mut_slice(), &mut watched);
+    let refusals = watched.refusals();
+    let lines = watched.into_out();
     let out = lines.into_writer();
     image_file::save_changes(device.image(), path, files)?;
     // No effect at run time. The proof reads what was printed from this use of `out`.
     let _ = &*out;
     match done {
-        Ok(()) => Ok(()),
+        Ok(()) => Ok(refused(refusals, numbers)),
         Err(Stopped { .. }) => Err(Failure::CannotPrint),
     }
+}
+
+/// Refused commands with the line of the first: the replies to events come first, in order, so as many events are in front of it as
+/// replies; of a turn behind the last event, the last line is told.
+fn refused(refusals: Option<Refusals>, numbers: &[usize]) -> Option<Refused> {
+    let Refusals { commands, first } = refusals?;
+    let line = *numbers.get(first).or(numbers.last())?;
+    Some(Refused { commands, line })
 }
 
 /// Does the events, and then gives turns until no run is left.
@@ -167,12 +193,12 @@ fn serve_and_drain<O: Write>(
     device: &mut Device,
     events: &[Event],
     output: &mut [u8],
-    lines: &mut Lines<'_, O>,
+    lines: &mut Watched<Lines<'_, O>>,
 ) -> Result<(), Stopped>
     requires room { MOST_TRANSFER ≤ length output.old }
-    requires counts { lines.old.refusals + 1 < 2 ^ 64 }
-    ensures same_writer { lines.new.out.ghost_name ≡ lines.old.out.ghost_name }
-    ensures done { OnOk result (DoesAll events.now device.old device.new (O.contents lines.old.out.now) (O.contents lines.new.out.now)) }
+    requires counts { lines.old.out.refusals + 1 < 2 ^ 64 }
+    ensures same_writer { lines.new.out.out.ghost_name ≡ lines.old.out.out.ghost_name }
+    ensures done { OnOk result (DoesAll events.now device.old device.new (O.contents lines.old.out.out.now) (O.contents lines.new.out.out.now)) }
     ensures stopped { OnErr result (HasBegun events.now device.old device.new) }
 {
     device.serve(events, output, lines)?;

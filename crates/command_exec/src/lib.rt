@@ -2,3 +2,5 @@
 #![tactic(auto)]
 
 pub mod exec;
+pub mod fail;
+mod watched;

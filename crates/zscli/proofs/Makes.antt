@@ -10,7 +10,7 @@ at_most_one path before after (inl same) = inl same
 at_most_one path before after (inr one) = inr (path, one)
 
 -- one that may make a file also where it can't print
-pub one_where_stopped : (r : Result (Unit {0}) Failure) (path : List ℕ) (before after : Option (List Made))
+pub one_where_stopped : {T : Type 0} (r : Result T Failure) (path : List ℕ) (before after : Option (List Made))
     → OnOk r (MakesAtMost path before after) → (r ≡ Err CannotPrint → MakesAtMost path before after) → IfErr r (λ failure. failure ≢ CannotPrint → after ≡ before)
     → MakesAtMostOne before after
 one_where_stopped (Ok done) path before after made stopped kept = at_most_one path before after made

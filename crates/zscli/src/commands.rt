@@ -2,22 +2,27 @@
 
 ghost use Rattle.std.specs.Prelude.{◌≡◌, ◌≢◌, IfErr, OnErr};
 ghost use Rattle.command_files.specs.Made.{MakesAtMostOne};
+ghost use Rattle.zscli.specs.Ended.{end_of};
 
 use clap::error::ErrorKind;
 use clap::{ArgMatches, Command};
-use command_entry::entry;
-use command_exec::exec;
+use command_entry::{entries, entry};
+use command_exec::{exec, fail};
 use command_explain::explain;
 use command_files::arguments::{and_command, no_command};
 use command_files::{Failure, Files, Shown, printed};
-use command_images::{format, upgrade, zones};
+use command_images::{format, report, upgrade, zones};
 use command_programs::{asm, disasm, trace, unpack, verify};
 use std::alloc::{AllocError, Global};
 use std::io::Write;
 
+/// The program's version, which `--version` prints.
+const VERSION: &str = "0.1.0";
+
 /// Reads the words of a command line, the program's name first, and does the command that they name. At most one file
 /// is made. Where this fails for another reason than `out`, where `exec` saves an image, none is made, and each file
-/// has the bytes that it had.
+/// has the bytes that it had. What it gives is why a command line ends with another status all the same whose work is done: commands
+/// were refused, where `exec` is to fail for these.
 ///
 /// # Errors
 ///
@@ -27,7 +32,7 @@ pub fn command<'a, F: Files, O: Write>(
     words: &'a [String],
     files: &mut F,
     out: &mut O,
-) -> Result<(), Failure<'a>>
+) -> Result<Option<Failure<'a>>, Failure<'a>>
     ensures one { MakesAtMostOne (F.made files.old) (F.made files.new) }
     ensures kept { IfErr result (λ failure. failure ≢ Failure.CannotPrint → F.made files.new ≡ F.made files.old) }
     ensures contents { IfErr result (λ failure. failure ≢ Failure.CannotPrint → F.contents files.new ≡ F.contents files.old) }
@@ -35,18 +40,31 @@ pub fn command<'a, F: Files, O: Write>(
     let mut line = command_line(alloc)?;
     match line.try_get_matches_from_mut(words) {
         Ok(matches) => perform(alloc, &mut line, &matches, files, out),
-        Err(error) => print_help(alloc, words, error, out),
+        Err(error) => {
+            print_help(alloc, words, error, out)?;
+            Ok(None)
+        }
     }
 }
 
-/// Prints the help that was asked for; of wrong words it gives the failure.
+/// How a command line ends: also what was done in full fails where it gives a failure.
+pub fn ended<'a>(done: Result<Option<Failure<'a>>, Failure<'a>>) -> Result<(), Failure<'a>>
+    ensures { result ≡ end_of done }
+{
+    match done {
+        Ok(None) => Ok(()),
+        Ok(Some(failure)) | Err(failure) => Err(failure),
+    }
+}
+
+/// Prints the help or the version that was asked for; of wrong words it gives the failure.
 fn print_help<'a, O: Write>(
     alloc: Global,
     words: &[String],
     error: clap::Error,
     out: &mut O,
 ) -> Result<(), Failure<'a>> {
-    if error.kind() == ErrorKind::DisplayHelp {
+    if error.kind() == ErrorKind::DisplayHelp || error.kind() == ErrorKind::DisplayVersion {
         return printed(write!(out, "{error}"));
     }
     read_shown(alloc, words)?;
@@ -84,18 +102,57 @@ fn perform<'a, F: Files, O: Write>(
     matches: &ArgMatches<'a>,
     files: &mut F,
     out: &mut O,
-) -> Result<(), Failure<'a>>
+) -> Result<Option<Failure<'a>>, Failure<'a>>
     ensures one { MakesAtMostOne (F.made files.old) (F.made files.new) }
     ensures kept { IfErr result (λ failure. failure ≢ Failure.CannotPrint → F.made files.new ≡ F.made files.old) }
     ensures contents { IfErr result (λ failure. failure ≢ Failure.CannotPrint → F.contents files.new ≡ F.contents files.old) }
 {
     match matches.subcommand() {
-        Some((format::NAME, matches)) => format::format(alloc, matches, files),
-        Some((zones::NAME, matches)) => zones::zones(alloc, matches, files, out),
-        Some((upgrade::NAME, matches)) => upgrade::upgrade(alloc, matches, files),
-        Some((exec::NAME, matches)) => exec::exec(alloc, matches, files, out),
-        Some((name, matches)) => perform_without_image(alloc, line, name, matches, files, out),
+        Some((exec::NAME, matches)) => perform_exec(alloc, matches, files, out),
+        Some((name, matches)) => {
+            perform_other(alloc, line, name, matches, files, out)?;
+            Ok(None)
+        }
         None => Err(no_command(line)),
+    }
+}
+
+/// Does `exec`.
+fn perform_exec<'a, F: Files, O: Write>(
+    alloc: Global,
+    matches: &ArgMatches<'a>,
+    files: &mut F,
+    out: &mut O,
+) -> Result<Option<Failure<'a>>, Failure<'a>>
+    ensures one { MakesAtMostOne (F.made files.old) (F.made files.new) }
+    ensures kept { IfErr result (λ failure. failure ≢ Failure.CannotPrint → F.made files.new ≡ F.made files.old) }
+    ensures contents { IfErr result (λ failure. failure ≢ Failure.CannotPrint → F.contents files.new ≡ F.contents files.old) }
+{
+    match exec::exec(alloc, matches, files, out) {
+        Ok(refused) => Ok(fail::failure_of(matches, refused)),
+        Err(failure) => Err(failure),
+    }
+}
+
+/// Does the command with this name, of those but `exec`.
+fn perform_other<'a, F: Files, O: Write>(
+    alloc: Global,
+    line: &mut Command<'a>,
+    name: &str,
+    matches: &ArgMatches<'a>,
+    files: &mut F,
+    out: &mut O,
+) -> Result<(), Failure<'a>>
+    ensures one { MakesAtMostOne (F.made files.old) (F.made files.new) }
+    ensures kept { OnErr result (F.made files.new ≡ F.made files.old) }
+    ensures contents { OnErr result (F.contents files.new ≡ F.contents files.old) }
+{
+    match name {
+        format::NAME => format::format(alloc, matches, files),
+        zones::NAME => zones::zones(alloc, matches, files, out),
+        report::NAME => report::report(alloc, matches, files, out),
+        upgrade::NAME => upgrade::upgrade(alloc, matches, files),
+        _ => perform_without_image(alloc, line, name, matches, files, out),
     }
 }
 
@@ -119,6 +176,7 @@ fn perform_without_image<'a, F: Files, O: Write>(
         verify::NAME => verify::verify(alloc, matches, files, out),
         unpack::NAME => unpack::unpack(alloc, matches, files, out),
         entry::NAME => entry::entry(alloc, line, matches, files, out),
+        entries::NAME => entries::entries(alloc, matches, files, out),
         explain::NAME => explain::explain(alloc, matches, files, out),
         _ => Err(no_command(line)),
     }
@@ -128,17 +186,20 @@ fn perform_without_image<'a, F: Files, O: Write>(
 fn command_line<'a>(alloc: Global) -> Result<Command<'a>, AllocError> {
     let line = Command::new(alloc, "zscli")
         .about("Works on zoned namespaces, and on the programs that run beside their data")
+        .version(VERSION)
         .subcommand_required(true)
         .arg_required_else_help(true);
     let line = and_command(Ok(line), format::subcommand(alloc));
     let line = and_command(line, zones::subcommand(alloc));
+    let line = and_command(line, report::subcommand(alloc));
     let line = and_command(line, upgrade::subcommand(alloc));
-    let line = and_command(line, exec::subcommand(alloc));
+    let line = and_command(line, fail::subcommand(alloc));
     let line = and_command(line, asm::subcommand(alloc));
     let line = and_command(line, disasm::subcommand(alloc));
     let line = and_command(line, trace::subcommand(alloc));
     let line = and_command(line, verify::subcommand(alloc));
     let line = and_command(line, unpack::subcommand(alloc));
     let line = and_command(line, entry::subcommand(alloc));
+    let line = and_command(line, entries::subcommand(alloc));
     and_command(line, explain::subcommand(alloc))
 }

@@ -6,7 +6,7 @@ mod commands;
 mod tests;
 
 use command_files::{Disk, Failure, conclude};
-use commands::command;
+use commands::{command, ended};
 use std::env::{self, Env};
 use std::io;
 use std::process::ExitCode;
@@ -20,7 +20,7 @@ fn main(rt: HostRuntime) -> ExitCode {
     let mut out = io::writer(&rt);
     let done = command(rt.alloc(), words.as_slice(), &mut Disk::new(&rt), &mut out);
     // Where standard error fails, nobody can be told.
-    ExitCode::from(conclude(done, &mut err).status)
+    ExitCode::from(conclude(ended(done), &mut err).status)
 }
 
 /// The words of the command line, the program's name first.

@@ -19,6 +19,7 @@ const USAGE: &[Act] = &[
     Act::Tells("zscli --help", 0),
     Act::Tells("zscli help exec", 0),
     Act::Tells("zscli exec -h", 0),
+    Act::Prints("zscli --version", "zscli 0.1.0\n"),
 ];
 
 const STOPS: &[Act] = &[

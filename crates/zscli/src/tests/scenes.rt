@@ -53,6 +53,8 @@ pub(super) enum Act {
     Unreadable,
     /// A command line succeeds, and prints this alone.
     Prints(&'static str, &'static str),
+    /// A command line succeeds, and prints just the bytes of a file.
+    PrintsFile(&'static str, &'static str),
     /// A command line succeeds, and prints this text and a line end alone.
     Lists(&'static str, &'static str),
     /// A command line succeeds, and prints the submission to this queue of the entry of these dwords, with this data in
@@ -129,6 +131,7 @@ fn perform(rt: &impl Abort, stage: &mut Stage, scene: &str, act: Act) -> Result<
 fn judge(rt: &impl Abort, stage: &mut Stage, scene: &str, act: Act) -> Result<(), Fail> {
     match act {
         Act::Prints(line, out) => stage.check(rt, &At { scene, what: line }, 0, out, "")?,
+        Act::PrintsFile(line, file) => stage.check_same(rt, &At { scene, what: line }, file)?,
         Act::Lists(line, text) => stage.check_list(rt, &At { scene, what: line }, text)?,
         Act::Submits(line, queue, dwords, data) => {
             stage.check_submission(rt, &At { scene, what: line }, queue, dwords, data)?;

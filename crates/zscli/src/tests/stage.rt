@@ -1,7 +1,7 @@
 //! Where command lines run.
 
 use super::submissions::submission;
-use crate::commands::command;
+use crate::commands::{command, ended};
 use command_files::{MemoryFiles, conclude};
 use std::alloc::{AllocError, Global};
 use std::io::{self, Write};
@@ -88,7 +88,7 @@ impl Stage {
         self.out.writes = writes;
         self.err.clear();
         let done = command(self.alloc, words.as_slice(), &mut self.files, &mut self.out);
-        self.status = conclude(done, &mut self.err).status;
+        self.status = conclude(ended(done), &mut self.err).status;
         Ok(())
     }
 
@@ -104,6 +104,22 @@ impl Stage {
         self.run(at.what, usize::MAX)?;
         self.check_end(rt, at, status, err);
         assert_printed(rt, at, self.out.bytes.as_slice(), out);
+        Ok(())
+    }
+
+    /// Runs a command line that succeeds, and compares what it prints with the bytes of a file.
+    pub(super) fn check_same(
+        &mut self,
+        rt: &impl Abort,
+        at: &At,
+        file: &str,
+    ) -> Result<(), AllocError> {
+        self.run(at.what, usize::MAX)?;
+        self.check_end(rt, at, 0, "");
+        assert!(rt;
+            self.files.bytes(file) == Some(self.out.bytes.as_slice()),
+            "{at:?}"
+        );
         Ok(())
     }
 

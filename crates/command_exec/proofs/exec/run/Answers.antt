@@ -1,5 +1,6 @@
 use Rattle.std.proofs.Common.{ap, sym, ◌∙◌, rules}
 use Rattle.std.proofs.lemmas.Result.{err_from_is_err_and}
+use Rattle.event_text.specs.declared.lines.Lines.{Lines}
 use Rattle.command_files.specs.Surroundings.{around}
 use Rattle.command_exec.proofs.Failing.{saving_of_changes}
 use Rattle.command_exec.proofs.Saving.{prints_all, saves_all, saves_first}
@@ -8,12 +9,14 @@ use Rattle.command_exec.proofs.exec.run.Goals as goal
 pub returns-in-Ok-clause-saved : goal.returns-in-Ok-clause-saved
 returns-in-Ok-clause-saved g c =
     let contents = g.O.Write.contents in
-    let writer = c.into_writer-out.ensures.same_writer ∙ c.serve_and_drain-done.ensures.same_writer ∙ c.in_ok-lines.ensures.same_writer.0 in
+    let writer = c.into_writer-out.ensures.same_writer ∙ ap (λ (lines : Lines _). lines.out.ghost_name) c.into_out-lines.ensures
+    ∙ c.serve_and_drain-done.ensures.same_writer ∙ ap (λ (lines : Lines _). lines.out.ghost_name) c.new-watched.ensures ∙ c.in_ok-lines.ensures.same_writer.0 in
     saves_all (around g.F.Files g.F.Reader.Source.tells g.F.Writer.Sink.tells c.args.files.now c.save_changes.new.files) c.args.events.now c.args.image c.image-2.result.now c.args.path.now
     c.serve_and_drain-done.new.device c.in_ok-save_changes.ensures.saved c.image-2.ensures.value _ _
     (prints_all c.args.events.now c.args.image c.new-device.result c.serve_and_drain-done.new.device
-    (contents c.in_ok-lines.lines.out.now) _ (contents c.serve_and_drain-done.new.lines.out.now) _ c.new-device.ensures.value
-    (ap contents c.in_ok-lines.ensures.same_writer.1) (ap contents (sym c.into_writer-out.ensures.value ∙ search rules)) c.in-Ok.ensures.done)
+    (contents c.new-watched.result.out.out.now) _ (contents c.serve_and_drain-done.new.lines.out.out.now) _ c.new-device.ensures.value
+    (ap (λ (lines : Lines _). contents lines.out.now) c.new-watched.ensures ∙ ap contents c.in_ok-lines.ensures.same_writer.1)
+    (ap (λ (lines : Lines _). contents lines.out.now) (sym c.into_out-lines.ensures) ∙ ap contents (sym c.into_writer-out.ensures.value ∙ search rules)) c.in-Ok.ensures.done)
 
 pub returns-clause-stopped : goal.returns-clause-stopped
 returns-clause-stopped g c = λ _.

@@ -14,19 +14,19 @@ pub returns-clause-same_writer : goal.returns-clause-same_writer
 returns-clause-same_writer g c =
     let printed = printed_by g.O.Write.contents in
     same_writer c.args.events.now c.args.device.now c.serve.new.self c.drain.new.self
-    (printed c.args.lines.now) (printed c.serve.new.out) (printed c.drain.new.out)
+    (printed c.args.lines.now.out) (printed c.serve.new.out.out) (printed c.drain.new.out.out)
     c.in_ok-serve.ensures.served c.drain.result c.drain.ensures.drained c.drain.ensures.stopped
 
 pub returns-clause-done : goal.returns-clause-done
 returns-clause-done g c =
     let printed = printed_by g.O.Write.contents in
     serves_and_drains c.args.events.now c.args.device.now c.serve.new.self c.drain.new.self
-    (printed c.args.lines.now) (printed c.serve.new.out) (printed c.drain.new.out)
+    (printed c.args.lines.now.out) (printed c.serve.new.out.out) (printed c.drain.new.out.out)
     c.in_ok-serve.ensures.served c.drain.result c.in_ok-serve.ensures.refused c.drain.ensures.refused c.drain.ensures.drained
 
 pub returns-clause-stopped : goal.returns-clause-stopped
 returns-clause-stopped g c =
     let printed = printed_by g.O.Write.contents in
     stops_in_turns c.args.events.now c.args.device.now c.serve.new.self c.drain.new.self
-    (printed c.args.lines.now) (printed c.serve.new.out) (printed c.drain.new.out)
+    (printed c.args.lines.now.out) (printed c.serve.new.out.out) (printed c.drain.new.out.out)
     c.in_ok-serve.ensures.served c.drain.result c.drain.ensures.stopped
