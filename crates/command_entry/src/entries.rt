@@ -39,9 +39,9 @@ entry has one more than the highest that an entry before it in FILE has in its q
 lowest that none before it has.
 
 A block has the bytes that a line's own --block says, or else those of the image that --image names, or those of --block. \
-A file of blocks of any length can be appended or written, and a number of blocks of any length read: where they are more than one command moves, \
-131072 bytes, they become several lines of whole blocks. Those of an append name the same zone, those of a write and a read go on \
-where the one before them ended. --cid is then the identifier of the first.
+A file of blocks of any length can be appended or written. Where these, or the blocks of a read, are more than one \
+command moves, 131072 bytes, they become several lines of whole blocks. Those of an append name the same zone, those of \
+a write and a read go on where the one before them ended. --cid is then the identifier of the first.
 
 Of a FILE with a wrong line nothing is printed. The lowest is told, with what is wrong with its words, and behind it \
 `line LINE refused`; the status is the one that `zscli entry` ends with for these words.";

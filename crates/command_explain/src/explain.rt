@@ -50,7 +50,12 @@ this queue and identifier as the command file has submissions, and none but the 
 comes later; lines may have been cut out, but not moved. So give each command of a queue an identifier of its own, as \
 `zscli entry` does with --into.
 
-With --json each line tells one as a JSON object. `reply` is `completion`, `pending` with its `run`, `idle`, `done`, `refused`, or `unknown`, of 16 bytes that are no completion, with their `queue`. A completion has `queue`, `identifier`, `refused` (true or false), `status_type`, `status_code` and `status`, its words; `dword0`, `dword1` and `data_bytes`. With --commands it has `line`, that of the submission, or null where none is left; and where one is, `guess` (true or false) and `command`, its word for `zscli entry`, or null where the entry is no command; of an append that succeeded `lba`, and of such a run `records` and `blocks`. More fields may come.
+With --json each line tells one as a JSON object. `reply` is `completion`, `pending` with its `run`, `idle`, `done`, \
+`refused`, or `unknown`, of 16 bytes that are no completion, with their `queue`. A completion has `queue`, \
+`identifier`, `refused` (true or false), `status_type`, `status_code` and `status`, its words; `dword0`, `dword1` \
+and `data_bytes`. With --commands it has `line`, that of the submission, or null where none is left; and where one \
+is, `guess` (true or false) and `command`, its word for `zscli entry`, or null where the entry is no command; of an \
+append that succeeded `lba`, and of such a run `records` and `blocks`. More fields may come.
 
 Of a file with a line that `exec` does not print nothing is explained, and `line LINE refused` tells the lowest.";
 
