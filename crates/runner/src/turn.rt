@@ -212,5 +212,12 @@ pub fn turn(
         return Reply::Idle;
     }
     let place = &mut state.runs[place];
-    turn_place(&mut state.namespace, &mut state.slots, place, group, count, run)
+    turn_place(
+        &mut state.namespace,
+        &mut state.slots,
+        place,
+        group,
+        count,
+        run,
+    )
 }

@@ -37,7 +37,10 @@ cpl 1 00000000000000000000010002000001
 cpl 1 00000000000000000000010003000001
 ",
     ),
-    Act::Prints("zscli zones image", "0 explicit 0\n1 empty 0\n2 empty 0\n3 empty 0\n"),
+    Act::Prints(
+        "zscli zones image",
+        "0 explicit 0\n1 empty 0\n2 empty 0\n3 empty 0\n",
+    ),
     Act::Fails("zscli exec --fail image gone", 1, "", "cannot read gone\n"),
     Act::Stops("zscli exec image events --fail", 3, 1, "cannot write -\n"),
 ];
