@@ -1,1 +1,2 @@
 mod Assembling
+mod Texts

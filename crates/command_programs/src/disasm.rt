@@ -1,12 +1,18 @@
 //! The command `disasm`: a program as text.
 
-ghost use Rattle.std.specs.Prelude.{◌≡◌};
+ghost use Rattle.std.specs.Prelude.{◌≡◌, IfOk, OnOk};
+ghost use Rattle.std.specs.String.{string_bytes};
+ghost use Rattle.command_programs.specs.MakesProgram.{program_file_of};
+ghost use Rattle.command_programs.specs.Printed.{PrintsListing, listed};
 
+use crate::flags::is_set;
+use crate::printing::print;
 use crate::program::program_in_file;
 use clap::{Arg, ArgAction, ArgMatches, Command};
 use command_files::arguments::{PROGRAM, and_argument, program_argument, required};
-use command_files::{Failure, Files, printed};
+use command_files::{Failure, Files};
 use ebpf_asm::{disassemble, disassemble_with_slots};
+use instruction_set::Program;
 use std::alloc::{AllocError, Global};
 use std::io::Write;
 
@@ -53,7 +59,8 @@ pub fn subcommand<'a>(alloc: Global) -> Result<Command<'a>, AllocError> {
     and_argument(command, slots)
 }
 
-/// Runs the command, which makes no file: each has the bytes that it had. What is printed isn't said.
+/// Prints the listing of the program that the file's bytes spell, and nothing else; with `--slots` each instruction's slot
+/// stands before it. It makes no file: each has the bytes that it had.
 ///
 /// # Errors
 ///
@@ -64,14 +71,23 @@ pub fn disasm<'a, F: Files, O: Write>(
     files: &mut F,
     out: &mut O,
 ) -> Result<(), Failure<'a>>
+    ensures printed { let bytes = F.contents files.old (program_file_of matches.now) in
+        OnOk result (PrintsListing matches.now bytes (O.contents out.old) (O.contents out.new)) }
     ensures made { F.made files.new ≡ F.made files.old }
     ensures contents { F.contents files.new ≡ F.contents files.old }
 {
     let program = program_in_file(alloc, required(matches, PROGRAM), files)?;
-    let text = if matches.get_flag(SLOTS) {
-        disassemble_with_slots(alloc, &program)?
+    let text = listing(alloc, &program, is_set(matches, SLOTS))?;
+    print(text.as_bytes(), out)
+}
+
+/// The listing of a program, with slots or without.
+fn listing(alloc: Global, program: &Program, with_slots: bool) -> Result<String, AllocError>
+    ensures { IfOk result (λ text. string_bytes text ≡ listed with_slots program.now) }
+{
+    if with_slots {
+        disassemble_with_slots(alloc, program)
     } else {
-        disassemble(alloc, &program)?
-    };
-    printed(out.write_all(text.as_bytes()))
+        disassemble(alloc, program)
+    }
 }

@@ -3,6 +3,8 @@
 
 pub mod asm;
 pub mod disasm;
+mod flags;
+mod printing;
 mod program;
 mod refusal_lines;
 mod sizes;

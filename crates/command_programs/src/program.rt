@@ -1,6 +1,7 @@
 //! Programs in files.
 
-ghost use Rattle.std.specs.Prelude.{◌≡◌};
+ghost use Rattle.std.specs.Prelude.{◌≡◌, IfOk};
+ghost use Rattle.command_programs.specs.Asked.{Spell};
 ghost use Rattle.command_programs.specs.steps.Told.{told_of_program};
 
 use command_files::{Failure, Files, read};
@@ -8,7 +9,7 @@ use ebpf_decode::{DecodeFault, ProgramRefusal, decode};
 use instruction_set::Program;
 use std::alloc::Global;
 
-/// The program that the bytes of a file spell.
+/// The program that the bytes of a file spell. Each file has the bytes that it had.
 pub(crate) fn program_in_file<'a, F: Files>(
     alloc: Global,
     path: &'a str,
@@ -16,9 +17,13 @@ pub(crate) fn program_in_file<'a, F: Files>(
 ) -> Result<Program, Failure<'a>>
     ensures made { F.made files.new ≡ F.made files.old }
     ensures contents { F.contents files.new ≡ F.contents files.old }
+    ensures spelled { IfOk result (λ program. Spell (F.contents files.old path.now) program) }
 {
     let file = read(path, files)?;
-    decode(alloc, file.as_slice()).map_err(|fault| refused(path, file.as_slice(), fault))
+    match decode(alloc, file.as_slice()) {
+        Ok(program) => Ok(program),
+        Err(fault) => Err(refused(path, file.as_slice(), fault)),
+    }
 }
 
 /// What the user is told of a file of these bytes that is no program: its name, and the fault with its slot.

@@ -1,13 +1,17 @@
 //! The command `unpack`: the records of output blocks.
 
-ghost use Rattle.std.specs.Prelude.{◌≡◌};
+ghost use Rattle.std.specs.Prelude.{◌≡◌, Ok, IfOk, OnOk};
+ghost use Rattle.std.specs.String.{string_bytes};
+ghost use Rattle.emit_append.specs.Unpacking.{record_bytes, unpacked};
+ghost use Rattle.command_programs.specs.Printed.{PrintsRecords, blocks_file_of, record_lines};
 ghost use Rattle.command_programs.specs.steps.Told.{IsToldOfFrame};
 
+use crate::printing::print;
 use clap::{Arg, ArgMatches, Command};
 use command_files::arguments::{
     BLOCK_OPTION, and_argument, block_option, block_size, number, required,
 };
-use command_files::{Failure, Files, printed, read};
+use command_files::{Failure, Files, read};
 use emit_append::{BlockSize, FrameRefusal, UnpackFault, unpack as records_of};
 use std::alloc::{AllocError, Global};
 use std::io::Write;
@@ -48,7 +52,8 @@ pub fn subcommand<'a>(alloc: Global) -> Result<Command<'a>, AllocError> {
     and_argument(command, block)
 }
 
-/// Runs the command, which makes no file: each has the bytes that it had. What is printed isn't said.
+/// Prints the records of the output blocks that the file's bytes are, in order, each in hexadecimal on a line, and nothing
+/// else. It makes no file: each has the bytes that it had.
 ///
 /// # Errors
 ///
@@ -60,31 +65,38 @@ pub fn unpack<'a, F: Files, O: Write>(
     files: &mut F,
     out: &mut O,
 ) -> Result<(), Failure<'a>>
+    ensures printed { let bytes = F.contents files.old (blocks_file_of matches.now) in
+        OnOk result (PrintsRecords matches.now bytes (O.contents out.old) (O.contents out.new)) }
     ensures made { F.made files.new ≡ F.made files.old }
     ensures contents { F.contents files.new ≡ F.contents files.old }
 {
     let block = number(matches, BLOCK_OPTION)?;
     let path = required(matches, FILE);
     let file = read(path, files)?;
-    let text = text_of(alloc, path, file.as_slice(), block_size(block)?)?;
-    printed(out.write_all(text.as_bytes()))
+    let records = records_in(alloc, path, file.as_slice(), block_size(block)?)?;
+    let text = lines_of(alloc, records.as_slice())?;
+    print(text.as_bytes(), out)
 }
 
-/// The lines of the records in a file of output blocks of this size.
-fn text_of<'a>(
+/// The records in a file of output blocks of this size.
+fn records_in<'a>(
     alloc: Global,
     path: &'a str,
     bytes: &[u8],
     block: BlockSize,
-) -> Result<String, Failure<'a>> {
-    let records = records_of(alloc, bytes, block).map_err(|fault| refused(
-        path, bytes, block, fault,
-    ))?;
-    Ok(lines_of(alloc, records.as_slice())?)
+) -> Result<Vec<Vec<u8>>, Failure<'a>>
+    ensures { IfOk result (λ records. unpacked block bytes.now ≡ Ok (record_bytes records.items)) }
+{
+    match records_of(alloc, bytes, block) {
+        Ok(records) => Ok(records),
+        Err(fault) => Err(refused(path, bytes, block, fault)),
+    }
 }
 
 /// Each record in hexadecimal on a line of its own.
-fn lines_of(alloc: Global, records: &[Vec<u8>]) -> Result<String, AllocError> {
+fn lines_of(alloc: Global, records: &[Vec<u8>]) -> Result<String, AllocError>
+    ensures { IfOk result (λ text. string_bytes text ≡ record_lines (record_bytes records.now)) }
+{
     let mut text = String::new(alloc);
     for record in records {
         text.push_str(hex::encode(alloc, record.as_slice())?.as_str())?;
