@@ -1,2 +1,3 @@
 mod Assembling
 mod Texts
+mod Verdicts

@@ -1,6 +1,6 @@
 //! Programs in files.
 
-ghost use Rattle.std.specs.Prelude.{◌≡◌, IfOk};
+ghost use Rattle.std.specs.Prelude.{◌≡◌, ◌≢◌, Err, IfOk};
 ghost use Rattle.command_programs.specs.Asked.{Spell};
 ghost use Rattle.command_programs.specs.steps.Told.{told_of_program};
 
@@ -18,6 +18,7 @@ pub(crate) fn program_in_file<'a, F: Files>(
     ensures made { F.made files.new ≡ F.made files.old }
     ensures contents { F.contents files.new ≡ F.contents files.old }
     ensures spelled { IfOk result (λ program. Spell (F.contents files.old path.now) program) }
+    ensures not_judged { result ≢ Err Failure.NotAccepted }
 {
     let file = read(path, files)?;
     match decode(alloc, file.as_slice()) {
@@ -28,7 +29,8 @@ pub(crate) fn program_in_file<'a, F: Files>(
 
 /// What the user is told of a file of these bytes that is no program: its name, and the fault with its slot.
 fn refused<'a>(path: &'a str, bytes: &[u8], fault: DecodeFault) -> Failure<'a>
-    ensures { result ≡ told_of_program path.entry bytes.now fault }
+    ensures told { result ≡ told_of_program path.entry bytes.now fault }
+    ensures not_judged { result ≢ Failure.NotAccepted }
 {
     match fault {
         DecodeFault::Fault(fault) => Failure::ProgramRefused {

@@ -23,8 +23,20 @@ pub(crate) struct RefusedInstruction<'p> {
 }
 
 impl RefusedInstruction<'_> {
+    /// Prints the instruction, which has this text, behind its slot, and then the reason and what is known there.
+    pub(crate) fn explain<O: Write>(
+        &self,
+        text: &str,
+        reason: Reason,
+        out: &mut O,
+    ) -> io::Result<()> {
+        let slot = self.slot;
+        writeln!(out, "{slot:4}  {text}")?;
+        self.print(reason, out)
+    }
+
     /// Prints the reason, and a line for each register that the instruction reads.
-    pub(crate) fn print<O: Write>(&self, reason: Reason, out: &mut O) -> io::Result<()> {
+    fn print<O: Write>(&self, reason: Reason, out: &mut O) -> io::Result<()> {
         write!(out, "{reason}: ")?;
         match reason {
             Reason::JumpBack | Reason::JumpOutside => self.print_target(reason, out)?,

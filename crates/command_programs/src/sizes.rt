@@ -3,7 +3,8 @@
 ghost use Rattle.std.specs.Prelude.{◌≡◌, ◌<◌, codes, IfErr, IfOk, OnErr, Some};
 ghost use Rattle.clap.specs.Matches.{found_of, first_value};
 ghost use Rattle.program_interface.specs.RunSizes.{sizes_with};
-ghost use Rattle.command_programs.specs.steps.Sizes.{IsLimit, SpellsNoLimit};
+ghost use Rattle.command_programs.specs.Asked.{IsLimit};
+ghost use Rattle.command_programs.specs.steps.Sizes.{SpellsNoLimit};
 
 use clap::ArgMatches;
 use command_files::Failure;

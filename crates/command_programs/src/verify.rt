@@ -1,7 +1,16 @@
 //! The command `verify`: says whether a program is accepted.
 
-ghost use Rattle.std.specs.Prelude.{◌≡◌};
+ghost use Rattle.std.specs.Prelude.{◌≡◌, ◌≢◌, codes, Err, Some, IfErr, IfOk, OnOk};
+ghost use Rattle.std.specs.Io.KnownBytes.{Appends};
+ghost use Rattle.clap.specs.Matches.{found_of, first_value};
+ghost use Rattle.program_interface.specs.RunSizes.{sizes_with};
+ghost use Rattle.command_files.specs.Arguments.{number_of};
+ghost use Rattle.command_programs.specs.Asked.{IsLimit};
+ghost use Rattle.command_programs.specs.MakesProgram.{program_file_of};
+ghost use Rattle.command_programs.specs.Printed.{PrintsAccepted, PrintsRefused, PrintsVerdict, SaysAccepted, SaysRefused, accepted_line, refused_line};
 
+use crate::flags::is_set;
+use crate::printing::print;
 use crate::program::program_in_file;
 use crate::refusal_lines::RefusedInstruction;
 use crate::sizes::{limit, run_sizes};
@@ -17,6 +26,7 @@ use instruction_set::Program;
 use interval_domain::Intervals;
 use program_interface::RunSizes;
 use std::alloc::{AllocError, Global};
+use std::fmt::InlineText;
 use std::io::{self, Write};
 use verifier::{Judgement, Refused, judge};
 
@@ -24,6 +34,9 @@ use verifier::{Judgement, Refused, judge};
 pub const NAME: &str = "verify";
 
 const EXPLAIN: &str = "explain";
+
+/// Room for a line with two numbers.
+type Line = InlineText<128>;
 
 const LONG_ABOUT: &str = "\
 Says whether a program is accepted for a block size and a limit of what it may emit for a block:
@@ -73,7 +86,8 @@ pub fn subcommand<'a>(alloc: Global) -> Result<Command<'a>, AllocError> {
     and_argument(command, explain)
 }
 
-/// Runs the command, which makes no file: each has the bytes that it had. What is printed isn't said.
+/// Prints whether the program that the file's bytes spell is accepted for the sizes that the options give, or the first
+/// refusal, on a line; with `--explain` words behind it, which aren't said. It makes no file: each has the bytes that it had.
 ///
 /// # Errors
 ///
@@ -85,24 +99,56 @@ pub fn verify<'a, F: Files, O: Write>(
     files: &mut F,
     out: &mut O,
 ) -> Result<(), Failure<'a>>
+    ensures accepted { let bytes = F.contents files.old (program_file_of matches.now) in
+        OnOk result (PrintsAccepted matches.now bytes (O.contents out.old) (O.contents out.new)) }
+    ensures refused { let bytes = F.contents files.old (program_file_of matches.now) in
+        result ≡ Err Failure.NotAccepted → PrintsRefused matches.now bytes (O.contents out.old) (O.contents out.new) }
     ensures made { F.made files.new ≡ F.made files.old }
     ensures contents { F.contents files.new ≡ F.contents files.old }
 {
-    let (block, limit) = (number(matches, BLOCK_OPTION)?, limit(matches)?);
+    let (block, limit) = numbers_asked(matches)?;
     let program = program_in_file(alloc, required(matches, PROGRAM), files)?;
-    let sizes = run_sizes(block_size(block)?, limit)?;
-    let judgement = judge::<Intervals>(alloc, &program, sizes)?;
-    let instructions = program.instruction_count();
-    match judgement {
+    let sizes = sizes_with(block, limit)?;
+    say(alloc, &program, sizes, is_set(matches, EXPLAIN), out)
+}
+
+/// The bytes of a block, and the most that may be emitted for one, as the options give them.
+fn numbers_asked<'a>(matches: &ArgMatches<'a>) -> Result<(u32, u32), Failure<'a>>
+    ensures block { IfOk result (λ asked. number_of matches.now (codes "block") ≡ Some asked.0) }
+    ensures limit { IfOk result (λ asked. IsLimit matches.now (first_value (found_of matches.now) (codes "emit")) asked.1) }
+    ensures not_judged { result ≢ Err Failure.NotAccepted }
+{
+    let block = number(matches, BLOCK_OPTION)?;
+    let limit = limit(matches)?;
+    Ok((block, limit))
+}
+
+/// The sizes of a run with these numbers.
+fn sizes_with<'a>(block: u32, limit: u32) -> Result<RunSizes, Failure<'a>>
+    ensures sizes { IfOk result (λ sizes. sizes_with block limit ≡ Some sizes) }
+    ensures not_judged { result ≢ Err Failure.NotAccepted }
+{
+    run_sizes(block_size(block)?, limit)
+}
+
+/// Judges a program, and prints whether it is accepted; with words behind that, where these are asked for.
+fn say<'a, O: Write>(
+    alloc: Global,
+    program: &Program,
+    sizes: RunSizes,
+    explained: bool,
+    out: &mut O,
+) -> Result<(), Failure<'a>>
+    ensures accepted { OnOk result (SaysAccepted program.now sizes explained (O.contents out.old) (O.contents out.new)) }
+    ensures refused { result ≡ Err Failure.NotAccepted
+        → SaysRefused program.now sizes explained (O.contents out.old) (O.contents out.new) }
+{
+    match judge::<Intervals>(alloc, program, sizes)? {
         Judgement::Accepted { most_emitted } => {
-            let explained = matches.get_flag(EXPLAIN).then_some(most_emitted);
-            printed(print_accepted(instructions, explained, out))
+            say_accepted(program.instruction_count(), most_emitted, explained, out)
         }
         Judgement::Refused(Refused { refusal, facts }) => {
-            printed(print_refused(refusal, out))?;
-            if matches.get_flag(EXPLAIN) {
-                explain_refused(alloc, &program, sizes, refusal, &*facts, out)?;
-            }
+            say_refused(alloc, program, sizes, refusal, &*facts, explained, out)?;
             Err(Failure::NotAccepted)
         }
     }
@@ -110,32 +156,76 @@ pub fn verify<'a, F: Files, O: Write>(
 
 /// Prints that a program of so many instructions is accepted and, if that is asked for, how many steps and bytes a block
 /// takes at most.
-fn print_accepted<O: Write>(
+fn say_accepted<'a, O: Write>(
     instructions: usize,
-    most_emitted: Option<usize>,
+    most_emitted: usize,
+    explained: bool,
     out: &mut O,
-) -> io::Result<()> {
-    writeln!(out, "accepted {instructions}")?;
-    if let Some(bytes) = most_emitted {
-        let taken = Counted(instructions as u64, "step");
-        let emitted = Counted(bytes as u64, "byte");
-        writeln!(out, "for a block at most {taken}, and {emitted} emitted")?;
+) -> Result<(), Failure<'a>>
+    ensures printed { OnOk result (PrintsVerdict explained (accepted_line instructions) (O.contents out.old) (O.contents out.new)) }
+    ensures failed { IfErr result (λ failure. failure ≡ Failure.CannotPrint) }
+{
+    printed(writeln!(out, "accepted {instructions}"))?;
+    if explained {
+        let words = bounds(instructions, most_emitted);
+        return print(words.as_str().as_bytes(), out);
     }
     Ok(())
 }
 
-/// Prints why a program isn't accepted: the instruction, the reason and what is known there.
-fn explain_refused<'a, O: Write>(
+/// How many steps and bytes a block takes at most, as a line.
+fn bounds(instructions: usize, most_emitted: usize) -> Line {
+    let taken = Counted(instructions as u64, "step");
+    let emitted = Counted(most_emitted as u64, "byte");
+    Line::of(format_args!("for a block at most {taken}, and {emitted} emitted\n"))
+}
+
+/// Prints the first refusal of a program and, if that is asked for, why it is refused.
+fn say_refused<'a, O: Write>(
     alloc: Global,
     program: &Program,
     sizes: RunSizes,
     refusal: Refusal,
     facts: &Facts<Intervals>,
+    explained: bool,
     out: &mut O,
-) -> Result<(), Failure<'a>> {
+) -> Result<(), Failure<'a>>
+    ensures printed { OnOk result (PrintsVerdict explained (refused_line refusal) (O.contents out.old) (O.contents out.new)) }
+    ensures not_judged { result ≢ Err Failure.NotAccepted }
+{
+    printed(print_refused(refusal, out))?;
+    if explained {
+        let words = explanation(alloc, program, sizes, refusal, facts)?;
+        return print(words.as_slice(), out);
+    }
+    Ok(())
+}
+
+/// Prints the slot of a refusal, and the number of its reason.
+fn print_refused<O: Write>(refusal: Refusal, out: &mut O) -> io::Result<()>
+    ensures { OnOk result (Appends (O.contents out.old) (O.contents out.new) (refused_line refusal)) }
+{
     let Refusal { slot, reason } = refusal;
+    let number = reason.number();
+    writeln!(out, "refused {slot} {number}")
+}
+
+/// Why a program isn't accepted, as lines: the instruction, the reason and what is known there.
+///
+/// # Errors
+///
+/// Want of memory.
+fn explanation(
+    alloc: Global,
+    program: &Program,
+    sizes: RunSizes,
+    refusal: Refusal,
+    facts: &Facts<Intervals>,
+) -> Result<Vec<u8>, AllocError> {
+    let Refusal { slot, reason } = refusal;
+    let mut words = Vec::new(alloc);
     let Some(instruction) = program.at(slot) else {
-        return Ok(());
+        return Ok(words);
     };
     let text = instruction_text(alloc, instruction)?;
     let refused = RefusedInstruction {
@@ -145,12 +235,8 @@ fn explain_refused<'a, O: Write>(
         sizes,
         facts,
     };
-    printed(writeln!(out, "{slot:4}  {text}"))?;
-    printed(refused.print(reason, out))
-}
-
-fn print_refused<O: Write>(refusal: Refusal, out: &mut O) -> io::Result<()> {
-    let Refusal { slot, reason } = refusal;
-    let number = reason.number();
-    writeln!(out, "refused {slot} {number}")
+    match refused.explain(text.as_str(), reason, &mut words) {
+        Ok(()) => Ok(words),
+        Err(_) => Err(AllocError),
+    }
 }

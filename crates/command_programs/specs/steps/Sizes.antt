@@ -1,15 +1,9 @@
 -- What a user says may be emitted for a block.
-use Rattle.std.specs.Prelude.{◌≡◌, ℕ, List, codes, Option, Some, None}
+use Rattle.std.specs.Prelude.{◌≡◌, ℕ, List, codes}
 use Rattle.std.specs.Borrow.{Bor}
 use Rattle.clap.specs.declared.parser.matches.ArgMatches.{ArgMatches}
 use Rattle.command_files.specs.declared.failure.Failure.{Failure}
-use Rattle.command_files.specs.Arguments.{number_of}
 use Rattle.command_files.specs.UserTold.{SpellsNone}
-
--- as many bytes may be emitted as `--emit` says, or none where it says nothing
-abbrev pub IsLimit : ArgMatches → Option (List ℕ) → ℕ → Type 0
-IsLimit matches None limit = limit ≡ 0
-IsLimit matches (Some word) limit = number_of matches (codes "emit") ≡ Some limit
 
 -- the failure tells `--emit`, whose word is no number of 32 bits
 pub record SpellsNoLimit (matches : ArgMatches) (failure : Failure) : Type 0 where

@@ -1,0 +1,9 @@
+use Rattle.std.proofs.Common.{rules}
+use Rattle.command_programs.specs.Printed.{accepted_line}
+use Rattle.command_programs.proofs.Verdicts.{says_more}
+use Rattle.command_programs.proofs.verify.say_accepted.Goals as goal
+
+pub returns-then-explained-clause-printed : goal.returns-then-explained-clause-printed
+returns-then-explained-clause-printed g c =
+    says_more c.print.result c.args.explained (accepted_line c.args.instructions) c.as_bytes.result.now (g.O.Write.contents c.args.out.now)
+    (g.O.Write.contents c.writeln.new.self) (g.O.Write.contents c.print.new.out) c.if-explained.true (search rules) c.print.ensures.printed
