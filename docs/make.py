@@ -36,7 +36,7 @@ PROMISE_NOTHING = re.compile(r"bench_\w+|\w+_tests|test_inputs|compiled_filters"
 # functions that no other crate can call, whose contracts are promises to the user all the same; those not found yet
 INSIDE = {
     *("command_files: DataFault::number", "command_programs: program::refused", "command_programs: unpack::refused"),
-    *("command_programs: sizes::limit", "command_programs: sizes::run_sizes", "command_programs: trace::first_and_only"),
+    *("command_programs: sizes::limit", "command_programs: sizes::run_sizes", "command_programs: trace::context_of"),
     *("command_entry: printing::print", "command_entry: identifiers::next_identifier", "command_entry: adding::add"),
     *("command_explain: Waiting::new", "command_explain: Waiting::complete", "command_explain: explain::no_replies"),
 }

@@ -1,3 +1,4 @@
 mod Assembling
 mod Texts
+mod Tracing
 mod Verdicts

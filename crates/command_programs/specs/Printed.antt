@@ -1,5 +1,5 @@
 -- What `disasm`, `unpack` and `verify` print (profile).
-use Rattle.std.specs.Prelude.{◌≡◌, ℕ, Bool, true, false, List, [], ◌∷◌, ◌++◌, codes, Option, Some, None, Ok, IfSome}
+use Rattle.std.specs.Prelude.{◌≡◌, ℕ, Bool, true, false, List, [], ◌++◌, codes, Option, Some, None, Ok, IfSome}
 use Rattle.std.specs.Fmt.{decimal}
 use Rattle.std.specs.Io.KnownBytes.{Appends}
 use Rattle.std.specs.List.{flat_map}
@@ -16,7 +16,6 @@ use Rattle.program_interface.specs.RunSizes.{Sizes}
 use Rattle.command_files.specs.Arguments.{number_of, value_of}
 use Rattle.command_files.specs.Lines.{GrowsAround}
 use Rattle.command_programs.specs.Asked.{AsksForSizes, Spell, is_set}
-use Rattle.command_programs.specs.MakesProgram.{program_file_of}
 use Rattle.command_programs.specs.declared.unpack.TheConstants.{FILE}
 
 -- the listing of a program, with the slot of each instruction before it or without

@@ -1,10 +1,19 @@
 //! The command `trace`: one block run, step by step.
 
-ghost use Rattle.std.specs.Prelude.{◌≡◌, ◌≤◌, length};
+ghost use Rattle.std.specs.Prelude.{◌≡◌, ◌≤◌, false, codes, length, replicate, IfOk, OnOk, Some};
+ghost use Rattle.std.specs.Io.KnownBytes.{Appends};
+ghost use Rattle.clap.specs.Matches.{found_of, first_value};
 ghost use Rattle.program_meaning.specs.Step.{IsAt};
-ghost use Rattle.interp.specs.Machine.{machine_slot, steps_of, group_length};
+ghost use Rattle.interp.specs.Machine.{machine_slot, machine_state, steps_of, group_length};
 ghost use Rattle.program_interface.specs.Context.{context_bytes};
+ghost use Rattle.program_interface.specs.declared.area.TheConstants.{SCRATCH_BYTES};
+ghost use Rattle.program_meaning.specs.State.{at_start};
+ghost use Rattle.command_files.specs.Arguments.{number_of};
+ghost use Rattle.command_programs.specs.Asked.{IsLimit, is_set};
+ghost use Rattle.command_programs.specs.Traced.{PrintsTrace, exit_line, first_and_only, slot_line, trace_lines, trap_line};
 
+use crate::flags::is_set;
+use crate::printing::print;
 use crate::program::program_in_file;
 use crate::sizes::{limit, run_sizes};
 use crate::step_lines::{Emitting, print_cause, print_changes};
@@ -21,7 +30,7 @@ use program_interface::{
 };
 use program_meaning::Cause;
 use std::alloc::{AllocError, Global};
-use std::io::{self, Write};
+use std::io::Write;
 
 /// The command's name.
 pub const NAME: &str = "trace";
@@ -95,8 +104,9 @@ pub fn subcommand<'a>(alloc: Global) -> Result<Command<'a>, AllocError> {
     and_argument(command, registers)
 }
 
-/// Runs the command, which makes no file: each has the bytes that it had. What is printed isn't said. A trap is no
-/// failure.
+/// Runs the program that a file's bytes spell on the block that another's are, and prints a line for each instruction that is
+/// executed, and then how the block run ended; without `--registers` the slot of each, and nothing else. A trap is no failure.
+/// It makes no file: each has the bytes that it had.
 ///
 /// # Errors
 ///
@@ -108,6 +118,7 @@ pub fn trace<'a, F: Files, O: Write>(
     files: &mut F,
     out: &mut O,
 ) -> Result<(), Failure<'a>>
+    ensures printed { OnOk result (PrintsTrace matches.now (F.contents files.old) (O.contents out.old) (O.contents out.new)) }
     ensures made { F.made files.new ≡ F.made files.old }
     ensures contents { F.contents files.new ≡ F.contents files.old }
 {
@@ -130,12 +141,17 @@ struct TraceOptions {
     registers: bool,
 }
 
-fn asked_for<'a>(matches: &ArgMatches<'a>) -> Result<TraceOptions, Failure<'a>> {
+fn asked_for<'a>(matches: &ArgMatches<'a>) -> Result<TraceOptions, Failure<'a>>
+    ensures limit { IfOk result (λ asked. IsLimit matches.now (first_value (found_of matches.now) (codes "emit")) asked.limit) }
+    ensures argument { IfOk result (λ asked. number_of matches.now (codes "argument") ≡ Some asked.argument) }
+    ensures fuel { IfOk result (λ asked. number_of matches.now (codes "fuel") ≡ Some asked.fuel) }
+    ensures registers { IfOk result (λ asked. asked.registers ≡ is_set matches.now (codes "registers")) }
+{
     Ok(TraceOptions {
         limit: limit(matches)?,
         argument: number(matches, ARGUMENT_OPTION)?,
         fuel: number(matches, FUEL)?,
-        registers: matches.get_flag(REGISTERS),
+        registers: is_set(matches, REGISTERS),
     })
 }
 
@@ -149,9 +165,11 @@ fn run_asked<'a, O: Write>(
     out: &mut O,
 ) -> Result<(), Failure<'a>>
     requires block { length block.now ≤ LARGEST_BLOCK }
+    ensures { let lines = trace_lines program.now sizes.limit asked.fuel (first_and_only block.now sizes.block asked.argument) in
+        OnOk result (asked.registers ≡ false → Appends (O.contents out.old) (O.contents out.new) lines) }
 {
     let mut group = vec![in alloc; 0; sizes.limit() as usize]?;
-    let context = first_and_only(sizes.block(), asked.argument);
+    let context = context_of(sizes.block(), asked.argument);
     let tracer = Tracer {
         alloc,
         program,
@@ -161,7 +179,7 @@ fn run_asked<'a, O: Write>(
 }
 
 /// The context of the first and only block of a run, at LBA 0.
-fn first_and_only(block: BlockSize, argument: u32) -> [u8; CONTEXT_BYTES]
+fn context_of(block: BlockSize, argument: u32) -> [u8; CONTEXT_BYTES]
     ensures { result ≡ context_bytes (record { lba = 0; index = 0; count = 1; block = block; argument = argument }) }
 {
     let context = Context {
@@ -194,6 +212,9 @@ impl Tracer<'_> {
     ) -> Result<(), Failure<'a>>
         requires block { length block.now ≤ LARGEST_BLOCK }
         requires group { length group.old ≤ LARGEST_BLOCK }
+        ensures { let start = at_start block.now context.now (replicate SCRATCH_BYTES 0) in
+            let lines = trace_lines self.now.program.now (length group.old) fuel start in
+            OnOk result (self.now.registers ≡ false → Appends (O.contents out.old) (O.contents out.new) lines) }
     {
         let mut scratch = [0; SCRATCH_BYTES];
         let mut machine = Machine::new(block, context, &mut scratch);
@@ -214,6 +235,8 @@ impl Tracer<'_> {
         requires steps { steps_of machine.old ≡ 0 }
         requires group { length group.old ≤ LARGEST_BLOCK }
         requires used { group_length machine.old ≤ length group.old }
+        ensures { let lines = trace_lines self.now.program.now (length group.old) fuel (machine_state machine.old group.old) in
+            OnOk result (self.now.registers ≡ false → Appends (O.contents out.old) (O.contents out.new) lines) }
     {
         let limit = group.len();
         for _step in 0..fuel {
@@ -223,14 +246,13 @@ impl Tracer<'_> {
                 Step::Next => self.print_step(slot, machine, emitting, out)?,
                 Step::Exit { r0 } => {
                     self.print_step(slot, machine, emitting, out)?;
-                    let steps = machine.steps();
-                    let group = hex::encode(self.alloc, &group[..machine.group_length()])?;
-                    return printed(print_exit(out, r0, steps, group.as_str()));
+                    let emitted = &group[..machine.group_length()];
+                    return print_exit(self.alloc, r0, machine.steps(), emitted, out);
                 }
                 Step::Trap { slot, cause } => return self.print_trap(slot, cause, out),
             }
         }
-        printed(writeln!(out, "fuel"))
+        print(b"fuel\n", out)
     }
 
     /// Prints a step that was taken: the slot of its instruction and, if that is asked for, what it changed.
@@ -240,7 +262,9 @@ impl Tracer<'_> {
         machine: &Machine<'_>,
         emitting: Emitting,
         out: &mut O,
-    ) -> Result<(), Failure<'a>> {
+    ) -> Result<(), Failure<'a>>
+        ensures { OnOk result (self.now.registers ≡ false → Appends (O.contents out.old) (O.contents out.new) (slot_line slot)) }
+    {
         match self.program.at(slot) {
             Some(instruction) if self.registers => {
                 print_changes(self.alloc, slot, instruction, machine, emitting, out)
@@ -256,24 +280,46 @@ impl Tracer<'_> {
         slot: usize,
         cause: Cause,
         out: &mut O,
-    ) -> Result<(), Failure<'a>> {
-        match self.program.at(slot) {
-            Some(instruction) if self.registers => print_cause(
-                self.alloc,
-                slot,
-                instruction,
-                cause,
-                out,
-            )?,
-            _ => {}
-        }
+    ) -> Result<(), Failure<'a>>
+        ensures { OnOk result (self.now.registers ≡ false → Appends (O.contents out.old) (O.contents out.new) (trap_line slot cause)) }
+    {
+        self.print_hindered(slot, cause, out)?;
         let number = cause.number();
         printed(writeln!(out, "trap {slot} {number}"))
+    }
+
+    /// Prints an instruction that can't be done and the cause in words, if that is asked for.
+    fn print_hindered<'a, O: Write>(
+        &self,
+        slot: usize,
+        cause: Cause,
+        out: &mut O,
+    ) -> Result<(), Failure<'a>>
+        ensures { OnOk result (self.now.registers ≡ false → O.contents out.new ≡ O.contents out.old) }
+    {
+        match self.program.at(slot) {
+            Some(instruction) if self.registers => {
+                print_cause(self.alloc, slot, instruction, cause, out)
+            }
+            _ => Ok(()),
+        }
     }
 }
 
 /// Prints the end of a block run by EXIT, with what it emitted in hexadecimal.
-fn print_exit<O: Write>(out: &mut O, r0: u64, steps: u64, group: &str) -> io::Result<()> {
-    let group = if group.is_empty() { "-" } else { group };
-    writeln!(out, "exit {r0} {steps} {group}")
+fn print_exit<'a, O: Write>(
+    alloc: Global,
+    r0: u64,
+    steps: u64,
+    group: &[u8],
+    out: &mut O,
+) -> Result<(), Failure<'a>>
+    ensures { OnOk result (Appends (O.contents out.old) (O.contents out.new) (exit_line r0 steps group.now)) }
+{
+    if group.is_empty() {
+        return printed(writeln!(out, "exit {r0} {steps} -"));
+    }
+    let digits = hex::encode(alloc, group)?;
+    let digits = digits.as_str();
+    printed(writeln!(out, "exit {r0} {steps} {digits}"))
 }
