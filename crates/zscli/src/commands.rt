@@ -49,7 +49,7 @@ pub fn command<'a, F: Files, O: Write>(
 
 /// How a command line ends: also what was done in full fails where it gives a failure.
 pub fn ended<'a>(done: Result<Option<Failure<'a>>, Failure<'a>>) -> Result<(), Failure<'a>>
-    ensures { result ≡ end_of done }
+    ensures { result ≡ end_of done.entry }
 {
     match done {
         Ok(None) => Ok(()),
