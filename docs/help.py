@@ -13,7 +13,10 @@ from pathlib import Path
 from typing import Dict, Iterator, List, Optional, Tuple, Union
 
 ROOT = Path(__file__).resolve().parent.parent
-CRATES = ("zscli", "command_files", "command_images", "command_exec", "command_programs", "command_entry", "command_explain")
+CRATES = (
+    *("zscli", "command_files", "command_images", "command_exec", "command_serve"),
+    *("command_programs", "command_entry", "command_explain"),
+)
 TOKEN = re.compile(r'"(?:[^"\\]|\\.)*"|\w+(?:::\w+)*|[^\w\s]', re.S)
 CONSTANT = re.compile(r'^(?:pub(?:\(crate\))? )?const (\w+): &str =\s+("(?:[^"\\]|\\.)*");', re.M | re.S)
 IMPORT = re.compile(r"^use (?:\w+::)*?(\w+)::(?:\{(.*?)\}|(\w+));", re.M | re.S)

@@ -1,11 +1,13 @@
 -- What the proofs of other crates cite of this one.
-use Rattle.std.proofs.Common.{◌≡◌, ℕ, List, Option, Some, None, IfSome, ◌∙◌, ap, refl, subst, sym}
+use Rattle.std.proofs.Common.{◌≡◌, ℕ, List, [], ◌∷◌, ◌++◌, inl, inr, Option, Some, None, IfSome, ◌∙◌, ap, refl, subst, sym}
 use Rattle.std.specs.Borrow.{Bor}
 use Rattle.std.proofs.lemmas.Option.{IfSome_then}
 use Rattle.command_files.specs.declared.failure.Failure.{Failure}
 use Rattle.command_files.specs.declared.failure.Failure.TheVariants.{CannotRead, CannotWrite, NoMemory}
 use Rattle.command_files.specs.declared.file_cause.FileCause.{FileCause}
-use Rattle.command_files.specs.Made.{KeepsModes, KeepsOthers}
+use Rattle.command_files.specs.Made.{KeepsModes, KeepsOthers, Made, MakesAtMost, MakesOnly, then_all, then_made}
+use Rattle.command_files.specs.Surroundings.{ChangesOnly}
+use Rattle.command_files.specs.declared.files.Files.{Ghosts}
 use Rattle.command_files.specs.UserTold.{IsUnread, IsUnwritten}
 
 -- what holds where this file can't be written, for whatever cause, and where memory is wanting, holds of each such failure
@@ -51,3 +53,41 @@ itself (Some m) = refl
 -- modes that stay are kept
 pub modes_stay : (before after : List ℕ → Option ℕ) → after ≡ before → KeepsModes before after
 modes_stay before after same name = subst (λ (modes : List ℕ → Option ℕ). IfSome (before name) (λ mode. modes name ≡ Some mode)) (sym same) (itself (before name))
+
+-- modes were kept, and kept again
+modes_joined : (a b c : Option ℕ) → IfSome a (λ mode. b ≡ Some mode) → IfSome b (λ mode. c ≡ Some mode) → IfSome a (λ mode. c ≡ Some mode)
+modes_joined None b c first then = tt
+modes_joined (Some mode) b c first then = subst (λ (o : Option ℕ). IfSome o (λ m. c ≡ Some m)) first then
+
+module _ (path : List ℕ) where
+  all_joined : (before : Option (List Made)) (earlier later : List (List ℕ)) → then_all (then_all before path earlier) path later ≡ then_all before path (later ++ earlier)
+  all_joined before earlier [] = refl
+  all_joined before earlier (bytes ∷ later) = ap (λ (made : Option (List Made)). then_made made path bytes) (all_joined before earlier later)
+
+  -- at most one file with a name is only files with that name
+  pub only_one : (before after : Option (List Made)) → MakesAtMost path before after → MakesOnly path before after
+  only_one before after (inl same) = record { texts = []; made = same }
+  only_one before after (inr one) = record { texts = one.bytes ∷ []; made = one.made }
+
+  makes_more : (a b c : Option (List Made)) → MakesOnly path a b → MakesOnly path b c → MakesOnly path a c
+  makes_more a b c first then = record {
+    texts = then.texts ++ first.texts;
+    made = then.made ∙ ap (λ (made : Option (List Made)). then_all made path then.texts) first.made ∙ all_joined a first.texts then.texts;
+  }
+
+module _ {F R W : Type 0} (files : Ghosts F R W) (path : List ℕ) where
+  -- files that stay what they were
+  pub changes_none : (f : F) → ChangesOnly files path f f
+  changes_none f = record {
+    made = record { texts = []; made = refl };
+    others = λ name differs. refl;
+    modes = modes_stay (files.modes f) (files.modes f) refl;
+  }
+
+  -- files of which those with one name are made, in two parts
+  pub changes_join : (a b c : F) → ChangesOnly files path a b → ChangesOnly files path b c → ChangesOnly files path a c
+  changes_join a b c first then = record {
+    made = makes_more path (files.made a) (files.made b) (files.made c) first.made then.made;
+    others = λ name differs. then.others name differs ∙ first.others name differs;
+    modes = λ name. modes_joined (files.modes a name) (files.modes b name) (files.modes c name) (first.modes name) (then.modes name);
+  }

@@ -9,6 +9,8 @@ use Rattle.ebpf_decode.specs.Fault.{fault_number as program_number}
 use Rattle.ebpf_decode.specs.declared.refusal.ProgramRefusal.{ProgramRefusal}
 use Rattle.emit_append.specs.Refusal.{refused_byte}
 use Rattle.emit_append.specs.declared.refusal.FrameRefusal.{FrameRefusal}
+use Rattle.event_frames.specs.Faults.{expected_words, field_number}
+use Rattle.event_frames.specs.declared.fault.Field.{Field}
 use Rattle.image_text.specs.Fault.{load_number}
 use Rattle.image_store.specs.Geometry.{geometry_refusal_number as geometry_number}
 use Rattle.image_text.specs.declared.fault.LoadFault.{LoadFault}
@@ -20,7 +22,7 @@ use Rattle.command_files.specs.declared.data_fault.DataFault.{DataFault}
 use Rattle.command_files.specs.declared.failure.Failure.{Failure}
 use Rattle.command_files.specs.declared.file_cause.FileCause.{FileCause}
 use Rattle.command_files.specs.declared.file_cause.FileCause.TheVariants.{Other}
-use Rattle.command_files.specs.declared.failure.Failure.TheVariants.{CommandLine, NotText, NotInRange, CannotRead, CannotWrite, NotAnImage, CannotPrint, NoMemory, LineRefused, ReplyRefused, WordsRefused, CommandsRefused, GeometryRefused, NotABlock, EmitExceedsBlock, ImageRefused, AssemblyRefused, ProgramRefused, FrameRefused, DataRefused, NotAccepted}
+use Rattle.command_files.specs.declared.failure.Failure.TheVariants.{CommandLine, NotText, NotInRange, CannotRead, CannotWrite, NotAnImage, CannotPrint, NoMemory, LineRefused, ReplyRefused, WordsRefused, CommandsRefused, GeometryRefused, NotABlock, EmitExceedsBlock, ImageRefused, AssemblyRefused, ProgramRefused, FrameRefused, DataRefused, StreamRefused, StreamCutOff, NotAccepted}
 
 -- a text: one that is said here, one around words that another crate has, one that another crate has, or none
 pub data Text : Type 0 where
@@ -134,6 +136,20 @@ emit_text emit block =
     Said (codes "--emit gives " ++ decimal emit ++ codes " bytes, and a block has " ++ decimal block
     ++ 10 ∷ codes "emit exceeds block" ++ 10 ∷ [])
 
+-- a byte of standard input, why the stream is refused there, and the line for scripts
+abbrev pub at_byte : ℕ → List ℕ → ℕ → Text
+at_byte place words number =
+    Said (codes "standard input, byte " ++ decimal place ++ codes ": " ++ words ++ codes " is expected\nstream refused " ++ decimal place
+    ++ codes " " ++ decimal number ++ codes "\n")
+
+-- a byte that no frame has there
+abbrev pub stream_text : ℕ → Field → Text
+stream_text place field = at_byte place (expected_words field) (field_number field)
+
+-- a stream that ends within a frame
+abbrev pub cut_off_text : ℕ → Text
+cut_off_text place = at_byte place (codes "the end of the input; the rest of a frame") 7
+
 -- what the user is told of each failure
 abbrev pub failure_text : Failure → Text
 failure_text (CommandLine error) = Elsewhere
@@ -156,6 +172,8 @@ failure_text (AssemblyRefused path refusal) = assembly_text (shown path.now) ref
 failure_text (ProgramRefused path refusal) = program_text (shown path.now) refusal
 failure_text (FrameRefused path refusal) = frame_text (shown path.now) refusal
 failure_text (DataRefused path fault) = data_failure_text (shown path.now) fault
+failure_text (StreamRefused place field) = stream_text place field
+failure_text (StreamCutOff place) = cut_off_text place
 failure_text NotAccepted = Silence
 
 -- a stream grows by some words, with this in front of them and that behind them

@@ -28,6 +28,20 @@ MakesAtMost path before after = (after ≡ before) ⊎ MakesOne path before afte
 abbrev pub MakesAtMostOne : Option (List Made) → Option (List Made) → Type 0
 MakesAtMostOne before after = (after ≡ before) ⊎ ((path : List ℕ) × MakesOne path before after)
 
+-- what was made before, where that is told, and then files of these bytes with this name, of which the last stands first
+abbrev pub then_all : Option (List Made) → List ℕ → List (List ℕ) → Option (List Made)
+then_all before path [] = before
+then_all before path (bytes ∷ earlier) = then_made (then_all before path earlier) path bytes
+
+-- none is made, or some with this name, one behind another
+pub record MakesOnly (path : List ℕ) (before after : Option (List Made)) : Type 0 where
+  pub texts : List (List ℕ)
+  pub made : after ≡ then_all before path texts
+
+-- none is made, or some with one name
+abbrev pub MakesOneName : Option (List Made) → Option (List Made) → Type 0
+MakesOneName before after = (path : List ℕ) × MakesOnly path before after
+
 -- the bytes of every name but this are what they were
 abbrev pub KeepsOthers : List ℕ → (List ℕ → Option (List ℕ)) → (List ℕ → Option (List ℕ)) → Type 0
 KeepsOthers path before after = (name : List ℕ) → name ≢ path → after name ≡ before name

@@ -1,6 +1,6 @@
 -- What stands around a command.
 use Rattle.std.specs.Prelude.{ℕ, List, Option}
-use Rattle.command_files.specs.Made.{Made}
+use Rattle.command_files.specs.Made.{KeepsModes, KeepsOthers, Made, MakesOnly}
 use Rattle.command_files.specs.declared.files.Files.{Ghosts}
 
 -- what a command finds and leaves of files
@@ -24,3 +24,9 @@ around files reads writes old new = record {
   before = files.made old;
   after = files.made new;
 }
+
+-- files with this name alone are made, every other has the bytes that it had, and each has the permissions that it had
+pub record ChangesOnly {F R W : Type 0} (files : Ghosts F R W) (path : List ℕ) (old new : F) : Type 0 where
+  pub made : MakesOnly path (files.made old) (files.made new)
+  pub others : KeepsOthers path (files.contents old) (files.contents new)
+  pub modes : KeepsModes (files.modes old) (files.modes new)

@@ -9,7 +9,7 @@ use image_text::{Sink, Source, StreamFault};
 use std::alloc::{AllocError, Global};
 use std::fs::File;
 use std::io::{BufReader, BufWriter, ErrorKind, Read, Write};
-use std::{fs, io, rt};
+use std::{fs, io, mem, rt};
 
 /// How many names for a file that isn't finished are tried: others are then in use.
 const MOST_NAMES: u32 = 1000;
@@ -99,13 +99,18 @@ impl<R: rt::Files<File = File> + AllocGlobal> Files for Disk<'_, R> {
     }
 
     fn finish(&mut self, _path: &str, mut file: FileWriter) -> Result<(), FileFault> {
-        let finished = put_in_place(self.rt, self.held.as_ref().unwrap(), &mut file);
-        if finished.is_err() {
-            self.discard(file);
+        match put_in_place(self.rt, self.held.as_ref().unwrap(), &mut file) {
+            Ok(()) => {
+                // The new file was held from the first on, so that none comes between.
+                hold_finished(&mut self.held, file.created);
+                Ok(())
+            }
+            Err(fault) => {
+                self.discard(file);
+                self.held = None;
+                Err(fault)
+            }
         }
-        // The file of before is held until the new one stands in its place.
-        self.held = None;
-        finished
     }
 
     fn discard(&mut self, file: FileWriter) {
@@ -188,6 +193,19 @@ fn put_in_place<R: rt::Files<File = File>>(
     file.file.get_ref().sync_all()?;
     give_name(rt, held, file.name.as_str())?;
     Ok(fs::open(rt, folder_of(held.target.as_str()))?.sync_all()?)
+}
+
+/// Holds a file that has its name now in place of the one that had it.
+fn hold_finished(held: &mut Option<HeldName>, created: HeldFile)
+    ensures { option_map (λ held. string_bytes held.name) held.new ≡ option_map (λ held. string_bytes held.name) held.old }
+{
+    if let Some(name) = held {
+        let before = mem::replace(&mut name.file, None);
+        name.file = Some(match before {
+            Some(before) => created.after(before),
+            None => created,
+        });
+    }
 }
 
 /// Gives a file the name that is held, in place of the file that is held. Where none is, no file that another command has made

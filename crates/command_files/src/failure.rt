@@ -12,6 +12,7 @@ use crate::file_cause::FileCause;
 use ebpf_asm::AssemblyRefusal;
 use ebpf_decode::ProgramRefusal;
 use emit_append::FrameRefusal;
+use event_frames::Field;
 use event_text::{LineFault, ParseFault};
 use image_store::GeometryRefusal;
 use image_text::LoadFault;
@@ -103,6 +104,15 @@ pub enum Failure<'a> {
         path: &'a str,
         fault: DataFault,
     },
+    /// A byte of standard input, counted from 0 on, that no frame of a request has there, in this field of its header.
+    StreamRefused {
+        place: u64,
+        field: Field,
+    },
+    /// Standard input ends within a frame, where this byte was to come.
+    StreamCutOff {
+        place: u64,
+    },
     /// A program that the verifier refuses. What it says stands on standard output alone.
     NotAccepted,
 }
@@ -156,6 +166,8 @@ impl<'a> Failure<'a> {
             | Failure::ProgramRefused { .. }
             | Failure::FrameRefused { .. }
             | Failure::DataRefused { .. }
+            | Failure::StreamRefused { .. }
+            | Failure::StreamCutOff { .. }
             | Failure::NotAccepted => 3,
             Failure::CommandsRefused { .. } => 4,
             Failure::WordsRefused { status, .. } => *status,

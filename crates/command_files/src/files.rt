@@ -85,7 +85,7 @@ pub trait Files {
         ensures bytes { Self.Reader.tells → IfOk result (λ file. AreAsTold (contents self.old path.now) (Self.Reader.rest file)) };
 
     /// Holds a name, whether or not a file has it: no other command replaces the file that the name leads to, until this one
-    /// has finished a new file, holds another name or ends.
+    /// fails to finish a new file, holds another name or ends.
     ///
     /// # Errors
     ///
@@ -141,12 +141,12 @@ pub trait Files {
 
     /// Gives a file that was begun the name that is held, in place of the file with this name, whose permissions it has
     /// then. Where files tell their bytes, it has just those that were written, and each other what it had; where this
-    /// fails, each has. The name is held no longer.
+    /// fails, each has. The name is held still, and the new file with it.
     ///
     /// # Errors
     ///
     /// It can't be finished, and is forgotten then: the file with this name is as it was, unless
-    /// the new one has its name and only its folder couldn't be brought to the disk.
+    /// the new one has its name and only its folder couldn't be brought to the disk. No name is held then.
     fn finish(&mut self, path: &str, file: Self::Writer) -> Result<(), FileFault>
         requires { held self.old ≡ Some path.now }
         ensures made { OnOk result (made self.new ≡ then_made (made self.old) path.now (Self.Writer.taken file)) }
@@ -155,7 +155,8 @@ pub trait Files {
         ensures contents { OnErr result (contents self.new ≡ contents self.old) }
         ensures modes { OnOk result (KeepsModes (modes self.old) (modes self.new)) }
         ensures modes_left { OnErr result (modes self.new ≡ modes self.old) }
-        ensures held { held self.new ≡ None };
+        ensures held { OnOk result (held self.new ≡ held self.old) }
+        ensures released { OnErr result (held self.new ≡ None) };
 
     /// Forgets a file that was begun.
     fn discard(&mut self, file: Self::Writer)

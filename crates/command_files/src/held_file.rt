@@ -57,6 +57,7 @@ impl HeldFile {
         mode: u32,
     ) -> Result<Option<HeldFile>, FileFault> {
         match OpenOptions::new()
+            .read(true)
             .write(true)
             .create_new(true)
             .mode(mode)
@@ -117,6 +118,14 @@ impl HeldFile {
         let mut file = self.handle()?;
         file.rewind()?;
         Ok(file)
+    }
+
+    /// This file, which took after another one and stands in its place now.
+    pub(crate) fn after(self, before: HeldFile) -> HeldFile {
+        HeldFile {
+            file: self.file,
+            metadata: before.metadata,
+        }
     }
 
     /// Gives this file the permissions of another one, and its owner, where the system lets it.

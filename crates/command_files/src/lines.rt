@@ -3,7 +3,7 @@
 ghost use Rattle.std.specs.Prelude.{◌++◌, IfSome, OnOk};
 ghost use Rattle.std.specs.Io.KnownBytes.{Appends};
 ghost use Rattle.command_files.specs.Shown.{shown};
-ghost use Rattle.command_files.specs.Lines.{IsPrinted, IsTold, PrintsRefusal, PrintsSentence, assembly_text, at_line, cause_sentence, commands_text, data_failure_text, emit_text, frame_text, geometry_text, image_text, line, line_front, line_failure_text, not_an_image_text, not_a_block_text, program_text, range_text, reply_failure_text, unread_text, unwritten_text};
+ghost use Rattle.command_files.specs.Lines.{IsPrinted, IsTold, PrintsRefusal, PrintsSentence, assembly_text, at_byte, at_line, cause_sentence, commands_text, cut_off_text, data_failure_text, emit_text, frame_text, geometry_text, image_text, line, line_front, line_failure_text, not_an_image_text, not_a_block_text, program_text, range_text, reply_failure_text, stream_text, unread_text, unwritten_text};
 
 use crate::data_fault::DataFault;
 use crate::failure::Failure;
@@ -12,6 +12,7 @@ use crate::shown::Shown;
 use ebpf_asm::AssemblyRefusal;
 use ebpf_decode::ProgramRefusal;
 use emit_append::FrameRefusal;
+use event_frames::Field;
 use event_text::LineFault;
 use image_store::GeometryRefusal;
 use image_text::LoadFault;
@@ -68,6 +69,8 @@ impl Failure<'_> {
             Failure::ProgramRefused { path, refusal } => print_program(out, path, *refusal),
             Failure::FrameRefused { path, refusal } => print_frame(out, path, *refusal),
             Failure::DataRefused { path, fault } => print_data(out, path, *fault),
+            Failure::StreamRefused { place, field } => print_stream(out, *place, *field),
+            Failure::StreamCutOff { place } => print_cut_off(out, *place),
             Failure::NotAccepted => Ok(()),
         }
     }
@@ -249,6 +252,28 @@ fn print_data<W: Write>(out: &mut W, path: &str, fault: DataFault) -> io::Result
         ": ",
         fault,
         format_args!("data refused {number}"),
+    )
+}
+
+fn print_stream<W: Write>(out: &mut W, place: u64, field: Field) -> io::Result<()>
+    ensures { OnOk result (IsPrinted (stream_text place field) (W.contents out.old) (W.contents out.new)) }
+{
+    print_at_byte(out, place, field.expected(), field.number())
+}
+
+fn print_cut_off<W: Write>(out: &mut W, place: u64) -> io::Result<()>
+    ensures { OnOk result (IsPrinted (cut_off_text place) (W.contents out.old) (W.contents out.new)) }
+{
+    print_at_byte(out, place, "the end of the input; the rest of a frame", 7)
+}
+
+/// Prints a sentence on a byte of standard input, and a line for scripts.
+fn print_at_byte<W: Write>(out: &mut W, place: u64, expected: &str, number: u8) -> io::Result<()>
+    ensures { OnOk result (IsPrinted (at_byte place expected.now number) (W.contents out.old) (W.contents out.new)) }
+{
+    write!(
+        out,
+        "standard input, byte {place}: {expected} is expected\nstream refused {place} {number}\n"
     )
 }
 

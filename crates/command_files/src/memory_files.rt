@@ -183,8 +183,11 @@ impl Files for MemoryFiles {
     }
 
     fn finish(&mut self, path: &str, file: MemoryWriter) -> Result<(), FileFault> {
-        self.held = None;
-        Ok(self.put(path, file.bytes.as_slice())?)
+        if self.put(path, file.bytes.as_slice()).is_err() {
+            self.held = None;
+            return Err(FileFault::Memory);
+        }
+        Ok(())
     }
 
     fn discard(&mut self, _file: MemoryWriter) {}

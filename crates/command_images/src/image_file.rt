@@ -149,6 +149,8 @@ pub fn save<'a, F: Files>(image: &Image, path: &'a str, files: &mut F) -> Result
     ensures kept { OnErr result (F.made files.new ≡ F.made files.old) }
     ensures contents { OnErr result (F.contents files.new ≡ F.contents files.old) }
     ensures modes { OnOk result (KeepsModes (F.modes files.old) (F.modes files.new)) }
+    ensures modes_left { OnErr result (F.modes files.new ≡ F.modes files.old) }
+    ensures held { OnOk result (F.held files.new ≡ F.held files.old) }
     ensures unwritten { IfErr result (IsUnwritten path.entry) }
     ensures not_printing { result ≢ Err Failure.CannotPrint }
 {
@@ -183,6 +185,8 @@ pub fn save_changes<'a, F: Files>(
     ensures kept { OnErr result (F.made files.new ≡ F.made files.old) }
     ensures contents { OnErr result (F.contents files.new ≡ F.contents files.old) }
     ensures modes { OnOk result (KeepsModes (F.modes files.old) (F.modes files.new)) }
+    ensures modes_left { OnErr result (F.modes files.new ≡ F.modes files.old) }
+    ensures held { OnOk result (F.held files.new ≡ F.held files.old) }
     ensures failed { IfErr result (IsUnheld path.entry) }
     ensures not_printing { result ≢ Err Failure.CannotPrint }
 {

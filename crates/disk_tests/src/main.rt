@@ -22,7 +22,8 @@ fn main(rt: HostRuntime) -> io::Result<()> {
     finish(&mut files, "missing/made", &mut out)?;
     finish(&mut files, "new", &mut out)?;
     finish(&mut files, ".", &mut out)?;
-    discard(&mut files, "made", &mut out)
+    discard(&mut files, "made", &mut out)?;
+    finish_twice(&mut files, &mut Disk::new(&rt), "made", &mut out)
 }
 
 /// Reads a whole file.
@@ -82,6 +83,46 @@ fn finish<F: Files, W: Write>(files: &mut F, path: &str, out: &mut W) -> io::Res
                 Err(fault) => failed("finish", path, fault, out),
             }
         }
+        Err(fault) => failed("begin", path, fault, out),
+    }
+}
+
+/// Makes a file twice under one hold, which others can't have between.
+fn finish_twice<F: Files, W: Write>(
+    files: &mut F,
+    others: &mut F,
+    path: &str,
+    out: &mut W,
+) -> io::Result<()> {
+    match begun(files, path) {
+        Ok(file) => match files.finish(path, file) {
+            Ok(()) => {
+                hold(others, path, out)?;
+                finish_empty(files, path, out)
+            }
+            Err(fault) => failed("finish", path, fault, out),
+        },
+        Err(fault) => failed("begin", path, fault, out),
+    }
+}
+
+/// Holds a name.
+fn hold<F: Files, W: Write>(files: &mut F, path: &str, out: &mut W) -> io::Result<()> {
+    match files.hold(path) {
+        Ok(()) => writeln!(out, "hold {path}: held"),
+        Err(fault) => failed("hold", path, fault, out),
+    }
+}
+
+/// Makes a file of no bytes whose name is held, and reads it.
+fn finish_empty<F: Files, W: Write>(files: &mut F, path: &str, out: &mut W) -> io::Result<()>
+    requires { F.held files.old ≡ Some path.now }
+{
+    match files.begin(path) {
+        Ok(file) => match files.finish(path, file) {
+            Ok(()) => read(files, path, out),
+            Err(fault) => failed("finish", path, fault, out),
+        },
         Err(fault) => failed("begin", path, fault, out),
     }
 }

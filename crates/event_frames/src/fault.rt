@@ -1,7 +1,7 @@
 //! Why a stream isn't read on.
 
 ghost use Rattle.std.specs.Prelude.{◌≡◌};
-ghost use Rattle.event_frames.specs.Faults.{field_number, refused_at};
+ghost use Rattle.event_frames.specs.Faults.{expected_words, field_number, refused_at};
 
 /// A field of a header.
 #[derive(Clone, Copy, Debug, PartialEq, Eq)]
@@ -40,8 +40,22 @@ pub enum StreamFault {
 }
 
 impl Field {
+    /// What a byte of this field is to be a part of.
+    pub fn expected(self) -> &'static str
+        ensures { result.now ≡ expected_words self }
+    {
+        match self {
+            Field::Kind => "a kind of request, from 1 to 5",
+            Field::Part => "the run of a turn, or 1 or 2 of a fault, or else 0",
+            Field::Queue => "the queue of a submission, or else 0",
+            Field::Number => "the zone of a fault or the turns of a drain, or else 0",
+            Field::Length => "the bytes of a submission's data, at most 131072, or else 0",
+            Field::Zeros => "0",
+        }
+    }
+
     /// The number of a fault of this field, from 1 to 6.
-    fn number(self) -> u8
+    pub fn number(self) -> u8
         ensures { result ≡ field_number self }
     {
         match self {

@@ -1,6 +1,6 @@
 //! A stream of frames, in any pieces.
 
-ghost use Rattle.std.specs.Prelude.{◌≡◌, ◌≤◌, ◌+◌, ◌↔◌, [], length, IfErr, IfOk, IsTrue, MatchOption, None, OnErr, OnOk, Some};
+ghost use Rattle.std.specs.Prelude.{◌≡◌, ◌≤◌, ◌<◌, ◌+◌, ◌↔◌, [], length, IfErr, IfOk, IsTrue, MatchOption, None, OnErr, OnOk, Some};
 ghost use Rattle.event_frames.specs.Requests.{told_of};
 ghost use Rattle.event_frames.specs.Streams.{Breaks, IsPartial, Takes, behind};
 ghost use Rattle.event_frames.specs.steps.Held.{Finishes, IsHeld, fault_at};
@@ -107,6 +107,7 @@ impl Session {
         ensures whole { OnOk result (self.now.pending ≡ []) }
         ensures healthy { OnOk result (self.now.fault ≡ None) }
         ensures again { (fault : StreamFault) → self.now.fault ≡ Some fault → result ≡ Err fault }
+        ensures some { self.now.fault ≡ None → OnErr result (0 < length self.now.pending) }
         ensures cut_off { self.now.fault ≡ None
             → IfErr result (λ fault. fault ≡ StreamFault.CutOff (behind self.now.place (length self.now.pending))) }
     {

@@ -39,7 +39,7 @@ lines-ended : (front : List ℕ) → lines (ended front) ≡ map strip_carriage_
 lines-ended front = lines-joined front [] ∙ append-nil (map strip_carriage_return (slice_split is_newline front))
 
 -- a file and what stands behind its last line's end
-lines-behind : (front behind : List ℕ) → lines (ended front ++ behind) ≡ lines (ended front) ++ lines behind
+pub lines-behind : (front behind : List ℕ) → lines (ended front ++ behind) ≡ lines (ended front) ++ lines behind
 lines-behind front behind =
     ap lines (append_assoc front (10 ∷ []) behind) ∙ lines-joined front behind ∙ ap (λ (ls : List (List ℕ)). ls ++ lines behind) (sym (lines-ended front))
 
@@ -77,7 +77,9 @@ events_from-append number count (line ∷ rest) behind e =
     ap (line_before number (line_told line)) (events_from-append (number + 1) count rest behind (omega (arith, e)))
     ∙ line_joined number count (line_told line) (events_from (number + 1) rest) (events_from 1 behind)
 
+-- the events of lines, counted from 1 on, that follow others
+pub events_joined : (ls behind : List (List ℕ)) → events_from 1 (ls ++ behind) ≡ told_by_both (length ls) (events_from 1 ls) (events_from 1 behind)
+events_joined ls behind = events_from-append 1 (length ls) ls behind (omega arith)
+
 pub events_are_by_line : EventsAreByLine
-events_are_by_line first second =
-    let before = lines (ended first) in
-    ap (events_from 1) (lines-behind first second) ∙ events_from-append 1 (length before) before (lines second) (omega arith)
+events_are_by_line first second = ap (events_from 1) (lines-behind first second) ∙ events_joined (lines (ended first)) (lines second)

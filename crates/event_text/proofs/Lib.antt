@@ -10,3 +10,4 @@ mod SpelledEvents
 mod SubmissionLemmas
 mod WordLemmas
 mod WordedLines
+pub mod Proved

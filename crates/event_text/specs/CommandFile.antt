@@ -1,5 +1,5 @@
 -- Command files (profile): a list of events as text, one on a line.
-use Rattle.std.specs.Prelude.{ℕ, Bool, ◌+◌, ◌^◌, nat_lt, length, List, [], ◌∷◌, Option, Some, None, option_and_then, option_map, Result, Ok, Err, codes, if◌then◌else◌}
+use Rattle.std.specs.Prelude.{◌≡◌, ℕ, Bool, ◌+◌, ◌^◌, nat_lt, length, List, [], ◌∷◌, Option, Some, None, option_and_then, option_map, Result, Ok, Err, codes, if◌then◌else◌}
 use Rattle.std.specs.List.{list_all}
 use Rattle.std.specs.Char.{is_ascii}
 use Rattle.std.specs.Str.{bytes_eq}
@@ -15,6 +15,8 @@ use Rattle.text_lines.specs.Cut.{uncommented}
 use Rattle.text_lines.specs.Number.{decimal_of}
 use Rattle.device_events.specs.declared.event.Event.{Event}
 use Rattle.device_events.specs.declared.event.Event.TheVariants as event
+use Rattle.event_text.specs.declared.command_file.EventFault.{EventFault}
+use Rattle.event_text.specs.declared.command_file.EventFault.TheVariants as event_fault
 use Rattle.event_text.specs.declared.command_file.ParseFault.{ParseFault}
 use Rattle.event_text.specs.declared.command_file.ParseFault.TheVariants.{Line, Memory}
 use Rattle.text_lines.specs.Texts.{one_of, two_of}
@@ -109,3 +111,13 @@ worded_lines file = worded_from 1 (lines file)
 abbrev pub refused_line : ParseFault → Option ℕ
 refused_line (Line number fault) = Some number
 refused_line Memory = None
+
+-- words or a line that are refused have no meaning, or memory ran out
+abbrev pub IsRefused : {X : Type 0} → EventFault → Option X → Type 0
+IsRefused (event_fault.Refused fault) meant = meant ≡ None
+IsRefused event_fault.Memory meant = Unit {0}
+
+-- what a line tells is given, or it is refused
+abbrev pub GivesLine : Result (Option Event) EventFault → Option (Option ToldEvent) → Type 0
+GivesLine (Ok event) meant = meant ≡ Some (option_map told_of event)
+GivesLine (Err error) meant = IsRefused error meant

@@ -16,8 +16,8 @@ ghost use Rattle.text_lines.specs.Number.{decimal_of};
 ghost use Rattle.event_text.specs.Words.{words_of};
 ghost use Rattle.event_text.specs.declared.command_file.EventFault.TheVariants.{Refused};
 ghost use Rattle.event_text.specs.declared.command_file.ParseFault.TheVariants.{Memory};
-ghost use Rattle.event_text.specs.CommandFile.{told_of, submission_of, turn_of, fault_of, state_named, event_named as named_event, line_told, events_in, refused_line};
-ghost use Rattle.event_text.specs.steps.ReadLines.{entry_fault as fault_of_entry, data_fault as fault_of_data, GivesEvent, GivesLine};
+ghost use Rattle.event_text.specs.CommandFile.{told_of, submission_of, turn_of, fault_of, state_named, event_named as named_event, line_told, events_in, refused_line, GivesLine};
+ghost use Rattle.event_text.specs.steps.ReadLines.{entry_fault as fault_of_entry, data_fault as fault_of_data, GivesEvent};
 
 use crate::fault::LineFault;
 use crate::words::Words;
@@ -46,8 +46,10 @@ pub enum ParseFault {
 
 /// Why a line isn't read.
 #[derive(Clone, Copy, Debug, PartialEq, Eq)]
-enum EventFault {
+pub enum EventFault {
+    /// It isn't of the form.
     Refused(LineFault),
+    /// No memory for its event.
     Memory,
 }
 
@@ -77,8 +79,12 @@ pub fn parse(alloc: Global, file: &[u8]) -> Result<Vec<Event>, ParseFault>
     Ok(events)
 }
 
-/// The event of a line, or `None` where the line has no words.
-fn event_of(alloc: Global, line: &[u8]) -> Result<Option<Event>, EventFault>
+/// The event of a line without its end, or `None` where the line has no words.
+///
+/// # Errors
+///
+/// The line isn't of the form, or want of memory before that was found.
+pub fn event_of(alloc: Global, line: &[u8]) -> Result<Option<Event>, EventFault>
     ensures { GivesLine result (line_told line.now) }
 {
     if !is_all_ascii(line) {

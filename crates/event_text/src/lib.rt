@@ -11,7 +11,7 @@ mod reply_file;
 mod submission;
 mod words;
 
-pub use command_file::{ParseFault, parse};
+pub use command_file::{EventFault, ParseFault, event_of, parse};
 pub use fault::LineFault;
 pub use lines::Lines;
 pub use positions::event_lines;

@@ -2,7 +2,7 @@
 
 ghost use Rattle.std.specs.Prelude.{◌≡◌, ◌≤◌, ◌<◌, ◌+◌, ◌^◌, ◌++◌, length, IfOk, OnOk};
 ghost use Rattle.std.proofs.Common.{◌∙◌, refl};
-ghost use Rattle.std.specs.Io.KnownBytes.{Appends};
+ghost use Rattle.std.specs.Io.KnownBytes.{Appends, Keeps};
 ghost use Rattle.hex.specs.Hex.{encode_lower};
 ghost use Rattle.common_definitions.specs.Failures.{CountsFailure};
 ghost use Rattle.device_events.proofs.Proved.{prints_in_parts, prints_none};
@@ -44,6 +44,19 @@ impl<'a, W: Write> Lines<'a, W> {
             line,
             refusals: 0,
         })
+    }
+
+    /// Hands on at once what it printed.
+    ///
+    /// # Errors
+    ///
+    /// What it prints to can't hand it on.
+    pub fn flush(&mut self) -> io::Result<()>
+        ensures same_writer { self.new.out.ghost_name ≡ self.old.out.ghost_name }
+        ensures same_count { self.new.refusals ≡ self.old.refusals }
+        ensures kept { Keeps (W.contents self.old.out.now) (W.contents self.new.out.now) }
+    {
+        self.out.flush()
     }
 
     /// What it printed to.

@@ -1,6 +1,7 @@
 -- How many files a command makes.
-use Rattle.std.proofs.Common.{◌≡◌, ◌≢◌, ℕ, List, Option, Result, Ok, Err, OnOk, IfErr, inl, inr, refl}
-use Rattle.command_files.specs.Made.{Made, MakesAtMost, MakesAtMostOne}
+use Rattle.std.proofs.Common.{◌≡◌, ◌≢◌, ℕ, List, [], Option, Result, Ok, Err, OnOk, IfErr, inl, inr, refl}
+use Rattle.command_files.specs.Made.{Made, MakesAtMost, MakesAtMostOne, MakesOneName, MakesOnly}
+use Rattle.command_files.proofs.Proved.{only_one}
 use Rattle.command_files.specs.declared.failure.Failure.{Failure}
 use Rattle.command_files.specs.declared.failure.Failure.TheVariants.{CannotPrint}
 
@@ -8,6 +9,11 @@ use Rattle.command_files.specs.declared.failure.Failure.TheVariants.{CannotPrint
 at_most_one : (path : List ℕ) (before after : Option (List Made)) → MakesAtMost path before after → MakesAtMostOne before after
 at_most_one path before after (inl same) = inl same
 at_most_one path before after (inr one) = inr (path, one)
+
+-- at most one file is only files with one name
+pub one_name : (before after : Option (List Made)) → MakesAtMostOne before after → MakesOneName before after
+one_name before after (inl same) = ([], record { texts = []; made = same })
+one_name before after (inr one) = (one.0, only_one one.0 before after (inr one.1))
 
 -- one that may make a file also where it can't print
 pub one_where_stopped : {T : Type 0} (r : Result T Failure) (path : List ℕ) (before after : Option (List Made))

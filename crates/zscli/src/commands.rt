@@ -1,7 +1,7 @@
 //! The words of a command line, and what they ask for.
 
 ghost use Rattle.std.specs.Prelude.{◌≡◌, ◌≢◌, IfErr, OnErr};
-ghost use Rattle.command_files.specs.Made.{MakesAtMostOne};
+ghost use Rattle.command_files.specs.Made.{MakesAtMostOne, MakesOneName};
 ghost use Rattle.zscli.specs.Ended.{end_of};
 
 use clap::error::ErrorKind;
@@ -13,33 +13,37 @@ use command_files::arguments::{and_command, no_command};
 use command_files::{Failure, Files, Shown, printed};
 use command_images::{format, report, upgrade, zones};
 use command_programs::{asm, disasm, trace, unpack, verify};
+use command_serve::serve;
 use std::alloc::{AllocError, Global};
-use std::io::Write;
+use std::io::{Read, Write};
 
 /// The program's version, which `--version` prints.
 const VERSION: &str = "0.1.0";
 
-/// Reads the words of a command line, the program's name first, and does the command that they name. At most one file
-/// is made. Where this fails for another reason than `out`, where `exec` saves an image, none is made, and each file
-/// has the bytes that it had. What it gives is why a command line ends with another status all the same whose work is done: commands
-/// were refused, where `exec` is to fail for these.
+/// Reads the words of a command line, the program's name first, and does the command that they name. All files that are made have
+/// one name. Unless the input is taken, as by `serve` alone, at most one is made; and where this fails for another reason than
+/// `out`, where `exec` saves an image, none is made, and each file has the bytes that it had. What it gives is why a command line
+/// ends with another status all the same whose work is done: commands were refused, where `exec` is to fail for these.
 ///
 /// # Errors
 ///
 /// Why the words are no command's, or why the command ended before its work was done.
-pub fn command<'a, F: Files, O: Write>(
+pub fn command<'a, F: Files, I: Read + Drop, O: Write>(
     alloc: Global,
     words: &'a [String],
     files: &mut F,
+    input: &mut Option<I>,
     out: &mut O,
 ) -> Result<Option<Failure<'a>>, Failure<'a>>
-    ensures one { MakesAtMostOne (F.made files.old) (F.made files.new) }
-    ensures kept { IfErr result (λ failure. failure ≢ Failure.CannotPrint → F.made files.new ≡ F.made files.old) }
-    ensures contents { IfErr result (λ failure. failure ≢ Failure.CannotPrint → F.contents files.new ≡ F.contents files.old) }
+    ensures name { MakesOneName (F.made files.old) (F.made files.new) }
+    ensures one { input.new ≡ input.old → MakesAtMostOne (F.made files.old) (F.made files.new) }
+    ensures kept { input.new ≡ input.old → IfErr result (λ failure. failure ≢ Failure.CannotPrint → F.made files.new ≡ F.made files.old) }
+    ensures contents { input.new ≡ input.old
+        → IfErr result (λ failure. failure ≢ Failure.CannotPrint → F.contents files.new ≡ F.contents files.old) }
 {
     let mut line = command_line(alloc)?;
     match line.try_get_matches_from_mut(words) {
-        Ok(matches) => perform(alloc, &mut line, &matches, files, out),
+        Ok(matches) => perform(alloc, &mut line, &matches, files, input, out),
         Err(error) => {
             print_help(alloc, words, error, out)?;
             Ok(None)
@@ -96,7 +100,31 @@ fn shown_words(alloc: Global, words: &[String]) -> Result<Vec<String>, AllocErro
 }
 
 /// Does the command that a command line has.
-fn perform<'a, F: Files, O: Write>(
+fn perform<'a, F: Files, I: Read + Drop, O: Write>(
+    alloc: Global,
+    line: &mut Command<'a>,
+    matches: &ArgMatches<'a>,
+    files: &mut F,
+    input: &mut Option<I>,
+    out: &mut O,
+) -> Result<Option<Failure<'a>>, Failure<'a>>
+    ensures name { MakesOneName (F.made files.old) (F.made files.new) }
+    ensures one { input.new ≡ input.old → MakesAtMostOne (F.made files.old) (F.made files.new) }
+    ensures kept { input.new ≡ input.old → IfErr result (λ failure. failure ≢ Failure.CannotPrint → F.made files.new ≡ F.made files.old) }
+    ensures contents { input.new ≡ input.old
+        → IfErr result (λ failure. failure ≢ Failure.CannotPrint → F.contents files.new ≡ F.contents files.old) }
+{
+    match matches.subcommand() {
+        Some((serve::NAME, matches)) => {
+            serve::serve(alloc, matches, files, input, out)?;
+            Ok(None)
+        }
+        _ => perform_at_once(alloc, line, matches, files, out),
+    }
+}
+
+/// Does the command that a command line has, where it is another than `serve`.
+fn perform_at_once<'a, F: Files, O: Write>(
     alloc: Global,
     line: &mut Command<'a>,
     matches: &ArgMatches<'a>,
@@ -194,6 +222,7 @@ fn command_line<'a>(alloc: Global) -> Result<Command<'a>, AllocError> {
     let line = and_command(line, report::subcommand(alloc));
     let line = and_command(line, upgrade::subcommand(alloc));
     let line = and_command(line, fail::subcommand(alloc));
+    let line = and_command(line, serve::subcommand(alloc));
     let line = and_command(line, asm::subcommand(alloc));
     let line = and_command(line, disasm::subcommand(alloc));
     let line = and_command(line, trace::subcommand(alloc));

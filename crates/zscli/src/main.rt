@@ -18,7 +18,15 @@ fn main(rt: HostRuntime) -> ExitCode {
         Err(failure) => return ExitCode::from(conclude(Err(failure), &mut err).status),
     };
     let mut out = io::writer(&rt);
-    let done = command(rt.alloc(), words.as_slice(), &mut Disk::new(&rt), &mut out);
+    let mut input = Some(rt.stdin());
+    let mut files = Disk::new(&rt);
+    let done = command(
+        rt.alloc(),
+        words.as_slice(),
+        &mut files,
+        &mut input,
+        &mut out,
+    );
     // Where standard error fails, nobody can be told.
     ExitCode::from(conclude(ended(done), &mut err).status)
 }

@@ -14,6 +14,7 @@ mod readme;
 mod refusals;
 mod reports;
 mod scenes;
+mod serving;
 mod stage;
 mod stopping;
 mod submissions;

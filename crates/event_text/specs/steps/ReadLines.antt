@@ -1,12 +1,12 @@
 -- What reading the words of an event and a line gives, and why they are refused.
-use Rattle.std.specs.Prelude.{◌≡◌, ℕ, Option, Some, None, option_map, Result, Ok, Err}
+use Rattle.std.specs.Prelude.{◌≡◌, ℕ, Option, Some, Result, Ok, Err}
 use Rattle.hex.specs.declared.error.FromHexError.{FromHexError}
 use Rattle.hex.specs.declared.error.FromHexError.TheVariants as digits
 use Rattle.device_events.specs.declared.event.Event.{Event}
 use Rattle.event_text.specs.declared.command_file.EventFault.{EventFault}
 use Rattle.event_text.specs.declared.command_file.EventFault.TheVariants as event_fault
 use Rattle.event_text.specs.declared.fault.LineFault.TheVariants as fault
-use Rattle.event_text.specs.CommandFile.{ToldEvent, told_of}
+use Rattle.event_text.specs.CommandFile.{ToldEvent, told_of, IsRefused}
 
 -- why an entry of so many characters that spells no 64 bytes refuses its line
 abbrev pub entry_fault : ℕ → FromHexError → EventFault
@@ -20,17 +20,7 @@ data_fault characters digits.OutOfMemory = event_fault.Memory
 data_fault characters (digits.InvalidHexCharacter character before) = event_fault.Refused (fault.DataDigit character before)
 data_fault characters _ = event_fault.Refused (fault.DataLength characters)
 
--- words or a line that are refused have no meaning, or memory ran out
-abbrev pub IsRefused : {X : Type 0} → EventFault → Option X → Type 0
-IsRefused (event_fault.Refused fault) meant = meant ≡ None
-IsRefused event_fault.Memory meant = Unit {0}
-
 -- the event is given that the words tell, or they are refused
 abbrev pub GivesEvent : Result Event EventFault → Option ToldEvent → Type 0
 GivesEvent (Ok event) meant = meant ≡ Some (told_of event)
 GivesEvent (Err error) meant = IsRefused error meant
-
--- what a line tells is given, or it is refused
-abbrev pub GivesLine : Result (Option Event) EventFault → Option (Option ToldEvent) → Type 0
-GivesLine (Ok event) meant = meant ≡ Some (option_map told_of event)
-GivesLine (Err error) meant = IsRefused error meant

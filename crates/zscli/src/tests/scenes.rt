@@ -79,6 +79,12 @@ pub(super) enum Act {
     /// `exec` on this image and `events`, whose standard output takes so many writes, ends with this status, and `zones`
     /// then prints this.
     Saves(Parts, usize, u8, &'static str),
+    /// From now on standard input has these bytes.
+    Input(Parts),
+    /// A command line succeeds, and writes these bytes to standard output.
+    Writes(&'static str, Parts),
+    /// What was written to standard output last is these bytes.
+    Wrote(Parts),
     /// A command line tells its usage, and ends with this status.
     Tells(&'static str, u8),
     /// What a command line prints, on either stream, has this text in it.
@@ -120,6 +126,7 @@ fn perform(rt: &impl Abort, stage: &mut Stage, scene: &str, act: Act) -> Result<
         Act::Slots(file, slots) => stage.put_slots(file, slots)?,
         Act::Add(file, bytes) => stage.files.add(file, bytes)?,
         Act::AddSubmission(file, dwords) => stage.add_submission(file, dwords)?,
+        Act::Input(parts) => stage.give_input(parts)?,
         Act::Room(room) => stage.files.room = room,
         Act::Unreadable => stage.files.fails = true,
         _ => judge(rt, stage, scene, act)?,
@@ -151,6 +158,16 @@ fn judge(rt: &impl Abort, stage: &mut Stage, scene: &str, act: Act) -> Result<()
         }
         Act::Saves(image, writes, status, zones) => {
             check_saved(rt, stage, scene, image, writes, status, zones)?;
+        }
+        Act::Writes(line, out) => {
+            let at = At { scene, what: line };
+            stage.run(line, usize::MAX)?;
+            stage.check_end(rt, &at, 0, "");
+            stage.check_written(rt, &at, out)?;
+        }
+        Act::Wrote(out) => {
+            let what = "standard output";
+            stage.check_written(rt, &At { scene, what }, out)?;
         }
         Act::Tells(line, status) => {
             stage.run(line, usize::MAX)?;

@@ -46,6 +46,8 @@ pub(super) struct At<'a> {
 pub(super) struct Stage {
     alloc: Global,
     pub(super) files: MemoryFiles,
+    /// Standard input.
+    input: Vec<u8>,
     out: Printed,
     err: Vec<u8>,
     status: u8,
@@ -57,6 +59,7 @@ impl Stage {
         Stage {
             alloc,
             files: MemoryFiles::new(alloc),
+            input: Vec::new(alloc),
             out: Printed {
                 bytes: Vec::new(alloc),
                 writes: 0,
@@ -87,8 +90,33 @@ impl Stage {
         self.out.bytes.clear();
         self.out.writes = writes;
         self.err.clear();
-        let done = command(self.alloc, words.as_slice(), &mut self.files, &mut self.out);
+        let mut input = Some(self.input.as_slice());
+        let done = command(
+            self.alloc,
+            words.as_slice(),
+            &mut self.files,
+            &mut input,
+            &mut self.out,
+        );
         self.status = conclude(ended(done), &mut self.err).status;
+        Ok(())
+    }
+
+    /// From now on standard input has these bytes.
+    pub(super) fn give_input(&mut self, parts: Parts) -> Result<(), AllocError> {
+        self.input = joined(self.alloc, parts)?;
+        Ok(())
+    }
+
+    /// Compares what the last command line printed with these bytes.
+    pub(super) fn check_written(
+        &self,
+        rt: &impl Abort,
+        at: &At,
+        out: Parts,
+    ) -> Result<(), AllocError> {
+        let wanted = joined(self.alloc, out)?;
+        assert!(rt; self.out.bytes.as_slice() == wanted.as_slice(), "{at:?}");
         Ok(())
     }
 

@@ -1,0 +1,39 @@
+//! What keeps images.
+
+ghost use Rattle.std.specs.Prelude.{OnOk};
+ghost use Rattle.image_store.specs.Namespace.{ZonedNamespace};
+
+use image_store::Image;
+
+/// An image wasn't kept.
+#[derive(Clone, Copy, Debug, PartialEq, Eq)]
+pub struct NotKept;
+
+/// Keeps the images that a stream asks to be saved.
+pub trait Keep {
+    /// It may be asked to keep an image.
+    ghost is_ready: { Self → Type 0 };
+
+    /// What it may come to from the first state to the second by keeping images, or by failing to.
+    ghost becomes: { Self → Self → Type 0 };
+
+    /// From the first state to the second it kept an image of this namespace. Where it doesn't tell, this holds of any.
+    ghost has_kept: { Self → Self → ZonedNamespace → Type 0 };
+
+    /// Keeps an image, in place of the one that it kept before.
+    ///
+    /// # Errors
+    ///
+    /// [`NotKept`] where it can't.
+    fn keep(&mut self, image: &Image) -> Result<(), NotKept>
+        requires { is_ready self.old }
+        ensures ready { is_ready self.new }
+        ensures becomes { becomes self.old self.new }
+        ensures kept { OnOk result (has_kept self.old self.new image.now) };
+
+    /// As long as it keeps none, it stays what it is.
+    ghost stays: { (keeper : Self) → becomes keeper keeper };
+
+    /// What it comes to in two parts it comes to in the whole.
+    ghost joins: { (a b c : Self) → becomes a b → becomes b c → becomes a c };
+}
