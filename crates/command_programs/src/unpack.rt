@@ -1,11 +1,13 @@
 //! The command `unpack`: the records of output blocks.
 
-ghost use Rattle.std.specs.Prelude.{◌≡◌, Ok, IfOk, OnOk};
+ghost use Rattle.std.specs.Prelude.{◌≡◌, ◌++◌, codes, Ok, IfOk, OnOk};
+ghost use Rattle.std.specs.Fmt.{decimal};
 ghost use Rattle.std.specs.String.{string_bytes};
 ghost use Rattle.emit_append.specs.Unpacking.{record_bytes, unpacked};
-ghost use Rattle.command_programs.specs.Printed.{PrintsRecords, blocks_file_of, record_lines};
+ghost use Rattle.command_programs.specs.Printed.{PrintsRecords, blocks_file_of, record_lines, record_object, records_document, records_text};
 ghost use Rattle.command_programs.specs.steps.Told.{IsToldOfFrame};
 
+use crate::flags::{JSON, is_set, json_flag};
 use crate::printing::print;
 use clap::{Arg, ArgMatches, Command};
 use command_files::arguments::{
@@ -27,7 +29,10 @@ Prints the records of a file of output blocks, each in hexadecimal on a line of 
 Programs emit records, which the device packs into whole blocks: each record is a frame, its length \
 in two bytes (the lower one first) and then its bytes. Frames lie from a block's front on, and what \
 lies behind the last is zeros. Of a file with a byte that is not so, nothing is printed, and \
-`frame refused BYTE` tells the lowest such byte.";
+`frame refused BYTE` tells the lowest such byte.
+
+With --json one JSON object is printed, on a line: `records`, a list with an object for each record: its `length` in bytes, \
+and its `bytes` in hexadecimal.";
 
 const EXAMPLE: &str = "\
 Example: a block that begins 0300616263 holds the record 616263.
@@ -49,11 +54,12 @@ pub fn subcommand<'a>(alloc: Global) -> Result<Command<'a>, AllocError> {
         .long_about(LONG_ABOUT)
         .after_help(EXAMPLE);
     let command = and_argument(Ok(command), file);
-    and_argument(command, block)
+    let command = and_argument(command, block);
+    and_argument(command, json_flag(alloc))
 }
 
-/// Prints the records of the output blocks that the file's bytes are, in order, each in hexadecimal on a line, and nothing
-/// else. It makes no file: each has the bytes that it had.
+/// Prints the records of the output blocks that the file's bytes are, in order, each in hexadecimal on a line, or all as one
+/// JSON object, and nothing else. It makes no file: each has the bytes that it had.
 ///
 /// # Errors
 ///
@@ -74,7 +80,7 @@ pub fn unpack<'a, F: Files, O: Write>(
     let path = required(matches, FILE);
     let file = read(path, files)?;
     let records = records_in(alloc, path, file.as_slice(), block_size(block)?)?;
-    let text = lines_of(alloc, records.as_slice())?;
+    let text = text_of(alloc, records.as_slice(), is_set(matches, JSON))?;
     print(text.as_bytes(), out)
 }
 
@@ -93,6 +99,17 @@ fn records_in<'a>(
     }
 }
 
+/// The records, on lines or as a JSON object.
+fn text_of(alloc: Global, records: &[Vec<u8>], json: bool) -> Result<String, AllocError>
+    ensures { IfOk result (λ text. string_bytes text ≡ records_text json (record_bytes records.now)) }
+{
+    if json {
+        document_of(alloc, records)
+    } else {
+        lines_of(alloc, records)
+    }
+}
+
 /// Each record in hexadecimal on a line of its own.
 fn lines_of(alloc: Global, records: &[Vec<u8>]) -> Result<String, AllocError>
     ensures { IfOk result (λ text. string_bytes text ≡ record_lines (record_bytes records.now)) }
@@ -103,6 +120,40 @@ fn lines_of(alloc: Global, records: &[Vec<u8>]) -> Result<String, AllocError>
         text.push_str("\n")?;
     }
     Ok(text)
+}
+
+/// The records as one JSON object on a line.
+fn document_of(alloc: Global, records: &[Vec<u8>]) -> Result<String, AllocError>
+    ensures { IfOk result (λ text. string_bytes text ≡ records_document (record_bytes records.now)) }
+{
+    let mut text = String::from_str(alloc, "{\"records\":[")?;
+    for (number, record) in records.iter().enumerate() {
+        if number > 0 {
+            text.push_str(",")?;
+        }
+        text.push_str(object_of(alloc, record.as_slice())?.as_str())?;
+    }
+    text.push_str("]}\n")?;
+    Ok(text)
+}
+
+/// A record as a JSON object.
+fn object_of(alloc: Global, bytes: &[u8]) -> Result<String, AllocError>
+    ensures { IfOk result (λ text. string_bytes text ≡ record_object bytes.now) }
+{
+    let digits = hex::encode(alloc, bytes)?;
+    let mut text = length_field(alloc, bytes.len())?;
+    text.push_str(",\"bytes\":\"")?;
+    text.push_str(digits.as_str())?;
+    text.push_str("\"}")?;
+    Ok(text)
+}
+
+/// The beginning of the object of a record of so many bytes.
+fn length_field(alloc: Global, length: usize) -> Result<String, AllocError>
+    ensures { IfOk result (λ text. string_bytes text ≡ codes "{\"length\":" ++ decimal length) }
+{
+    format!(in alloc; "{{\"length\":{length}")
 }
 
 /// What the user is told of a file of these bytes, which are no output blocks of this size: its name, and the byte that

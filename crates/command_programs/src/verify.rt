@@ -3,16 +3,17 @@
 ghost use Rattle.std.specs.Prelude.{◌≡◌, ◌≢◌, codes, Err, Some, IfErr, IfOk, OnOk};
 ghost use Rattle.std.specs.Io.KnownBytes.{Appends};
 ghost use Rattle.clap.specs.Matches.{found_of, first_value};
+ghost use Rattle.instruction_set.specs.Program.{instruction_count};
 ghost use Rattle.program_interface.specs.RunSizes.{sizes_with};
 ghost use Rattle.command_files.specs.Arguments.{number_of};
 ghost use Rattle.command_programs.specs.Asked.{IsLimit};
 ghost use Rattle.command_programs.specs.MakesProgram.{program_file_of};
-ghost use Rattle.command_programs.specs.Printed.{PrintsAccepted, PrintsRefused, PrintsVerdict, SaysAccepted, SaysRefused, accepted_line, refused_line};
+ghost use Rattle.command_programs.specs.Printed.{PrintsAcceptance, PrintsAccepted, PrintsFirstRefusal, PrintsRefused, SaysAccepted, SaysRefused, form_of, place_fields, refused_line};
 
-use crate::flags::is_set;
+use crate::flags::{JSON, is_set, json_flag};
 use crate::printing::print;
 use crate::program::program_in_file;
-use crate::refusal_lines::RefusedInstruction;
+use crate::refused_instruction::RefusedInstruction;
 use crate::sizes::{limit, run_sizes};
 use accepted_programs::{Facts, Refusal};
 use clap::{Arg, ArgAction, ArgMatches, Command};
@@ -35,6 +36,17 @@ pub const NAME: &str = "verify";
 
 const EXPLAIN: &str = "explain";
 
+/// How a verdict is printed.
+#[derive(Clone, Copy)]
+pub enum Form {
+    /// On a line.
+    Line,
+    /// On a line, with words behind it.
+    Explained,
+    /// As one JSON object.
+    Json,
+}
+
 /// Room for a line with two numbers.
 type Line = InlineText<128>;
 
@@ -53,7 +65,15 @@ steps, or emit more than E bytes
 
 With --explain lines behind the first say more: of an accepted program how many steps and bytes a block takes at \
 most, the steps as many as it has instructions; of a refused one the instruction, the reason with its numbers, and what is known of each \
-register that the instruction reads.";
+register that the instruction reads.
+
+With --json one JSON object is printed, on a line. `accepted` is true or false, and `instruction_count` how many instructions \
+the program has. Of an accepted program `most_emitted` is how many bytes a block emits at most. Of a refused one there are \
+`slot`, `reason` and the reason's `words`, the `instruction` as `disasm` lists it, and `registers`, a list of what is known of each register that the \
+instruction reads: its number, `register`, and the least and the greatest number that it can have, `low` and `high`, or of an address \
+its `area` and the distances from there. The reason's numbers stand in fields of their own: `target` and `slot_count` of 1 and 2; of 5, 6 and 8 \
+`base`, the register of the address, `bytes`, and `allowed`, where the register may point, or null; `helper` of 7; `longest` of 9, the most bytes that \
+can be emitted from R1 on, or null; of 10 `emitted`, by the group before, `record` and `limit`.";
 
 const EXAMPLE: &str = "\
 Example: the program of `asm --help`, with a limit that is too low.
@@ -83,11 +103,13 @@ pub fn subcommand<'a>(alloc: Global) -> Result<Command<'a>, AllocError> {
     let command = and_argument(Ok(command), program_argument(alloc));
     let command = and_argument(command, block_option(alloc));
     let command = and_argument(command, emit_option(alloc));
-    and_argument(command, explain)
+    let command = and_argument(command, explain);
+    and_argument(command, json_flag(alloc))
 }
 
 /// Prints whether the program that the file's bytes spell is accepted for the sizes that the options give, or the first
-/// refusal, on a line; with `--explain` words behind it, which aren't said. It makes no file: each has the bytes that it had.
+/// refusal, on a line; with `--explain` words behind it, which aren't said; with `--json` in their place one JSON object, of a
+/// refused program with further fields, which aren't said either. It makes no file: each has the bytes that it had.
 ///
 /// # Errors
 ///
@@ -109,7 +131,20 @@ pub fn verify<'a, F: Files, O: Write>(
     let (block, limit) = numbers_asked(matches)?;
     let program = program_in_file(alloc, required(matches, PROGRAM), files)?;
     let sizes = sizes_with(block, limit)?;
-    say(alloc, &program, sizes, is_set(matches, EXPLAIN), out)
+    say(alloc, &program, sizes, form_asked(matches), out)
+}
+
+/// How the verdict is to be printed.
+fn form_asked(matches: &ArgMatches<'_>) -> Form
+    ensures { result ≡ form_of matches.now }
+{
+    if is_set(matches, JSON) {
+        Form::Json
+    } else if is_set(matches, EXPLAIN) {
+        Form::Explained
+    } else {
+        Form::Line
+    }
 }
 
 /// The bytes of a block, and the most that may be emitted for one, as the options give them.
@@ -131,46 +166,51 @@ fn sizes_with<'a>(block: u32, limit: u32) -> Result<RunSizes, Failure<'a>>
     run_sizes(block_size(block)?, limit)
 }
 
-/// Judges a program, and prints whether it is accepted; with words behind that, where these are asked for.
+/// Judges a program, and prints whether it is accepted.
 fn say<'a, O: Write>(
     alloc: Global,
     program: &Program,
     sizes: RunSizes,
-    explained: bool,
+    form: Form,
     out: &mut O,
 ) -> Result<(), Failure<'a>>
-    ensures accepted { OnOk result (SaysAccepted program.now sizes explained (O.contents out.old) (O.contents out.new)) }
+    ensures accepted { OnOk result (SaysAccepted program.now sizes form (O.contents out.old) (O.contents out.new)) }
     ensures refused { result ≡ Err Failure.NotAccepted
-        → SaysRefused program.now sizes explained (O.contents out.old) (O.contents out.new) }
+        → SaysRefused program.now sizes form (O.contents out.old) (O.contents out.new) }
 {
     match judge::<Intervals>(alloc, program, sizes)? {
         Judgement::Accepted { most_emitted } => {
-            say_accepted(program.instruction_count(), most_emitted, explained, out)
+            say_accepted(program.instruction_count(), most_emitted, form, out)
         }
         Judgement::Refused(Refused { refusal, facts }) => {
-            say_refused(alloc, program, sizes, refusal, &*facts, explained, out)?;
+            say_refused(alloc, program, sizes, refusal, &*facts, form, out)?;
             Err(Failure::NotAccepted)
         }
     }
 }
 
-/// Prints that a program of so many instructions is accepted and, if that is asked for, how many steps and bytes a block
-/// takes at most.
+/// Prints that a program of so many instructions is accepted, which emits at most so many bytes for a block.
 fn say_accepted<'a, O: Write>(
     instructions: usize,
     most_emitted: usize,
-    explained: bool,
+    form: Form,
     out: &mut O,
 ) -> Result<(), Failure<'a>>
-    ensures printed { OnOk result (PrintsVerdict explained (accepted_line instructions) (O.contents out.old) (O.contents out.new)) }
+    ensures printed { OnOk result (PrintsAcceptance form instructions most_emitted (O.contents out.old) (O.contents out.new)) }
     ensures failed { IfErr result (λ failure. failure ≡ Failure.CannotPrint) }
 {
-    printed(writeln!(out, "accepted {instructions}"))?;
-    if explained {
-        let words = bounds(instructions, most_emitted);
-        return print(words.as_str().as_bytes(), out);
+    match form {
+        Form::Line => printed(writeln!(out, "accepted {instructions}")),
+        Form::Explained => {
+            printed(writeln!(out, "accepted {instructions}"))?;
+            let words = bounds(instructions, most_emitted);
+            print(words.as_str().as_bytes(), out)
+        }
+        Form::Json => printed(writeln!(
+            out,
+            "{{\"accepted\":true,\"instruction_count\":{instructions},\"most_emitted\":{most_emitted}}}"
+        )),
     }
-    Ok(())
 }
 
 /// How many steps and bytes a block takes at most, as a line.
@@ -180,25 +220,33 @@ fn bounds(instructions: usize, most_emitted: usize) -> Line {
     Line::of(format_args!("for a block at most {taken}, and {emitted} emitted\n"))
 }
 
-/// Prints the first refusal of a program and, if that is asked for, why it is refused.
+/// Prints the first refusal of a program.
 fn say_refused<'a, O: Write>(
     alloc: Global,
     program: &Program,
     sizes: RunSizes,
     refusal: Refusal,
     facts: &Facts<Intervals>,
-    explained: bool,
+    form: Form,
     out: &mut O,
 ) -> Result<(), Failure<'a>>
-    ensures printed { OnOk result (PrintsVerdict explained (refused_line refusal) (O.contents out.old) (O.contents out.new)) }
+    ensures printed { let instructions = instruction_count program.now in
+        OnOk result (PrintsFirstRefusal form instructions refusal (O.contents out.old) (O.contents out.new)) }
     ensures not_judged { result ≢ Err Failure.NotAccepted }
 {
-    printed(print_refused(refusal, out))?;
-    if explained {
-        let words = explanation(alloc, program, sizes, refusal, facts)?;
-        return print(words.as_slice(), out);
+    match form {
+        Form::Line => printed(print_refused(refusal, out)),
+        Form::Explained => {
+            printed(print_refused(refusal, out))?;
+            let words = explanation(alloc, program, sizes, refusal, facts, form)?;
+            print(words.as_slice(), out)
+        }
+        Form::Json => {
+            let fields = explanation(alloc, program, sizes, refusal, facts, form)?;
+            let instructions = program.instruction_count();
+            printed(print_object(instructions, refusal, fields.as_slice(), out))
+        }
     }
-    Ok(())
 }
 
 /// Prints the slot of a refusal, and the number of its reason.
@@ -210,7 +258,34 @@ fn print_refused<O: Write>(refusal: Refusal, out: &mut O) -> io::Result<()>
     writeln!(out, "refused {slot} {number}")
 }
 
-/// Why a program isn't accepted, as lines: the instruction, the reason and what is known there.
+/// Prints a refusal of a program of so many instructions as one JSON object, with these fields behind the others.
+fn print_object<O: Write>(
+    instructions: usize,
+    refusal: Refusal,
+    fields: &[u8],
+    out: &mut O,
+) -> io::Result<()>
+    ensures { OnOk result (PrintsFirstRefusal Form.Json instructions refusal (O.contents out.old) (O.contents out.new)) }
+{
+    write!(
+        out,
+        "{{\"accepted\":false,\"instruction_count\":{instructions}"
+    )?;
+    print_place(refusal, out)?;
+    out.write_all(fields)?;
+    writeln!(out, "}}")
+}
+
+/// Prints the slot of a refusal, and the number of its reason, as fields of a JSON object.
+fn print_place<O: Write>(refusal: Refusal, out: &mut O) -> io::Result<()>
+    ensures { OnOk result (Appends (O.contents out.old) (O.contents out.new) (place_fields refusal)) }
+{
+    let Refusal { slot, reason } = refusal;
+    let number = reason.number();
+    write!(out, ",\"slot\":{slot},\"reason\":{number}")
+}
+
+/// Why a program isn't accepted, the instruction, the reason and what is known there: as lines, or as fields of a JSON object.
 ///
 /// # Errors
 ///
@@ -221,22 +296,28 @@ fn explanation(
     sizes: RunSizes,
     refusal: Refusal,
     facts: &Facts<Intervals>,
+    form: Form,
 ) -> Result<Vec<u8>, AllocError> {
     let Refusal { slot, reason } = refusal;
-    let mut words = Vec::new(alloc);
+    let mut told = Vec::new(alloc);
     let Some(instruction) = program.at(slot) else {
-        return Ok(words);
+        return Ok(told);
     };
     let text = instruction_text(alloc, instruction)?;
     let refused = RefusedInstruction {
         slots: program.slots(),
         slot,
         instruction,
+        reason,
         sizes,
         facts,
     };
-    match refused.explain(text.as_str(), reason, &mut words) {
-        Ok(()) => Ok(words),
+    let written = match form {
+        Form::Json => refused.print_fields(text.as_str(), &mut told),
+        Form::Line | Form::Explained => refused.explain(text.as_str(), &mut told),
+    };
+    match written {
+        Ok(()) => Ok(told),
         Err(_) => Err(AllocError),
     }
 }

@@ -115,11 +115,26 @@ fn perform<'a, F: Files, I: Read + Drop, O: Write>(
         → IfErr result (λ failure. failure ≢ Failure.CannotPrint → F.contents files.new ≡ F.contents files.old) }
 {
     match matches.subcommand() {
-        Some((serve::NAME, matches)) => {
-            serve::serve(alloc, matches, files, input, out)?;
-            Ok(None)
-        }
+        Some((serve::NAME, matches)) => perform_serve(alloc, matches, files, input, out),
         _ => perform_at_once(alloc, line, matches, files, out),
+    }
+}
+
+/// Does `serve`.
+fn perform_serve<'a, F: Files, I: Read + Drop, O: Write>(
+    alloc: Global,
+    matches: &ArgMatches<'a>,
+    files: &mut F,
+    input: &mut Option<I>,
+    out: &mut O,
+) -> Result<Option<Failure<'a>>, Failure<'a>>
+    ensures name { MakesOneName (F.made files.old) (F.made files.new) }
+    ensures made { input.new ≡ input.old → F.made files.new ≡ F.made files.old }
+    ensures contents { input.new ≡ input.old → F.contents files.new ≡ F.contents files.old }
+{
+    match serve::serve(alloc, matches, files, input, out) {
+        Ok(()) => Ok(None),
+        Err(failure) => Err(failure),
     }
 }
 

@@ -19,4 +19,5 @@ mod stage;
 mod stopping;
 mod submissions;
 mod verify_explained;
+mod verify_json;
 mod worded_files;

@@ -8,6 +8,14 @@ use test_inputs::{programs, slots};
 /// An output block with one frame.
 const FRAMED: Parts = &[(b"\x03\0abc", 1), (b"\0", 507)];
 
+/// Two of them, the second with two frames.
+const FRAMED_TWICE: Parts = &[
+    (b"\x03\0abc", 1),
+    (b"\0", 507),
+    (b"\x01\0d\x02\0ef", 1),
+    (b"\0", 505),
+];
+
 const LISTED: &[Act] = &[
     Act::Slots("program", &slots::MATCHING),
     Act::Lists("zscli disasm program", programs::MATCHING),
@@ -31,6 +39,24 @@ const WITH_SLOTS: &[Act] = &[
 const UNPACKED: &[Act] = &[
     Act::Put("blocks", FRAMED),
     Act::Prints("zscli unpack blocks --block 512", "616263\n"),
+    Act::Put("blocks", FRAMED_TWICE),
+    Act::Prints(
+        "zscli unpack blocks --block 512 --json",
+        "{\"records\":[{\"length\":3,\"bytes\":\"616263\"},{\"length\":1,\"bytes\":\"64\"},\
+         {\"length\":2,\"bytes\":\"6566\"}]}\n",
+    ),
+    Act::Put("blocks", &[]),
+    Act::Prints(
+        "zscli unpack blocks --block 512 --json",
+        "{\"records\":[]}\n",
+    ),
+    Act::Put("blocks", &[(b"a", 1)]),
+    Act::Fails(
+        "zscli unpack blocks --block 512 --json",
+        3,
+        "",
+        "frame refused 0\n",
+    ),
 ];
 
 const EXPLAINED: &str = "\
@@ -40,6 +66,11 @@ an emit over the limit: behind 0 bytes, 2 for its length and 8 bytes come to 10,
 r1 is block + 0
 r2 is 8
 ";
+
+/// The same as JSON.
+const REFUSED_OBJECT: &str =
+    r#"{"accepted":false,"instruction_count":7,"slot":4,"reason":10,"words":"an emit over the limit","instruction":"call 1","emitted":0,"record":8,"limit":9,"registers":[{"register":1,"area":"block","low":0,"high":0},{"register":2,"low":8,"high":8}]}
+"#;
 
 const VERIFIED: &[Act] = &[
     Act::Slots("program", &slots::MATCHING),
@@ -54,6 +85,16 @@ const VERIFIED: &[Act] = &[
         "zscli verify program --block 512 --emit 9 --explain",
         3,
         EXPLAINED,
+        "",
+    ),
+    Act::Prints(
+        "zscli verify program --block 512 --emit 10 --json",
+        "{\"accepted\":true,\"instruction_count\":7,\"most_emitted\":10}\n",
+    ),
+    Act::Fails(
+        "zscli verify program --block 512 --emit 9 --json --explain",
+        3,
+        REFUSED_OBJECT,
         "",
     ),
     Act::Fails(

@@ -97,6 +97,8 @@ pub(super) enum Act {
     HasNo(&'static str),
     /// A program as text, the most bytes that it may emit, and what `verify --explain` says of it.
     Verify(&'static str, u32, &'static str),
+    /// The same, and what `verify --json` says of it.
+    VerifyJson(&'static str, u32, &'static str),
 }
 
 /// Plays scenes, each on files of its own.
@@ -177,14 +179,26 @@ fn judge(rt: &impl Abort, stage: &mut Stage, scene: &str, act: Act) -> Result<()
         Act::Has(file, parts) => stage.check_file(rt, &At { scene, what: file }, parts)?,
         Act::HasSlots(file, slots) => stage.check_slots(rt, &At { scene, what: file }, slots)?,
         Act::HasNo(file) => assert!(rt; stage.files.bytes(file).is_none(), "{scene}: {file}"),
-        Act::Verify(text, emit, said) => {
-            stage.files.put("text", text.as_bytes())?;
-            let what = "zscli asm text made";
-            stage.check(rt, &At { scene: text, what }, 0, "", "")?;
-            stage.check_program(rt, text, "made", emit, said)?;
-        }
+        Act::Verify(text, emit, said) => check_verdict(rt, stage, text, emit, "--explain", said)?,
+        Act::VerifyJson(text, emit, said) => check_verdict(rt, stage, text, emit, "--json", said)?,
         _ => {}
     }
+    Ok(())
+}
+
+/// Makes a program of this text, and compares what `verify` with a flag says of it.
+fn check_verdict(
+    rt: &impl Abort,
+    stage: &mut Stage,
+    text: &str,
+    emit: u32,
+    flag: &str,
+    said: &str,
+) -> Result<(), Fail> {
+    stage.files.put("text", text.as_bytes())?;
+    let what = "zscli asm text made";
+    stage.check(rt, &At { scene: text, what }, 0, "", "")?;
+    stage.check_program(rt, text, "made", emit, flag, said)?;
     Ok(())
 }
 

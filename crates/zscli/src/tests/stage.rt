@@ -245,18 +245,17 @@ impl Stage {
         Ok(())
     }
 
-    /// Compares what `verify --explain` says of a program, which is in a file, for blocks of 512 bytes.
+    /// Compares what `verify` with a flag says of a program, which is in a file, for blocks of 512 bytes.
     pub(super) fn check_program(
         &mut self,
         rt: &impl Abort,
         program: &str,
         file: &str,
         emit: u32,
+        flag: &str,
         said: &str,
     ) -> Result<(), AllocError> {
-        let line = format!(in self.alloc;
-            "zscli verify {file} --block 512 --emit {emit} --explain"
-        )?;
+        let line = format!(in self.alloc; "zscli verify {file} --block 512 --emit {emit} {flag}")?;
         self.run(line.as_str(), usize::MAX)?;
         let end = self.out.bytes.pop();
         assert_eq!(rt; end, Some(b'\n'), "{program}");

@@ -8,16 +8,16 @@ returns-clause-accepted g c =
     let before = g.O.Write.contents c.args.out.now in
     let after = g.O.Write.contents c.say.new.out in
     on_ok_weaker c.say.result
-    (judges (λ program sizes explained. SaysAccepted program sizes explained before after) c.args.matches.now (g.F.Files.contents c.args.files.now)
-    c.required.result.now c.in_ok-program.program _ _ c.in_ok-sizes.sizes c.is_set.result c.required.ensures
-    c.in_ok-block.ensures.block c.in_ok-block.ensures.limit c.in_ok-sizes.ensures.sizes c.is_set.ensures c.in_ok-program.ensures.spelled)
+    (judges (λ program sizes form. SaysAccepted program sizes form before after) c.args.matches.now (g.F.Files.contents c.args.files.now)
+    c.required.result.now c.in_ok-program.program _ _ c.in_ok-sizes.sizes c.form_asked.result c.required.ensures
+    c.in_ok-block.ensures.block c.in_ok-block.ensures.limit c.in_ok-sizes.ensures.sizes c.form_asked.ensures c.in_ok-program.ensures.spelled)
     c.say.ensures.accepted
 
 pub returns-clause-refused : goal.returns-clause-refused
 returns-clause-refused g c = λ is.
     let before = g.O.Write.contents c.args.out.now in
     let after = g.O.Write.contents c.say.new.out in
-    judges (λ program sizes explained. SaysRefused program sizes explained before after) c.args.matches.now (g.F.Files.contents c.args.files.now)
-    c.required.result.now c.in_ok-program.program _ _ c.in_ok-sizes.sizes c.is_set.result c.required.ensures
-    c.in_ok-block.ensures.block c.in_ok-block.ensures.limit c.in_ok-sizes.ensures.sizes c.is_set.ensures c.in_ok-program.ensures.spelled
+    judges (λ program sizes form. SaysRefused program sizes form before after) c.args.matches.now (g.F.Files.contents c.args.files.now)
+    c.required.result.now c.in_ok-program.program _ _ c.in_ok-sizes.sizes c.form_asked.result c.required.ensures
+    c.in_ok-block.ensures.block c.in_ok-block.ensures.limit c.in_ok-sizes.ensures.sizes c.form_asked.ensures c.in_ok-program.ensures.spelled
     (c.say.ensures.refused is)

@@ -1,0 +1,195 @@
+//! Instructions that are refused: the numbers of the reason, and what is known of the registers.
+
+ghost use Rattle.std.specs.Prelude.{◌<◌};
+ghost use Rattle.program_interface.specs.declared.TheConstants.{MOST_SLOTS};
+
+use accepted_programs::{Facts, Reason};
+use instruction_set::{Access, Instruction, Operation, Register, Source};
+use interval_domain::{Fact, Intervals};
+use program_interface::{Area, EMIT, RunSizes};
+use word_domain::{Domain, Offsets};
+
+/// An instruction that is refused, of a program of so many slots, the reason, and what is known at its slot.
+#[derive(Clone, Copy)]
+pub(crate) struct RefusedInstruction<'p> {
+    pub(crate) slots: usize,
+    pub(crate) slot: usize,
+    pub(crate) instruction: &'p Instruction,
+    pub(crate) reason: Reason,
+    pub(crate) sizes: RunSizes,
+    pub(crate) facts: &'p Facts<Intervals>,
+    ghost within: { slot < MOST_SLOTS },
+}
+
+/// What is wrong with an instruction, in the numbers of its reason.
+#[derive(Clone, Copy)]
+pub(crate) enum Detail {
+    /// A jump leads to this slot.
+    Target(i128),
+    /// An access of so many bytes, and where its register has to point for that; `None` where the register isn't known to be
+    /// an address. An emit's address is one of no bytes.
+    Address {
+        base: Register,
+        bytes: u8,
+        allowed: Option<Offsets>,
+    },
+    /// A store through a register that leads to what a program can only read.
+    ReadOnly {
+        base: Register,
+        bytes: u8,
+    },
+    /// A call of this helper.
+    Helper(i32),
+    /// How many bytes are known to lie from R1 on, none where it is 0 or less; `None` where R1 isn't known to be an address.
+    Room(Option<i64>),
+    /// The bytes of the group, those of the record that is emitted, and how many the group may have.
+    Limit {
+        emitted: u64,
+        record: u64,
+        limit: u32,
+    },
+}
+
+impl RefusedInstruction<'_> {
+    /// The numbers of the reason; `None` of one that says all by itself.
+    pub(crate) fn detail(&self) -> Option<Detail> {
+        match self.reason {
+            Reason::JumpBack | Reason::JumpOutside => Some(self.target()),
+            Reason::FallsOff | Reason::WriteToFramePointer => None,
+            Reason::LoadOutside => self
+                .instruction
+                .access()
+                .map(|access| self.accessed(access)),
+            Reason::StoreOutside => self.instruction.access().map(|access| self.stored(access)),
+            Reason::UnknownHelper => helper_of(self.instruction),
+            Reason::EmitAddress => Some(self.address(Register::R1, 0, 0)),
+            Reason::EmitLength => Some(self.room()),
+            Reason::EmitLimit => Some(self.over_limit()),
+        }
+    }
+
+    /// Where a jump leads.
+    fn target(&self) -> Detail {
+        let distance = self.instruction.distance().unwrap_or(0);
+        Detail::Target(i128::from(Instruction::target(self.slot, distance)))
+    }
+
+    fn accessed(&self, access: Access) -> Detail {
+        self.address(access.base, access.offset, access.size)
+    }
+
+    /// The same of a store, or that the area is one to read.
+    fn stored(&self, access: Access) -> Detail {
+        match self.fact(access.base) {
+            Fact::Pointer { area, .. } if !area.is_writable() => Detail::ReadOnly {
+                base: access.base,
+                bytes: access.size,
+            },
+            _ => self.accessed(access),
+        }
+    }
+
+    /// Where a register has to point, so that so many bytes at an offset from there lie in its area.
+    fn address(&self, base: Register, offset: i16, bytes: u8) -> Detail {
+        let allowed = match self.fact(base) {
+            Fact::Pointer { area, .. } => {
+                Some(offsets_allowed(area, self.length(area), offset, bytes))
+            }
+            Fact::Words(_) => None,
+        };
+        Detail::Address {
+            base,
+            bytes,
+            allowed,
+        }
+    }
+
+    /// How many bytes an emit can take, from its address to the end of the area.
+    fn room(&self) -> Detail {
+        match self.fact(Register::R1) {
+            Fact::Pointer { area, high, .. } => {
+                Detail::Room(Some(bytes_behind(self.length(area), high)))
+            }
+            Fact::Words(_) => Detail::Room(None),
+        }
+    }
+
+    /// What the group has before this emit, what it adds, and what it may have.
+    fn over_limit(&self) -> Detail {
+        Detail::Limit {
+            emitted: self.facts.emitted as u64,
+            record: self.facts.get(Register::R2).bounds().high,
+            limit: self.sizes.limit(),
+        }
+    }
+
+    /// The fact about a register.
+    pub(crate) fn fact(&self, register: Register) -> Fact {
+        self.facts.get(register).fact()
+    }
+
+    /// The bytes of an area.
+    fn length(&self, area: Area) -> u32 {
+        let block = self.sizes.block().bytes();
+        area.length(block as usize) as u32
+    }
+}
+
+/// Where an address may lie, so that so many bytes at an offset from it lie in an area of this length.
+fn offsets_allowed(area: Area, length: u32, offset: i16, size: u8) -> Offsets {
+    let low = -i64::from(offset);
+    let high = low + i64::from(length) - i64::from(size);
+    Offsets { area, low, high }
+}
+
+/// The bytes of an area of this length from an offset on.
+fn bytes_behind(length: u32, offset: i32) -> i64 {
+    i64::from(length) - i64::from(offset)
+}
+
+/// The helper that an instruction calls, if it calls one.
+fn helper_of(instruction: &Instruction) -> Option<Detail> {
+    match *instruction {
+        Instruction::Call { helper } => Some(Detail::Helper(helper)),
+        _ => None,
+    }
+}
+
+/// The registers that an instruction reads, each once: those of an emit are R1 and R2.
+pub(crate) fn registers_read(instruction: &Instruction) -> [Option<Register>; 2] {
+    match *instruction {
+        Instruction::Load { src, .. }
+        | Instruction::LoadSigned { src, .. }
+        | Instruction::MoveSigned { src, .. } => [Some(src), None],
+        Instruction::StoreImmediate { dst, .. }
+        | Instruction::Negate { dst, .. }
+        | Instruction::SwapBytes { dst, .. } => [Some(dst), None],
+        Instruction::StoreRegister { dst, src, .. } => both(dst, Source::Register(src)),
+        Instruction::Arithmetic {
+            operation: Operation::Move,
+            source,
+            ..
+        } => [register_in(source), None],
+        Instruction::Arithmetic { dst, source, .. } | Instruction::Branch { dst, source, .. } => {
+            both(dst, source)
+        }
+        Instruction::Call { helper: EMIT } => [Some(Register::R1), Some(Register::R2)],
+        Instruction::LoadImmediate { .. }
+        | Instruction::Jump { .. }
+        | Instruction::JumpLong { .. }
+        | Instruction::Call { .. }
+        | Instruction::Exit => [None, None],
+    }
+}
+
+fn both(register: Register, source: Source) -> [Option<Register>; 2] {
+    let other = register_in(source).filter(|other| *other != register);
+    [Some(register), other]
+}
+
+fn register_in(source: Source) -> Option<Register> {
+    match source {
+        Source::Register(register) => Some(register),
+        Source::Immediate(_) => None,
+    }
+}
