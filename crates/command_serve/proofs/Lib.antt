@@ -1,3 +1,4 @@
 mod Told
 mod Keeping
 mod Serving
+mod ByLineServing

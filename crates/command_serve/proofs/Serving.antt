@@ -1,5 +1,5 @@
 -- What is done and saved.
-use Rattle.std.proofs.Common.{◌≡◌, ℕ, List, Option, Result, Ok, Err, OnOk, OnErr, IfErr, IfSome, ◌∙◌, refl, subst, sym}
+use Rattle.std.proofs.Common.{◌≡◌, ℕ, List, Option, Result, Ok, Err, OnOk, IfErr, refl, subst, sym}
 use Rattle.std.specs.Borrow.{Bor}
 use Rattle.clap.specs.declared.parser.matches.ArgMatches.{ArgMatches}
 use Rattle.common_definitions.specs.Failures.{CountsFailure}
@@ -9,7 +9,7 @@ use Rattle.device_events.specs.Printed.{Printed}
 use Rattle.device_meaning.specs.Draining.{HasDrained, HasStoppedDraining}
 use Rattle.device_meaning.specs.State.{State, new_state}
 use Rattle.event_frames.specs.Written.{Took}
-use Rattle.live_serve.specs.Served.{Server, ServesStream, StopsServing, seen}
+use Rattle.live_serve.specs.Served.{Server, ServesStream, seen}
 use Rattle.live_serve.specs.declared.fault.ServeFault.{ServeFault}
 use Rattle.runner.specs.declared.device.Stopped.{Stopped}
 use Rattle.command_files.specs.Made.{Made}
@@ -20,7 +20,7 @@ use Rattle.command_files.specs.declared.files.Files.{Ghosts}
 use Rattle.command_images.specs.Images.{HasText, StandFor, image_of}
 use Rattle.command_images.specs.UserTold.{IsUnheld, UpgradeFails}
 use Rattle.command_serve.specs.steps.Told.{IsTold}
-use Rattle.command_serve.specs.Served.{EndsRuns, FilesThen, InRuns, InStream, IsSaved, Serves, ServesAndDrains, ServesFirst, ServesImage, StoppedBy, StopsBefore, StopsEarly, StopsEnding, Untold, standing, turns_between}
+use Rattle.command_serve.specs.Served.{EndsRuns, FilesThen, InRuns, IsSaved, Serves, ServesAndDrains, ServesFirst, ServesImage, StoppedBy, StopsBefore, StopsEarly, StopsEnding, Untold, standing, turns_between}
 
 -- ---- the runs end
 

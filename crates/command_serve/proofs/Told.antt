@@ -1,7 +1,6 @@
 -- What is served where images are kept, as it is seen of the files that they are kept in.
-use Rattle.std.proofs.Common.{◌≡◌, ℕ, List, [], ◌∷◌, Option, ap, subst, sym}
+use Rattle.std.proofs.Common.{ℕ, List, [], ◌∷◌, Option, ap, subst, sym}
 use Rattle.image_store.specs.Namespace.{ZonedNamespace}
-use Rattle.event_frames.specs.declared.fault.StreamFault.{StreamFault}
 use Rattle.event_frames.specs.declared.request.Request.{Request}
 use Rattle.event_frames.specs.declared.request.Request.TheVariants as request
 use Rattle.live_serve.specs.Served.{AreDone, Asked, Between, Ends, Fails, FailsIn, HasServedSteps, Idle, InStep, IsBegun, IsDone, IsStep, Server, ServesStream, Step, StopsServing, seen}

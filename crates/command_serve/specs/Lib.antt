@@ -1,2 +1,4 @@
+pub mod Asked
 pub mod Served
+pub mod ByLine
 pub mod steps

@@ -1,5 +1,5 @@
 -- What `serve` does, writes and saves (profile).
-use Rattle.std.specs.Prelude.{◌≡◌, ℕ, List, codes, flat_map, if◌then◌else◌, Option, bytes_eq}
+use Rattle.std.specs.Prelude.{◌≡◌, ℕ, List, flat_map, if◌then◌else◌, Option}
 use Rattle.std.specs.Io.KnownBytes.{Appends}
 use Rattle.clap.specs.declared.parser.matches.ArgMatches.{ArgMatches}
 use Rattle.image_store.specs.Namespace.{ZonedNamespace}
@@ -12,18 +12,17 @@ use Rattle.event_frames.specs.declared.fault.StreamFault.TheVariants.{Byte, CutO
 use Rattle.live_serve.specs.Served.{Server, ServesStream, StopsServing, seen}
 use Rattle.live_serve.specs.declared.fault.ServeFault.{ServeFault}
 use Rattle.live_serve.specs.declared.fault.ServeFault.TheVariants as fault
-use Rattle.command_files.specs.Arguments.{value_of}
 use Rattle.command_files.specs.Made.{Made}
 use Rattle.command_files.specs.Surroundings.{Surroundings}
 use Rattle.command_files.specs.declared.failure.Failure.{Failure}
 use Rattle.command_files.specs.declared.failure.Failure.TheVariants.{CannotPrint, StreamCutOff, StreamRefused}
 use Rattle.command_files.specs.declared.files.Files.{Ghosts}
-use Rattle.command_serve.specs.declared.serve.TheConstants.{DRAIN}
+use Rattle.command_serve.specs.Asked.{asks_drain}
 use Rattle.command_images.specs.Images.{HasText, StandFor, image_of}
 
 -- how many turns the runs are given at most between two reads: all, where it is asked for
 abbrev pub turns_between : ArgMatches → ℕ
-turns_between matches = if bytes_eq (value_of matches DRAIN.now) (codes "true") then 4294967295 else 0
+turns_between matches = if asks_drain matches then 4294967295 else 0
 
 -- ---- the files
 

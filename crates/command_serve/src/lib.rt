@@ -2,4 +2,5 @@
 #![tactic(auto)]
 
 mod image_keeper;
+mod lines;
 pub mod serve;

@@ -1,6 +1,6 @@
 //! The command `serve`: what standard input asks for as it comes, done on an image.
 
-ghost use Rattle.std.specs.Prelude.{◌≡◌, ◌≤◌, ◌<◌, ◌+◌, ◌^◌, length, IfErr, IfSome, OnOk, None, Some};
+ghost use Rattle.std.specs.Prelude.{◌≡◌, ◌≤◌, ◌<◌, ◌+◌, ◌^◌, true, false, length, IfErr, IfSome, OnOk, None, Some};
 ghost use Rattle.std.specs.Option.{option_map_or};
 ghost use Rattle.nvme_entry.specs.declared.command.TheConstants.{MOST_TRANSFER};
 ghost use Rattle.device_meaning.specs.Draining.{HasStoppedDraining};
@@ -9,12 +9,15 @@ ghost use Rattle.command_files.specs.Surroundings.{ChangesOnly, around};
 ghost use Rattle.command_images.specs.Images.{HasText, image_of};
 ghost use Rattle.command_images.specs.UserTold.{IsUnheld};
 ghost use Rattle.image_text.specs.Text.{text};
+ghost use Rattle.command_serve.specs.Asked.{asks_drain, asks_for, asks_frames};
+ghost use Rattle.command_serve.specs.ByLine.{LinesStoppedBy, ServesByLine, StopsByLine};
 ghost use Rattle.command_serve.specs.Served.{EndsRuns, IsSaved, Serves, ServesAndDrains, ServesFirst, ServesImage, StoppedBy, StopsBefore};
 ghost use Rattle.command_serve.specs.Served.{StopsEarly, StopsEnding, Untold, standing, turns_between};
 ghost use Rattle.command_serve.specs.steps.Keeping.{HasKept, HoldsName, KeepsIn};
 ghost use Rattle.command_serve.specs.steps.Told.{IsTold};
 
 use crate::image_keeper::ImageKeeper;
+use crate::lines::{self, INPUT};
 use clap::{Arg, ArgAction, ArgMatches, Command};
 use command_files::arguments::{and_argument, required};
 use command_files::{Failure, FileCause, Files};
@@ -35,9 +38,6 @@ const FRAMES: &str = "frames";
 
 const DRAIN: &str = "drain";
 
-/// The name of standard input, as that of standard output is in what is told.
-const INPUT: &str = "-";
-
 const LONG_ABOUT: &str = "\
 Does what standard input asks of an image, as it comes: each request is done whole, and what answers it is written to standard \
 output, before more is read. At the end of the input turns are given to the runs that are left, always to the one of the lowest \
@@ -45,7 +45,11 @@ number, until each has ended, and the image is written back, as they left it. Wh
 
 No other command works on the image meanwhile: one that tries to is told that it is in use.
 
-With --frames, which is required, requests and answers are frames of bytes: a header of 16 bytes, and what stands behind it. \
+What it asks are the lines of a command file, as `exec` has them, and the line that `exec` prints for each reply answers them; `exec \
+--help` has both. A line that isn't of the form ends the command: the events of the lines in front of it are done and answered, and the \
+image is written as they left it.
+
+With --frames requests and answers are frames of bytes instead: a header of 16 bytes, and what stands behind it. \
 Numbers are little endian, and what isn't said is 0. Bytes of a header: 0, the kind; 1, the part; 2 and 3, the queue; 4 to 7, the \
 number; 8 to 11, the bytes of data.
 
@@ -69,9 +73,10 @@ what was asked for before is done. In each case the image is written as that lef
 was when it was last saved.";
 
 const EXAMPLE: &str = "\
-Example, in the folder of the sources, of a turn of run 0, which no run has:
+Example, in the folder of the sources, of the lines of a command file, and of a turn of run 0, which no run has then:
 
   zscli format zoned.img --block 512 --zones 4 --size 64 --capacity 64 --open 3 --active 3
+  zscli serve zoned.img --drain < examples/pushdown.cmd
   printf '\\2\\0\\0\\0\\0\\0\\0\\0\\0\\0\\0\\0\\0\\0\\0\\0' | zscli serve zoned.img --frames | xxd";
 
 /// How the command stands on the command line.
@@ -83,11 +88,11 @@ pub fn subcommand<'a>(alloc: Global) -> Result<Command<'a>, AllocError> {
     let image = Arg::new(alloc, IMAGE)
         .required(true)
         .help("The image, which `format` makes");
-    let frames = flag(alloc, FRAMES)
-        .required(true)
-        .help("Takes requests and gives answers as frames of bytes");
+    let frames = flag(alloc, FRAMES).help(
+        "Takes requests and gives answers as frames of bytes, not as lines",
+    );
     let drain = flag(alloc, DRAIN).help(
-        "Gives the runs all of their turns before more is read, and writes the answers to these too",
+        "Gives the runs all of their turns behind each line, or with --frames before more is read, and writes the answers to these too",
     );
     let command = Command::new(alloc, NAME)
         .about("Does what standard input asks of an image, as it comes")
@@ -118,20 +123,70 @@ pub fn serve<'a, F: Files, I: Read + Drop, O: Write>(
     out: &mut O,
 ) -> Result<(), Failure<'a>>
     ensures served { let here = around F.Files F.Reader.tells F.Writer.tells files.old files.new in
-        OnOk result (Serves here matches.now (option_map_or I.remaining input.old None) (O.contents out.old) (O.contents out.new)) }
+        asks_frames matches.now ≡ true
+        → OnOk result (Serves here matches.now (option_map_or I.remaining input.old None) (O.contents out.old) (O.contents out.new)) }
     ensures stopped { let here = around F.Files F.Reader.tells F.Writer.tells files.old files.new in
-        IfErr result (StoppedBy (StopsEarly here matches.now (option_map_or I.remaining input.old None) (O.contents out.old))) }
+        asks_frames matches.now ≡ true
+        → IfErr result (StoppedBy (StopsEarly here matches.now (option_map_or I.remaining input.old None) (O.contents out.old))) }
+    ensures served_lines { let here = around F.Files F.Reader.tells F.Writer.tells files.old files.new in
+        asks_frames matches.now ≡ false
+        → OnOk result (ServesByLine here matches.now (asks_drain matches.now) (option_map_or I.remaining input.old None)
+        (O.contents out.old) (O.contents out.new)) }
+    ensures stopped_lines { let here = around F.Files F.Reader.tells F.Writer.tells files.old files.new in
+        asks_frames matches.now ≡ false
+        → IfErr result (LinesStoppedBy (StopsByLine here matches.now (asks_drain matches.now)
+        (option_map_or I.remaining input.old None) (O.contents out.old))) }
     ensures changes { ChangesOnly F.Files (image_of matches.now) files.old files.new }
     ensures taken { input.new ≡ None }
     ensures untaken { input.old ≡ None → files.new ≡ files.old }
 {
     match mem::replace(input, None) {
-        Some(mut input) => serve_from(alloc, matches, files, &mut input, out),
+        Some(mut input) => serve_asked(alloc, matches, files, &mut input, out),
         None => Err(Failure::CannotRead(INPUT, FileCause::Other)),
     }
 }
 
-/// Does what an input asks of the namespace of the image file, and then the turns that end all runs, and saves what they leave.
+/// Does what an input asks of the namespace of the image file, in frames where they are asked for, and else by lines.
+fn serve_asked<'a, F: Files, I: Read, O: Write>(
+    alloc: Global,
+    matches: &ArgMatches<'a>,
+    files: &mut F,
+    input: &mut I,
+    out: &mut O,
+) -> Result<(), Failure<'a>>
+    ensures served { let here = around F.Files F.Reader.tells F.Writer.tells files.old files.new in
+        asks_frames matches.now ≡ true
+        → OnOk result (Serves here matches.now (I.remaining input.old) (O.contents out.old) (O.contents out.new)) }
+    ensures stopped { let here = around F.Files F.Reader.tells F.Writer.tells files.old files.new in
+        asks_frames matches.now ≡ true
+        → IfErr result (StoppedBy (StopsEarly here matches.now (I.remaining input.old) (O.contents out.old))) }
+    ensures served_lines { let here = around F.Files F.Reader.tells F.Writer.tells files.old files.new in
+        asks_frames matches.now ≡ false
+        → OnOk result (ServesByLine here matches.now (asks_drain matches.now) (I.remaining input.old)
+        (O.contents out.old) (O.contents out.new)) }
+    ensures stopped_lines { let here = around F.Files F.Reader.tells F.Writer.tells files.old files.new in
+        asks_frames matches.now ≡ false
+        → IfErr result (LinesStoppedBy (StopsByLine here matches.now (asks_drain matches.now)
+        (I.remaining input.old) (O.contents out.old))) }
+    ensures changes { ChangesOnly F.Files (image_of matches.now) files.old files.new }
+{
+    if asks_for(matches, FRAMES) {
+        serve_from(alloc, matches, files, input, out)
+    } else {
+        let drains = asks_for(matches, DRAIN);
+        lines::serve_from(alloc, matches, drains, files, input, out)
+    }
+}
+
+/// Is a flag with this name given?
+fn asks_for<'a>(matches: &ArgMatches<'a>, name: &'static str) -> bool
+    ensures { result ≡ asks_for matches.now name.now }
+{
+    required(matches, name) == "true"
+}
+
+/// Does what the frames of an input ask of the namespace of the image file, and then the turns that end all runs, and saves what they
+/// leave.
 fn serve_from<'a, F: Files, I: Read, O: Write>(
     alloc: Global,
     matches: &ArgMatches<'a>,
@@ -155,7 +210,7 @@ fn serve_from<'a, F: Files, I: Read, O: Write>(
 fn turns_between<'a>(matches: &ArgMatches<'a>) -> u32
     ensures { result ≡ turns_between matches.now }
 {
-    if required(matches, DRAIN) == "true" {
+    if asks_for(matches, DRAIN) {
         u32::MAX
     } else {
         0

@@ -1,5 +1,5 @@
 -- What saves the images that a stream asks for.
-use Rattle.std.specs.Prelude.{◌≡◌, ℕ, List, None, Some, IfSome}
+use Rattle.std.specs.Prelude.{◌≡◌, None, Some, IfSome}
 use Rattle.image_store.specs.Namespace.{ZonedNamespace}
 use Rattle.image_text.specs.Text.{text}
 use Rattle.command_files.specs.Surroundings.{ChangesOnly, around}

@@ -129,6 +129,14 @@ queue 1, command 5: read of 1 block from LBA 64 on: 512 bytes
 3 empty 0
 ",
     ),
+    // The same, of lines as they come.
+    Act::Prints(
+        "zscli format zoned.img --block 512 --zones 4 --size 64 --capacity 64 --open 3 --active 3",
+        "",
+    ),
+    Act::InputFile("work.cmd"),
+    Act::AddsTo("lines", "zscli serve zoned.img"),
+    Act::Has("lines", REPLIES),
 ];
 
 const SCENES: &[Scene] = &[Scene {

@@ -81,6 +81,8 @@ pub(super) enum Act {
     Saves(Parts, usize, u8, &'static str),
     /// From now on standard input has these bytes.
     Input(Parts),
+    /// From now on standard input has the bytes of a file.
+    InputFile(&'static str),
     /// A command line succeeds, and writes these bytes to standard output.
     Writes(&'static str, Parts),
     /// What was written to standard output last is these bytes.
@@ -129,6 +131,7 @@ fn perform(rt: &impl Abort, stage: &mut Stage, scene: &str, act: Act) -> Result<
         Act::Add(file, bytes) => stage.files.add(file, bytes)?,
         Act::AddSubmission(file, dwords) => stage.add_submission(file, dwords)?,
         Act::Input(parts) => stage.give_input(parts)?,
+        Act::InputFile(file) => stage.give_file(file)?,
         Act::Room(room) => stage.files.room = room,
         Act::Unreadable => stage.files.fails = true,
         _ => judge(rt, stage, scene, act)?,

@@ -204,13 +204,6 @@ const RUNS: &[Act] = &[
     Act::Writes(SERVE, answers!(SAVED, b"")),
 ];
 
-/// Only frames are served.
-const USAGE: &[Act] = &[
-    Act::Start(b""),
-    Act::Tells("zscli serve image", 2),
-    Act::Says("zscli serve image", "--frames"),
-];
-
 const SCENES: &[Scene] = &[
     Scene {
         name: "each request is answered",
@@ -235,10 +228,6 @@ const SCENES: &[Scene] = &[
     Scene {
         name: "runs have their turns",
         acts: RUNS,
-    },
-    Scene {
-        name: "no frames",
-        acts: USAGE,
     },
 ];
 

@@ -108,6 +108,15 @@ impl Stage {
         Ok(())
     }
 
+    /// From now on standard input has the bytes of a file, or none where there is no such file.
+    pub(super) fn give_file(&mut self, file: &str) -> Result<(), AllocError> {
+        self.input.clear();
+        match self.files.bytes(file) {
+            Some(bytes) => self.input.extend_from_slice(bytes),
+            None => Ok(()),
+        }
+    }
+
     /// Compares what the last command line printed with these bytes.
     pub(super) fn check_written(
         &self,

@@ -1,0 +1,125 @@
+//! Lines of a command file that come, done on an image.
+
+ghost use Rattle.std.specs.Prelude.{◌≡◌, ◌≤◌, ◌<◌, ◌+◌, ◌^◌, length, IfErr, OnOk, Some};
+ghost use Rattle.nvme_entry.specs.declared.command.TheConstants.{MOST_TRANSFER};
+ghost use Rattle.command_files.specs.Surroundings.{ChangesOnly, around};
+ghost use Rattle.command_images.specs.Images.{image_of};
+ghost use Rattle.command_serve.specs.ByLine.{LinesStoppedBy, ServesByLine, ServesFirstLines, ServesImageLines, ServesLinesAndDrains};
+ghost use Rattle.command_serve.specs.ByLine.{StopsByLine, StopsInLines};
+
+use clap::ArgMatches;
+use command_files::arguments::required;
+use command_files::{Failure, FileCause, Files};
+use command_images::image_file::{self, IMAGE};
+use event_text::Lines;
+use image_store::Image;
+use live_lines::{LinesFault, serve_lines};
+use nvme_entry::MOST_TRANSFER;
+use runner::{Device, Stopped};
+use std::alloc::Global;
+use std::io::{Read, Write};
+
+/// The name of standard input, as that of standard output is in what is told.
+pub(crate) const INPUT: &str = "-";
+
+/// Does the events of the lines of an input on the namespace of the image file, as they come, with turns behind each that end all runs
+/// where it is asked for, and then the turns that end all runs, and saves what they leave.
+pub(crate) fn serve_from<'a, F: Files, I: Read, O: Write>(
+    alloc: Global,
+    matches: &ArgMatches<'a>,
+    drains: bool,
+    files: &mut F,
+    input: &mut I,
+    out: &mut O,
+) -> Result<(), Failure<'a>>
+    ensures served { let here = around F.Files F.Reader.tells F.Writer.tells files.old files.new in
+        OnOk result (ServesByLine here matches.now drains (I.remaining input.old) (O.contents out.old) (O.contents out.new)) }
+    ensures stopped { let here = around F.Files F.Reader.tells F.Writer.tells files.old files.new in
+        IfErr result (LinesStoppedBy (StopsByLine here matches.now drains (I.remaining input.old) (O.contents out.old))) }
+    ensures changes { ChangesOnly F.Files (image_of matches.now) files.old files.new }
+{
+    let path = required(matches, IMAGE);
+    let image = image_file::load_to_replace(alloc, path, files)?;
+    run(alloc, image, drains, path, files, input, out)
+}
+
+/// Does the events of the lines that come, on an image, ends the runs that are left, and saves the image as they left it; or as what
+/// was done left it by then, where a line is refused, or the input or standard output fails.
+// The device stands in this frame, which isn't to stand on the stack yet while the command line is read.
+#[inline(never)]
+fn run<'a, F: Files, I: Read, O: Write>(
+    alloc: Global,
+    image: Image,
+    drains: bool,
+    path: &'a str,
+    files: &mut F,
+    input: &mut I,
+    out: &mut O,
+) -> Result<(), Failure<'a>>
+    requires { F.held files.old ≡ Some path.now }
+    ensures served { let here = around F.Files F.Reader.tells F.Writer.tells files.old files.new in
+        OnOk result (ServesImageLines here image path.now drains (I.remaining input.old) (O.contents out.old) (O.contents out.new)) }
+    ensures stopped { let here = around F.Files F.Reader.tells F.Writer.tells files.old files.new in
+        IfErr result (LinesStoppedBy (ServesFirstLines here image path.now drains (I.remaining input.old) (O.contents out.old))) }
+    ensures changes { ChangesOnly F.Files path.now files.old files.new }
+{
+    let mut output = vec![in alloc; 0; MOST_TRANSFER]?;
+    let mut lines = Lines::new(alloc, out)?;
+    let mut device = Device::new(alloc, image);
+    let done = serve_and_drain(
+        alloc,
+        &mut device,
+        drains,
+        input,
+        output.as_mut_slice(),
+        &mut lines,
+    );
+    let out = lines.into_writer();
+    image_file::save_changes(device.image(), path, files)?;
+    // No effect at run time. The proof reads what was printed from this use of `out`.
+    let _ = &*out;
+    match done {
+        Ok(()) => Ok(()),
+        Err(fault) => Err(failure_of(fault)),
+    }
+}
+
+/// Does the events of the lines that come, and then gives turns until no run is left, and prints the line of each reply.
+fn serve_and_drain<I: Read, O: Write>(
+    alloc: Global,
+    device: &mut Device,
+    drains: bool,
+    input: &mut I,
+    output: &mut [u8],
+    lines: &mut Lines<'_, O>,
+) -> Result<(), LinesFault>
+    requires room { MOST_TRANSFER ≤ length output.old }
+    requires counts { lines.old.refusals + 1 < 2 ^ 64 }
+    ensures same_writer { lines.new.out.ghost_name ≡ lines.old.out.ghost_name }
+    ensures done { OnOk result (ServesLinesAndDrains drains (I.remaining input.old) device.old device.new
+        (O.contents lines.old.out.now) (O.contents lines.new.out.now)) }
+    ensures stopped { IfErr result (StopsInLines drains (I.remaining input.old) device.old device.new
+        (O.contents lines.old.out.now) (O.contents lines.new.out.now)) }
+{
+    serve_lines(alloc, device, drains, input, output, lines)?;
+    match device.drain(output, lines) {
+        Ok(()) => Ok(()),
+        Err(Stopped { .. }) => Err(LinesFault::Write),
+    }
+}
+
+/// What the user is told where lines are served no further.
+fn failure_of<'a>(fault: LinesFault) -> Failure<'a>
+    ensures { LinesStoppedBy (λ why. why ≡ fault) result }
+{
+    match fault {
+        LinesFault::Read => Failure::CannotRead(INPUT, FileCause::Other),
+        LinesFault::Line { number, fault } => Failure::LineRefused {
+            path: INPUT,
+            line: number,
+            fault,
+        },
+        LinesFault::Write => Failure::CannotPrint,
+        LinesFault::Memory => Failure::NoMemory,
+    }
+}

@@ -1,0 +1,3 @@
+mod Doing
+mod ServedTexts
+mod Pieces
