@@ -114,7 +114,8 @@ fn flag<'a>(alloc: Global, name: &'a str) -> Arg<'a> {
 /// # Errors
 ///
 /// The image can't be read, is refused or can't be written; the input can't be read, or is refused; standard output fails; or
-/// memory is wanting. What was done before the input or the output failed is saved.
+/// memory is wanting. Where a line or a byte of the input is refused, it ends within a frame, or standard output fails, what was done
+/// before is saved.
 pub fn serve<'a, F: Files, I: Read + Drop, O: Write>(
     alloc: Global,
     matches: &ArgMatches<'a>,

@@ -29,7 +29,9 @@ const MOST_FRAME: usize = 32 + MOST_TRANSFER;
 ///
 /// # Errors
 ///
-/// Why the stream is served no further; what was asked for before is done.
+/// Why the stream is served no further. The first requests of it are done and answered, in order: those before the one whose answer
+/// can't be written or made, which is done too, of a drain perhaps only the first turns; before a save that fails; or all that came
+/// whole, where it can't be read on, a byte is none of a request, or it ends within a frame.
 pub fn serve<R: Read, W: Write, K: Keep>(
     alloc: Global,
     device: &mut Device,

@@ -3,9 +3,11 @@
 
     python3 examples/scan.py [BLOCKS]
 
-appends so many orders (4,096 if nothing is said), each at the start of a block of 512 bytes with its region in bytes 8 to 11, and
-finds those of region 3 of 20 both ways.
+appends so many orders (2,048 where nothing is said), each at the start of a block of 4096 bytes with its region in bytes 8 to 11,
+and finds those of region 3 of 20 both ways. The bytes are those of data: a turn also takes two frames of 16 bytes.
 """
+
+from __future__ import annotations
 
 import struct
 import subprocess
@@ -13,15 +15,15 @@ import sys
 import tempfile
 import time
 from pathlib import Path
-from typing import List
+from typing import Callable, List, Tuple
 
 sys.path.insert(0, str(Path(__file__).resolve().parents[1]))
 import pifnjarl
 
-BLOCK = 512
+BLOCK = 4096
 REGION = 3
 
-# of a block whose number in bytes 8 to 11 is the run's argument, the first 64 bytes
+# emits the first 64 bytes of a block whose number in bytes 8 to 11 is the run's argument
 FILTER = """
         ldxw r6, [r2+8]
         ldxw r7, [r1+20]
@@ -46,38 +48,40 @@ def assembled(text: str, folder: Path) -> bytes:
     return (folder / "filter.bin").read_bytes()
 
 
-def by_reading(device: pifnjarl.Device, blocks: int) -> List[bytes]:
-    """Reads all blocks, and keeps the orders of the region."""
+def by_reading(device: pifnjarl.Device, blocks: int) -> Tuple[List[bytes], int]:
+    """Reads all blocks, and keeps the orders of the region: these, and the bytes that crossed."""
     everything = device.read(0, blocks)
     orders = (everything[at : at + 64] for at in range(0, len(everything), BLOCK))
-    return [found for found in orders if struct.unpack_from("<I", found, 8)[0] == REGION]
+    return [found for found in orders if struct.unpack_from("<I", found, 8)[0] == REGION], len(everything)
 
 
-def by_filter(device: pifnjarl.Device, blocks: int, output: int) -> List[bytes]:
-    """Runs the filter over the blocks, and reads what it appended."""
-    device.open(output)
-    done = device.run(0, 0, blocks, to=output, argument=REGION).wait_at_once()
-    return list(pifnjarl.records(device.read(output, done.blocks), BLOCK))
+def by_filter(device: pifnjarl.Device, blocks: int) -> Tuple[List[bytes], int]:
+    """Runs the filter over the blocks, into the zone behind them, and reads what it appended."""
+    device.open(blocks)
+    done = device.run(0, 0, blocks, to=blocks, argument=REGION).wait()
+    return device.records(blocks, done.blocks), done.blocks * BLOCK
+
+
+def timed(way: Callable[[pifnjarl.Device, int], Tuple[List[bytes], int]], device: pifnjarl.Device, blocks: int) -> List[bytes]:
+    """Finds the orders, and prints what that took."""
+    began = time.perf_counter()
+    orders, crossed = way(device, blocks)
+    spent = time.perf_counter() - began
+    print(f"{way.__name__}: {len(orders)} orders, {crossed:,} bytes crossed, {1000 * spent:.1f} ms")
+    return orders
 
 
 def main() -> None:
     """Finds them both ways."""
-    blocks = int(sys.argv[1]) if len(sys.argv) > 1 else 4096
+    blocks = int(sys.argv[1]) if len(sys.argv) > 1 else 2048
     with tempfile.TemporaryDirectory() as folder:
         image = Path(folder) / "orders.img"
-        pifnjarl.format_image(image, BLOCK, zones=2, size=blocks, capacity=blocks, most_open=2, most_active=2)
+        pifnjarl.format_image(image, block=BLOCK, zones=2, zone_size=blocks)
         with pifnjarl.Device(image) as device:
             device.append(0, b"".join(order(number) for number in range(blocks)))
             device.load(0, assembled(FILTER, Path(folder)), emit=66)
-            began = time.perf_counter()
-            found = by_reading(device, blocks)
-            read = time.perf_counter()
-            emitted = by_filter(device, blocks, output=blocks)
-            ended = time.perf_counter()
-        crossed = -(-len(emitted) // (BLOCK // 66)) * BLOCK
-        print(f"by reading: {len(found)} orders, {blocks * BLOCK} bytes crossed, {1000 * (read - began):.1f} ms")
-        print(f"by a filter: {len(emitted)} orders, {crossed} bytes crossed, {1000 * (ended - read):.1f} ms")
-        print("the same orders" if found == emitted else "other orders")
+            same = timed(by_reading, device, blocks) == timed(by_filter, device, blocks)
+    print("the same orders" if same else "other orders")
 
 
 if __name__ == "__main__":

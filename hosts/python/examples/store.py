@@ -1,39 +1,43 @@
 #!/usr/bin/env python3
-"""A log-structured key-value store on zones.
+"""A log-structured store of keys and values on zones.
 
-Puts and deletes are records that are appended to the zone in use, each in whole blocks. Where each key's newest record lies is
-kept in memory, and found again from the zones when the store is opened. When only the last zone is empty, the zone with the
-fewest live blocks is compacted: its live records are appended elsewhere, and it is reset.
+Each put appends a record to the zone that is open, in whole blocks; one that is full is left, and an Empty zone is opened. Where
+each key's newest record lies is kept in memory, and found again from the zones when the store is opened. One zone is kept Empty:
+before it is the last, the zone with the fewest blocks of newest records is compacted, these being moved and the zone reset.
 
     python3 examples/store.py
 
-makes an image, puts 2,000 values under 50 keys, opens the store again and reads them.
+puts 2,000 values under 50 keys, opens the store again, and reads them.
 """
+
+from __future__ import annotations
 
 import struct
 import sys
 import tempfile
 from pathlib import Path
-from typing import Dict, Iterator, List, NamedTuple, Optional, Set, Tuple
+from typing import Dict, Iterator, NamedTuple, Optional, Set, Tuple
 
 sys.path.insert(0, str(Path(__file__).resolve().parents[1]))
 import pifnjarl
 
-RECORD = struct.Struct("<4sQHI?")
+# the front of a record, then its number among all records, the lengths of the key and of the value, and whether the key is deleted
+HEAD = struct.Struct("<4sQHI?")
 MAGIC = b"kept"
 
 
 class Place(NamedTuple):
-    """Where a record lies: its zone, its first block, how many blocks it has, and its number among all records."""
+    """Where a record lies, its number, and whether it deletes its key."""
 
     zone: int
     lba: int
     blocks: int
     number: int
+    deletes: bool
 
 
 class Store:
-    """Keys and values, both bytes, on a zoned device that has at least three zones.
+    """Keys and values, both bytes, on a device of which all zones are the store's.
 
     >>> with pifnjarl.example() as device:
     ...     store = Store(device)
@@ -44,129 +48,119 @@ class Store:
     """
 
     def __init__(self, device: pifnjarl.Device) -> None:
-        """Finds each key's newest record in the zones."""
+        """Finds the newest record of each key in the zones."""
+        self.resets = 0
         self._device = device
-        self._zones = {zone.start: zone for zone in device.report()}
-        self._places: Dict[bytes, Place] = {}
-        self._gone: Dict[bytes, Place] = {}
+        self._block = device.geometry.block
+        self._capacity = device.geometry.zone_capacity
+        self._newest: Dict[bytes, Place] = {}
         self._number = 0
-        self._free: List[int] = []
-        self._used: Dict[int, int] = {}
-        for start, zone in self._zones.items():
-            written = zone.capacity if zone.write_pointer is None else zone.write_pointer - start
-            if written:
-                self._used[start] = written
-            else:
-                self._free.append(start)
-        for place, key, value in (found for start in self._used for found in self._records(start)):
-            self._number = max(self._number, place.number)
-            newest = max(self._places.get(key, place), self._gone.get(key, place), key=lambda p: p.number)
-            if newest == place:
-                self._take(key, place, value is None)
+        zones = device.report()
+        self._empty = [zone.start for zone in zones if zone.state is pifnjarl.ZoneState.EMPTY]
+        self._written = [zone.start for zone in zones if zone.start not in self._empty]
+        # nothing is appended any more to what an earlier store left open
+        device.finish(pifnjarl.ALL_ZONES)
+        self._room = 0
+        for zone in self._written:
+            for key, place in self._records(zone):
+                self._number = max(self._number, place.number)
+                if key not in self._newest or place.number > self._newest[key].number:
+                    self._newest[key] = place
 
     def put(self, key: bytes, value: bytes) -> None:
         """Keeps a value under a key, in place of the one before."""
-        self._make_room()
-        self._take(key, self._append(key, value), False)
+        self._append(key, value, deletes=False)
 
     def delete(self, key: bytes) -> None:
         """Forgets a key."""
-        if key in self._places:
-            self._make_room()
-            self._take(key, self._append(key, None), True)
+        if key in self.keys():
+            self._append(key, b"", deletes=True)
 
     def get(self, key: bytes) -> Optional[bytes]:
         """The value of a key, or None."""
-        place = self._places.get(key)
-        if place is None:
+        place = self._newest.get(key)
+        if place is None or place.deletes:
             return None
-        _, value = self._read(place)
-        return value
+        record = self._device.read(place.lba, place.blocks)
+        _, _, of_key, of_value, _ = HEAD.unpack_from(record)
+        return record[HEAD.size + of_key :][:of_value]
 
     def keys(self) -> Set[bytes]:
         """All keys."""
-        return set(self._places)
+        return {key for key, place in self._newest.items() if not place.deletes}
 
     # ---- records
 
-    def _take(self, key: bytes, place: Place, deleted: bool) -> None:
-        """This is now the key's newest record."""
-        (self._places if deleted else self._gone).pop(key, None)
-        (self._gone if deleted else self._places)[key] = place
-
-    def _encoded(self, key: bytes, value: Optional[bytes]) -> bytes:
-        """A record in whole blocks."""
-        head = RECORD.pack(MAGIC, self._number, len(key), len(value or b""), value is None)
-        record = head + key + (value or b"")
-        return record.ljust(-(-len(record) // self._device.block) * self._device.block, b"\0")
-
-    def _append(self, key: bytes, value: Optional[bytes]) -> Place:
-        """Appends a record to a zone that has room."""
+    def _append(self, key: bytes, value: bytes, deletes: bool) -> None:
+        """Appends a record, the newest of its key."""
         self._number += 1
-        record = self._encoded(key, value)
-        blocks = len(record) // self._device.block
-        zone = self._zone_for(blocks)
-        place = Place(zone, self._device.append(zone, record), blocks, self._number)
-        self._used[zone] = self._used.get(zone, 0) + blocks
-        return place
+        record = HEAD.pack(MAGIC, self._number, len(key), len(value), deletes) + key + value
+        blocks = self._blocks(len(record))
+        if blocks > self._capacity:
+            raise ValueError(f"a record of {blocks} blocks has no room in a zone")
+        for _ in range(self._device.geometry.zones):
+            if self._room < blocks:
+                self._next_zone()
+        if self._room < blocks:
+            raise OSError("the store is full")
+        self._newest[key] = self._append_to_open(record, Place(0, 0, blocks, self._number, deletes))
 
-    def _zone_for(self, blocks: int) -> int:
-        """A zone in use with room for so many blocks, or else a free one."""
-        for zone, used in self._used.items():
-            if self._zones[zone].capacity - used >= blocks:
-                return zone
-        if not self._free:
-            raise OSError("the device is full")
-        return self._free.pop(0)
+    def _append_to_open(self, record: bytes, place: Place) -> Place:
+        """Appends a record to the open zone, which has room: where it lies now."""
+        zone = self._written[-1]
+        lba = self._device.append(zone, record.ljust(place.blocks * self._block, b"\0"))
+        self._room -= place.blocks
+        return place._replace(zone=zone, lba=lba)
 
-    def _read(self, place: Place) -> Tuple[bytes, Optional[bytes]]:
-        """The key and the value of a record."""
-        record = self._device.read(place.lba, place.blocks)
-        _, _, of_key, of_value, deleted = RECORD.unpack_from(record)
-        key = record[RECORD.size : RECORD.size + of_key]
-        return key, None if deleted else record[RECORD.size + of_key : RECORD.size + of_key + of_value]
-
-    def _records(self, zone: int) -> Iterator[Tuple[Place, bytes, Optional[bytes]]]:
-        """The records of a zone, from its first on."""
-        lba, end = zone, zone + self._used[zone]
-        while lba < end:
-            magic, number, of_key, of_value, _ = RECORD.unpack_from(self._device.read(lba, 1))
+    def _records(self, zone: int) -> Iterator[Tuple[bytes, Place]]:
+        """The keys and places of the records of a zone, from its first on."""
+        lba = zone
+        while lba < zone + self._capacity:
+            magic, number, of_key, of_value, deletes = HEAD.unpack_from(self._device.read(lba, 1))
             if magic != MAGIC:
                 return
-            place = Place(zone, lba, -(-(RECORD.size + of_key + of_value) // self._device.block), number)
-            yield (place, *self._read(place))
-            lba += place.blocks
+            blocks = self._blocks(HEAD.size + of_key + of_value)
+            yield self._device.read(lba, blocks)[HEAD.size :][:of_key], Place(zone, lba, blocks, number, deletes)
+            lba += blocks
 
-    # ---- compaction
+    def _blocks(self, size: int) -> int:
+        """The blocks of a record of so many bytes."""
+        return -(-size // self._block)
 
-    def _make_room(self) -> None:
-        """Keeps one zone free, where compaction gains something."""
-        while len(self._free) < 2 and self._compact():
-            pass
+    # ---- zones
 
-    def _compact(self) -> bool:
-        """Moves the live records of the zone that has the fewest live blocks of those it has used, and resets it."""
-        live = {zone: 0 for zone in self._used}
-        for place in [*self._places.values(), *self._gone.values()]:
-            live[place.zone] += place.blocks
-        zone = max(live, key=lambda z: self._used[z] - live[z])
-        if self._used[zone] < self._zones[zone].capacity or live[zone] == self._used[zone]:
-            return False
-        newest = {place: key for key, place in [*self._places.items(), *self._gone.items()] if place.zone == zone}
-        moved = [(key, *self._read(place)) for place, key in newest.items()]
-        for key, _, value in moved:
-            self._take(key, self._append(key, value), value is None)
+    def _next_zone(self) -> None:
+        """Leaves the open zone. Opens an Empty one, but the last only for what is moved when another one is compacted."""
+        if not self._empty:
+            raise OSError("a store wants an Empty zone")
+        if self._written:
+            self._device.finish(self._written[-1])
+        compacts = len(self._empty) == 1
+        self._written.append(self._empty.pop())
+        self._room = self._capacity
+        if compacts:
+            self._compact()
+
+    def _compact(self) -> None:
+        """Moves the newest records of the zone that has the fewest blocks of them to the open zone, and resets it."""
+        blocks = dict.fromkeys(self._written[:-1], 0)
+        for place in self._newest.values():
+            blocks[place.zone] += place.blocks
+        zone = min(blocks, key=lambda zone: blocks[zone])
+        for key, place in self._newest.items():
+            if place.zone == zone:
+                self._newest[key] = self._append_to_open(self._device.read(place.lba, place.blocks), place)
         self._device.reset(zone)
-        del self._used[zone]
-        self._free.append(zone)
-        return True
+        self.resets += 1
+        self._written.remove(zone)
+        self._empty.append(zone)
 
 
 def main() -> None:
-    """Puts and reads values."""
+    """Puts values, and reads them."""
     with tempfile.TemporaryDirectory() as folder:
         image = Path(folder) / "store.img"
-        pifnjarl.format_image(image, zones=8, size=64, capacity=64)
+        pifnjarl.format_image(image, zones=8, most_active=1)
         expected = {}
         with pifnjarl.Device(image) as device:
             store = Store(device)
@@ -174,10 +168,11 @@ def main() -> None:
                 key, value = b"key %02d" % (number * 7 % 50), b"value %04d " % number * (number % 60)
                 store.put(key, value)
                 expected[key] = value
+            resets = store.resets
         with pifnjarl.Device(image) as device:
             store = Store(device)
-            right = all(store.get(key) == value for key, value in expected.items())
-            print(f"{len(store.keys())} keys, {'all' if right else 'not all'} as they were put")
+            right = store.keys() == set(expected) and all(store.get(key) == value for key, value in expected.items())
+    print(f"{len(expected)} keys, {'all' if right else 'not all'} as they were put; zones were reset {resets} times")
 
 
 if __name__ == "__main__":
