@@ -1,0 +1,2 @@
+mod Alignment
+mod Appended
