@@ -1,0 +1,3 @@
+mod Changes
+pub mod Moments
+mod Unsynced

@@ -1,0 +1,62 @@
+-- What is known of a file on a disk that may stop at any moment.
+use Rattle.std.specs.Prelude.{◌≡◌, ◌⊎◌, ℕ, ◌+◌, ◌%◌, ◌≤◌, max, min, List, ◌++◌, length, take, drop}
+
+-- a file at one moment
+pub record FileState : Type 1 where
+  -- the bytes that a read returns
+  pub seen : List ℕ
+  -- the moment, a number that doesn't fall
+  pub moment : ℕ
+  -- what a crash at a moment might have left, of those since this one, during a call or between two
+  pub left_since : ℕ → List ℕ → Type 0
+  -- how often the disk has failed
+  pub faults : ℕ
+
+-- a crash now may leave this
+abbrev pub MayLeave : FileState → List ℕ → Type 0
+MayLeave file c = file.left_since file.moment c
+
+-- a crash now leaves what a read returns
+abbrev pub IsOnDisk : FileState → Type 0
+IsOnDisk file = (c : List ℕ) → MayLeave file c → c ≡ file.seen
+
+-- so many bytes are whole sectors
+abbrev pub IsWhole : ℕ → Type 0
+IsWhole n = n % 4096 ≡ 0
+
+-- these bytes over what is there, and past the end
+abbrev pub is_written : ℕ → List ℕ → List ℕ → List ℕ
+is_written at bytes old = take at old ++ bytes ++ drop (at + length bytes) old
+
+-- after a write of n bytes that a crash cuts short: any bytes where it writes, and the others as they were
+pub record Torn (at n : ℕ) (old new : List ℕ) : Type 0 where
+  pub before : take at new ≡ take at old
+  pub after : drop (at + n) new ≡ drop (at + n) old
+  pub no_shorter : length old ≤ length new
+  pub no_longer : length new ≤ max (length old) (at + n)
+
+-- after a length was set that a crash cuts short: some length between
+pub record Cut (n : ℕ) (old new : List ℕ) : Type 0 where
+  pub no_shorter : min n (length old) ≤ length new
+  pub front : new ≡ take (length new) old
+
+-- what a crash may leave now it might have left before, but for this step
+abbrev pub Follows : (List ℕ → List ℕ → Type 0) → FileState → FileState → Type 0
+Follows step old new = (c : List ℕ) → MayLeave new c → (d : List ℕ) × MayLeave old d × step d c
+
+-- what a crash may leave now it might have left before
+abbrev pub FollowsOnly : FileState → FileState → Type 0
+FollowsOnly old new = (c : List ℕ) → MayLeave new c → MayLeave old c
+
+-- time goes on: a crash might have left what it might before, or what it may leave now
+pub record Elapses (old new : FileState) : Type 0 where
+  pub later : old.moment ≤ new.moment
+  pub nothing_else : (t : ℕ) (c : List ℕ) → t ≤ old.moment → new.left_since t c → old.left_since t c ⊎ MayLeave new c
+  pub keeps : (t : ℕ) (c : List ℕ) → t ≤ old.moment → old.left_since t c → new.left_since t c
+
+-- a crash at any moment from the old one to the new one leaves a file that has P
+pub record LeavesOnly (old new : FileState) (P : List ℕ → Type 0) : Type 0 where
+  pub later : old.moment ≤ new.moment
+  pub each : (c : List ℕ) → new.left_since old.moment c → P c
+  -- and one at a moment since an earlier one, what it might have left before, or such a file
+  pub before : (t : ℕ) (c : List ℕ) → t ≤ old.moment → new.left_since t c → old.left_since t c ⊎ P c

@@ -1,0 +1,4 @@
+pub mod Cause
+pub mod File
+pub mod Tearing
+pub mod Unsynced
