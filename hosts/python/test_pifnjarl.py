@@ -16,6 +16,7 @@ import tempfile
 import unittest
 from pathlib import Path
 from typing import Dict, List, Tuple
+from unittest import mock
 
 HERE = Path(__file__).resolve().parent
 ROOT = HERE.parents[1]
@@ -102,18 +103,23 @@ class Devices(Over):
         self.assertEqual(len(device.records(2048, 158)), 1100)
 
     def test_what_was_saved_is_there_again(self) -> None:
-        """An image keeps its zones when the device ends."""
+        """An image has what it was saved with, and keeps its zones when the device ends."""
         with pifnjarl.Device(self.image) as device:
             device.append(128, b"x" * 1024)
-        self.assertEqual(self.device().read(128, 2), b"x" * 1024)
+            device.save()
+            shutil.copy(self.image, self.folder / "copy.img")
+            device.append(128, b"y" * 512)
+        self.assertEqual(self.device().read(128, 3), b"x" * 1024 + b"y" * 512)
+        with pifnjarl.Device(self.folder / "copy.img") as copy:
+            self.assertEqual(copy.read(128, 3), b"x" * 1024 + bytes(512))
 
     def test_a_run_that_is_left_ends_with_the_device(self) -> None:
         """What it has still to append is in the image."""
         with pifnjarl.Device(self.image) as device:
             device.append(0, ORDERS)
             device.open(64)
-            device.load(0, self.filter(), emit=66)
-            device.run(0, 0, 4, to=64, argument=3)
+            device.load(7, self.filter(), emit=66)
+            device.run(7, 0, 4, to=64, argument=3)
         self.assertEqual(len(self.device().records(64, 1)), 2)
 
     def test_long_data_goes_in_transfers(self) -> None:
@@ -130,17 +136,35 @@ class Devices(Over):
         zones = self.device().report()
         self.assertEqual([zone.start for zone in zones], list(range(0, 8192, 2)))
 
+    def test_a_report_is_of_any_state(self) -> None:
+        """The zones, one of each state, are found by it."""
+        pifnjarl.format_image(self.image, zones=7, zone_size=4)
+        device = self.device()
+        device.append(4, bytes(512))
+        device.open(8)
+        device.append(12, bytes(512))
+        device.close(12)
+        device.finish(16)
+        device.fault(20, pifnjarl.ZoneState.READ_ONLY)
+        device.fault(24, pifnjarl.ZoneState.OFFLINE)
+        self.assertEqual([zone.state for zone in device.report()], list(pifnjarl.ZoneState))
+        self.assertEqual([zone.write_pointer for zone in device.report()], [0, 5, 8, 13, None, None, None])
+        for zone in device.report():
+            self.assertEqual(device.report(state=zone.state), [zone])
+        self.assertEqual(device.report(20, pifnjarl.ZoneState.FULL), [])
+
     def test_identifiers_of_active_runs_are_not_given_again(self) -> None:
-        """However many commands come while a run is active."""
+        """However many commands come while a run is active: each completion finds its run."""
         device = self.device()
         device.append(0, ORDERS)
-        device.open(64)
         device.load(0, self.filter(), emit=66)
-        run = device.run(0, 0, 4, to=64, argument=3)
-        device._identifier = 65535
-        for _ in range(5):
-            device.read(0, 1)
-        self.assertEqual(run.wait(), (2, 1))
+        runs = []
+        for zone, region in ((64, 3), (128, 1)):
+            device.open(zone)
+            device._identifier = 65535
+            runs.append(device.run(0, 0, 4, to=zone, argument=region))
+        self.assertEqual(device.drain(), 8)
+        self.assertEqual([run.wait() for run in runs], [(2, 1), (1, 1)])
 
     def test_numbers_that_have_no_place_in_an_entry_are_told(self) -> None:
         """None of them reaches the device."""
@@ -166,6 +190,15 @@ class Devices(Over):
         device.shut()
         with self.assertRaisesRegex(pifnjarl.DeviceError, "shut"):
             device.read(0, 1)
+
+    def test_the_program_is_that_of_this_repository(self) -> None:
+        """Where none is named. It is told where it would be if it isn't built."""
+        with mock.patch.dict(os.environ, PIFNJARL_ZSCLI=""):
+            try:
+                found = pifnjarl.zscli()
+            except pifnjarl.DeviceError as error:
+                found = str(error)
+        self.assertIn(str(ROOT / "crates/zscli/out/zscli"), found)
 
     def test_a_copy_beside_a_script_is_enough(self) -> None:
         """It wants the standard library alone, and the program's name, without which it says how it is named."""
