@@ -33,6 +33,10 @@ pub record BeginsBatch (events : List (List ℕ)) (rest bytes : List ℕ) : Type
   pub is : IsFrame events frame
   pub parts : bytes ≡ frame ++ rest
 
+-- a batch stands whole at the front of bytes, of which these are its events as they are spelled, and this rest behind it
+abbrev pub GivesBatch : List ℕ → List ℕ → List ℕ → Type 0
+GivesBatch told rest bytes = (events : List (List ℕ)) × (told ≡ spelled events) × BeginsBatch events rest bytes
+
 -- no batch does
 abbrev pub BeginsNoBatch : List ℕ → Type 0
 BeginsNoBatch bytes = (events : List (List ℕ)) (rest : List ℕ) → BeginsBatch events rest bytes → ⊥

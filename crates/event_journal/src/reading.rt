@@ -1,8 +1,8 @@
 //! The events and batches that bytes stand for.
 
 ghost use Rattle.std.specs.Prelude.{◌≡◌, ◌<◌, ◌≤◌, ◌^◌, ℕ, List, length, MatchOption};
-ghost use Rattle.event_journal.specs.Events.{BeginsNoEvent, BeginsEvent, AreEvents, spelled};
-ghost use Rattle.event_journal.specs.Journal.{BeginsNoBatch, BeginsBatch, payload_length};
+ghost use Rattle.event_journal.specs.Events.{BeginsNoEvent, BeginsEvent, AreEvents};
+ghost use Rattle.event_journal.specs.Journal.{BeginsNoBatch, GivesBatch, payload_length};
 
 use stored_file::SECTOR;
 
@@ -32,7 +32,7 @@ pub fn first_event(bytes: &[u8]) -> Option<(&[u8], &[u8])>
 
 /// The events of the batch that stands whole behind an open gate at the front of the bytes, and what stands behind it.
 pub fn first_batch(bytes: &[u8]) -> Option<(&[u8], &[u8])>
-    ensures { MatchOption result (BeginsNoBatch bytes.now) (λ parts. (events : List (List ℕ)) × (parts.0.now ≡ spelled events) × BeginsBatch events parts.1.now bytes.now) }
+    ensures { MatchOption result (BeginsNoBatch bytes.now) (λ parts. GivesBatch parts.0.now parts.1.now bytes.now) }
 {
     let (gate, _) = bytes.split_first()?;
     if *gate != OPEN || bytes.len() < SECTOR {

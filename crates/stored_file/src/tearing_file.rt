@@ -21,7 +21,7 @@ pub struct TearingFile {
 }
 
 impl TearingFile {
-    ghost use Rattle.stored_file.specs.Tearing.{told_of};
+    ghost use Rattle.stored_file.specs.Tearing.{told_of, IsUnchanged};
 
     /// A file of these bytes, all of them on the disk.
     ///
@@ -29,7 +29,7 @@ impl TearingFile {
     ///
     /// No memory.
     pub fn new(alloc: Global, bytes: &[u8]) -> Result<Self, AllocError>
-        ensures { IfOk result (λ file. ((told_of file).seen ≡ bytes.now) × ((told_of file).moment ≡ 0) × ((c : List ℕ) → (told_of file).left_since 0 c → c ≡ bytes.now)) }
+        ensures { IfOk result (λ file. IsUnchanged (told_of file) bytes.now) }
     {
         Ok(TearingFile {
             alloc,
