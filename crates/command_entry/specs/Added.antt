@@ -2,7 +2,8 @@
 use Rattle.std.specs.Prelude.{◌≡◌, ◌==◌, ◌-◌, ◌⊎◌, ℕ, Bool, false, not, List, [], ◌∷◌, ◌++◌, length, map, slice_get, if◌then◌else◌, Option, Some, None, IfSome, Ok}
 use Rattle.nvme_entry.specs.declared.command.Command.{Command}
 use Rattle.device_events.specs.declared.event.Event.{Event}
-use Rattle.event_text.specs.CommandFile.{events_in, told_of}
+use Rattle.device_events.specs.ToldEvents.{told_of}
+use Rattle.event_text.specs.CommandFile.{events_in}
 use Rattle.command_files.specs.Made.{Made, HasReplaced, then_made}
 use Rattle.command_entry.specs.Identifiers.{identifiers, is_used}
 use Rattle.command_entry.specs.Printed.{IsCommandLine}

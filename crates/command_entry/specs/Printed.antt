@@ -3,7 +3,7 @@ use Rattle.std.specs.Prelude.{◌≡◌, ℕ, List, [], ◌∷◌, ◌++◌, Opt
 use Rattle.std.specs.Io.KnownBytes.{Appends}
 use Rattle.nvme_entry.specs.Entry.{decoded, identifier_of}
 use Rattle.nvme_entry.specs.declared.command.Command.{Command}
-use Rattle.event_text.specs.CommandFile.{Submitted}
+use Rattle.device_events.specs.ToldEvents.{Submitted}
 use Rattle.event_text.specs.Submission.{Tells}
 
 -- a line, without its end, that a command file's reader takes for the submission, to this queue and with this data beside it, of an

@@ -2,7 +2,8 @@
 
 ghost use Rattle.std.specs.Prelude.{◌≡◌, ◌≤◌, ◌++◌, map, Some, IfOk, OnOk, OnErr};
 ghost use Rattle.nvme_entry.specs.Encoding.{program_length};
-ghost use Rattle.event_text.specs.CommandFile.{events_in, told_of};
+ghost use Rattle.device_events.specs.ToldEvents.{told_of};
+ghost use Rattle.event_text.specs.CommandFile.{events_in};
 ghost use Rattle.command_entry.specs.Added.{AddsCommand, AddsLine, AreOf, IsChosen, ended};
 
 use crate::identifiers::{Identifiers, next_identifier};

@@ -14,7 +14,8 @@ use Rattle.device_meaning.specs.State.{State, new_state}
 use Rattle.device_events.specs.declared.event.Event.{Event}
 use Rattle.device_meaning.proofs.Proved.{served_and_drained}
 use Rattle.runner.specs.declared.device.Stopped.{Stopped}
-use Rattle.event_text.specs.CommandFile.{events_in, told_of}
+use Rattle.device_events.specs.ToldEvents.{told_of}
+use Rattle.event_text.specs.CommandFile.{events_in}
 use Rattle.event_text.specs.Lines.{Took, reply_line}
 use Rattle.command_files.specs.Made.{Made}
 use Rattle.command_files.specs.Surroundings.{Surroundings}

@@ -10,7 +10,8 @@ use Rattle.device_meaning.specs.Events.{HasServed, HasStopped}
 use Rattle.device_meaning.specs.JoinedEvents.{HasServedAndDrained}
 use Rattle.device_meaning.specs.State.{State, new_state}
 use Rattle.device_events.specs.declared.event.Event.{Event}
-use Rattle.event_text.specs.CommandFile.{events_in, told_of}
+use Rattle.device_events.specs.ToldEvents.{told_of}
+use Rattle.event_text.specs.CommandFile.{events_in}
 use Rattle.event_text.specs.Lines.{reply_line}
 use Rattle.clap.specs.declared.parser.matches.ArgMatches.{ArgMatches}
 use Rattle.command_files.specs.Arguments.{value_of}

@@ -5,7 +5,8 @@ use Rattle.std.specs.Str.Lines.{lines}
 use Rattle.device_events.specs.declared.event.Event.{Event}
 use Rattle.common_definitions.specs.Readings.{with_front}
 use Rattle.common_definitions.proofs.Proved.{with_front-more}
-use Rattle.event_text.specs.CommandFile.{ToldEvent, told_of, line_told, line_before, events_from}
+use Rattle.device_events.specs.ToldEvents.{ToldEvent, told_of}
+use Rattle.event_text.specs.CommandFile.{line_told, line_before, events_from}
 
 behind_nothing : (later : Result (List ToldEvent) ℕ) → with_front [] later ≡ later
 behind_nothing (Ok later) = refl

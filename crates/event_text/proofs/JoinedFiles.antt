@@ -5,7 +5,8 @@ use Rattle.std.specs.List.{slice_split, onto_first}
 use Rattle.std.specs.Str.Lines.{lines, lines_of_parts, strip_carriage_return}
 use Rattle.std.proofs.lemmas.List.Splits.{length-slice_split}
 use Rattle.common_definitions.specs.Readings.{with_front}
-use Rattle.event_text.specs.CommandFile.{ToldEvent, line_told, line_before, events_from}
+use Rattle.device_events.specs.ToldEvents.{ToldEvent}
+use Rattle.event_text.specs.CommandFile.{line_told, line_before, events_from}
 use Rattle.event_text.specs.Laws.{EventsAreByLine, ended, told_by_both}
 
 -- ---- lines

@@ -14,7 +14,8 @@ use Rattle.std.proofs.lemmas.Str.Parse.{digit_from_value}
 use Rattle.text_lines.specs.Cut.{is_blank_byte, uncommented}
 use Rattle.text_lines.specs.Number.{decimal_of}
 use Rattle.common_definitions.specs.Below.{below}
-use Rattle.event_text.specs.CommandFile.{ToldEvent, line_told, words_told}
+use Rattle.device_events.specs.ToldEvents.{ToldEvent}
+use Rattle.event_text.specs.CommandFile.{line_told, words_told}
 use Rattle.event_text.specs.Words.{words_of}
 use Rattle.event_text.proofs.WordLemmas.{word_first, word_last}
 use Rattle.text_lines.proofs.Proved.{number_again, uncommented-same}

@@ -8,7 +8,8 @@ use Rattle.std.proofs.Math.Seq.{take-append_seam, get_or-append_seam}
 use Rattle.std.proofs.lemmas.Bool.{not-true}
 use Rattle.std.proofs.lemmas.List.Elements.{All-push, All-weaker}
 use Rattle.std.proofs.lemmas.List.Splits.{slice_split_at, slice_split_none}
-use Rattle.event_text.specs.CommandFile.{ToldEvent, line_told, line_before, events_from, events_in}
+use Rattle.device_events.specs.ToldEvents.{ToldEvent}
+use Rattle.event_text.specs.CommandFile.{line_told, line_before, events_from, events_in}
 use Rattle.event_text.specs.Laws.{LineEnd, EndOfFile, Newline, ReturnNewline, ReadsBack, end_text}
 use Rattle.event_text.proofs.PlainLines.{InLine, IsSpelled, in_one_line, no_return}
 

@@ -8,7 +8,8 @@ use Rattle.std.proofs.lemmas.List.Elements.{All-append, All-nil}
 use Rattle.zone_state.specs.Words.{fault_word}
 use Rattle.zone_state.specs.declared.state.FaultState.{FaultState}
 use Rattle.zone_state.specs.declared.state.FaultState.TheVariants.{ReadOnly, Offline}
-use Rattle.event_text.specs.CommandFile.{Turned, Faulted, fault_told, line_told, state_named, words_told}
+use Rattle.device_events.specs.ToldEvents.{Turned, Faulted}
+use Rattle.event_text.specs.CommandFile.{fault_told, line_told, state_named, words_told}
 use Rattle.event_text.specs.Laws.{FaultsReadBack, SubmissionsReadBack, TurnsReadBack, fault_text, turn_text}
 use Rattle.event_text.proofs.PlainLines.{InLine, InWord, IsSpelled, as_line, decimal_again, decimal_below, decimal_in_word, line_told-words, space_before, spelled_in_word, words_of-numbered}
 use Rattle.event_text.proofs.SingleLines.{spelled_reads_back}

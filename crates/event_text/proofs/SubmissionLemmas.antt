@@ -12,7 +12,8 @@ use Rattle.common_definitions.specs.Bytes.{AreBytes}
 use Rattle.hex.specs.Hex.{decode_of, decode_pairs, decode_sized, encode_lower, encode_with, hex_digit_value, lower_digits}
 use Rattle.hex.proofs.HexLemmas.{IsDigits-lower_digits, decode_of-encode_lower, decode_sized-encode_lower, length-encode_with}
 use Rattle.text_lines.specs.Number.{decimal_of}
-use Rattle.event_text.specs.CommandFile.{Submitted, line_told, submission, words_told}
+use Rattle.device_events.specs.ToldEvents.{Submitted}
+use Rattle.event_text.specs.CommandFile.{line_told, submission, words_told}
 use Rattle.event_text.specs.Lines.{data_text}
 use Rattle.event_text.specs.Submission.{Tells, submission_text}
 use Rattle.event_text.specs.Words.{words_of}

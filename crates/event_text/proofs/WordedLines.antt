@@ -7,7 +7,8 @@ use Rattle.std.specs.Char.{is_ascii}
 use Rattle.std.specs.Str.Lines.{lines}
 use Rattle.common_definitions.specs.Readings.{with_front}
 use Rattle.text_lines.specs.Cut.{uncommented}
-use Rattle.event_text.specs.CommandFile.{ToldEvent, event_named, events_from, has_words, line_before, line_told, words_told, worded_from, worded_lines}
+use Rattle.device_events.specs.ToldEvents.{ToldEvent}
+use Rattle.event_text.specs.CommandFile.{event_named, events_from, has_words, line_before, line_told, words_told, worded_from, worded_lines}
 use Rattle.event_text.specs.Laws.{EventsHaveLines}
 use Rattle.event_text.specs.Words.{words_of}
 

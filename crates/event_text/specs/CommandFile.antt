@@ -14,25 +14,13 @@ use Rattle.zone_state.specs.declared.state.FaultState.TheVariants.{ReadOnly, Off
 use Rattle.text_lines.specs.Cut.{uncommented}
 use Rattle.text_lines.specs.Number.{decimal_of}
 use Rattle.device_events.specs.declared.event.Event.{Event}
-use Rattle.device_events.specs.declared.event.Event.TheVariants as event
+use Rattle.device_events.specs.ToldEvents.{ToldEvent, Submitted, Turned, Faulted, told_of}
 use Rattle.event_text.specs.declared.command_file.EventFault.{EventFault}
 use Rattle.event_text.specs.declared.command_file.EventFault.TheVariants as event_fault
 use Rattle.event_text.specs.declared.command_file.ParseFault.{ParseFault}
 use Rattle.event_text.specs.declared.command_file.ParseFault.TheVariants.{Line, Memory}
 use Rattle.text_lines.specs.Texts.{one_of, two_of}
 use Rattle.event_text.specs.Words.{words_of, two_or_three_of}
-
--- an event as a line tells it
-pub data ToldEvent : Type 0 where
-  Submitted : (queue : ℕ) (entry input : List ℕ) → ToldEvent
-  Turned : (run : ℕ) → ToldEvent
-  Faulted : (zone : ℕ) (state : FaultState) → ToldEvent
-
--- an event without where its data lies in memory
-abbrev pub told_of : Event → ToldEvent
-told_of (event.Submit queue entry input) = Submitted queue entry input.items
-told_of (event.Turn run) = Turned run
-told_of (event.Fault zone state) = Faulted zone state
 
 -- a submission, where its queue, its entry and the data beside it are each read
 abbrev pub submission : Option ℕ → Option (List ℕ) → Option (List ℕ) → Option ToldEvent

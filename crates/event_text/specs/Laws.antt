@@ -12,7 +12,8 @@ use Rattle.text_lines.specs.Laws.{AreBlanks}
 use Rattle.device_events.specs.Replies.{ReplyWithData, data_length}
 use Rattle.device_events.specs.declared.reply.Reply.{Reply}
 use Rattle.device_events.specs.declared.reply.Reply.TheVariants as reply
-use Rattle.event_text.specs.CommandFile.{ToldEvent, Submitted, Turned, Faulted, line_told, events_in, worded_lines}
+use Rattle.device_events.specs.ToldEvents.{ToldEvent, Submitted, Turned, Faulted}
+use Rattle.event_text.specs.CommandFile.{line_told, events_in, worded_lines}
 use Rattle.event_text.specs.Lines.{reply_text}
 use Rattle.event_text.specs.Submission.{submission_text}
 

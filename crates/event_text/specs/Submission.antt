@@ -3,7 +3,8 @@ use Rattle.std.specs.Prelude.{◌≡◌, ℕ, ◌==◌, not, List, ◌++◌, Som
 use Rattle.std.specs.Fmt.{decimal}
 use Rattle.std.specs.List.{AllPass}
 use Rattle.hex.specs.Hex.{encode_lower}
-use Rattle.event_text.specs.CommandFile.{ToldEvent, line_told}
+use Rattle.device_events.specs.ToldEvents.{ToldEvent}
+use Rattle.event_text.specs.CommandFile.{line_told}
 use Rattle.event_text.specs.Lines.{data_text}
 
 -- a queue, an entry and the data beside it, without the end of the line

@@ -16,7 +16,8 @@ ghost use Rattle.text_lines.specs.Number.{decimal_of};
 ghost use Rattle.event_text.specs.Words.{words_of};
 ghost use Rattle.event_text.specs.declared.command_file.EventFault.TheVariants.{Refused};
 ghost use Rattle.event_text.specs.declared.command_file.ParseFault.TheVariants.{Memory};
-ghost use Rattle.event_text.specs.CommandFile.{told_of, submission_of, turn_of, fault_of, state_named, event_named as named_event, line_told, events_in, refused_line, GivesLine};
+ghost use Rattle.device_events.specs.ToldEvents.{told_of};
+ghost use Rattle.event_text.specs.CommandFile.{submission_of, turn_of, fault_of, state_named, event_named as named_event, line_told, events_in, refused_line, GivesLine};
 ghost use Rattle.event_text.specs.steps.ReadLines.{entry_fault as fault_of_entry, data_fault as fault_of_data, GivesEvent};
 
 use crate::fault::LineFault;

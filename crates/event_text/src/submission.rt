@@ -1,7 +1,7 @@
 //! Submissions as lines of a command file.
 
 ghost use Rattle.std.specs.Prelude.{◌≡◌, ◌++◌, [], ◌∷◌, IfOk, OnOk};
-ghost use Rattle.event_text.specs.CommandFile.{Submitted};
+ghost use Rattle.device_events.specs.ToldEvents.{Submitted};
 ghost use Rattle.event_text.specs.Submission.{submission_text, Tells};
 
 use crate::lines::{push_data, push_hex};

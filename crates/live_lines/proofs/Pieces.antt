@@ -13,7 +13,8 @@ use Rattle.std.specs.Str.Lines.{lines}
 use Rattle.device_events.specs.declared.event.Event.{Event}
 use Rattle.device_meaning.specs.State.{State}
 use Rattle.text_lines.specs.Cut.{cut_at}
-use Rattle.event_text.specs.CommandFile.{ToldEvent, events_from}
+use Rattle.device_events.specs.ToldEvents.{ToldEvent}
+use Rattle.event_text.specs.CommandFile.{events_from}
 use Rattle.event_text.specs.Laws.{ended, told_by_both}
 use Rattle.event_text.specs.Lines.{reply_line}
 use Rattle.event_text.proofs.Proved.{events_joined, lines-behind}

@@ -5,7 +5,8 @@ use Rattle.std.proofs.Math.Seq.{take-append_seam}
 use Rattle.std.specs.Str.Lines.{lines}
 use Rattle.device_events.specs.declared.event.Event.{Event}
 use Rattle.device_meaning.specs.State.{State}
-use Rattle.event_text.specs.CommandFile.{ToldEvent, events_from, line_told, line_before, told_of}
+use Rattle.device_events.specs.ToldEvents.{ToldEvent, told_of}
+use Rattle.event_text.specs.CommandFile.{events_from, line_told, line_before}
 use Rattle.event_text.specs.Laws.{told_by_both}
 use Rattle.event_text.proofs.Proved.{events_joined}
 use Rattle.live_lines.specs.Served.{Does, FailsIn, HasPrinted, InLast, ServesFirst, counted}

@@ -9,7 +9,8 @@ use Rattle.device_meaning.specs.Draining.{AreLowest, state_after_turns}
 use Rattle.device_meaning.specs.Events.{HasServed}
 use Rattle.device_meaning.specs.JoinedEvents.{HasServedAndDrained}
 use Rattle.device_meaning.specs.State.{State}
-use Rattle.event_text.specs.CommandFile.{events_from, events_in, told_of}
+use Rattle.device_events.specs.ToldEvents.{told_of}
+use Rattle.event_text.specs.CommandFile.{events_from, events_in}
 use Rattle.event_text.specs.Lines.{reply_line}
 use Rattle.live_lines.specs.declared.fault.LinesFault.{LinesFault}
 use Rattle.live_lines.specs.declared.fault.LinesFault.TheVariants as fault

@@ -6,7 +6,8 @@ use Rattle.device_events.specs.declared.event.Event.{Event}
 use Rattle.event_text.specs.declared.command_file.EventFault.{EventFault}
 use Rattle.event_text.specs.declared.command_file.EventFault.TheVariants as event_fault
 use Rattle.event_text.specs.declared.fault.LineFault.TheVariants as fault
-use Rattle.event_text.specs.CommandFile.{ToldEvent, told_of, IsRefused}
+use Rattle.device_events.specs.ToldEvents.{ToldEvent, told_of}
+use Rattle.event_text.specs.CommandFile.{IsRefused}
 
 -- why an entry of so many characters that spells no 64 bytes refuses its line
 abbrev pub entry_fault : ℕ → FromHexError → EventFault

@@ -3,7 +3,8 @@ use Rattle.std.specs.Prelude.{ℕ, Bool, ◌≡◌, List, [], ◌∷◌, ◌++�
 use Rattle.std.specs.Str.Lines.{lines}
 use Rattle.device_events.specs.declared.event.Event.{Event}
 use Rattle.device_meaning.specs.State.{State}
-use Rattle.event_text.specs.CommandFile.{events_from, events_in, line_told, told_of}
+use Rattle.device_events.specs.ToldEvents.{told_of}
+use Rattle.event_text.specs.CommandFile.{events_from, events_in, line_told}
 use Rattle.live_lines.specs.Served.{Begins, Does, HasPrinted, counted}
 use Rattle.live_lines.specs.declared.fault.LinesFault.{LinesFault}
 use Rattle.live_lines.specs.declared.fault.LinesFault.TheVariants as fault

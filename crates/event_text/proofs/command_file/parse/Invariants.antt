@@ -1,7 +1,8 @@
 use Rattle.std.proofs.Common.{◌≡◌, ◌≤◌, ◌+◌, length, map}
 use Rattle.std.specs.Str.Lines.{lines}
 use Rattle.common_definitions.specs.Readings.{with_front}
-use Rattle.event_text.specs.CommandFile.{told_of, events_in, events_from}
+use Rattle.device_events.specs.ToldEvents.{told_of}
+use Rattle.event_text.specs.CommandFile.{events_in, events_from}
 use Rattle.event_text.proofs.command_file.parse.Given as goal
 
 abbrev pub invariant-loop-rest : goal.invariant-loop-rest
