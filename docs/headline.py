@@ -29,8 +29,15 @@ THEOREM = ("pushdown/specs/Pushdown.antt", "Pushdown")
 # the law, whose premise is to be read too
 LAW = (THEOREM[0], "SoundJudgesPushDown")
 HAPPENED = ("device_meaning/specs/Events.antt", "HasHappened")
+TOLD = ("device_events/specs/ToldEvents.antt", "told_of")
 JUDGING = "device_meaning/specs/Judging.antt"
-FILES = ("pushdown/src/laws.rt", "device_laws/src/laws.rt", "runner/src/device_state.rt", "runner/src/device.rt")
+FILES = (
+    "pushdown/src/laws.rt",
+    "device_laws/src/laws.rt",
+    "runner/src/device_state.rt",
+    "runner/src/device.rt",
+    "device_events/src/event.rt",
+)
 
 CODE = """## The theorem and what ties the code to it
 
@@ -58,6 +65,11 @@ as a `State`, that of its `DeviceState` (`runner/src/device_state.rt`), whose `v
 where, in `device_meaning/specs/Events.antt`:
 
 {happened}
+and, in `device_events/specs/ToldEvents.antt`, what an event of the code tells (`device_events/src/event.rt`). `event.` stands before
+a variant of `Event`, and `input.items` is the list of the elements of a `Vec`:
+
+{told}
+{event}
 {named}
 
 """
@@ -110,7 +122,7 @@ def not_below(crates: Path, excerpts: List[Tuple[List[str], List[str]]], below: 
         for word in re.findall(r"[\w']+", "\n".join(line for line in excerpt if "///" not in line)):
             module = modules.get(word, "")
             is_ours = re.match(r"Rattle\.\w+\.specs\.(?!declared)", module) and (crates / module.split(".")[1]).is_dir()
-            if is_ours and word not in below and word != HAPPENED[1]:
+            if is_ours and word not in below and word not in (HAPPENED[1], TOLD[1]):
                 named[word] = module.replace("Rattle.", "", 1).replace(".", "/")
     words = ", ".join(f"`{name}` (`{file}.antt`)" for name, file in sorted(named.items()))
     line = f"Of what these lines name the theorem doesn't mention {words}, which [definitions.md](definitions.md) has."
@@ -124,9 +136,17 @@ def definition(crates: Path, path: str, name: str) -> str:
     return indented(blocks + found.comment + found.lines)
 
 
+def enumeration(lines: List[str], name: str) -> List[str]:
+    """An enum with its comment and its variants."""
+    at = next((at for at, line in enumerate(lines) if re.match(rf"pub enum {name}\b", line)), None)
+    if at is None:
+        raise LookupError(f"there is no enum {name}")
+    return comment_above(lines, at) + lines[at : lines.index("}", at) + 1]
+
+
 def text(crates: Path, below: Set[str]) -> str:
     """The part of the page on the theorem, its law, and the code's contracts. `below` are the names of what the page has."""
-    laws, device_laws, states, devices = ((crates / file).read_text().splitlines() for file in FILES)
+    laws, device_laws, states, devices, events = ((crates / file).read_text().splitlines() for file in FILES)
     judging = (crates / JUDGING).read_text().splitlines()
     sound = "\n".join(definition(crates, JUDGING, name) for name in ("IsSafeProgram", "IsSoundJudge"))
     judge = "\n".join(definition(crates, JUDGING, name) for name in ("judged_by", "judge_by", "interval_judge"))
@@ -143,6 +163,8 @@ def text(crates: Path, below: Set[str]) -> str:
         device_laws=indented(device_law),
         device=indented(state + device),
         happened=definition(crates, *HAPPENED),
+        told=definition(crates, *TOLD),
+        event=indented(enumeration(events, "Event")),
         named=not_below(
             crates,
             [((sound + judge).split("\n"), judging), (device_law, device_laws), (state, states), (device, devices)],

@@ -135,8 +135,6 @@ MEANINGS: Dict[str, str] = {
     "div_ceil": "`div_ceil m n`: the quotient, rounded up",
     "little_bytes": "`little_bytes n x`: the n lowest bytes of x, the lowest first",
     "little_number": "`little_number n bytes`: the number that the first n of these bytes spell, the lowest first",
-    "Vec": "Rust's `Vec`: `v.items` is the list of its elements",
-    "Global": "Rust's allocator, the second argument of `Vec`, which no definition looks at",
 }
 
 

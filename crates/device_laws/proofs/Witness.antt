@@ -1,7 +1,5 @@
 -- A Run of which the pushdown theorem speaks, by computing the definitions.
-use denote.RawPtr.{block_ptr}
-use Rattle.std.proofs.Common.{◌≢◌, ℕ, ◌<◌, ◌^◌, false, List, [], ◌∷◌, ◌++◌, length, replicate, Vec, refl, lit<, lit≤, arith}
-use Rattle.std.specs.declared.alloc.Global.{Global}
+use Rattle.std.proofs.Common.{◌≢◌, ℕ, false, List, [], ◌∷◌, ◌++◌, replicate, refl, lit<, lit≤, arith}
 use Rattle.device_meaning.specs.Judging.{interval_judge}
 use Rattle.nvme_entry.specs.declared.command.RunCommand.{RunCommand}
 use Rattle.program_meaning.specs.BlockRun.{block_run_of}
@@ -16,7 +14,7 @@ use Rattle.device_meaning.specs.Events.{Occurrence, state_after}
 use Rattle.device_meaning.specs.Happenings.{admitted_place}
 use Rattle.device_meaning.specs.Reached.{IsReached}
 use Rattle.device_meaning.specs.State.{State, new_state}
-use Rattle.device_events.specs.declared.event.Event.TheVariants as event
+use Rattle.device_events.specs.ToldEvents as told
 use Rattle.pushdown.specs.Pushdown.{IsAdmitted}
 use Rattle.device_laws.specs.Witness.{AppendsBetween, PushdownIsMet}
 
@@ -88,22 +86,6 @@ program_is = by_place program (
     all_append FitsByte count (emit ++ leave) count_is (
     all_append FitsByte emit leave emit_is leave_is)))
 
--- the allocator of memory, which has no bytes
-abbrev heap : Global
-heap = record { memory = record { seal = tt } }
-
--- bytes in memory; where they lie is of no matter
-abbrev in_memory : (bytes : List ℕ) → length bytes < 2 ^ 63 → Vec ℕ Global
-in_memory bytes small = record {
-  ptr = block_ptr 0 0;
-  len = length bytes;
-  cap = length bytes;
-  alloc = heap;
-  items = bytes;
-  ok = (refl, omega arith);
-  small = small;
-}
-
 -- ---- entries
 
 -- an entry with this opcode, identifier, logical block, and further dwords
@@ -132,16 +114,16 @@ command = record { lba = 0; blocks = 3; slot = 0; argument = 0; destination = 8 
 -- ---- a state that events leave: three blocks are appended to zone 0, zone 1 is opened, and the program is loaded
 
 -- an entry in queue 1, with these bytes beside it
-abbrev submits : List ℕ → (bytes : List ℕ) → length bytes < 2 ^ 63 → Occurrence
-submits entry bytes small = record { event = event.Submit 1 entry (in_memory bytes small); starved = false }
+abbrev submits : (entry bytes : List ℕ) → Occurrence
+submits entry bytes = record { event = told.Submitted 1 entry bytes; starved = false }
 
 abbrev events : List Occurrence
 events =
-    submits (append_entry 1 0) block (lit< tt)
-    ∷ submits (append_entry 2 0) block (lit< tt)
-    ∷ submits (append_entry 3 0) block (lit< tt)
-    ∷ submits (open_entry 4 8) [] (lit< tt)
-    ∷ submits (load_entry 5) program (lit< tt)
+    submits (append_entry 1 0) block
+    ∷ submits (append_entry 2 0) block
+    ∷ submits (append_entry 3 0) block
+    ∷ submits (open_entry 4 8) []
+    ∷ submits (load_entry 5) program
     ∷ []
 
 abbrev state : State
@@ -178,14 +160,14 @@ pushdown_is_met = record {
   reached = is_reached;
   queue = 1;
   entry = run_entry 6;
-  input = in_memory [] (lit< tt);
+  input = [];
   command = command;
   run = 0;
   admitted = is_admitted;
   turns = turns_append;
   other_queue = 2;
   other_entry = append_entry 6 16;
-  other_input = in_memory block (lit< tt);
+  other_input = block;
   another_queue = other;
   given_back = 16;
   replies = refl;

@@ -1,7 +1,6 @@
 -- That there is a Run of which the pushdown theorem speaks: its program emits, a turn that isn't its last appends, and a command of
 -- another queue is done between its turns.
-use Rattle.std.specs.Prelude.{ℕ, false, ◌≡◌, ◌≢◌, List, [], ◌∷◌, length, map, get_or, Vec, None}
-use Rattle.std.specs.declared.alloc.Global.{Global}
+use Rattle.std.specs.Prelude.{ℕ, false, ◌≡◌, ◌≢◌, List, [], ◌∷◌, length, map, get_or, None}
 use Rattle.device_meaning.specs.Judging.{interval_judge}
 use Rattle.zone_state.specs.declared.status.TheConstants.Status.{SUCCESS}
 use Rattle.nvme_entry.specs.Entry.{identifier_of}
@@ -13,15 +12,15 @@ use Rattle.device_meaning.specs.Outcome.{Turn}
 use Rattle.device_meaning.specs.Reached.{IsReached}
 use Rattle.device_meaning.specs.State.{State}
 use Rattle.device_events.specs.Replies.{without_data}
-use Rattle.device_events.specs.declared.event.Event.{Event}
-use Rattle.device_events.specs.declared.event.Event.TheVariants as event
+use Rattle.device_events.specs.ToldEvents.{ToldEvent}
+use Rattle.device_events.specs.ToldEvents as told
 use Rattle.device_events.specs.declared.reply.Reply.TheVariants as reply
 use Rattle.pushdown.specs.Pushdown.{IsAdmitted, no_turn}
 
 -- a submission, the first turn of a run, another submission, and two more turns of the run; memory isn't refused at any of them
-abbrev pub interleaved : Event → ℕ → Event → List Occurrence
+abbrev pub interleaved : ToldEvent → ℕ → ToldEvent → List Occurrence
 interleaved first run other =
-    map (λ e. record { event = e; starved = false }) (first ∷ event.Turn run ∷ other ∷ event.Turn run ∷ event.Turn run ∷ [])
+    map (λ e. record { event = e; starved = false }) (first ∷ told.Turned run ∷ other ∷ told.Turned run ∷ told.Turned run ∷ [])
 
 -- three turns, of which the second appends a block, and doesn't end the run
 pub record AppendsBetween (turns : List Turn) : Type 0 where
@@ -38,21 +37,21 @@ pub record PushdownIsMet : Type 0 where
   -- a Run that is admitted there, and its turns
   pub queue : ℕ
   pub entry : List ℕ
-  pub input : Vec ℕ Global
+  pub input : List ℕ
   pub command : RunCommand
   pub run : ℕ
-  pub admitted : IsAdmitted state (submission_of queue entry input.items) command run
-  pub turns : AppendsBetween (admitted_place (submission_of queue entry input.items) state command).turns
+  pub admitted : IsAdmitted state (submission_of queue entry input) command run
+  pub turns : AppendsBetween (admitted_place (submission_of queue entry input) state command).turns
   -- a command of another queue, and what its completion gives back, as the block that a Zone Append is assigned
   pub other_queue : ℕ
   pub other_entry : List ℕ
-  pub other_input : Vec ℕ Global
+  pub other_input : List ℕ
   pub another_queue : other_queue ≢ queue
   pub given_back : ℕ
   -- the replies to the Run, its first turn, the other command, and the two turns behind it: the run's completion tells three
   -- frames and three blocks
   pub replies :
-      replies_to interval_judge (interleaved (event.Submit queue entry input) run (event.Submit other_queue other_entry other_input)) state
+      replies_to interval_judge (interleaved (told.Submitted queue entry input) run (told.Submitted other_queue other_entry other_input)) state
       ≡ without_data (reply.Pending run)
       ∷ without_data (reply.Pending run)
       ∷ completion other_queue (identifier_of other_entry) SUCCESS given_back 0 []

@@ -24,8 +24,8 @@ use Rattle.device_meaning.specs.Happenings.{admitted_place, commanded, happens, 
 use Rattle.device_meaning.specs.Outcome.{Turn}
 use Rattle.device_meaning.specs.Events.{CarriesBytes}
 use Rattle.device_meaning.specs.State.{Place, State, free_place, holds_at, loaded_at, place_at, with_namespace, with_place, with_slot}
-use Rattle.device_events.specs.declared.event.Event.{Event}
-use Rattle.device_events.specs.declared.event.Event.TheVariants as event
+use Rattle.device_events.specs.ToldEvents.{ToldEvent}
+use Rattle.device_events.specs.ToldEvents as told
 use Rattle.device_meaning.proofs.Loads.{IsLoad, TakesSlot, loading_is}
 use Rattle.device_meaning.proofs.Spelled.{decoded_has, spelled}
 use Rattle.device_meaning.proofs.Statuses.{FailsOther, IsOther, entry_other, failed_other, other, run_other, transfer_other}
@@ -110,17 +110,17 @@ module _ (judge : Judge) (P : Happening → Type 0) (sub : Submission) (s : Stat
 
 module _ (judge : Judge) (P : State → Type 0) (s : State) where
   -- it holds of the state that the event finds, and after each change that the event can be
-  pub record HoldsAfter (e : Event) : Type 0 where
+  pub record HoldsAfter (e : ToldEvent) : Type 0 where
     pub same : P s
     pub step : (step : NamespaceEvent) → kept.holds_of step ≡ holds_at s → (CarriesBytes e → IsSpelled step) → P (with_namespace s (after step s.namespace))
     pub load : (sub : Submission) (load : LoadCommand) (t : State) → (CarriesBytes e → AreBytes sub.input)
         → (takes : TakesSlot judge sub s load t) → P (with_slot s load.slot (Some (just_loaded takes.program load.limit)))
     pub start : (sub : Submission) (command : RunCommand) (run : ℕ) → why_not_run sub s command ≡ None → free_place s ≡ Some run → 1 ≤ command.blocks
         → P (with_place s run (Some (admitted_place sub s command)))
-    pub turn : (run : ℕ) (place : Place) (turn : Turn) (later : List Turn) → e ≡ event.Turn run → place_at s run ≡ Some place
+    pub turn : (run : ℕ) (place : Place) (turn : Turn) (later : List Turn) → e ≡ told.Turned run → place_at s run ≡ Some place
         → place.turns ≡ turn ∷ later → P (turn_state s run place turn later)
 
-  module _ (e : Event) (holds : HoldsAfter e) where
+  module _ (e : ToldEvent) (holds : HoldsAfter e) where
     -- it holds of the state that a Load leaves
     after_load : (sub : Submission) (load : LoadCommand) (h : Happening) → (CarriesBytes e → AreBytes sub.input) → IsLoad judge sub s load h
         → P h.state
@@ -140,9 +140,9 @@ module _ (judge : Judge) (P : State → Type 0) (s : State) where
     }
 
   -- what holds so of a state holds of the state that the event leaves
-  pub after_event : (starved : Bool) (e : Event) → HoldsAfter e → P (happens judge s starved e).state
-  after_event starved (event.Submit queue entry input) holds =
-      let sub = submission_of queue entry input.items in
-      of_entry judge (λ h. P h.state) sub s (after_entry (event.Submit queue entry input) holds sub (λ has. has)) starved
-  after_event starved (event.Turn run) holds = after_turn P s run holds.same (λ place turn later. holds.turn run place turn later refl)
-  after_event starved (event.Fault zone state) holds = holds.step (Faulted (holds_at s) zone state) refl (λ has. tt)
+  pub after_event : (starved : Bool) (e : ToldEvent) → HoldsAfter e → P (happens judge s starved e).state
+  after_event starved (told.Submitted queue entry input) holds =
+      let sub = submission_of queue entry input in
+      of_entry judge (λ h. P h.state) sub s (after_entry (told.Submitted queue entry input) holds sub (λ has. has)) starved
+  after_event starved (told.Turned run) holds = after_turn P s run holds.same (λ place turn later. holds.turn run place turn later refl)
+  after_event starved (told.Faulted zone state) holds = holds.step (Faulted (holds_at s) zone state) refl (λ has. tt)

@@ -25,15 +25,15 @@ use Rattle.device_meaning.specs.JoinedEvents.{turn_events}
 use Rattle.device_meaning.specs.Outcome.{Ending, Turn}
 use Rattle.device_meaning.specs.State.{Place, State, holds_at}
 use Rattle.device_events.specs.Replies.{ReplyWithData}
-use Rattle.device_events.specs.declared.event.Event.{Event}
-use Rattle.device_events.specs.declared.event.Event.TheVariants as event
+use Rattle.device_events.specs.ToldEvents.{ToldEvent}
+use Rattle.device_events.specs.ToldEvents as told
 use Rattle.device_meaning.proofs.Changes.{HoldsOfEach, of_entry, of_turn}
 use Rattle.device_meaning.proofs.JoinedEvents.{drained_by_turns, events_in_parts}
 
 -- ---- the identifier that a completion's bytes tell
 
-told : (c : Completion) → dword (completion_bytes c) 3 % 2 ^ 16 ≡ c.cid % 2 ^ 16
-told c =
+identifier_told : (c : Completion) → dword (completion_bytes c) 3 % 2 ^ 16 ≡ c.cid % 2 ^ 16
+identifier_told c =
     let n = status_dword c.cid c.status in
     let third : dword (completion_bytes c) 3 ≡ n / 256 ^ 0 % 256 ^ 4 = little_from-bytes 4 0 n (drop 16 (completion_bytes c)) in
     ap (λ (m : ℕ). m % 2 ^ 16) third ∙ omega arith
@@ -70,7 +70,7 @@ module _ (queue cid : ℕ) where
   completion_completes : (from id : ℕ) (status : Status) (dw0 dw1 : ℕ) (output : List ℕ)
       → completes queue cid (completion from id status dw0 dw1 output).reply ≡ is_this_command queue cid from id
   completion_completes from id status dw0 dw1 output =
-      ap (λ (m : ℕ). (from == queue) && (m == cid)) (told (record { dw0 = dw0; dw1 = dw1; queue = from; cid = id; status = status }))
+      ap (λ (m : ℕ). (from == queue) && (m == cid)) (identifier_told (record { dw0 = dw0; dw1 = dw1; queue = from; cid = id; status = status }))
 
   -- completions and active runs are as many more as were submitted
   abbrev KeepsCount : State → Bool → Happening → Type 0
@@ -131,13 +131,13 @@ module _ (queue cid : ℕ) where
           start = λ command run asked passed free. omega (arith, started_counts s.places run (admitted_place sub s command) free);
         }
 
-    event_keeps : (s : State) (starved : Bool) (e : Event) → KeepsCount s (submits queue cid e) (happens judge s starved e)
-    event_keeps s starved (event.Submit from entry input) =
-        let sub = submission_of from entry input.items in
+    event_keeps : (s : State) (starved : Bool) (e : ToldEvent) → KeepsCount s (submits queue cid e) (happens judge s starved e)
+    event_keeps s starved (told.Submitted from entry input) =
+        let sub = submission_of from entry input in
         of_entry judge (KeepsCount s (asks sub)) sub s (entries_keep sub s) starved
-    event_keeps s starved (event.Turn run) =
+    event_keeps s starved (told.Turned run) =
         of_turn (KeepsCount s false) s run refl (λ place turn later here first. turned_counts s.places run place later turn.ending here)
-    event_keeps s starved (event.Fault zone state) =
+    event_keeps s starved (told.Faulted zone state) =
         ap (λ (b : Bool). cond b 1 0 + active_runs queue cid s) (fault_completes (zone_fault_refusal s.namespace (holds_at s) zone state))
 
     -- ---- lists of events
@@ -155,7 +155,7 @@ module _ (queue cid : ℕ) where
   turns_submit_none : (runs : List ℕ) → submissions queue cid (turn_events runs) ≡ 0
   turns_submit_none [] = refl
   turns_submit_none (run ∷ runs) =
-      let turn : Occurrence = record { event = event.Turn run; starved = false } in
+      let turn : Occurrence = record { event = told.Turned run; starved = false } in
       omega (arith, sum_by-cons (λ (x : Occurrence). cond (submits queue cid x.event) 1 0) turn (turn_events runs), turns_submit_none runs)
 
 module _ (judge : Judge) where

@@ -10,7 +10,7 @@ use Rattle.device_meaning.specs.Events.{CarriesBytes, Occurrence, replies_to, st
 use Rattle.device_meaning.specs.Happenings.{happens, turned}
 use Rattle.device_meaning.specs.JoinedEvents.{DrainedByTurns, DrainedInOneWay, EventsInParts, EventsJoin, OneReplyEach, ServedAndDrained, ServedInParts, turn_events}
 use Rattle.device_meaning.specs.State.{State}
-use Rattle.device_events.specs.declared.event.Event.{Event}
+use Rattle.device_events.specs.ToldEvents.{ToldEvent, told_of}
 
 pub events_join : EventsJoin
 events_join first later are more = all_append (λ (o : Occurrence). CarriesBytes o.event) first later are more
@@ -70,8 +70,9 @@ module _ (judge : Judge) where
       occurrences = a.occurrences ++ b.occurrences;
       are =
           map-append (λ (o : Occurrence). o.event) a.occurrences b.occurrences
-          ∙ ap (λ (events : List Event). events ++ map (λ (o : Occurrence). o.event) b.occurrences) a.are
-          ∙ ap (λ (events : List Event). first ++ events) b.are;
+          ∙ ap (λ (events : List ToldEvent). events ++ map (λ (o : Occurrence). o.event) b.occurrences) a.are
+          ∙ ap (λ (events : List ToldEvent). map told_of first ++ events) b.are
+          ∙ sym (map-append told_of first later);
       state = state_in_parts a.occurrences b.occurrences old between new a.state b.state;
       replies = taken_in_parts a.occurrences b.occurrences old between before then after a.state a.replies b.replies;
     }

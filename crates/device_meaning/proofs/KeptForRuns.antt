@@ -19,7 +19,7 @@ use Rattle.device_meaning.specs.Laws.{EventsKeepForRuns, KeepsFor}
 use Rattle.device_meaning.specs.Happenings.{happens, just_loaded, keeping, load_checks, slots_left}
 use Rattle.device_meaning.specs.Outcome.{Ending}
 use Rattle.device_meaning.specs.State.{Place, State, in_use, loaded_at, place_at, source_of, uses}
-use Rattle.device_events.specs.declared.event.Event.{Event}
+use Rattle.device_events.specs.ToldEvents.{ToldEvent}
 use Rattle.device_meaning.proofs.Added.{added_grows, added_shape}
 use Rattle.device_meaning.proofs.Changes.{after_event}
 
@@ -75,7 +75,7 @@ not_loaded s run place load input at none same =
     cc
 
 module _ (judge : Judge) where
-  event_keeps : (s : State) (starved : Bool) (e : Event) (run : ℕ) (place : Place) → place_at s run ≡ Some place
+  event_keeps : (s : State) (starved : Bool) (e : ToldEvent) (run : ℕ) (place : Place) → place_at s run ≡ Some place
       → KeepsFor place s (happens judge s starved e).state
   event_keeps s starved e run place at = after_event judge (KeepsFor place s) s starved e (record {
     same = unchanged place s;

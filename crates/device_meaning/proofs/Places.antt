@@ -17,7 +17,7 @@ use Rattle.device_meaning.specs.EventReplies.{Submission}
 use Rattle.device_meaning.specs.Happenings.{admitted_place, happens, place_left, turned, why_not_run}
 use Rattle.device_meaning.specs.Outcome.{Ending, Turn}
 use Rattle.device_meaning.specs.State.{Place, State, destination_of, free_place, holds_at, loaded_at, new_state}
-use Rattle.device_events.specs.declared.event.Event.{Event}
+use Rattle.device_events.specs.ToldEvents.{ToldEvent}
 use Rattle.device_meaning.proofs.Changes.{after_event, after_turn}
 
 -- no two of these places have one destination
@@ -129,7 +129,7 @@ turned_apart s run h = older_apart s.places (turned s run).state.places h (turne
 
 module _ (judge : Judge) where
   -- after an event no two places have one destination, where no two had before
-  pub event_apart : (s : State) (starved : Bool) (e : Event) → AreApart s.places → AreApart (happens judge s starved e).state.places
+  pub event_apart : (s : State) (starved : Bool) (e : ToldEvent) → AreApart s.places → AreApart (happens judge s starved e).state.places
   event_apart s starved e h = after_event judge (λ (t : State). AreApart t.places) s starved e (record {
     same = h;
     step = λ step same is. h;

@@ -43,7 +43,7 @@ use Rattle.device_meaning.specs.Judging.{IsSoundJudge, Judge, ProgramRefused}
 use Rattle.device_meaning.specs.Outcome.{Ending, EndsWithLast, Succeeds, Turn, appended_by, nothing_emitted, outcome}
 use Rattle.device_meaning.specs.Reached.{IsReached}
 use Rattle.device_meaning.specs.State.{Place, State, free_place, holds_at, loaded_at, new_state, place_at, with_namespace, with_place, with_slot}
-use Rattle.device_events.specs.declared.event.Event.{Event}
+use Rattle.device_events.specs.ToldEvents.{ToldEvent}
 use Rattle.device_meaning.proofs.Added.{added_block}
 use Rattle.device_meaning.proofs.BlockRuns.{IsDone, IsReady, few_block_runs, block_runs_done, some_block_runs}
 use Rattle.device_meaning.proofs.Bytes.{AreBlocks, IsBlock, blocks_by_place}
@@ -335,7 +335,7 @@ module _ (judge : Judge) (sound : IsSoundJudge judge) (block : ℕ) where
 
   -- ---- events
 
-  event_fine : (s : State) (starved : Bool) (e : Event) → IsFine s → CarriesBytes e → IsFine (happens judge s starved e).state
+  event_fine : (s : State) (starved : Bool) (e : ToldEvent) → IsFine s → CarriesBytes e → IsFine (happens judge s starved e).state
   event_fine s starved e h has = after_event judge IsFine s starved e (record {
     same = h;
     step = λ step same is. step_fine s step h same (is has);

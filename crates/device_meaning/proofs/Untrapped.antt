@@ -13,8 +13,8 @@ use Rattle.device_meaning.specs.Happenings.{fault_reply, happens, turn_reply}
 use Rattle.device_meaning.specs.Laws.{NoReplyIsTrapped}
 use Rattle.device_meaning.specs.Outcome.{Ending, EndsWithLast, Succeeds, Turn}
 use Rattle.device_meaning.specs.State.{Place, State, holds_at, place_at}
-use Rattle.device_events.specs.declared.event.Event.{Event}
-use Rattle.device_events.specs.declared.event.Event.TheVariants as event
+use Rattle.device_events.specs.ToldEvents.{ToldEvent}
+use Rattle.device_events.specs.ToldEvents as told
 use Rattle.device_meaning.proofs.Changes.{HoldsOfEach, of_entry, of_turn}
 use Rattle.device_meaning.proofs.Statuses.{standard_other, success_other}
 use Rattle.device_meaning.proofs.States.{states_are_sound}
@@ -59,7 +59,7 @@ ends_with_success turn [] ending ends is = subst Succeeds is ends
 ends_with_success turn (next ∷ later) ending ends is = absurd (let none = ends.0 in cc)
 
 turn_untrapped : (s : State) (run : ℕ) (place : Place) (turn : Turn) (later : List Turn) (ending : Option Ending) → place_at s run ≡ Some place
-    → EndsWithLast (turn ∷ later) → turn.ending ≡ ending → CompletesOnlyWith IsOtherStatus s (event.Turn run) (turn_reply run place ending)
+    → EndsWithLast (turn ∷ later) → turn.ending ≡ ending → CompletesOnlyWith IsOtherStatus s (told.Turned run) (turn_reply run place ending)
 turn_untrapped s run place turn later None here ends is = inl refl
 turn_untrapped s run place turn later (Some ending) here ends is =
     let other = success_other ending.status (ends_with_success turn later ending ends is) in
@@ -86,15 +86,15 @@ fault_untrapped (Err refused) = refl
 -- ---- events
 
 module _ (judge : Judge) where
-  event_untrapped : (s : State) (starved : Bool) (e : Event) → ((run : ℕ) (place : Place) → place_at s run ≡ Some place → EndsWithLast place.turns)
+  event_untrapped : (s : State) (starved : Bool) (e : ToldEvent) → ((run : ℕ) (place : Place) → place_at s run ≡ Some place → EndsWithLast place.turns)
       → CompletesOnlyWith IsOtherStatus s e (happens judge s starved e).reply
-  event_untrapped s starved (event.Submit queue entry input) ends =
-      let sub = submission_of queue entry input.items in
+  event_untrapped s starved (told.Submitted queue entry input) ends =
+      let sub = submission_of queue entry input in
       of_entry judge (IsUntrapped judge sub s) sub s (entries_untrapped judge sub s) starved
-  event_untrapped s starved (event.Turn run) ends =
-      of_turn (λ (h : Happening). CompletesOnlyWith IsOtherStatus s (event.Turn run) h.reply) s run (inl refl)
+  event_untrapped s starved (told.Turned run) ends =
+      of_turn (λ (h : Happening). CompletesOnlyWith IsOtherStatus s (told.Turned run) h.reply) s run (inl refl)
       (λ place turn later here first. turn_untrapped s run place turn later turn.ending here (subst EndsWithLast first (ends run place here)) refl)
-  event_untrapped s starved (event.Fault zone state) ends = fault_untrapped (zone_fault_refusal s.namespace (holds_at s) zone state)
+  event_untrapped s starved (told.Faulted zone state) ends = fault_untrapped (zone_fault_refusal s.namespace (holds_at s) zone state)
 
   pub no_reply_is_trapped : IsSoundJudge judge → NoReplyIsTrapped judge
   no_reply_is_trapped sound s o reached = event_untrapped s o.starved o.event (states_are_sound judge sound s reached).ends

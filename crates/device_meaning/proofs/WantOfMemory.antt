@@ -9,7 +9,7 @@ use Rattle.device_meaning.specs.EventReplies.{Submission, submission_of}
 use Rattle.device_meaning.specs.Happenings.{submitted}
 use Rattle.device_meaning.specs.WantOfMemory.{OnlyLoadsWantMemory, is_load}
 use Rattle.device_meaning.specs.State.{State}
-use Rattle.device_events.specs.declared.event.Event.TheVariants as event
+use Rattle.device_events.specs.ToldEvents as told
 
 module _ (judge : Judge) where
   submitted_same : (sub : Submission) (s : State) (asked : Result Command Status) → is_load asked ≡ false
@@ -21,7 +21,7 @@ module _ (judge : Judge) where
   submitted_same sub s (Ok (commands.Result slot)) no_load = refl
 
   pub only_loads_want_memory : OnlyLoadsWantMemory judge
-  only_loads_want_memory s (event.Submit queue entry input) no_load =
-      submitted_same (submission_of queue entry input.items) s (decoded entry) no_load
-  only_loads_want_memory s (event.Turn run) no_load = refl
-  only_loads_want_memory s (event.Fault zone state) no_load = refl
+  only_loads_want_memory s (told.Submitted queue entry input) no_load =
+      submitted_same (submission_of queue entry input) s (decoded entry) no_load
+  only_loads_want_memory s (told.Turned run) no_load = refl
+  only_loads_want_memory s (told.Faulted zone state) no_load = refl

@@ -4,8 +4,8 @@ use Rattle.device_meaning.specs.Judging.{Judge}
 use Rattle.nvme_entry.specs.Dwords.{dword}
 use Rattle.nvme_entry.specs.Entry.{identifier_of}
 use Rattle.device_events.specs.Replies.{ReplyWithData}
-use Rattle.device_events.specs.declared.event.Event.{Event}
-use Rattle.device_events.specs.declared.event.Event.TheVariants as event
+use Rattle.device_events.specs.ToldEvents.{ToldEvent}
+use Rattle.device_events.specs.ToldEvents as told
 use Rattle.device_events.specs.declared.reply.Reply.{Reply}
 use Rattle.device_events.specs.declared.reply.Reply.TheVariants as reply
 use Rattle.device_meaning.specs.Draining.{Drains}
@@ -28,10 +28,10 @@ module _ (queue cid : ℕ) where
   completes reply.FaultRefused = false
 
   -- does the event submit the command of this queue and identifier?
-  abbrev pub submits : Event → Bool
-  submits (event.Submit from entry input) = is_this_command from (identifier_of entry)
-  submits (event.Turn run) = false
-  submits (event.Fault zone state) = false
+  abbrev pub submits : ToldEvent → Bool
+  submits (told.Submitted from entry input) = is_this_command from (identifier_of entry)
+  submits (told.Turned run) = false
+  submits (told.Faulted zone state) = false
 
   -- does the run at a place come of a Run with this queue and identifier?
   abbrev pub is_its_run : Option Place → Bool

@@ -5,8 +5,8 @@ use Rattle.nvme_entry.specs.Completion.{completion_bytes}
 use Rattle.nvme_entry.specs.Entry.{identifier_of}
 use Rattle.device_meaning.specs.State.{Place, State, place_at}
 use Rattle.device_events.specs.Replies.{ReplyWithData, without_data}
-use Rattle.device_events.specs.declared.event.Event.{Event}
-use Rattle.device_events.specs.declared.event.Event.TheVariants as event
+use Rattle.device_events.specs.ToldEvents.{ToldEvent}
+use Rattle.device_events.specs.ToldEvents as told
 use Rattle.device_events.specs.declared.reply.Reply.{Reply}
 use Rattle.device_events.specs.declared.reply.Reply.TheVariants as reply
 
@@ -45,13 +45,13 @@ pub record IsCompletionOf (queue cid : ℕ) (holds : Status → Type 0) (answer 
   pub so : holds status
 
 -- where the reply to an event is a completion, it is that of the entry or of the run whose turn it is, with such a status
-abbrev pub CompletesOnlyWith : (Status → Type 0) → State → Event → ReplyWithData → Type 0
-CompletesOnlyWith holds s (event.Submit queue entry input) answer =
+abbrev pub CompletesOnlyWith : (Status → Type 0) → State → ToldEvent → ReplyWithData → Type 0
+CompletesOnlyWith holds s (told.Submitted queue entry input) answer =
     (is_completion answer.reply ≡ false) ⊎ IsCompletionOf queue (identifier_of entry) holds answer
-CompletesOnlyWith holds s (event.Turn run) answer =
+CompletesOnlyWith holds s (told.Turned run) answer =
     (is_completion answer.reply ≡ false)
     ⊎ ((place : Place) × (place_at s run ≡ Some place) × IsCompletionOf place.queue place.cid holds answer)
-CompletesOnlyWith holds s (event.Fault zone state) answer = is_completion answer.reply ≡ false
+CompletesOnlyWith holds s (told.Faulted zone state) answer = is_completion answer.reply ≡ false
 
 -- a submitted entry: its queue, its bytes, and the data beside it
 pub record Submission : Type 0 where

@@ -7,18 +7,19 @@ use Rattle.device_events.specs.Replies.{ReplyWithData}
 use Rattle.device_meaning.specs.Happenings.{happens}
 use Rattle.device_meaning.specs.State.{State}
 use Rattle.device_events.specs.declared.event.Event.{Event}
-use Rattle.device_events.specs.declared.event.Event.TheVariants as event
+use Rattle.device_events.specs.ToldEvents.{ToldEvent, told_of}
+use Rattle.device_events.specs.ToldEvents as told
 
 -- an event, and whether memory is refused while it is done
 pub record Occurrence : Type 0 where
-  pub event : Event
+  pub event : ToldEvent
   pub starved : Bool
 
 -- the data beside an entry is bytes
-abbrev pub CarriesBytes : Event → Type 0
-CarriesBytes (event.Submit queue entry input) = AreBytes input.items
-CarriesBytes (event.Turn run) = Unit {0}
-CarriesBytes (event.Fault zone state) = Unit {0}
+abbrev pub CarriesBytes : ToldEvent → Type 0
+CarriesBytes (told.Submitted queue entry input) = AreBytes input
+CarriesBytes (told.Turned run) = Unit {0}
+CarriesBytes (told.Faulted zone state) = Unit {0}
 
 -- events whose data, where they carry some, is bytes
 abbrev pub AreEvents : List Occurrence → Type 0
@@ -39,14 +40,14 @@ module _ (judge : Judge) where
 -- these are occurrences of these events, in order; at which of them memory is refused is left open, since no definition
 -- can say when there is none
 abbrev pub AreOccurrencesOf : List Event → List Occurrence → Type 0
-AreOccurrencesOf events occurrences = map (λ o. o.event) occurrences ≡ events
+AreOccurrencesOf events occurrences = map (λ o. o.event) occurrences ≡ map told_of events
 
 module _ (judge : Judge) where
   -- one event led from one state to the other, with this reply
   pub record HasHappened (e : Event) (old new : State) (reply : ReplyWithData) : Type 0 where
     pub starved : Bool
-    pub state : new ≡ (happens judge old starved e).state
-    pub replied : reply ≡ (happens judge old starved e).reply
+    pub state : new ≡ (happens judge old starved (told_of e)).state
+    pub replied : reply ≡ (happens judge old starved (told_of e)).reply
 
   -- events were done; `took` says of their replies that they were taken
   pub record HasServed (events : List Event) (old new : State) (took : List ReplyWithData → Type 0) : Type 0 where

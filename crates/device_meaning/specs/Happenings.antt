@@ -24,8 +24,8 @@ use Rattle.device_meaning.specs.BlockRuns.{no_scratch}
 use Rattle.device_meaning.specs.Judging.{Judge, ProgramRefused}
 use Rattle.device_meaning.specs.Outcome.{Turn, Ending, outcome}
 use Rattle.device_meaning.specs.State.{Place, State, holds_at, loaded_at, place_at, in_use, free_place, with_namespace, with_slot, with_place}
-use Rattle.device_events.specs.declared.event.Event.{Event}
-use Rattle.device_events.specs.declared.event.Event.TheVariants as event
+use Rattle.device_events.specs.ToldEvents.{ToldEvent}
+use Rattle.device_events.specs.ToldEvents as told
 use Rattle.device_events.specs.declared.reply.Reply.{Reply}
 use Rattle.device_events.specs.declared.reply.Reply.TheVariants as reply
 
@@ -184,8 +184,8 @@ module _ (judge : Judge) where
   submitted starved sub s (Ok (commands.Result slot)) = giving_result sub s slot
 
   -- what an event comes to, where memory is refused or not
-  abbrev pub happens : State → Bool → Event → Happening
-  happens s starved (event.Submit queue entry input) =
-      submitted starved (submission_of queue entry input.items) s (decoded entry)
-  happens s starved (event.Turn run) = turned s run
-  happens s starved (event.Fault zone state) = faulting s zone state
+  abbrev pub happens : State → Bool → ToldEvent → Happening
+  happens s starved (told.Submitted queue entry input) =
+      submitted starved (submission_of queue entry input) s (decoded entry)
+  happens s starved (told.Turned run) = turned s run
+  happens s starved (told.Faulted zone state) = faulting s zone state

@@ -6,7 +6,7 @@ use Rattle.device_meaning.specs.Draining.{Drains, HasDrained, lowest_run, replie
 use Rattle.device_meaning.specs.Events.{AreEvents, AreOccurrencesOf, HasServed, Occurrence, replies_to, state_after}
 use Rattle.device_meaning.specs.State.{State}
 use Rattle.device_events.specs.declared.event.Event.{Event}
-use Rattle.device_events.specs.declared.event.Event.TheVariants as event
+use Rattle.device_events.specs.ToldEvents as told
 
 -- each event has one reply
 abbrev pub OneReplyEach : Judge → Type 0
@@ -14,7 +14,7 @@ OneReplyEach judge = (events : List Occurrence) (s : State) → length (replies_
 
 -- turns of these runs, as events; a turn asks for no memory
 abbrev pub turn_events : List ℕ → List Occurrence
-turn_events runs = map (λ run. record { event = event.Turn run; starved = false }) runs
+turn_events runs = map (λ run. record { event = told.Turned run; starved = false }) runs
 
 module _ (judge : Judge) where
   -- the later events happen to what the earlier ones leave

@@ -7,8 +7,8 @@ use Rattle.nvme_entry.specs.declared.command.Command.TheVariants as commands
 use Rattle.device_meaning.specs.Judging.{Judge}
 use Rattle.device_meaning.specs.Happenings.{happens}
 use Rattle.device_meaning.specs.State.{State}
-use Rattle.device_events.specs.declared.event.Event.{Event}
-use Rattle.device_events.specs.declared.event.Event.TheVariants as event
+use Rattle.device_events.specs.ToldEvents.{ToldEvent}
+use Rattle.device_events.specs.ToldEvents as told
 
 -- is it a Load that an entry names?
 abbrev pub is_load : Result Command Status → Bool
@@ -19,13 +19,13 @@ is_load (Ok (commands.Result slot)) = false
 is_load (Err status) = false
 
 -- does the event ask for memory? A Load alone does
-abbrev pub wants_memory : Event → Bool
-wants_memory (event.Submit queue entry input) = is_load (decoded entry)
-wants_memory (event.Turn run) = false
-wants_memory (event.Fault zone state) = false
+abbrev pub wants_memory : ToldEvent → Bool
+wants_memory (told.Submitted queue entry input) = is_load (decoded entry)
+wants_memory (told.Turned run) = false
+wants_memory (told.Faulted zone state) = false
 
 -- Whether memory is refused changes nothing of what any other event comes to: Run, turns, Write, Zone Append
 -- and all the others ask for none.
 abbrev pub OnlyLoadsWantMemory : Judge → Type 0
 OnlyLoadsWantMemory judge =
-    (s : State) (e : Event) → wants_memory e ≡ false → happens judge s true e ≡ happens judge s false e
+    (s : State) (e : ToldEvent) → wants_memory e ≡ false → happens judge s true e ≡ happens judge s false e

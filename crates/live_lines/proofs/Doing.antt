@@ -10,6 +10,7 @@ use Rattle.device_meaning.specs.Judging.{interval_judge}
 use Rattle.device_events.specs.Printed.{Printed}
 use Rattle.device_events.specs.Replies.{Joins, ReplyWithData}
 use Rattle.device_events.specs.declared.event.Event.{Event}
+use Rattle.device_events.specs.ToldEvents.{ToldEvent, told_of}
 use Rattle.device_events.proofs.Proved.{prints_in_parts}
 use Rattle.device_meaning.specs.Draining.{HasDrained, HasStoppedDraining}
 use Rattle.device_meaning.specs.Events.{HasServed, HasStopped, Occurrence, replies_to, state_after}
@@ -48,8 +49,9 @@ module _ {T : Type 0} (took : T → T → List ReplyWithData → Type 0) (joins 
         occurrences = a.occurrences ++ b.occurrences;
         are =
             map-append (λ (o : Occurrence). o.event) a.occurrences b.occurrences
-            ∙ ap (λ (events : List Event). events ++ map (λ (o : Occurrence). o.event) b.occurrences) a.are
-            ∙ ap (λ (events : List Event). first ++ events) b.are;
+            ∙ ap (λ (events : List ToldEvent). events ++ map (λ (o : Occurrence). o.event) b.occurrences) a.are
+            ∙ ap (λ (events : List ToldEvent). map told_of first ++ events) b.are
+            ∙ sym (map-append told_of first later);
         state = b.state ∙ ap (λ (s : State). state_after interval_judge b.occurrences s) a.state ∙ sym parts.state;
         replies = subst (took before after) (sym parts.replies)
             (joins before then after (replies_to interval_judge a.occurrences old) (replies_to interval_judge b.occurrences (state_after interval_judge a.occurrences old))
@@ -189,7 +191,7 @@ begins_event drains e old new took done stopped = record {
   between = new;
   served = record {
     occurrences = stopped.occurrences;
-    are = subst (λ (n : ℕ). map (λ (o : Occurrence). o.event) stopped.occurrences ≡ take n (e ∷ []))
+    are = subst (λ (n : ℕ). map (λ (o : Occurrence). o.event) stopped.occurrences ≡ map told_of (take n (e ∷ [])))
         (let one : done ≡ 1 = omega (arith, stopped.some, stopped.within) in one) stopped.are;
     state = stopped.state;
     replies = tt;

@@ -11,6 +11,7 @@ use Rattle.device_meaning.specs.Judging.{interval_judge}
 use Rattle.device_events.specs.Replies.{Joins, ReplyWithData}
 use Rattle.device_events.specs.declared.event.Event.{Event}
 use Rattle.device_events.specs.declared.event.Event.TheVariants as event
+use Rattle.device_events.specs.ToldEvents.{ToldEvent, told_of}
 use Rattle.device_events.specs.declared.reply.Reply.{Reply}
 use Rattle.device_meaning.specs.Events.{HasHappened, HasServed, Occurrence, replies_to, state_after}
 use Rattle.device_meaning.specs.State.{State}
@@ -39,8 +40,9 @@ module _ {T : Type 0} (took : T → T → List ReplyWithData → Type 0) (joins 
         occurrences = a.occurrences ++ b.occurrences;
         are =
             map-append (λ (o : Occurrence). o.event) a.occurrences b.occurrences
-            ∙ ap (λ (events : List Event). events ++ map (λ (o : Occurrence). o.event) b.occurrences) a.are
-            ∙ ap (λ (events : List Event). first ++ events) b.are;
+            ∙ ap (λ (events : List ToldEvent). events ++ map (λ (o : Occurrence). o.event) b.occurrences) a.are
+            ∙ ap (λ (events : List ToldEvent). map told_of first ++ events) b.are
+            ∙ sym (map-append told_of first later);
         state = b.state ∙ ap (λ (s : State). state_after interval_judge b.occurrences s) a.state ∙ sym parts.state;
         replies = subst (took before after) (sym parts.replies)
             (joins before then after (replies_to interval_judge a.occurrences old) (replies_to interval_judge b.occurrences (state_after interval_judge a.occurrences old))
@@ -51,7 +53,7 @@ module _ {T : Type 0} (took : T → T → List ReplyWithData → Type 0) (joins 
 pub served_one : (took : List ReplyWithData → Type 0) (e : Event) (old new : State) (r : ReplyWithData) → HasHappened interval_judge e old new r → took (r ∷ [])
     → HasServed interval_judge (e ∷ []) old new took
 served_one took e old new r happened t = record {
-  occurrences = record { event = e; starved = happened.starved } ∷ [];
+  occurrences = record { event = told_of e; starved = happened.starved } ∷ [];
   are = refl;
   state = happened.state;
   replies = subst took (ap (λ (x : ReplyWithData). x ∷ []) happened.replied) t;

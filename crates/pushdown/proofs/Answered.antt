@@ -78,10 +78,10 @@ module _ (judge : Judge) (sub : Submission) (s : State) where
 module _ (judge : Judge) where
   pub refused_leaves_state : RefusedLeavesState judge
   refused_leaves_state s starved queue entry input =
-      let sub = submission_of queue entry input.items in
+      let sub = submission_of queue entry input in
       of_entry judge (IsReplied judge sub s) sub s (replied judge sub s) starved
 
   pub only_loads_change_slots : OnlyLoadsChangeSlots judge
   only_loads_change_slots s starved queue entry input =
-      let sub = submission_of queue entry input.items in
+      let sub = submission_of queue entry input in
       of_entry judge (ChangesSlots judge sub s) sub s (changes_slots judge sub s) starved

@@ -1,7 +1,5 @@
 -- A state that events leave, in which a Run is admitted: one of which the pushdown theorem speaks.
-use denote.RawPtr.{Ptr}
-use Rattle.std.proofs.Common.{ℕ, ◌<◌, ◌^◌, false, List, [], ◌∷◌, ◌++◌, length, replicate, Vec, refl, lit<, lit≤, arith}
-use Rattle.std.specs.declared.alloc.Global.{Global}
+use Rattle.std.proofs.Common.{ℕ, false, List, [], ◌∷◌, ◌++◌, replicate, refl, lit<, lit≤}
 use Rattle.zone_state.specs.declared.state.ZoneState.TheVariants as zone
 use Rattle.nvme_entry.specs.declared.command.RunCommand.{RunCommand}
 use Rattle.word_domain.specs.Domain.{Operations}
@@ -17,7 +15,7 @@ use Rattle.device_meaning.specs.Events.{Occurrence, state_after}
 use Rattle.pushdown.specs.Pushdown.{IsAdmitted}
 use Rattle.device_meaning.specs.Reached.{IsReached}
 use Rattle.device_meaning.specs.State.{State, new_state}
-use Rattle.device_events.specs.declared.event.Event.TheVariants as event
+use Rattle.device_events.specs.ToldEvents as told
 use Rattle.pushdown.proofs.ExampleEvents.{zone_of}
 use Rattle.pushdown.proofs.ExampleLoads.{load_entry}
 use Rattle.pushdown.proofs.Examples.{block_of, entry_of, four_zones, leave, move, run_entry}
@@ -59,22 +57,17 @@ program_is = by_place program (all_append FitsByte move leave (then_zeros 0xb7 7
 abbrev command : RunCommand
 command = record { lba = 0; blocks = 1; slot = 0; argument = 0; destination = 8 }
 
-module _ {D : Type 0} (operations : Operations D) (there : Ptr) (alloc : Global) where
-  -- bytes in memory
-  abbrev bytes_there : (bytes : List ℕ) → length bytes < 2 ^ 63 → Vec ℕ Global
-  bytes_there bytes small =
-      record { ptr = there; len = length bytes; cap = length bytes; alloc = alloc; items = bytes; ok = (refl, omega arith); small = small }
-
+module _ {D : Type 0} (operations : Operations D) where
   -- an entry in queue 1, with these bytes beside it
-  abbrev submits : List ℕ → (bytes : List ℕ) → length bytes < 2 ^ 63 → Occurrence
-  submits entry bytes small = record { event = event.Submit 1 entry (bytes_there bytes small); starved = false }
+  abbrev submits : (entry bytes : List ℕ) → Occurrence
+  submits entry bytes = record { event = told.Submitted 1 entry bytes; starved = false }
 
   -- one block is appended to zone 0, zone 1 is opened, and a program is loaded into slot 0
   abbrev events : List Occurrence
   events =
-      submits (entry_of 0x7d 1 0 (replicate 16 0)) (block_of 7) (lit< tt)
-      ∷ submits (entry_of 0x79 2 8 (0 ∷ 0 ∷ 0 ∷ 0 ∷ 3 ∷ replicate 11 0)) [] (lit< tt)
-      ∷ submits (load_entry 3 0 0 16) program (lit< tt)
+      submits (entry_of 0x7d 1 0 (replicate 16 0)) (block_of 7)
+      ∷ submits (entry_of 0x79 2 8 (0 ∷ 0 ∷ 0 ∷ 0 ∷ 3 ∷ replicate 11 0)) []
+      ∷ submits (load_entry 3 0 0 16) program
       ∷ []
 
   abbrev state : State

@@ -9,7 +9,7 @@ use Rattle.device_meaning.specs.Events.{Occurrence, state_after}
 use Rattle.device_meaning.specs.Happenings.{added, happens}
 use Rattle.pushdown.specs.ReadBack.{EventsKeepShapes, NoEventClears, UnclearedZonesKeepBlocks}
 use Rattle.device_meaning.specs.State.{State}
-use Rattle.device_events.specs.declared.event.Event.{Event}
+use Rattle.device_events.specs.ToldEvents.{ToldEvent}
 use Rattle.device_meaning.proofs.Proved.{added_grows, added_shape, after_event}
 
 -- the state of a zone isn't that of one that was reset or lost
@@ -38,7 +38,7 @@ added_keeps ns d z (b ∷ bs) stays = record {
 }
 
 module _ (judge : Judge) where
-  event_keeps : (s : State) (starved : Bool) (e : Event) (z : ℕ) → Uncleared (happens judge s starved e).state.namespace z
+  event_keeps : (s : State) (starved : Bool) (e : ToldEvent) (z : ℕ) → Uncleared (happens judge s starved e).state.namespace z
       → KeepsZone s.namespace (happens judge s starved e).state.namespace z
   event_keeps s starved e z =
       after_event judge (λ (t : State). Uncleared t.namespace z → KeepsZone s.namespace t.namespace z) s starved e (record {
@@ -60,7 +60,7 @@ module _ (judge : Judge) where
   pub uncleared_zones_keep_blocks : UnclearedZonesKeepBlocks judge
   uncleared_zones_keep_blocks s events z none = (events_keep events s z none).blocks
 
-  event_shape : (s : State) (starved : Bool) (e : Event) → shape (happens judge s starved e).state.namespace ≡ shape s.namespace
+  event_shape : (s : State) (starved : Bool) (e : ToldEvent) → shape (happens judge s starved e).state.namespace ≡ shape s.namespace
   event_shape s starved e = after_event judge (λ (t : State). shape t.namespace ≡ shape s.namespace) s starved e (record {
     same = refl;
     step = λ step same is. shapes_are_kept step s.namespace;

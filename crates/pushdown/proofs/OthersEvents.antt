@@ -10,8 +10,8 @@ use Rattle.pushdown.specs.Laws.{ForeignLeavesTurns, TurnTakesFirst}
 use Rattle.device_meaning.specs.Happenings.{admitted_place, happens, place_left, turned}
 use Rattle.pushdown.specs.Pushdown.{is_turn_of}
 use Rattle.device_meaning.specs.State.{Place, State, place_at}
-use Rattle.device_events.specs.declared.event.Event.{Event}
-use Rattle.device_events.specs.declared.event.Event.TheVariants as event
+use Rattle.device_events.specs.ToldEvents.{ToldEvent}
+use Rattle.device_events.specs.ToldEvents as told
 use Rattle.device_meaning.proofs.Proved.{after_event, after_turn, turned_is}
 
 -- ---- lists of places
@@ -30,9 +30,9 @@ other_than places free run place at is same =
 
 -- ---- an event that is no turn of a run leaves its place
 
-pub not_own : (run other : ℕ) (e : Event) → e ≡ event.Turn other → is_turn_of run e ≡ false → run ≢ other
+pub not_own : (run other : ℕ) (e : ToldEvent) → e ≡ told.Turned other → is_turn_of run e ≡ false → run ≢ other
 not_own run other e is foreign =
-    let differs : nat_eq other run ≡ false = subst (λ (x : Event). is_turn_of run x ≡ false) is foreign in
+    let differs : nat_eq other run ≡ false = subst (λ (x : ToldEvent). is_turn_of run x ≡ false) is foreign in
     λ same. eqb-false other run differs (sym same)
 
 -- a turn of another run
@@ -42,7 +42,7 @@ turned_leaves s other run differs =
     (λ p turn later at is. get_or-set_other s.places other run (place_left p later turn.ending) None differs)
 
 module _ (judge : Judge) where
-  pub foreign_event : (s : State) (starved : Bool) (e : Event) (run : ℕ) (place : Place) → is_turn_of run e ≡ false
+  pub foreign_event : (s : State) (starved : Bool) (e : ToldEvent) (run : ℕ) (place : Place) → is_turn_of run e ≡ false
       → place_at s run ≡ Some place → place_at (happens judge s starved e).state run ≡ Some place
   foreign_event s starved e run place foreign at =
       after_event judge (λ (t : State). place_at t run ≡ Some place) s starved e (record {

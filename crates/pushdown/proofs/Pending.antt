@@ -41,5 +41,5 @@ module _ (judge : Judge) (sub : Submission) (s : State) (run : ℕ) where
 module _ (judge : Judge) where
   pub pending_is_admitted : PendingIsAdmitted judge
   pending_is_admitted s starved queue entry input run is =
-      let sub = submission_of queue entry input.items in
+      let sub = submission_of queue entry input in
       of_entry judge (AdmittedIfPending judge sub s run) sub s (pends judge sub s run) starved is

@@ -1,7 +1,6 @@
 -- The pushdown theorem, and what an admitted Run leaves.
 use Rattle.std.proofs.Common.{◌≡◌, ◌≢◌, ℕ, ◌/◌, ◌<◌, ◌≤◌, Bool, List, length, set, get_or, Option, Some, None, refl, ap, sym, subst, ◌∙◌, arith, get_or-set_other, get_or-set_same}
-use Rattle.std.specs.Prelude.{is_some, Vec}
-use Rattle.std.specs.declared.alloc.Global.{Global}
+use Rattle.std.specs.Prelude.{is_some}
 use Rattle.std.proofs.lemmas.Nat.{mul-le}
 use Rattle.zone_state.specs.State.{is_open}
 use Rattle.zone_state.specs.declared.state.ZoneState.TheVariants.{Offline}
@@ -25,7 +24,7 @@ use Rattle.device_meaning.specs.Happenings.{admitted_place, happens, start_by, s
 use Rattle.device_meaning.specs.Outcome.{EndsWithLast, Turn, outcome}
 use Rattle.pushdown.specs.Pushdown.{ChangesDestinationAlone, DoesItsTurns, IsAdmitted, Pushdown, TellsFramesAndBlocks, blocks_at, no_turn, own_turns}
 use Rattle.device_meaning.specs.State.{Place, State, free_place, holds_at, loaded_at, place_at, with_place}
-use Rattle.device_events.specs.declared.event.Event.TheVariants as event
+use Rattle.device_events.specs.ToldEvents as told
 use Rattle.device_events.specs.declared.reply.Reply.TheVariants as reply
 use Rattle.device_meaning.proofs.Proved.{added_leaves, added_shape, open_on, IsDone, few_frames, few_block_runs, outcome_is_packed, AreApart, event_apart, decoded_has, IsFine, admitted_room, all_exit, all_granted, few_source, reached_fine, ready as is_ready, block_runs_all_done, some_block_run, turns_are, written}
 use Rattle.common_definitions.proofs.Proved.{all_from}
@@ -34,15 +33,15 @@ use Rattle.pushdown.proofs.OthersEvents.{free_within}
 
 -- ---- a run that is admitted, and the events after it
 
-module _ (judge : Judge) (s : State) (queue : ℕ) (entry : List ℕ) (input : Vec ℕ Global) (command : RunCommand) (run : ℕ) where
+module _ (judge : Judge) (s : State) (queue : ℕ) (entry input : List ℕ) (command : RunCommand) (run : ℕ) where
   abbrev sub : Submission
-  sub = submission_of queue entry input.items
+  sub = submission_of queue entry input
 
   abbrev place : Place
   place = admitted_place sub s command
 
   abbrev begun : Bool → Happening
-  begun starved = happens judge s starved (event.Submit queue entry input)
+  begun starved = happens judge s starved (told.Submitted queue entry input)
 
   started : (starved : Bool) → IsAdmitted s sub command run
       → begun starved ≡ record { reply = without_data (reply.Pending run); state = with_place s run (Some place) }
@@ -88,7 +87,7 @@ module _ (judge : Judge) (s : State) (queue : ℕ) (entry : List ℕ) (input : V
 
     ready : Ready judge run place first place.turns
     ready = record {
-      apart = event_apart judge s starved (event.Submit queue entry input) apart;
+      apart = event_apart judge s starved (told.Submitted queue entry input) apart;
       at = (starts starved admitted).place;
       on = subst (λ (ns : ZonedNamespace). (zone_at ns place.destination).state ≢ Offline) (sym same_namespace) (destination_on admitted);
       goes = ends;
@@ -135,9 +134,9 @@ module _ (judge : Judge) where
 -- ---- the theorem
 
 module _ (judge : Judge) (sound : IsSoundJudge judge) (block : ℕ) (s : State) (fine : IsFine judge sound block s)
-    (queue : ℕ) (entry : List ℕ) (input : Vec ℕ Global) (starved : Bool) (command : RunCommand) (run : ℕ) (events : List Occurrence) where
+    (queue : ℕ) (entry input : List ℕ) (starved : Bool) (command : RunCommand) (run : ℕ) (events : List Occurrence) where
   abbrev given : Submission
-  given = submission_of queue entry input.items
+  given = submission_of queue entry input
 
   tells_frames_and_blocks : IsAdmitted s given command run → TellsFramesAndBlocks judge s queue entry input starved command run events
   tells_frames_and_blocks admitted =
@@ -167,7 +166,7 @@ module _ (judge : Judge) (sound : IsSoundJudge judge) (block : ℕ) (s : State) 
 
 pub pushdown : (judge : Judge) → IsSoundJudge judge → Pushdown judge
 pushdown judge sound s reached queue entry input starved command run after admitted =
-    let sub = submission_of queue entry input.items in
+    let sub = submission_of queue entry input in
     let fine = reached_fine judge sound s reached in
     let block = reached.first.block in
     let task = task_of s.namespace (loaded_at s command.slot) command in

@@ -28,8 +28,8 @@ use Rattle.device_meaning.specs.Happenings.{commanded, happens, submitted}
 use Rattle.pushdown.specs.Pushdown.{blocks_at}
 use Rattle.pushdown.specs.ReadBack.{AppendedBlocksReadBack, BlocksAreRead, IsCompleted, NoEventClears, ReadsGive, Submits, WrittenBlocksReadBack, WrittenIsRead}
 use Rattle.device_meaning.specs.State.{State, holds_at}
-use Rattle.device_events.specs.declared.event.Event.{Event}
-use Rattle.device_events.specs.declared.event.Event.TheVariants as event
+use Rattle.device_events.specs.ToldEvents.{ToldEvent}
+use Rattle.device_events.specs.ToldEvents as told
 use Rattle.pushdown.proofs.Lasting.{events_keep}
 use Rattle.device_meaning.proofs.Proved.{HasBlocks, decoded_has}
 
@@ -74,26 +74,26 @@ blocks_read ns z front more behind is there some transfer =
 
 module _ (judge : Judge) where
   -- an event that submits a command is completed with the command's meaning
-  completed : (e : Event) (c : StandardCommand) (input : List ℕ) (s : State) (starved : Bool)
+  completed : (e : ToldEvent) (c : StandardCommand) (input : List ℕ) (s : State) (starved : Bool)
       → Submits e (commands.Standard c) input → IsCompleted e s (meaning s.namespace (holds_at s) c input) (happens judge s starved e)
-  completed (event.Submit queue entry bytes) c input s starved is =
-      let sub = submission_of queue entry bytes.items in
+  completed (told.Submitted queue entry bytes) c input s starved is =
+      let sub = submission_of queue entry bytes in
       ap (λ (r : Result Command Status). submitted judge starved sub s r) is.0
       ∙ ap (λ (bytes : List ℕ). commanded sub s (meaning s.namespace (holds_at s) c bytes)) is.1
-  completed (event.Turn run) c input s starved is = absurd is
-  completed (event.Fault zone state) c input s starved is = absurd is
+  completed (told.Turned run) c input s starved is = absurd is
+  completed (told.Faulted zone state) c input s starved is = absurd is
 
-  leaves : (e : Event) (c : StandardCommand) (input : List ℕ) (s : State) (starved : Bool) → Submits e (commands.Standard c) input
+  leaves : (e : ToldEvent) (c : StandardCommand) (input : List ℕ) (s : State) (starved : Bool) → Submits e (commands.Standard c) input
       → (happens judge s starved e).state.namespace ≡ (meaning s.namespace (holds_at s) c input).namespace
-  leaves (event.Submit queue entry bytes) c input s starved is =
-      ap (λ (h : Happening). h.state.namespace) (completed (event.Submit queue entry bytes) c input s starved is)
-  leaves (event.Turn run) c input s starved is = absurd is
-  leaves (event.Fault zone state) c input s starved is = absurd is
+  leaves (told.Submitted queue entry bytes) c input s starved is =
+      ap (λ (h : Happening). h.state.namespace) (completed (told.Submitted queue entry bytes) c input s starved is)
+  leaves (told.Turned run) c input s starved is = absurd is
+  leaves (told.Faulted zone state) c input s starved is = absurd is
 
-  has_blocks : (e : Event) (c : StandardCommand) (input : List ℕ) → Submits e (commands.Standard c) input → HasBlocks (commands.Standard c)
-  has_blocks (event.Submit queue entry bytes) c input is = decoded_has entry (commands.Standard c) is.0
-  has_blocks (event.Turn run) c input is = absurd is
-  has_blocks (event.Fault zone state) c input is = absurd is
+  has_blocks : (e : ToldEvent) (c : StandardCommand) (input : List ℕ) → Submits e (commands.Standard c) input → HasBlocks (commands.Standard c)
+  has_blocks (told.Submitted queue entry bytes) c input is = decoded_has entry (commands.Standard c) is.0
+  has_blocks (told.Turned run) c input is = absurd is
+  has_blocks (told.Faulted zone state) c input is = absurd is
 
   -- what is read of a namespace is read of a device
   reads : (s : State) (lba blocks : ℕ) (bytes : List ℕ) → AreRead s.namespace lba blocks bytes

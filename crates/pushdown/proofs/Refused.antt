@@ -1,6 +1,4 @@
 -- An event that is refused leaves the state as it was.
-use Rattle.std.specs.Prelude.{Vec}
-use Rattle.std.specs.declared.alloc.Global.{Global}
 use Rattle.std.proofs.Common.{◌≡◌, ◌≢◌, ℕ, Bool, true, false, List, [], Option, Some, None, Result, Ok, Err, refl, ap, subst, inl, inr}
 use Rattle.zone_state.specs.declared.state.FaultState.{FaultState}
 use Rattle.zone_state.specs.declared.status.TheConstants.Status.{SUCCESS}
@@ -12,8 +10,8 @@ use Rattle.device_meaning.specs.Happenings.{fault_reply, happens, turn_reply, tu
 use Rattle.device_meaning.specs.Outcome.{Ending, EndsWithLast}
 use Rattle.device_meaning.specs.State.{Place, State, holds_at, place_at, with_namespace}
 use Rattle.device_events.specs.Replies.{ReplyWithData, without_data}
-use Rattle.device_events.specs.declared.event.Event.{Event}
-use Rattle.device_events.specs.declared.event.Event.TheVariants as event
+use Rattle.device_events.specs.ToldEvents.{ToldEvent}
+use Rattle.device_events.specs.ToldEvents as told
 use Rattle.device_events.specs.declared.reply.Reply.{Reply}
 use Rattle.device_events.specs.declared.reply.Reply.TheVariants as reply
 use Rattle.device_meaning.proofs.Proved.{ends_with_success, is_pending, of_turn, states_are_sound, success_other}
@@ -32,7 +30,7 @@ is_taken reply.FaultTaken = true
 is_taken reply.FaultRefused = false
 
 -- a reply that passes such a test refuses nothing, unless it is a completion
-module _ (s : State) (e : Event) (h : Happening) where
+module _ (s : State) (e : ToldEvent) (h : Happening) where
   leaves_by : (test : Reply → Bool) → test h.reply.reply ≡ true → test reply.Idle ≡ false → test reply.FaultRefused ≡ false
       → CompletesOnlyWith (λ status. status ≢ SUCCESS → h.state ≡ s) s e h.reply → LeavesIfRefused s e h
   leaves_by test passes idle fault completed = record {
@@ -45,11 +43,11 @@ module _ (s : State) (e : Event) (h : Happening) where
 
 turn_leaves : (s after : State) (run : ℕ) (place : Place) (ending : Option Ending) → place_at s run ≡ Some place
     → ((e : Ending) → ending ≡ Some e → e.status ≡ SUCCESS)
-    → LeavesIfRefused s (event.Turn run) (record { reply = turn_reply run place ending; state = after })
+    → LeavesIfRefused s (told.Turned run) (record { reply = turn_reply run place ending; state = after })
 turn_leaves s after run place None here succeeds =
-    leaves_by s (event.Turn run) (record { reply = turn_reply run place None; state = after }) is_pending refl refl refl (inl refl)
+    leaves_by s (told.Turned run) (record { reply = turn_reply run place None; state = after }) is_pending refl refl refl (inl refl)
 turn_leaves s after run place (Some e) here succeeds =
-    leaves_by s (event.Turn run) (record { reply = turn_reply run place (Some e); state = after }) is_completion refl refl refl
+    leaves_by s (told.Turned run) (record { reply = turn_reply run place (Some e); state = after }) is_completion refl refl refl
     (inr (
       place,
       here,
@@ -65,19 +63,19 @@ turn_leaves s after run place (Some e) here succeeds =
     ))
 
 fault_leaves : (s : State) (zone : ℕ) (state : FaultState) (r : Result (Unit {0}) FaultRefused)
-    → LeavesIfRefused s (event.Fault zone state) (record { reply = without_data (fault_reply r); state = with_namespace s (faulted_by r s.namespace zone state) })
+    → LeavesIfRefused s (told.Faulted zone state) (record { reply = without_data (fault_reply r); state = with_namespace s (faulted_by r s.namespace zone state) })
 fault_leaves s zone state (Ok done) =
     let h : Happening = record { reply = without_data reply.FaultTaken; state = with_namespace s (faulted_by (Ok done) s.namespace zone state) } in
-    leaves_by s (event.Fault zone state) h is_taken refl refl refl refl
+    leaves_by s (told.Faulted zone state) h is_taken refl refl refl refl
 fault_leaves s zone state (Err refused) = record { idle = λ is. refl; fault = λ is. refl; completed = refl }
 
 -- ---- events
 
 module _ (judge : Judge) where
-  entry_leaves : (s : State) (starved : Bool) (queue : ℕ) (entry : List ℕ) (input : Vec ℕ Global)
-      → let e = event.Submit queue entry input in LeavesIfRefused s e (happens judge s starved e)
+  entry_leaves : (s : State) (starved : Bool) (queue : ℕ) (entry input : List ℕ)
+      → let e = told.Submitted queue entry input in LeavesIfRefused s e (happens judge s starved e)
   entry_leaves s starved queue entry input =
-      let e = event.Submit queue entry input in
+      let e = told.Submitted queue entry input in
       let h = happens judge s starved e in
       elim (refused_leaves_state judge s starved queue entry input) [
         | inl pending ↦
@@ -86,15 +84,15 @@ module _ (judge : Judge) where
         | inr answered ↦ leaves_by s e h is_completion (ap (λ (x : ReplyWithData). is_completion x.reply) answered.is) refl refl (inr answered)
       ]
 
-  event_leaves : (s : State) (starved : Bool) (e : Event) → ((run : ℕ) (place : Place) → place_at s run ≡ Some place → EndsWithLast place.turns)
+  event_leaves : (s : State) (starved : Bool) (e : ToldEvent) → ((run : ℕ) (place : Place) → place_at s run ≡ Some place → EndsWithLast place.turns)
       → LeavesIfRefused s e (happens judge s starved e)
-  event_leaves s starved (event.Submit queue entry input) ends = entry_leaves s starved queue entry input
-  event_leaves s starved (event.Turn run) ends =
-      of_turn (LeavesIfRefused s (event.Turn run)) s run (record { idle = λ is. refl; fault = λ is. refl; completed = inl refl })
+  event_leaves s starved (told.Submitted queue entry input) ends = entry_leaves s starved queue entry input
+  event_leaves s starved (told.Turned run) ends =
+      of_turn (LeavesIfRefused s (told.Turned run)) s run (record { idle = λ is. refl; fault = λ is. refl; completed = inl refl })
       (λ place turn later here first.
       turn_leaves s (turn_state s run place turn later) run place turn.ending here
       (λ e is. ends_with_success turn later e (subst EndsWithLast first (ends run place here)) is))
-  event_leaves s starved (event.Fault zone state) ends = fault_leaves s zone state (zone_fault_refusal s.namespace (holds_at s) zone state)
+  event_leaves s starved (told.Faulted zone state) ends = fault_leaves s zone state (zone_fault_refusal s.namespace (holds_at s) zone state)
 
   pub refused_events_leave_state : IsSoundJudge judge → RefusedEventsLeaveState judge
   refused_events_leave_state sound s o reached = event_leaves s o.starved o.event (states_are_sound judge sound s reached).ends

@@ -1,8 +1,7 @@
 -- What a run leaves as the result of its slot is given, whatever events happen after its last turn.
-use Rattle.std.proofs.Common.{◌≡◌, ℕ, zero, suc, ◌+◌, ◌≤◌, Bool, true, List, [], ◌∷◌, length, set, get_or, Option, Some, None, Result, Vec, refl, ap, sym, ◌∙◌, arith, inl, inr, get_or-set_other, get_or-set_same}
+use Rattle.std.proofs.Common.{◌≡◌, ℕ, zero, suc, ◌+◌, ◌≤◌, Bool, true, List, [], ◌∷◌, length, set, get_or, Option, Some, None, Result, refl, ap, sym, ◌∙◌, arith, inl, inr, get_or-set_other, get_or-set_same}
 use Rattle.std.specs.Prelude.{is_some}
 use Rattle.std.specs.List.{AllByRecursion}
-use Rattle.std.specs.declared.alloc.Global.{Global}
 use Rattle.std.proofs.lemmas.Bool.Decides.{eqb_tells}
 use Rattle.zone_state.specs.declared.status.Status.{Status}
 use Rattle.zone_state.specs.declared.status.TheConstants.Status.{SUCCESS, NO_SUCH_PROGRAM}
@@ -27,8 +26,8 @@ use Rattle.pushdown.specs.Pushdown.{IsAdmitted, block_runs, no_turn, now, own_tu
 use Rattle.pushdown.specs.ReadBack.{IsCompleted, LoadSucceeds, NoEventReplaces, NoRunEnds, ResultGives, ResultsReadBack, Submits, after_turn}
 use Rattle.device_meaning.specs.Reached.{IsReached}
 use Rattle.device_meaning.specs.State.{Place, State, free_place, holds_at, loaded_at, place_at, uses}
-use Rattle.device_events.specs.declared.event.Event.{Event}
-use Rattle.device_events.specs.declared.event.Event.TheVariants as event
+use Rattle.device_events.specs.ToldEvents.{ToldEvent}
+use Rattle.device_events.specs.ToldEvents as told
 use Rattle.pushdown.proofs.Answered.{only_loads_change_slots}
 use Rattle.device_meaning.proofs.Proved.{IsDone, after_event, after_turn as turn_changes, left_program, decoded_has, reached_fine, block_runs_all_done, some_block_run}
 use Rattle.pushdown.proofs.Pushdown.{pushdown}
@@ -37,7 +36,7 @@ use Rattle.pushdown.proofs.TurnsDone.{left_other}
 -- ---- a slot that has a program has one
 
 module _ (judge : Judge) where
-  event_leaves_some : (s : State) (starved : Bool) (e : Event) (slot : ℕ) → is_some (loaded_at s slot) ≡ true
+  event_leaves_some : (s : State) (starved : Bool) (e : ToldEvent) (slot : ℕ) → is_some (loaded_at s slot) ≡ true
       → is_some (loaded_at (happens judge s starved e).state slot) ≡ true
   event_leaves_some s starved e slot is = after_event judge (λ (t : State). is_some (loaded_at t slot) ≡ true) s starved e (record {
     same = is;
@@ -98,9 +97,9 @@ module _ (judge : Judge) (slot : ℕ) where
     | inr differs ↦ left_other s p (Some ending) slot (λ equal. differs.1 (sym equal))
   ]
 
-  event_leaves : (s : State) (starved : Bool) (e : Event) → NoRunEnds slot s (happens judge s starved e).state
+  event_leaves : (s : State) (starved : Bool) (e : ToldEvent) → NoRunEnds slot s (happens judge s starved e).state
       → (LoadSucceeds slot e (happens judge s starved e).reply → ⊥) → loaded_at (happens judge s starved e).state slot ≡ loaded_at s slot
-  event_leaves s starved (event.Submit queue entry input) ends loads = elim (only_loads_change_slots judge s starved queue entry input) [
+  event_leaves s starved (told.Submitted queue entry input) ends loads = elim (only_loads_change_slots judge s starved queue entry input) [
     | inl same ↦ ap (λ (xs : List (Option Loaded)). get_or xs slot None) same
     | inr loaded ↦
         let load = loaded.0 in
@@ -111,10 +110,10 @@ module _ (judge : Judge) (slot : ℕ) where
               ∙ get_or-set_other s.slots load.slot slot (Some (just_loaded is.program load.limit)) None (λ equal. differs.1 (sym equal))
         ]
   ]
-  event_leaves s starved (event.Turn run) ends loads =
+  event_leaves s starved (told.Turned run) ends loads =
       turn_changes (λ (t : State). NoRunEnds slot s t → loaded_at t slot ≡ loaded_at s slot) s run (λ none. refl)
       (λ p turn later at is. left_by s run p turn later turn.ending at refl) ends
-  event_leaves s starved (event.Fault zone state) ends loads = refl
+  event_leaves s starved (told.Faulted zone state) ends loads = refl
 
   events_leave : (events : List Occurrence) (s : State) → NoEventReplaces judge slot events s
       → loaded_at (state_after judge events s) slot ≡ loaded_at s slot
@@ -125,16 +124,16 @@ module _ (judge : Judge) (slot : ℕ) where
 -- ---- Result gives it
 
 module _ (judge : Judge) (s : State) (slot : ℕ) (bytes : List ℕ) (has : HasResult s slot bytes) where
-  given : (e : Event) (starved : Bool) → Submits e (commands.Result slot) []
+  given : (e : ToldEvent) (starved : Bool) → Submits e (commands.Result slot) []
       → IsCompleted e s (success_effect s.namespace 0 bytes) (happens judge s starved e)
-  given (event.Submit queue entry input) starved is =
-      let sub = submission_of queue entry input.items in
+  given (told.Submitted queue entry input) starved is =
+      let sub = submission_of queue entry input in
       ap (λ (r : Result Command Status). submitted judge starved sub s r) is.0
       ∙ ap (λ (xs : List ℕ). result_by (loaded_at s slot) (first_failed (transfer_checks 0 0 xs)) sub s) is.1
       ∙ ap (λ (of : Option Loaded). result_by of None sub s) has.at
       ∙ ap (λ (xs : List ℕ). completed sub SUCCESS 0 0 xs s) has.result
-  given (event.Turn run) starved is = absurd is
-  given (event.Fault zone state) starved is = absurd is
+  given (told.Turned run) starved is = absurd is
+  given (told.Faulted zone state) starved is = absurd is
 
   result_given : ResultGives judge s slot bytes
   result_given o submits = given o.event o.starved submits
@@ -142,9 +141,9 @@ module _ (judge : Judge) (s : State) (slot : ℕ) (bytes : List ℕ) (has : HasR
 -- ---- a run
 
 module _ (judge : Judge) (sound : IsSoundJudge judge) (s : State) (reached : IsReached judge s)
-    (queue : ℕ) (entry : List ℕ) (input : Vec ℕ Global) (starved : Bool) (command : RunCommand) (run : ℕ) (events later : List Occurrence) where
+    (queue : ℕ) (entry input : List ℕ) (starved : Bool) (command : RunCommand) (run : ℕ) (events later : List Occurrence) where
   abbrev sub : Submission
-  sub = submission_of queue entry input.items
+  sub = submission_of queue entry input
 
   abbrev all_block_runs : List BlockRun
   all_block_runs = block_runs judge s queue entry input starved command run events
@@ -162,7 +161,7 @@ module _ (judge : Judge) (sound : IsSoundJudge judge) (s : State) (reached : IsR
     has_program : is_some (loaded_at before_turn command.slot) ≡ true
     has_program =
         let checks = admission_checks s.namespace (holds_at s) (is_some (free_place s)) (loaded_at s command.slot) command sub.input in
-        let asked : Occurrence = record { event = event.Submit queue entry input; starved = starved } in
+        let asked : Occurrence = record { event = told.Submitted queue entry input; starved = starved } in
         events_leave_some judge (asked ∷ events) s command.slot
         (demanded (is_some (loaded_at s command.slot)) NO_SUCH_PROGRAM (passed checks 2 admitted.passed))
 

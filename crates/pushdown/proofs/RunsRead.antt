@@ -1,8 +1,7 @@
 -- What a run appends is read back, whatever events happen after its turns.
-use Rattle.std.proofs.Common.{◌≡◌, ℕ, ◌+◌, ◌*◌, ◌<◌, ◌≤◌, Bool, false, List, [], ◌∷◌, ◌++◌, length, get_or, take, drop, Vec, ap, sym, subst, ◌∙◌, arith, append_assoc}
+use Rattle.std.proofs.Common.{◌≡◌, ℕ, ◌+◌, ◌*◌, ◌<◌, ◌≤◌, Bool, false, List, [], ◌∷◌, ◌++◌, length, get_or, take, drop, ap, sym, subst, ◌∙◌, arith, append_assoc}
 use Rattle.std.specs.Prelude.{is_some, nat_eq}
 use Rattle.std.specs.List.{concat}
-use Rattle.std.specs.declared.alloc.Global.{Global}
 use Rattle.std.proofs.lemmas.Bool.{eqb-true}
 use Rattle.std.proofs.lemmas.List.{take_all, nil_from_length}
 use Rattle.zone_state.specs.declared.status.TheConstants.Status.{INVALID_FIELD_IN_COMMAND}
@@ -23,7 +22,7 @@ use Rattle.pushdown.specs.Pushdown.{IsAdmitted, blocks_at, no_turn, own_turns}
 use Rattle.pushdown.specs.ReadBack.{AppendedAreRead, AppendedByRunsReadsBack, EmittedAreRead, NoEventClears, ReadsGive, after_turn, destination, pointer, turns}
 use Rattle.device_meaning.specs.Reached.{IsReached}
 use Rattle.device_meaning.specs.State.{State, free_place, holds_at, loaded_at}
-use Rattle.device_events.specs.declared.event.Event.TheVariants as event
+use Rattle.device_events.specs.ToldEvents as told
 use Rattle.pushdown.proofs.Emitted.{outcome_unpacks}
 use Rattle.pushdown.proofs.Pushdown.{pushdown}
 use Rattle.pushdown.proofs.TurnsDone.{take_next}
@@ -39,12 +38,12 @@ admitted_bytes s sub command run admitted =
     subst AreBytes (sym (nil_from_length sub.input (eqb-true (length sub.input) 0 (demanded test INVALID_FIELD_IN_COMMAND (passed checks 1 admitted.passed))))) no_bytes
 
 module _ (judge : Judge) (sound : IsSoundJudge judge) (s : State) (reached : IsReached judge s)
-    (queue : ℕ) (entry : List ℕ) (input : Vec ℕ Global) (starved : Bool) (command : RunCommand) (run : ℕ) (events later : List Occurrence) where
+    (queue : ℕ) (entry input : List ℕ) (starved : Bool) (command : RunCommand) (run : ℕ) (events later : List Occurrence) where
   abbrev block : ℕ
   block = reached.first.block
 
   abbrev sub : Submission
-  sub = submission_of queue entry input.items
+  sub = submission_of queue entry input
 
   abbrev all_turns : List Turn
   all_turns = turns judge s queue entry input starved command run events later
@@ -59,7 +58,7 @@ module _ (judge : Judge) (sound : IsSoundJudge judge) (s : State) (reached : IsR
   so_far = own_turns run events
 
   abbrev asked : Occurrence
-  asked = record { event = event.Submit queue entry input; starved = starved }
+  asked = record { event = told.Submitted queue entry input; starved = starved }
 
   abbrev now : State
   now = state_after judge (asked ∷ events) s
@@ -75,7 +74,7 @@ module _ (judge : Judge) (sound : IsSoundJudge judge) (s : State) (reached : IsR
 
   last_shape : shape last.namespace ≡ shape s.namespace
   last_shape =
-      let turn : Occurrence = record { event = event.Turn run; starved = false } in
+      let turn : Occurrence = record { event = told.Turned run; starved = false } in
       events_keep_shapes judge then later ∙ events_keep_shapes judge now (turn ∷ []) ∙ events_keep_shapes judge s (asked ∷ events)
 
   -- each part of these blocks is read

@@ -17,14 +17,14 @@ use Rattle.device_meaning.specs.Outcome.{EndsWithLast, Ending, Turn, appended_by
 use Rattle.zone_resources.specs.Counts.{one_if}
 use Rattle.pushdown.specs.Pushdown.{blocks_at, is_turn_of, no_turn, own_turns}
 use Rattle.device_meaning.specs.State.{Place, State, loaded_at, place_at}
-use Rattle.device_events.specs.declared.event.Event.{Event}
-use Rattle.device_events.specs.declared.event.Event.TheVariants as event
+use Rattle.device_events.specs.ToldEvents.{ToldEvent}
+use Rattle.device_events.specs.ToldEvents as told
 use Rattle.device_meaning.proofs.Proved.{added_leaves, is_added, after_event, left_program, AreApart, event_apart, held_at, turned_is}
 use Rattle.pushdown.proofs.OthersEvents.{foreign_event, not_own, turn_takes_first, turned_leaves}
 
 -- ---- a foreign event leaves the destination
 
-foreign_zone : (judge : Judge) (s : State) (starved : Bool) (e : Event) (run : ℕ) (place : Place) → is_turn_of run e ≡ false
+foreign_zone : (judge : Judge) (s : State) (starved : Bool) (e : ToldEvent) (run : ℕ) (place : Place) → is_turn_of run e ≡ false
     → AreApart s.places → place_at s run ≡ Some place
     → zone_at (happens judge s starved e).state.namespace place.destination ≡ zone_at s.namespace place.destination
 foreign_zone judge s starved e run place foreign h at =
@@ -53,10 +53,10 @@ pub record Stands (s now : State) (run : ℕ) (place : Place) (turns : List Turn
   pub on : (zone_at now.namespace place.destination).state ≢ Offline
 
 module _ (judge : Judge) where
-  own_event : (s : State) (starved : Bool) (e : Event) (run : ℕ) → is_turn_of run e ≡ true → happens judge s starved e ≡ turned s run
-  own_event s starved (event.Submit queue entry input) run mine = cc
-  own_event s starved (event.Turn other) run mine = ap (turned s) (eqb-true other run mine)
-  own_event s starved (event.Fault zone state) run mine = cc
+  own_event : (s : State) (starved : Bool) (e : ToldEvent) (run : ℕ) → is_turn_of run e ≡ true → happens judge s starved e ≡ turned s run
+  own_event s starved (told.Submitted queue entry input) run mine = cc
+  own_event s starved (told.Turned other) run mine = ap (turned s) (eqb-true other run mine)
+  own_event s starved (told.Faulted zone state) run mine = cc
 
   module _ (run : ℕ) (place : Place) where
     -- what is known of a run before events

@@ -1,8 +1,7 @@
 -- Laws of entries: what a refused one leaves, which change slots, and which is admitted as a run; of the turns of a run; and that
 -- what a run appends unpacks to what was emitted.
-use Rattle.std.specs.Prelude.{ℕ, Bool, false, ◌≡◌, ◌≢◌, List, [], ◌∷◌, length, map, Vec, Option, Some, None, Ok, ◌⊎◌}
+use Rattle.std.specs.Prelude.{ℕ, Bool, false, ◌≡◌, ◌≢◌, List, [], ◌∷◌, length, map, Option, Some, None, Ok, ◌⊎◌}
 use Rattle.std.specs.List.{concat, flat_map}
-use Rattle.std.specs.declared.alloc.Global.{Global}
 use Rattle.zone_state.specs.declared.status.TheConstants.Status.{SUCCESS}
 use Rattle.nvme_entry.specs.Entry.{decoded, identifier_of}
 use Rattle.nvme_entry.specs.declared.command.Command.TheVariants as commands
@@ -24,8 +23,8 @@ use Rattle.device_meaning.specs.Laws.{IsAnswered}
 use Rattle.pushdown.specs.Pushdown.{IsAdmitted, is_turn_of}
 use Rattle.device_meaning.specs.Reached.{IsReached}
 use Rattle.device_meaning.specs.State.{Place, State, loaded_at, place_at, with_slot}
-use Rattle.device_events.specs.declared.event.Event.{Event}
-use Rattle.device_events.specs.declared.event.Event.TheVariants as event
+use Rattle.device_events.specs.ToldEvents.{ToldEvent}
+use Rattle.device_events.specs.ToldEvents as told
 use Rattle.device_events.specs.declared.reply.Reply.TheVariants as reply
 
 -- ---- refused entries, and slots
@@ -33,13 +32,13 @@ use Rattle.device_events.specs.declared.reply.Reply.TheVariants as reply
 -- the reply to an entry, whatever its command is, is Pending or such a completion
 abbrev pub RefusedLeavesState : Judge → Type 0
 RefusedLeavesState judge =
-    (s : State) (starved : Bool) (queue : ℕ) (entry : List ℕ) (input : Vec ℕ Global)
-    → let h = happens judge s starved (event.Submit queue entry input) in
-    ((run : ℕ) × (h.reply ≡ without_data (reply.Pending run))) ⊎ IsAnswered s (submission_of queue entry input.items) h
+    (s : State) (starved : Bool) (queue : ℕ) (entry input : List ℕ)
+    → let h = happens judge s starved (told.Submitted queue entry input) in
+    ((run : ℕ) × (h.reply ≡ without_data (reply.Pending run))) ⊎ IsAnswered s (submission_of queue entry input) h
 
 -- an event that is refused leaves the state as it was: a turn of no run, a fault that isn't taken, and what is completed
 -- with a status that isn't success
-pub record LeavesIfRefused (s : State) (e : Event) (h : Happening) : Type 0 where
+pub record LeavesIfRefused (s : State) (e : ToldEvent) (h : Happening) : Type 0 where
   pub idle : h.reply ≡ without_data reply.Idle → h.state ≡ s
   pub fault : h.reply ≡ without_data reply.FaultRefused → h.state ≡ s
   pub completed : CompletesOnlyWith (λ status. status ≢ SUCCESS → h.state ≡ s) s e h.reply
@@ -62,10 +61,10 @@ module _ (judge : Judge) where
 -- an entry leaves the slots as they were, or is such a Load
 abbrev pub OnlyLoadsChangeSlots : Judge → Type 0
 OnlyLoadsChangeSlots judge =
-    (s : State) (starved : Bool) (queue : ℕ) (entry : List ℕ) (input : Vec ℕ Global)
-    → let h = happens judge s starved (event.Submit queue entry input) in
+    (s : State) (starved : Bool) (queue : ℕ) (entry input : List ℕ)
+    → let h = happens judge s starved (told.Submitted queue entry input) in
     (h.state.slots ≡ s.slots)
-    ⊎ ((load : LoadCommand) × IsLoaded judge s (submission_of queue entry input.items) load h)
+    ⊎ ((load : LoadCommand) × IsLoaded judge s (submission_of queue entry input) load h)
 
 -- ---- admission and turns
 
@@ -80,16 +79,16 @@ pub record StartsRun (s : State) (sub : Submission) (command : RunCommand) (run 
 -- a Run that is admitted has its outcome at its place
 abbrev pub AdmittedStarts : Judge → Type 0
 AdmittedStarts judge =
-    (s : State) (starved : Bool) (queue : ℕ) (entry : List ℕ) (input : Vec ℕ Global) (command : RunCommand) (run : ℕ)
-    → let sub = submission_of queue entry input.items in
-    IsAdmitted s sub command run → StartsRun s sub command run (happens judge s starved (event.Submit queue entry input))
+    (s : State) (starved : Bool) (queue : ℕ) (entry input : List ℕ) (command : RunCommand) (run : ℕ)
+    → let sub = submission_of queue entry input in
+    IsAdmitted s sub command run → StartsRun s sub command run (happens judge s starved (told.Submitted queue entry input))
 
 -- and where the reply to an entry is Pending, a Run was admitted
 abbrev pub PendingIsAdmitted : Judge → Type 0
 PendingIsAdmitted judge =
-    (s : State) (starved : Bool) (queue : ℕ) (entry : List ℕ) (input : Vec ℕ Global) (run : ℕ)
-    → (happens judge s starved (event.Submit queue entry input)).reply ≡ without_data (reply.Pending run)
-    → (command : RunCommand) × IsAdmitted s (submission_of queue entry input.items) command run
+    (s : State) (starved : Bool) (queue : ℕ) (entry input : List ℕ) (run : ℕ)
+    → (happens judge s starved (told.Submitted queue entry input)).reply ≡ without_data (reply.Pending run)
+    → (command : RunCommand) × IsAdmitted s (submission_of queue entry input) command run
 
 -- an event that is no turn of a run leaves its turns as they were
 abbrev pub ForeignLeavesTurns : Judge → Type 0

@@ -8,9 +8,8 @@
 -- 4. each turn is the one that is fixed at admission: the blocks that it appends, the completion, and all that
 --    it leaves: the namespace, the run's place and the slots;
 -- 5. the completion tells how many frames were emitted and how many blocks were appended; both fit into its 32 bits.
-use Rattle.std.specs.Prelude.{ℕ, Bool, false, ◌≡◌, ◌≢◌, ◌≤◌, ◌<◌, ◌+◌, ◌^◌, ◌==◌, List, [], ◌∷◌, ◌++◌, length, take, drop, get_or, slice_get, Some, None, Ok, Vec}
+use Rattle.std.specs.Prelude.{ℕ, Bool, false, ◌≡◌, ◌≢◌, ◌≤◌, ◌<◌, ◌+◌, ◌^◌, ◌==◌, List, [], ◌∷◌, ◌++◌, length, take, drop, get_or, slice_get, Some, None, Ok}
 use Rattle.std.specs.List.{AllByRecursion, count_by}
-use Rattle.std.specs.declared.alloc.Global.{Global}
 use Rattle.nvme_entry.specs.Entry.{decoded}
 use Rattle.nvme_entry.specs.declared.command.Command.TheVariants as commands
 use Rattle.nvme_entry.specs.declared.command.RunCommand.{RunCommand}
@@ -28,14 +27,14 @@ use Rattle.device_meaning.specs.Happenings.{admitted_place, turn_reply, turn_sta
 use Rattle.device_meaning.specs.Outcome.{EndsWithLast, Turn, appended_by, ending_of, outcome, success_of}
 use Rattle.device_meaning.specs.Reached.{IsReached}
 use Rattle.device_meaning.specs.State.{Place, State, free_place, loaded_at, place_at}
-use Rattle.device_events.specs.declared.event.Event.{Event}
-use Rattle.device_events.specs.declared.event.Event.TheVariants as event
+use Rattle.device_events.specs.ToldEvents.{ToldEvent}
+use Rattle.device_events.specs.ToldEvents as told
 
 -- ---- events
 
 -- is the event a turn of this run?
-abbrev pub is_turn_of : ℕ → Event → Bool
-is_turn_of run (event.Turn other) = other == run
+abbrev pub is_turn_of : ℕ → ToldEvent → Bool
+is_turn_of run (told.Turned other) = other == run
 is_turn_of run _ = false
 
 -- how many of the events are turns of a run; all others are those of others
@@ -62,7 +61,7 @@ no_turn = record { blocks = []; ending = None }
 
 module _ (judge : Judge) where
   -- a Run that is submitted in a state, its number, and the events that follow
-  module _ (s : State) (queue : ℕ) (entry : List ℕ) (input : Vec ℕ Global) (starved : Bool) (command : RunCommand) (run : ℕ)
+  module _ (s : State) (queue : ℕ) (entry input : List ℕ) (starved : Bool) (command : RunCommand) (run : ℕ)
       (events : List Occurrence) where
     -- what is fixed at admission: what the run is about, which with the source blocks decides its block runs and its turns
     abbrev pub task : Task
@@ -78,11 +77,11 @@ module _ (judge : Judge) where
 
     -- the place that it is given
     abbrev pub place : Place
-    place = admitted_place (submission_of queue entry input.items) s command
+    place = admitted_place (submission_of queue entry input) s command
 
     -- the state that the Run and the events leave
     abbrev pub now : State
-    now = state_after judge (record { event = event.Submit queue entry input; starved = starved } ∷ events) s
+    now = state_after judge (record { event = told.Submitted queue entry input; starved = starved } ∷ events) s
 
     -- how many of the events are its own turns
     abbrev pub done : ℕ
@@ -163,8 +162,8 @@ module _ (judge : Judge) where
 abbrev pub Pushdown : Judge → Type 0
 Pushdown judge =
     (s : State) → IsReached judge s
-    → (queue : ℕ) (entry : List ℕ) (input : Vec ℕ Global) (starved : Bool) (command : RunCommand) (run : ℕ) (after : List Occurrence)
-    → IsAdmitted s (submission_of queue entry input.items) command run
+    → (queue : ℕ) (entry input : List ℕ) (starved : Bool) (command : RunCommand) (run : ℕ) (after : List Occurrence)
+    → IsAdmitted s (submission_of queue entry input) command run
     → IsPushedDown judge s queue entry input starved command run after
 
 -- it holds of every sound judge: of how programs are judged it asks no more than that those accepted never trap

@@ -1,7 +1,6 @@
 -- What was written is read back, whatever events happen in between.
-use Rattle.std.specs.Prelude.{ℕ, Bool, true, false, ◌≡◌, ◌≤◌, ◌<◌, ◌+◌, ◌*◌, ◌^◌, List, [], ◌∷◌, length, take, drop, is_some, Ok, Vec}
+use Rattle.std.specs.Prelude.{ℕ, Bool, true, false, ◌≡◌, ◌≤◌, ◌<◌, ◌+◌, ◌*◌, ◌^◌, List, [], ◌∷◌, length, take, drop, is_some, Ok}
 use Rattle.std.specs.List.{concat, flat_map}
-use Rattle.std.specs.declared.alloc.Global.{Global}
 use Rattle.zone_state.specs.declared.status.TheConstants.Status.{SUCCESS}
 use Rattle.nvme_entry.specs.Entry.{decoded, identifier_of}
 use Rattle.nvme_entry.specs.declared.command.Command.{Command}
@@ -29,29 +28,29 @@ use Rattle.pushdown.specs.Pushdown.{IsAdmitted, block_runs, blocks_at, next, own
 use Rattle.device_meaning.specs.Reached.{IsReached}
 use Rattle.device_meaning.specs.State.{State, holds_at, place_at, uses}
 use Rattle.device_events.specs.Replies.{ReplyWithData}
-use Rattle.device_events.specs.declared.event.Event.{Event}
-use Rattle.device_events.specs.declared.event.Event.TheVariants as event
+use Rattle.device_events.specs.ToldEvents.{ToldEvent}
+use Rattle.device_events.specs.ToldEvents as told
 
 -- the event submits an entry of this command, with these bytes beside it
-abbrev pub Submits : Event → Command → List ℕ → Type 0
-Submits (event.Submit queue entry input) c bytes = (decoded entry ≡ Ok c) × (input.items ≡ bytes)
-Submits (event.Turn run) c bytes = ⊥
-Submits (event.Fault zone state) c bytes = ⊥
+abbrev pub Submits : ToldEvent → Command → List ℕ → Type 0
+Submits (told.Submitted queue entry input) c bytes = (decoded entry ≡ Ok c) × (input ≡ bytes)
+Submits (told.Turned run) c bytes = ⊥
+Submits (told.Faulted zone state) c bytes = ⊥
 
 -- what happens is that the event's entry is completed with this effect
-abbrev pub IsCompleted : Event → State → Effect → Happening → Type 0
-IsCompleted (event.Submit queue entry input) s effect happening =
-    happening ≡ commanded (submission_of queue entry input.items) s effect
-IsCompleted (event.Turn run) s effect happening = ⊥
-IsCompleted (event.Fault zone state) s effect happening = ⊥
+abbrev pub IsCompleted : ToldEvent → State → Effect → Happening → Type 0
+IsCompleted (told.Submitted queue entry input) s effect happening =
+    happening ≡ commanded (submission_of queue entry input) s effect
+IsCompleted (told.Turned run) s effect happening = ⊥
+IsCompleted (told.Faulted zone state) s effect happening = ⊥
 
 -- the event submits a Load of this slot, and the reply is success
-abbrev pub LoadSucceeds : ℕ → Event → ReplyWithData → Type 0
-LoadSucceeds slot (event.Submit queue entry input) reply =
+abbrev pub LoadSucceeds : ℕ → ToldEvent → ReplyWithData → Type 0
+LoadSucceeds slot (told.Submitted queue entry input) reply =
     (load : LoadCommand) × ((decoded entry ≡ Ok (commands.Load load))
     × ((load.slot ≡ slot) × (reply ≡ completion queue (identifier_of entry) SUCCESS 0 0 [])))
-LoadSucceeds slot (event.Turn run) reply = ⊥
-LoadSucceeds slot (event.Fault zone state) reply = ⊥
+LoadSucceeds slot (told.Turned run) reply = ⊥
+LoadSucceeds slot (told.Faulted zone state) reply = ⊥
 
 -- each run of a slot that is active before an event is active after it
 abbrev pub NoRunEnds : ℕ → State → State → Type 0
@@ -90,7 +89,7 @@ module _ (judge : Judge) where
       NoRunEnds slot s h.state × ((¬ LoadSucceeds slot o.event h.reply) × NoEventReplaces slot os h.state)
 
   -- an admitted Run, the events between it and a turn of it, and events after that turn
-  module _ (s : State) (queue : ℕ) (entry : List ℕ) (input : Vec ℕ Global) (starved : Bool) (command : RunCommand) (run : ℕ)
+  module _ (s : State) (queue : ℕ) (entry input : List ℕ) (starved : Bool) (command : RunCommand) (run : ℕ)
       (events later : List Occurrence) where
     -- the zone that it appends to, as the theorem has it
     abbrev pub destination : ℕ
@@ -184,8 +183,8 @@ WrittenBlocksReadBack judge =
 abbrev pub AppendedByRunsReadsBack : Judge → Type 0
 AppendedByRunsReadsBack judge =
     (s : State) → IsReached judge s
-    → (queue : ℕ) (entry : List ℕ) (input : Vec ℕ Global) (starved : Bool) (command : RunCommand) (run : ℕ) (events later : List Occurrence)
-    → IsAdmitted s (submission_of queue entry input.items) command run
+    → (queue : ℕ) (entry input : List ℕ) (starved : Bool) (command : RunCommand) (run : ℕ) (events later : List Occurrence)
+    → IsAdmitted s (submission_of queue entry input) command run
     → AreEvents events → AreEvents later
     → IsReadBack judge s queue entry input starved command run events later
 
@@ -193,6 +192,6 @@ AppendedByRunsReadsBack judge =
 abbrev pub ResultsReadBack : Judge → Type 0
 ResultsReadBack judge =
     (s : State) → IsReached judge s
-    → (queue : ℕ) (entry : List ℕ) (input : Vec ℕ Global) (starved : Bool) (command : RunCommand) (run : ℕ) (events later : List Occurrence)
-    → IsAdmitted s (submission_of queue entry input.items) command run
+    → (queue : ℕ) (entry input : List ℕ) (starved : Bool) (command : RunCommand) (run : ℕ) (events later : List Occurrence)
+    → IsAdmitted s (submission_of queue entry input) command run
     → IsResultReadBack judge s queue entry input starved command run events later

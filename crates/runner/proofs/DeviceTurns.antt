@@ -23,7 +23,7 @@ use Rattle.device_meaning.specs.Happenings.{added, keeping, place_left, slots_le
 use Rattle.device_meaning.specs.Outcome.{Turn, rest}
 use Rattle.device_meaning.specs.State.{Place, State, place_at}
 use Rattle.device_meaning.specs.View.{place_of, seen, to_come, turns_of}
-use Rattle.device_events.specs.declared.event.Event.TheVariants as event
+use Rattle.device_events.specs.ToldEvents as told
 use Rattle.device_events.specs.declared.reply.Reply.{Reply}
 use Rattle.device_events.specs.declared.reply.Reply.TheVariants as reply
 use Rattle.device_meaning.proofs.Proved.{events_keep_for_runs, turned_is}
@@ -107,7 +107,7 @@ module _ (ns : ZonedNamespace) (slots : List (Option LoadedProgram)) (runs : Lis
 
     keeps : (j : ℕ) (b : ActiveRun) → get_or runs j None ≡ Some b → KeepsFor (place_of ns (map loaded_slot slots) (active_of b)) s after
     keeps j b there =
-        events_keep_for_runs interval_judge s (record { event = event.Turn k; starved = false }) j (place_of ns (map loaded_slot slots) (active_of b))
+        events_keep_for_runs interval_judge s (record { event = told.Turned k; starved = false }) j (place_of ns (map loaded_slot slots) (active_of b))
         (placed_at ns slots runs j b there)
 
     same_shape : shape new ≡ shape ns
@@ -160,11 +160,11 @@ module _ (ns : ZonedNamespace) (slots : List (Option LoadedProgram)) (runs : Lis
     is_turned : (given : Reply) → given ≡ (turn_reply k place turn.ending).reply
         → seen new (map loaded_slot slots') (running r) ≡ place_left place later turn.ending → IfSome r OwnFits
         → IsTurned s k new slots' (set runs k r) given
-    is_turned given told left own =
+    is_turned given reply_is left own =
         let with_places : List (Option Place) → State = λ places. record { namespace = new; slots = map loaded_slot slots'; places = places } in
         let places = set s.places k (place_left place later turn.ending) in
         record {
-          reply = told ∙ sym (ap (λ (h : Happening). h.reply.reply) comes);
+          reply = reply_is ∙ sym (ap (λ (h : Happening). h.reply.reply) comes);
           state =
               ap with_places (others_stay ns new slots slots' runs k r (λ j b other there. stays j b there))
               ∙ ap (λ (o : Option Place). with_places (set s.places k o)) left
@@ -234,8 +234,8 @@ module _ (ns : ZonedNamespace) (slots : List (Option LoadedProgram)) (runs : Lis
         ∙ ap (λ (x : LoadedProgram). set (map loaded_slot slots) a.command.slot (loaded_slot (Some x))) (sym same)
         ∙ sym (map-set loaded_slot slots a.command.slot (Some q))
 
-    told : complete_reply b.queue b.cid answer ≡ (turn_reply k place last.ending).reply
-    told =
+    completion_told : complete_reply b.queue b.cid answer ≡ (turn_reply k place last.ending).reply
+    completion_told =
         ap (λ (queue : ℕ). complete_reply queue b.cid answer) kept.queue
         ∙ ap (λ (cid : ℕ). complete_reply a.queue cid answer) kept.cid
         ∙ ap (λ (n : ℕ). complete_reply a.queue a.cid (record answer { length = n })) e.no_data
@@ -243,7 +243,7 @@ module _ (ns : ZonedNamespace) (slots : List (Option LoadedProgram)) (runs : Lis
     ends_turned : IsTurned s k new (set slots a.command.slot (Some q)) (set runs k None) (complete_reply b.queue b.cid answer)
     ends_turned =
         is_turned new q None last [] e.turns e.namespace (ap (λ (x : LoadedProgram). x.prepared) same) programs_end
-        (complete_reply b.queue b.cid answer) told refl tt
+        (complete_reply b.queue b.cid answer) completion_told refl tt
 
   -- ---- what its program and its run are afterwards
 

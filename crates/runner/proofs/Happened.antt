@@ -13,6 +13,8 @@ use Rattle.device_meaning.specs.Happenings.{happens, submitted}
 use Rattle.device_meaning.specs.State.{State}
 use Rattle.device_events.specs.declared.event.Event.{Event}
 use Rattle.device_events.specs.declared.event.Event.TheVariants as event
+use Rattle.device_events.specs.ToldEvents.{told_of}
+use Rattle.device_events.specs.ToldEvents as told
 use Rattle.device_meaning.proofs.Proved.{events_keep_reached}
 use Rattle.runner.specs.Taken.{HasTaken}
 use Rattle.runner.specs.steps.Answered.{HasSubmitted, as_submission}
@@ -25,9 +27,9 @@ reached_more s t o reached has step = subst (IsReached interval_judge) (sym step
 
 -- ---- one event
 
-reached_by : (e : Event) (old new : State) (reply : ReplyWithData) → IsReached interval_judge old → CarriesBytes e → HasHappened interval_judge e old new reply → IsReached interval_judge new
+reached_by : (e : Event) (old new : State) (reply : ReplyWithData) → IsReached interval_judge old → CarriesBytes (told_of e) → HasHappened interval_judge e old new reply → IsReached interval_judge new
 reached_by e old new reply reached has happened =
-    let o : Occurrence = record { event = e; starved = happened.starved } in reached_more old new o reached has happened.state
+    let o : Occurrence = record { event = told_of e; starved = happened.starved } in reached_more old new o reached has happened.state
 
 -- the entry of an event, as it was submitted
 as_submitted : (sub : Submission) (queue : ℕ) (entry input : List ℕ) → sub.queue ≡ queue → sub.entry ≡ entry → sub.input ≡ input
@@ -41,9 +43,9 @@ pub submission_happened : (queue : ℕ) (entry : List ℕ) (input : Vec ℕ Glob
     → given.queue ≡ queue → given.entry.now ≡ entry → given.input.now ≡ input.items
     → HasSubmitted given (decoded given.entry.now) old new reply → HasHappened interval_judge (event.Submit queue entry input) old new reply
 submission_happened queue entry input given old new reply same_queue same_entry same_input h =
-    let told = as_submitted (as_submission given) queue entry input.items same_queue same_entry same_input in
-    let happening : happens interval_judge old h.starved (event.Submit queue entry input) ≡ record { reply = reply; state = new } =
-    ap (λ (x : Submission). submitted interval_judge h.starved x old (decoded x.entry)) (sym told) ∙ h.happening in
+    let same = as_submitted (as_submission given) queue entry input.items same_queue same_entry same_input in
+    let happening : happens interval_judge old h.starved (told.Submitted queue entry input.items) ≡ record { reply = reply; state = new } =
+    ap (λ (x : Submission). submitted interval_judge h.starved x old (decoded x.entry)) (sym same) ∙ h.happening in
     record {
       starved = h.starved;
       state = sym (ap (λ (x : Happening). x.state) happening);

@@ -1,5 +1,5 @@
 -- Events that are done one after another, one event more.
-use Rattle.std.proofs.Common.{◌≡◌, ℕ, ◌+◌, ◌-◌, ◌<◌, List, [], ◌∷◌, ◌++◌, append-nil, length, take, get_or, refl, ap, subst, sym, ◌∙◌, arith}
+use Rattle.std.proofs.Common.{◌≡◌, ℕ, ◌+◌, ◌-◌, ◌<◌, List, [], ◌∷◌, ◌++◌, append-nil, length, map, take, get_or, refl, ap, subst, sym, ◌∙◌, arith}
 use Rattle.std.proofs.lemmas.List.{length-map, length-take-le, map_push, take_at, take_more}
 use Rattle.device_meaning.specs.Judging.{interval_judge}
 use Rattle.device_events.specs.Replies.{Joins, ReplyWithData, data_length}
@@ -7,6 +7,7 @@ use Rattle.device_meaning.specs.Events.{AreOccurrencesOf, HasHappened, HasServed
 use Rattle.device_meaning.specs.Happenings.{happens}
 use Rattle.device_meaning.specs.State.{State}
 use Rattle.device_events.specs.declared.event.Event.{Event}
+use Rattle.device_events.specs.ToldEvents.{ToldEvent, told_of}
 use Rattle.device_events.specs.declared.reply.Reply.{Reply}
 use Rattle.device_meaning.proofs.Proved.{events_in_parts}
 
@@ -19,13 +20,14 @@ with_data r n xs count =
 -- ---- the event at `i` happened, after those before it
 
 module _ (es : List Event) (i : ℕ) (e : Event) (old now new : State) (reply : ReplyWithData) where
-  are_more : (os : List Occurrence) (o : Occurrence) → i < length es → e ≡ get_or es i e → o.event ≡ e → AreOccurrencesOf (take i es) os
+  are_more : (os : List Occurrence) (o : Occurrence) → i < length es → e ≡ get_or es i e → o.event ≡ told_of e → AreOccurrencesOf (take i es) os
       → AreOccurrencesOf (take (i + 1) es) (os ++ o ∷ [])
   are_more os o within item is are =
       map_push (λ (x : Occurrence). x.event) os o
-      ∙ ap (λ (xs : List Event). xs ++ o.event ∷ []) are
-      ∙ ap (λ (x : Event). take i es ++ x ∷ []) (is ∙ item)
-      ∙ sym (take_more es i e within)
+      ∙ ap (λ (xs : List ToldEvent). xs ++ o.event ∷ []) are
+      ∙ ap (λ (x : ToldEvent). map told_of (take i es) ++ x ∷ []) (is ∙ ap told_of item)
+      ∙ sym (map_push told_of (take i es) (get_or es i e))
+      ∙ sym (ap (map told_of) (take_more es i e within))
 
   state_more : (os : List Occurrence) (o : Occurrence) → now ≡ state_after interval_judge os old → new ≡ (happens interval_judge now o.starved o.event).state
       → new ≡ state_after interval_judge (os ++ o ∷ []) old
@@ -42,7 +44,7 @@ module _ (es : List Event) (i : ℕ) (e : Event) (old now new : State) (reply : 
   module _ {T : Type 0} (took : T → T → List ReplyWithData → Type 0) (joins : Joins took) (first then after : T) (within : i < length es) (item : e ≡ get_or es i e)
       (served : HasServed interval_judge (take i es) old now (took first then)) (happened : HasHappened interval_judge e now new reply) where
     o : Occurrence
-    o = record { event = e; starved = happened.starved }
+    o = record { event = told_of e; starved = happened.starved }
 
     -- its reply was taken
     pub served_more : took then after (reply ∷ []) → HasServed interval_judge (take (i + 1) es) old new (took first after)
@@ -60,7 +62,7 @@ module _ (es : List Event) (i : ℕ) (e : Event) (old now new : State) (reply : 
     unfolding o
     served_stopped none =
         let os = served.occurrences in
-        let count : length os ≡ i = sym (length-map os (λ (x : Occurrence). x.event)) ∙ ap length served.are ∙ length-take-le i es (omega (arith, within)) in
+        let count : length os ≡ i = sym (length-map os (λ (x : Occurrence). x.event)) ∙ ap length served.are ∙ length-map (take i es) told_of ∙ length-take-le i es (omega (arith, within)) in
         let done : i + 1 - 1 ≡ i = omega arith in
         let those : take (i + 1 - 1) (os ++ o ∷ []) ≡ os = ap (λ (n : ℕ). take n (os ++ o ∷ [])) done ∙ take_at os (o ∷ []) i count in
         let replies = replies_to interval_judge os old in

@@ -17,8 +17,8 @@ use Rattle.device_meaning.specs.State.{Place, State, new_state}
 use Rattle.device_meaning.specs.View.{Active}
 use Rattle.device_meaning.proofs.Proved.{decoded_has, events_keep_for_runs}
 use Rattle.device_events.specs.Replies.{ReplyWithData}
-use Rattle.device_events.specs.declared.event.Event.{Event}
-use Rattle.device_events.specs.declared.event.Event.TheVariants as event
+use Rattle.device_events.specs.ToldEvents.{ToldEvent}
+use Rattle.device_events.specs.ToldEvents as told
 use Rattle.turn_machine.specs.Laws.{Corresponds, FixedAtAdmission}
 use Rattle.turn_machine.specs.Machine.{Machine, happens_now, machine_after, new_machine, replies_now, run_at, submitted_now, turned_now_at, without_turns}
 use Rattle.turn_machine.proofs.OtherEvents.{leaving_follows, starting_follows}
@@ -39,7 +39,7 @@ module _ (judge : Judge) where
 
   module _ (m : Machine) (under : AreUnderWay m) where
     -- every event keeps what runs need
-    pub kept : (starved : Bool) (e : Event) → let t = (happens judge (viewed m) starved e).state in KeepsAll m t.namespace t.slots
+    pub kept : (starved : Bool) (e : ToldEvent) → let t = (happens judge (viewed m) starved e).state in KeepsAll m t.namespace t.slots
     kept starved e =
         let s = viewed m in
         needs_kept m (happens judge s starved e).state
@@ -50,22 +50,22 @@ module _ (judge : Judge) where
       abbrev from : Result Command Status → Happening
       from = submitted judge starved sub (viewed m)
 
-      abbrev told : Result Command Status → Happening
-      told = submitted judge starved sub (without_turns m)
+      abbrev without : Result Command Status → Happening
+      without = submitted judge starved sub (without_turns m)
 
       entry_follows : (asked : Result Command Status) → decoded sub.entry ≡ asked → KeepsAll m (from asked).state.namespace (from asked).state.slots
           → Follows (from asked) (submitted_now judge starved sub m asked)
-      entry_follows (Err status) is keeps = leaving_follows m under (from (Err status)) (told (Err status)) (refused_same m sub status) keeps
+      entry_follows (Err status) is keeps = leaving_follows m under (from (Err status)) (without (Err status)) (refused_same m sub status) keeps
       entry_follows (Ok (commands.Standard c)) is keeps =
-          let asked = Ok (commands.Standard c) in leaving_follows m under (from asked) (told asked) (command_same m sub c) keeps
+          let asked = Ok (commands.Standard c) in leaving_follows m under (from asked) (without asked) (command_same m sub c) keeps
       entry_follows (Ok (commands.Load load)) is keeps =
-          let asked = Ok (commands.Load load) in leaving_follows m under (from asked) (told asked) (load_same m judge sub load starved) keeps
+          let asked = Ok (commands.Load load) in leaving_follows m under (from asked) (without asked) (load_same m judge sub load starved) keeps
       entry_follows (Ok (commands.Run command)) is keeps =
           starting_follows m under sub command (decoded_has sub.entry (commands.Run command) is)
       entry_follows (Ok (commands.Result slot)) is keeps =
           let asked = Ok (commands.Result slot) in
           let why = first_failed (transfer_checks 0 0 sub.input) in
-          leaving_follows m under (from asked) (told asked) (result_same m sub (get_or m.slots slot None) why) keeps
+          leaving_follows m under (from asked) (without asked) (result_same m sub (get_or m.slots slot None) why) keeps
 
     turn_comes : (run : ℕ) (at : Option Active) → run_at m run ≡ at → Follows (turned (viewed m) run) (turned_now_at m run at)
     turn_comes run (Some a) at = turn_follows judge m under run a at
@@ -73,14 +73,14 @@ module _ (judge : Judge) where
         let same : Follows (idle (viewed m)) (turned_now_at m run None) = record { reply = refl; state = refl; under_way = under } in
         subst (λ (p : Option Place). Follows (turned_at (viewed m) run p) (turned_now_at m run None)) (sym (none_at m run at)) same
 
-    pub event_follows : (starved : Bool) (e : Event) → Follows (happens judge (viewed m) starved e) (happens_now judge m starved e)
-    event_follows starved (event.Submit queue entry input) =
-        let sub = submission_of queue entry input.items in
-        entry_follows starved sub (decoded entry) refl (kept starved (event.Submit queue entry input))
-    event_follows starved (event.Turn run) = turn_comes run (run_at m run) refl
-    event_follows starved (event.Fault zone state) =
+    pub event_follows : (starved : Bool) (e : ToldEvent) → Follows (happens judge (viewed m) starved e) (happens_now judge m starved e)
+    event_follows starved (told.Submitted queue entry input) =
+        let sub = submission_of queue entry input in
+        entry_follows starved sub (decoded entry) refl (kept starved (told.Submitted queue entry input))
+    event_follows starved (told.Turned run) = turn_comes run (run_at m run) refl
+    event_follows starved (told.Faulted zone state) =
         leaving_follows m under (faulting (viewed m) zone state) (faulting (without_turns m) zone state) (fault_same m zone state)
-        (kept starved (event.Fault zone state))
+        (kept starved (told.Faulted zone state))
 
   -- ---- lists of events
 

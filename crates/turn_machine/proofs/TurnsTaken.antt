@@ -13,7 +13,7 @@ use Rattle.device_meaning.specs.Outcome.{Ending, Turn}
 use Rattle.device_meaning.specs.State.{Place, State, place_at}
 use Rattle.device_meaning.specs.View.{Active, place_of, seen, view_of}
 use Rattle.device_meaning.proofs.Proved.{events_keep_for_runs, turned_is}
-use Rattle.device_events.specs.declared.event.Event.TheVariants as event
+use Rattle.device_events.specs.ToldEvents as told
 use Rattle.turn_machine.specs.Machine.{Answered, Machine, place_without_turns, run_at, run_left, turn_done, turn_now, without_turns}
 use Rattle.turn_machine.proofs.NextTurns.{IsNext, gone_on, next_is}
 use Rattle.turn_machine.proofs.UnderWay.{AreUnderWay, IsUnderWay, KeepsNeeds, place_stays, stays_under_way}
@@ -139,7 +139,7 @@ module _ (judge : Judge) (m : Machine) (under : AreUnderWay m) (run : ℕ) (a : 
       let p = place_of m.namespace m.slots a in
       let is = turned_is s run p turn later (seen_at m run a at) found.1.turns in
       let keeps = needs_kept m (turned s run).state
-      (λ other place here. events_keep_for_runs judge s (record { event = event.Turn run; starved = false }) other place here) in
+      (λ other place here. events_keep_for_runs judge s (record { event = told.Turned run; starved = false }) other place here) in
       let kept : KeepsAll m (turn_state s run p turn later).namespace (turn_state s run p turn later).slots =
       subst (λ (h : Happening). KeepsAll m h.state.namespace h.state.slots) is keeps in
       subst (λ (h : Happening). Follows h (turn_done m run a turn)) (sym is)

@@ -22,8 +22,8 @@ use Rattle.device_meaning.specs.Judging.{Judge}
 use Rattle.device_meaning.specs.Outcome.{Turn}
 use Rattle.device_meaning.specs.State.{State, free_place}
 use Rattle.device_meaning.specs.View.{Active}
-use Rattle.device_events.specs.declared.event.Event.{Event}
-use Rattle.device_events.specs.declared.event.Event.TheVariants as event
+use Rattle.device_events.specs.ToldEvents.{ToldEvent}
+use Rattle.device_events.specs.ToldEvents as told
 use Rattle.turn_machine.specs.Laws.{TurnsMayWait}
 use Rattle.turn_machine.specs.Machine.{Machine, happens_now, machine_after, new_machine, place_without_turns, run_at, run_left, start_now, submitted_now, task_now, turn_by, turn_now, turned_now_at, without_turns}
 use Rattle.turn_machine.proofs.Machines.{after_under_way, event_follows, kept, new_under_way}
@@ -103,15 +103,15 @@ module _ (m : Machine) (run : ℕ) (a : Active) (at : run_at m run ≡ Some a) w
         started_beside (why_not_run sub (without_turns m) command) (free_place (without_turns m)) sub command refl
     entry_beside starved sub (Ok (commands.Result slot)) = at
 
-    event_beside : (starved : Bool) (e : Event) → e ≢ event.Turn run → run_at (happens_now judge m starved e).machine run ≡ Some a
-    event_beside starved (event.Submit queue entry input) differs =
-        entry_beside starved (submission_of queue entry input.items) (decoded entry)
-    event_beside starved (event.Turn other) differs = turned_beside other (run_at m other) (λ same. differs (ap event.Turn (sym same)))
-    event_beside starved (event.Fault zone state) differs = at
+    event_beside : (starved : Bool) (e : ToldEvent) → e ≢ told.Turned run → run_at (happens_now judge m starved e).machine run ≡ Some a
+    event_beside starved (told.Submitted queue entry input) differs =
+        entry_beside starved (submission_of queue entry input) (decoded entry)
+    event_beside starved (told.Turned other) differs = turned_beside other (run_at m other) (λ same. differs (ap told.Turned (sym same)))
+    event_beside starved (told.Faulted zone state) differs = at
 
 module _ (judge : Judge) where
   waits : (events : List Occurrence) (m : Machine) → AreUnderWay m → (run : ℕ) (a : Active) → run_at m run ≡ Some a
-      → AllByRecursion (λ o. o.event ≢ event.Turn run) events
+      → AllByRecursion (λ o. o.event ≢ told.Turned run) events
       → (run_at (machine_after judge events m) run ≡ Some a) × (turn_now (machine_after judge events m) a ≡ turn_now m a)
   waits [] m under run a at others = (at, refl)
   waits (o ∷ os) m under run a at others =

@@ -6,7 +6,7 @@ use Rattle.device_meaning.specs.Events.{Occurrence, replies_to, state_after}
 use Rattle.device_meaning.specs.Judging.{Judge}
 use Rattle.device_meaning.specs.State.{State, new_state}
 use Rattle.device_meaning.specs.View.{Active, seen}
-use Rattle.device_events.specs.declared.event.Event.TheVariants as event
+use Rattle.device_events.specs.ToldEvents as told
 use Rattle.turn_machine.specs.Machine.{Machine, machine_after, new_machine, replies_now, run_at, turn_now}
 
 -- A machine that reads at its turn and a state that has turns correspond: the same namespace, the same slots, and at each
@@ -35,5 +35,5 @@ TurnsMayWait =
     (judge : Judge) (ns : ZonedNamespace) (before after : List Occurrence) (run : ℕ) (a : Active)
     → let m = machine_after judge before (new_machine ns) in
     let later = machine_after judge after m in
-    run_at m run ≡ Some a → AllByRecursion (λ o. o.event ≢ event.Turn run) after
+    run_at m run ≡ Some a → AllByRecursion (λ o. o.event ≢ told.Turned run) after
     → (run_at later run ≡ Some a) × (turn_now later a ≡ turn_now m a)

@@ -23,8 +23,8 @@ use Rattle.device_meaning.specs.Outcome.{Ending, Progress, Turn, emitted_by, las
 use Rattle.device_meaning.specs.State.{Place, State, free_place}
 use Rattle.device_meaning.specs.View.{Active, begun}
 use Rattle.device_events.specs.Replies.{ReplyWithData, without_data}
-use Rattle.device_events.specs.declared.event.Event.{Event}
-use Rattle.device_events.specs.declared.event.Event.TheVariants as event
+use Rattle.device_events.specs.ToldEvents.{ToldEvent}
+use Rattle.device_events.specs.ToldEvents as told
 use Rattle.device_events.specs.declared.reply.Reply.TheVariants as reply
 
 -- a namespace, the slots for programs, and the active runs by their numbers: of each its queue, its command identifier, its
@@ -135,11 +135,11 @@ module _ (judge : Judge) where
   submitted_now starved sub m asked = leaving_runs m (submitted judge starved sub (without_turns m) asked)
 
   -- what an event comes to, where memory is refused or not
-  abbrev pub happens_now : Machine → Bool → Event → Answered
-  happens_now m starved (event.Submit queue entry input) =
-      submitted_now starved (submission_of queue entry input.items) m (decoded entry)
-  happens_now m starved (event.Turn run) = turned_now_at m run (run_at m run)
-  happens_now m starved (event.Fault zone state) = leaving_runs m (faulting (without_turns m) zone state)
+  abbrev pub happens_now : Machine → Bool → ToldEvent → Answered
+  happens_now m starved (told.Submitted queue entry input) =
+      submitted_now starved (submission_of queue entry input) m (decoded entry)
+  happens_now m starved (told.Turned run) = turned_now_at m run (run_at m run)
+  happens_now m starved (told.Faulted zone state) = leaving_runs m (faulting (without_turns m) zone state)
 
   -- the replies to events, in order
   abbrev pub replies_now : List Occurrence → Machine → List ReplyWithData

@@ -5,6 +5,7 @@ use Rattle.device_meaning.specs.Events.{HasHappened}
 use Rattle.device_meaning.specs.State.{State}
 use Rattle.device_events.specs.declared.event.Event.{Event}
 use Rattle.device_events.specs.declared.event.Event.TheVariants as event
+use Rattle.device_events.specs.ToldEvents as told
 use Rattle.runner.specs.steps.Answered.{with_data}
 use Rattle.runner.proofs.Happened.{reached_more, submission_happened, submission_reached}
 use Rattle.runner.proofs.device.Device.apply.Goals as goal
@@ -19,12 +20,12 @@ invariant_of-self c =
 
 pub invariant_of-self-in-Turn : goal.invariant_of-self-in-Turn
 invariant_of-self-in-Turn c =
-    reached_more c.self.inside.state c.turn.new.state (record { event = event.Turn c.in-Turn.run'; starved = false })
+    reached_more c.self.inside.state c.turn.new.state (record { event = told.Turned c.in-Turn.run'; starved = false })
     c.self.invariant tt c.turn.ensures.state
 
 pub invariant_of-self-in-Fault : goal.invariant_of-self-in-Fault
 invariant_of-self-in-Fault c =
-    reached_more c.self.inside.state c.fault.new.self (record { event = event.Fault c.in-Fault.zone c.in-Fault.state; starved = false })
+    reached_more c.self.inside.state c.fault.new.self (record { event = told.Faulted c.in-Fault.zone c.in-Fault.state; starved = false })
     c.self.invariant tt c.fault.ensures.state
 
 pub returns-in-Submit-clause-reached : goal.returns-in-Submit-clause-reached
@@ -37,12 +38,12 @@ returns-in-Submit-clause-reached c =
 
 pub returns-in-Turn-clause-reached : goal.returns-in-Turn-clause-reached
 returns-in-Turn-clause-reached c =
-    reached_more c.self.inside.state c.turn.new.state (record { event = event.Turn c.in-Turn.run'; starved = false })
+    reached_more c.self.inside.state c.turn.new.state (record { event = told.Turned c.in-Turn.run'; starved = false })
     c.self.invariant tt c.turn.ensures.state
 
 pub returns-in-Fault-clause-reached : goal.returns-in-Fault-clause-reached
 returns-in-Fault-clause-reached c =
-    reached_more c.self.inside.state c.fault.new.self (record { event = event.Fault c.in-Fault.zone c.in-Fault.state; starved = false })
+    reached_more c.self.inside.state c.fault.new.self (record { event = told.Faulted c.in-Fault.zone c.in-Fault.state; starved = false })
     c.self.invariant tt c.fault.ensures.state
 
 pub returns-in-Submit-clause-happened : goal.returns-in-Submit-clause-happened
