@@ -6,5 +6,6 @@ pub mod Cause
 pub mod Step
 pub mod BlockRun
 pub mod TrapFree
+pub mod Places
 pub mod Laws
 pub mod Granted
