@@ -6,6 +6,7 @@ mod Flow
 mod KnownFacts
 mod Moves
 mod OneProof
+mod Places
 mod Progress
 pub mod Proved
 mod Refusals

@@ -8,11 +8,13 @@ use Rattle.instruction_set.specs.declared.instruction.Instruction.{Instruction}
 use Rattle.program_meaning.proofs.Proved.{decided_goes, keeps_group_limit, keeps_read_only, keeps_state, leads_to_instruction, more_fuel_is_the_same, runs_by_step_end}
 use Rattle.program_meaning.specs.Cause.{is_exit, least_cause}
 use Rattle.program_meaning.specs.Effect.{register}
-use Rattle.program_meaning.specs.BlockRun.{BlockRun, block_run_of, continued, ran}
+use Rattle.program_meaning.specs.BlockRun.{BlockRun, block_run_of, continued, ran, state_after_steps}
+use Rattle.program_meaning.specs.Places.{AccessesAt}
 use Rattle.program_meaning.specs.State.{IsState, State, at_start}
 use Rattle.program_meaning.specs.Step.{Ends, Goes, IsAt, after, decided, step_at, step_of}
 use Rattle.program_meaning.specs.declared.cause.Cause.{Cause}
 use Rattle.program_meaning.specs.declared.end.End.TheVariants.{Exit}
+use Rattle.program_meaning.specs.declared.place.Place.{Place}
 use Rattle.program_interface.specs.declared.area.Area.TheVariants.{Context, Block, Stack, Scratch}
 use Rattle.program_interface.specs.RunSizes.{AreSizes, Sizes}
 use Rattle.word_domain.specs.Domain.{IsSound, Operations}
@@ -23,17 +25,20 @@ use Rattle.accepted_programs.proofs.Flow.{arrives}
 use Rattle.accepted_programs.proofs.Fitting.{HasShortOffsets, short_offsets}
 use Rattle.accepted_programs.specs.Emitted.{group_in, most_below, most_emitted}
 use Rattle.accepted_programs.proofs.KnownFacts.{known_facts}
-use Rattle.accepted_programs.specs.Laws.{AcceptedEmitsNoMore, AcceptedEndsByItself, AcceptedNeverTraps, FactsAreMet}
+use Rattle.accepted_programs.specs.Laws.{AcceptedAccessesLie, AcceptedEmitsNoMore, AcceptedEndsByItself, AcceptedNeverTraps, FactsAreMet}
 use Rattle.accepted_programs.specs.Meets.{Meets, MeetsSome}
+use Rattle.accepted_programs.specs.Places.{place_known}
 use Rattle.accepted_programs.specs.FirstRefusal.{IsPassed}
 use Rattle.accepted_programs.proofs.Edges.{Moved}
 use Rattle.accepted_programs.proofs.FirstRefusals.{accepted_fails_nowhere}
 use Rattle.accepted_programs.proofs.Moves.{moved}
+use Rattle.accepted_programs.proofs.Places.{accesses_at}
 use Rattle.accepted_programs.proofs.Progress.{fewer, some_left}
 use Rattle.program_meaning.specs.TrapFree.{Exits, IsExit}
 use Rattle.accepted_programs.proofs.Unhindered.{unhindered}
 use Rattle.accepted_programs.specs.declared.facts.Facts.{Facts}
 use Rattle.accepted_programs.specs.declared.facts.TheConstants.{CELLS}
+use Rattle.accepted_programs.specs.declared.reason.Reason.TheVariants.{EmitLimit}
 
 -- ---- a step that nothing hinders
 decided_ends : (s : State) (i : Instruction) (least : Option Cause) → least ≡ None → is_exit i ≡ true
@@ -157,6 +162,17 @@ module _ {D : Type 0} {IsFact : D → Type 0} {contains : D → ℕ → Type 0} 
               (λ k less. subst P (led k n s leads.to leads.goes) (passed (suc k) (omega (arith, less)))))
         ]
 
+    -- where a state accesses memory, at a slot that is passed
+    lies_at : (s : State) (at : Option Instruction) (known : Option (Facts D)) (place : Place) → Holds s → IsPassedAt s.slot
+        → instruction_at program s.slot ≡ at → facts_at operations sizes.block program s.slot ≡ known → MeetsSome contains known s
+        → place_known operations sizes.block at known ≡ Some place → AccessesAt program place s
+    lies_at s (Some i) (Some facts) place holds passed begins known meets placed =
+        accesses_at sound program sizes i facts s place are_sizes holds.is holds.block_long
+        (known_facts sound.facts sizes.block program s.slot facts known) meets (short.offsets s.slot i begins)
+        (passed i facts (record { begins = begins; are = known }) EmitLimit) begins placed
+    lies_at s (Some i) None place holds passed begins known meets placed = absurd meets
+    lies_at s None known place holds passed begins e meets placed = cc
+
     -- what holds at the start
     start_holds : is_some (instruction_at program 0) ≡ true → (bytes context scratch : List ℕ) → length bytes ≡ sizes.block
         → IsState (at_start bytes context scratch) → Holds (at_start bytes context scratch)
@@ -240,6 +256,15 @@ module _ {D : Type 0} {IsFact : D → Type 0} {contains : D → ℕ → Type 0} 
       (begins_inside program s.slot holds.here) refl holds.known)
       (begins program is) bytes context scratch long starting in
       run.group
+
+  pub accepted_accesses_lie : AcceptedAccessesLie operations
+  accepted_accesses_lie program is sizes are_sizes accepted bytes context scratch long starting steps place placed =
+      let short = short_offsets program is in
+      let start = start_holds program short sizes are_sizes (begins program is) bytes context scratch long starting in
+      let passed = accepted_fails_nowhere operations program sizes accepted in
+      let s = state_after_steps program sizes.limit steps (at_start bytes context scratch) in
+      let there = comes program short sizes are_sizes steps 0 (at_start bytes context scratch) start (λ k less. passed _) in
+      lies_at program short sizes are_sizes s _ _ place there (passed s.slot) refl refl there.known placed
 
   pub facts_are_met : FactsAreMet contains operations
   facts_are_met program is sizes are_sizes bytes context scratch long starting steps passed =

@@ -1,7 +1,9 @@
 -- What the proofs of the verifier take from here, beside the laws.
 use Rattle.std.specs.Prelude.{ℕ, ◌≡◌, false, List, Option, Some, None}
 use Rattle.instruction_set.specs.declared.instruction.Instruction.{Instruction}
+use Rattle.program_meaning.specs.Places.{AccessesLie}
 use Rattle.program_meaning.specs.TrapFree.{NeverTraps}
+use Rattle.program_meaning.specs.declared.place.Place.{Place}
 use Rattle.program_interface.specs.RunSizes.{Sizes}
 use Rattle.word_domain.specs.Domain.{Operations}
 use Rattle.accepted_programs.specs.Accepted.{fails, reason_of, refusal_at}
@@ -12,6 +14,11 @@ use Rattle.accepted_programs.specs.declared.reason.Refusal.{Refusal}
 -- that a program never traps has one proof at most
 abbrev pub NeverTrapsIsProp : Type 0
 NeverTrapsIsProp = (program : List (Option Instruction)) (limit block : ℕ) → IsProp (NeverTraps program limit block)
+
+-- that a program accesses memory where it is told to has one proof at most
+abbrev pub AccessesLieIsProp : Type 0
+AccessesLieIsProp = (program : List (Option Instruction)) (limit block : ℕ) (place : ℕ → Option Place)
+    → IsProp (AccessesLie program limit block place)
 
 -- a refusal that a slot has is told of that slot
 abbrev pub RefusalIsAtItsSlot : {D : Type 0} → Operations D → Type 0

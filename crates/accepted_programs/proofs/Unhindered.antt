@@ -67,7 +67,7 @@ module _ (program : List (Option Instruction)) (limit : ℕ) where
 -- ---- memory
 
 -- fewer bytes from the same address on lie there too
-shorter : (block : ℕ) (area : Area) (address n most : ℕ) → n ≤ most → lies_in block area address most ≡ true
+pub shorter : (block : ℕ) (area : Area) (address n most : ℕ) → n ≤ most → lies_in block area address most ≡ true
     → lies_in block area address n ≡ true
 shorter block area address n most less lies =
     let end = address_of area + length_of block area in
@@ -76,7 +76,7 @@ shorter block area address n most less lies =
     and_from (nat_le (address_of area) address) (nat_le (address + n) end) both.0 (le-leb (address + n) end (omega arith))
 
 -- the offset 0 and the sizes of accesses are those of instructions
-no_offset_fits : FitsSigned w16 (pos 0)
+pub no_offset_fits : FitsSigned w16 (pos 0)
 no_offset_fits = record { sfits = lit< tt }
 
 pub size_fits : (size : Size) → size_of size < 2 ^ 64
@@ -85,7 +85,7 @@ size_fits HalfWord = lit< tt
 size_fits Word = lit< tt
 size_fits DoubleWord = lit< tt
 
-signed_size_fits : (size : SignedSize) → signed_size_of size < 2 ^ 64
+pub signed_size_fits : (size : SignedSize) → signed_size_of size < 2 ^ 64
 signed_size_fits signed.Byte = lit< tt
 signed_size_fits signed.HalfWord = lit< tt
 signed_size_fits signed.Word = lit< tt
@@ -97,11 +97,11 @@ module _ {D : Type 0} {IsFact : D → Type 0} {contains : D → ℕ → Type 0} 
     abbrev block : ℕ
     block = sizes.block
 
-    fits : block < 2 ^ 32
+    pub fits : block < 2 ^ 32
     fits = blocks_are_short block are_sizes.block_size
 
     -- the bytes of an access lie in the area that its fact tells
-    lies : (area : Area) (r : ℕ) (offset : ℤ) (size : ℕ) → FitsSigned w16 offset → size < 2 ^ 64
+    pub lies : (area : Area) (r : ℕ) (offset : ℤ) (size : ℕ) → FitsSigned w16 offset → size < 2 ^ 64
         → area_of operations block facts r offset size ≡ Some area
         → lies_in block area (address_from s.registers r offset) size ≡ true
     lies area r offset size near counted told =
@@ -138,7 +138,7 @@ module _ {D : Type 0} {IsFact : D → Type 0} {contains : D → ℕ → Type 0} 
 
     -- ---- emit
 
-    no_offset : address_from s.registers 1 (pos 0) ≡ register s 1
+    pub no_offset : address_from s.registers 1 (pos 0) ≡ register s 1
     no_offset = let small = is.words 1 in omega (arith, ints, small)
 
     emits_inside : (o : Option Area) (most : ℕ) → area_of operations block facts 1 (pos 0) most ≡ o
@@ -151,7 +151,7 @@ module _ {D : Type 0} {IsFact : D → Type 0} {contains : D → ℕ → Type 0} 
         and_right (nat_le 1 (register s 2)) _ (somewhere area (register s 1) (register s 2) inside)
 
     -- R2 is within its bounds
-    bounded : (least_length operations facts ≤ register s 2) × (register s 2 ≤ greatest_length operations facts)
+    pub bounded : (least_length operations facts ≤ register s 2) × (register s 2 ≤ greatest_length operations facts)
     bounded = sound.bounds (fact operations facts 2) (register s 2) (word_of sound facts s are is meets 2)
 
     abbrev least : ℕ
@@ -161,7 +161,7 @@ module _ {D : Type 0} {IsFact : D → Type 0} {contains : D → ℕ → Type 0} 
     most = greatest_length operations facts
 
     -- the bytes to emit are within the limit
-    counted : passes_limit operations sizes.limit facts ≡ false → most < 2 ^ 64
+    pub counted : passes_limit operations sizes.limit facts ≡ false → most < 2 ^ 64
     counted within =
         let room = ltb-false sizes.limit (facts.emitted + FRAME_LENGTH_BYTES + most) within in
         let group = are_sizes.fits in

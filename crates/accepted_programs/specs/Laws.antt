@@ -3,6 +3,7 @@ use Rattle.std.specs.Prelude.{ℕ, ◌≡◌, ◌<◌, ◌≤◌, List, length, 
 use Rattle.instruction_set.specs.Program.{IsProgram, instruction_count}
 use Rattle.instruction_set.specs.declared.instruction.Instruction.{Instruction}
 use Rattle.program_meaning.specs.BlockRun.{block_run_of, state_after_steps}
+use Rattle.program_meaning.specs.Places.{AccessesLie}
 use Rattle.program_meaning.specs.State.{IsState, at_start}
 use Rattle.program_meaning.specs.TrapFree.{Exits, NeverTraps}
 use Rattle.program_interface.specs.RunSizes.{AreSizes, Sizes}
@@ -13,6 +14,7 @@ use Rattle.accepted_programs.specs.Emitted.{most_emitted}
 use Rattle.accepted_programs.specs.Facts.{facts_at}
 use Rattle.accepted_programs.specs.FirstRefusal.{IsFirstRefusal, IsPassed}
 use Rattle.accepted_programs.specs.Meets.{MeetsSome}
+use Rattle.accepted_programs.specs.Places.{place_at}
 use Rattle.accepted_programs.specs.declared.reason.Refusal.{Refusal}
 
 -- a program that these operations accept never traps
@@ -39,6 +41,13 @@ AcceptedEmitsNoMore operations = (program : List (Option Instruction)) → IsPro
     → (bytes context scratch : List ℕ) → length bytes ≡ sizes.block → IsState (at_start bytes context scratch)
     → length (block_run_of program sizes.limit (instruction_count program) 0 (at_start bytes context scratch)).state.group
     ≤ most_emitted operations program sizes.block
+
+-- over every block of the length, every context and every scratch, what a program that these operations accept loads, stores or
+-- emits lies where it is known to at its slot
+abbrev pub AcceptedAccessesLie : {D : Type 0} → Operations D → Type 0
+AcceptedAccessesLie operations = (program : List (Option Instruction)) → IsProgram program → (sizes : Sizes) → AreSizes sizes
+    → refusal operations program sizes ≡ None
+    → AccessesLie program sizes.limit sizes.block (place_at operations sizes.block program)
 
 -- the slot of a refusal is one of the program's, and so below the most slots of a program (it follows from RefusalIsFirst and BeginsInside)
 abbrev pub RefusalIsInside : {D : Type 0} → Operations D → Type 0

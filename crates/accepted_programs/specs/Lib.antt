@@ -3,6 +3,7 @@ pub mod Facts
 pub mod Meets
 pub mod Accepted
 pub mod Emitted
+pub mod Places
 pub mod FirstRefusal
 pub mod Laws
 pub mod Numbers

@@ -1,6 +1,6 @@
 //! Laws of the definitions. Each function does nothing: what it ensures is the law.
 
-ghost use Rattle.accepted_programs.specs.Laws.{AcceptedEmitsNoMore, AcceptedEndsByItself, AcceptedFailsNowhere, AcceptedNeverTraps, FactsAreMet, RefusalIsFirst, RefusalIsInside};
+ghost use Rattle.accepted_programs.specs.Laws.{AcceptedAccessesLie, AcceptedEmitsNoMore, AcceptedEndsByItself, AcceptedFailsNowhere, AcceptedNeverTraps, FactsAreMet, RefusalIsFirst, RefusalIsInside};
 ghost use Rattle.accepted_programs.specs.Numbers.{CellsAreWords};
 
 use word_domain::Domain;
@@ -26,6 +26,14 @@ pub fn accepted_ends_by_itself<D: Domain>()
 /// A block run of a program that is accepted emits no more than its group is known to have at some slot.
 pub fn accepted_emits_no_more<D: Domain>()
     ensures { AcceptedEmitsNoMore D.operations }
+{
+    D::sound();
+}
+
+/// What a program that is accepted loads, stores or emits lies where it is known to at its slot, in each block run that comes
+/// there: in that area, and at that offset where one is known.
+pub fn accepted_accesses_lie<D: Domain>()
+    ensures { AcceptedAccessesLie D.operations }
 {
     D::sound();
 }
