@@ -2,7 +2,7 @@
 use Rattle.std.specs.Prelude.{ℕ}
 use Rattle.word_domain.specs.Domain.{IsSound, Operations}
 use Rattle.accepted_programs.specs.Laws.{AcceptedNeverTraps, RefusalIsInside}
-use Rattle.accepted_programs.proofs.Statements.{AccessesLieIsProp, NeverTrapsIsProp, NoReasonHolds, RefusalIsAtItsSlot}
+use Rattle.accepted_programs.proofs.Statements.{AccessesLieIsProp, ArePlacesIsProp, NeverTrapsIsProp, NoReasonHolds, RefusalIsAtItsSlot}
 pub use Rattle.accepted_programs.proofs.CellLaws.{none_known, set_known, set_some}
 use Rattle.accepted_programs.proofs.FirstRefusals as first_refusals
 use Rattle.accepted_programs.proofs.OneProof as one_proof
@@ -16,6 +16,9 @@ pub accesses_lie_is_prop : AccessesLieIsProp
 accesses_lie_is_prop = one_proof.accesses_lie_is_prop
 
 module _ {D : Type 0} (operations : Operations D) where
+  pub are_places_is_prop : ArePlacesIsProp operations
+  are_places_is_prop = one_proof.are_places_is_prop operations
+
   pub refusal_is_inside : RefusalIsInside operations
   refusal_is_inside = first_refusals.refusal_inside operations
 

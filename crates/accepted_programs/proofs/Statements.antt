@@ -7,6 +7,7 @@ use Rattle.program_meaning.specs.declared.place.Place.{Place}
 use Rattle.program_interface.specs.RunSizes.{Sizes}
 use Rattle.word_domain.specs.Domain.{Operations}
 use Rattle.accepted_programs.specs.Accepted.{fails, reason_of, refusal_at}
+use Rattle.accepted_programs.specs.Places.{ArePlaces}
 use Rattle.accepted_programs.specs.declared.facts.Facts.{Facts}
 use Rattle.accepted_programs.specs.declared.reason.Reason.{Reason}
 use Rattle.accepted_programs.specs.declared.reason.Refusal.{Refusal}
@@ -19,6 +20,11 @@ NeverTrapsIsProp = (program : List (Option Instruction)) (limit block : ℕ) →
 abbrev pub AccessesLieIsProp : Type 0
 AccessesLieIsProp = (program : List (Option Instruction)) (limit block : ℕ) (place : ℕ → Option Place)
     → IsProp (AccessesLie program limit block place)
+
+-- that a list tells the place of each slot has one proof at most
+abbrev pub ArePlacesIsProp : {D : Type 0} → Operations D → Type 0
+ArePlacesIsProp operations = (block : ℕ) (program : List (Option Instruction)) (places : List (Option Place))
+    → IsProp (ArePlaces operations block program places)
 
 -- a refusal that a slot has is told of that slot
 abbrev pub RefusalIsAtItsSlot : {D : Type 0} → Operations D → Type 0

@@ -1,5 +1,5 @@
 -- Where the instructions of a program access memory, by what is known at their slots (profile).
-use Rattle.std.specs.Prelude.{ℕ, ℤ, pos, negsuc, ◌^◌, ◌+ℤ◌, ◌==◌, ◌&&◌, nat_lt, List, Option, Some, None, if◌then◌else◌}
+use Rattle.std.specs.Prelude.{ℕ, ℤ, pos, negsuc, ◌≡◌, ◌^◌, ◌+ℤ◌, ◌==◌, ◌&&◌, nat_lt, List, get_or, Option, Some, None, if◌then◌else◌}
 use Rattle.std.specs.Option.{option_map}
 use Rattle.std.specs.Ordering.{int_eq}
 use Rattle.instruction_set.specs.Instruction.{access_of, is_emit}
@@ -53,3 +53,7 @@ module _ {D : Type 0} (operations : Operations D) (block : ℕ) where
   -- where a program accesses memory at a slot, if it does, and if it is known
   abbrev pub place_at : List (Option Instruction) → ℕ → Option Place
   place_at program slot = place_known (instruction_at program slot) (facts_at operations block program slot)
+
+  -- a list of what is known of each slot; past its end nothing is
+  abbrev pub ArePlaces : List (Option Instruction) → List (Option Place) → Type 0
+  ArePlaces program places = (slot : ℕ) → get_or places slot None ≡ place_at program slot

@@ -1,4 +1,5 @@
 mod Joins
+mod SlotPlaces
 mod Fills
 mod Stores
 mod Gifts

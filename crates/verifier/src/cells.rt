@@ -31,7 +31,7 @@ fn cell_from(distance: i128) -> Option<usize>
 
 /// A distance from an area, an offset further.
 #[inline]
-fn moved(distance: i64, offset: i16) -> i128
+pub(crate) fn moved(distance: i64, offset: i16) -> i128
     ensures value { result ≡ distance +ℤ offset }
     ensures low { negsuc (2 ^ 64) ≤ℤ result }
     ensures high { result ≤ℤ pos (2 ^ 64) }

@@ -6,7 +6,7 @@ use thiserror::Error;
 /// Why a program isn't accepted.
 #[derive(Clone, Copy, Debug, PartialEq, Eq, Error)]
 pub enum VerifyFault {
-    /// There was no memory for the facts; it says nothing of the program.
+    /// There was no memory for the facts, or for where it accesses memory; it says nothing of the program.
     #[error("no memory")]
     Memory,
     /// The lowest slot that fails, and its least reason.

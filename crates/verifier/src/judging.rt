@@ -7,18 +7,25 @@ ghost use Rattle.accepted_programs.specs.Emitted.{group_in};
 ghost use Rattle.verifier.specs.Judged.{IsJudged};
 
 use crate::facts::at_start;
+use crate::places::place_in;
 use crate::rows::{Refused, Row, visit};
 use accepted_programs::Facts;
 use instruction_set::Program;
 use program_interface::RunSizes;
+use program_meaning::Place;
 use std::alloc::{AllocError, Global};
 use word_domain::Domain;
 
 /// What a verifier says of a program, and what it knows.
 #[derive(Drop)]
 pub enum Judgement<D> {
-    /// It is accepted, and emits at most so many bytes for a block, frame lengths counted.
-    Accepted { most_emitted: usize },
+    /// It is accepted.
+    Accepted {
+        /// It emits at most so many bytes for a block, frame lengths counted.
+        most_emitted: usize,
+        /// Where it accesses memory at each slot, if that is known.
+        places: Vec<Option<Place>>,
+    },
     /// It is refused, and these are the facts at the slot of the refusal.
     Refused(Refused<D>),
 }
@@ -77,19 +84,24 @@ fn judge_over<D: Domain>(
 {
     let mut spare = None;
     let mut most_emitted = 0;
+    let mut places = Vec::with_capacity(alloc, program.slots())?;
     for slot in 0..program.slots() {
         most_emitted = group(&rows[slot]).max(most_emitted);
+        places.push(place_in(program, sizes.block(), slot, &rows[slot]))?;
         if let Some(refused) = visit(alloc, rows, &mut spare, program, sizes, slot)? {
             return Ok(Judgement::Refused(refused));
         }
     }
-    Ok(Judgement::Accepted { most_emitted })
+    Ok(Judgement::Accepted {
+        most_emitted,
+        places,
+    })
 }
 
 /// Visits the slots of a program, and gives the facts of the slot that is refused, or the most that is emitted for a
-/// block. [`verify`](crate::verify) calls it and drops these. The facts are true of each block run that comes to the
-/// slot by slots of which none is refused (the law `facts_are_met` of `accepted_programs`), and no block run emits more
-/// (the law `accepted_emits_no_more`).
+/// block and where each slot accesses memory. [`verify`](crate::verify) calls it and keeps the places alone. The facts are true
+/// of each block run that comes to the slot by slots of which none is refused (the law `facts_are_met` of `accepted_programs`),
+/// no block run emits more (the law `accepted_emits_no_more`), and each accesses memory there (the law `accepted_accesses_lie`).
 ///
 /// # Errors
 ///

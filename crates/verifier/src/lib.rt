@@ -7,6 +7,7 @@ mod edges;
 mod facts;
 mod fault;
 mod judging;
+mod places;
 mod reasons;
 mod rows;
 mod verified;

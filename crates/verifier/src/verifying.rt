@@ -19,7 +19,7 @@ use word_domain::Domain;
 /// # Errors
 ///
 /// [`VerifyFault::Refused`] with the lowest slot that is refused and its least reason; [`VerifyFault::Memory`] where there was
-/// none for the facts.
+/// none for the facts or for where it accesses memory.
 pub fn verify<D: Domain>(
     alloc: Global,
     program: Program,
@@ -35,6 +35,6 @@ pub fn verify<D: Domain>(
     match judge::<D>(alloc, &program, sizes) {
         Err(_) => Err(VerifyFault::Memory),
         Ok(Judgement::Refused(refused)) => Err(VerifyFault::Refused(refused.refusal)),
-        Ok(Judgement::Accepted { .. }) => Ok(Verified::new(program, sizes)),
+        Ok(Judgement::Accepted { places, .. }) => Ok(Verified::new(program, sizes, places)),
     }
 }
