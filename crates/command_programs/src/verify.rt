@@ -179,7 +179,7 @@ fn say<'a, O: Write>(
         → SaysRefused program.now sizes form (O.contents out.old) (O.contents out.new) }
 {
     match judge::<Intervals>(alloc, program, sizes)? {
-        Judgement::Accepted { most_emitted } => {
+        Judgement::Accepted { most_emitted, .. } => {
             say_accepted(program.instruction_count(), most_emitted, form, out)
         }
         Judgement::Refused(Refused { refusal, facts }) => {

@@ -17,6 +17,7 @@ mod emits;
 mod ends;
 mod jumps;
 mod kept;
+mod places;
 mod programs;
 mod runs;
 mod verdicts;
