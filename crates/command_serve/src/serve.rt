@@ -68,9 +68,9 @@ What answers them:
   kind 6, drained         number: how many turns were given; behind the answers to these
   kind 7, saved
 
-Where an answer cannot be written, no later request is done. Where a byte is none of a request, or the input ends within a frame, \
-what was asked for before is done. In each case the image is written as that left it. Where anything else fails, the image is as it \
-was when it was last saved.";
+Where an answer cannot be written, no later request is done. Where a byte is none of a request, or the input ends within a frame or \
+cannot be read further, what was asked for before is done. In each case, and where memory is wanting for a request, the image is \
+written as that left it. Where it cannot be written, it is as it was when it was last saved.";
 
 const EXAMPLE: &str = "\
 Example, in the folder of the sources, of the lines of a command file, and of a turn of run 0, which no run has then:
