@@ -6,10 +6,3 @@ pub returns-in-Accepted-clause-accepted : goal.returns-in-Accepted-clause-accept
 returns-in-Accepted-clause-accepted g c =
     says_accepted c.say_accepted.result c.args.program.now c.args.sizes c.args.form c.instruction_count.result c.in-Accepted.most_emitted (g.O.Write.contents c.args.out.now)
     (g.O.Write.contents c.say_accepted.new.out) (search rules) c.instruction_count.ensures.value (search rules) c.say_accepted.ensures.printed
-
-pub returns-in_ok-say_refused-in-Refused-clause-refused : goal.returns-in_ok-say_refused-in-Refused-clause-refused
-returns-in_ok-say_refused-in-Refused-clause-refused g c = λ _. record {
-  first = c.in-Refused.field-0.refusal;
-  refused = search rules;
-  printed = c.in_ok-say_refused-in-Refused.ensures.printed;
-}
