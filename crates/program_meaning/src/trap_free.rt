@@ -30,6 +30,10 @@ pub trait TrapFree {
         ensures value { result ≡ limit self.now }
         ensures small { result < 2 ^ 16 };
 
+    /// The length of the blocks that it runs on, in bytes.
+    fn block(&self) -> usize
+        ensures { result ≡ block self.now };
+
     /// Where the instruction at a slot accesses memory, in each block run that comes there; `None` where that isn't known, as
     /// for a slot whose instruction accesses none.
     fn place_at(&self, slot: usize) -> Option<Place>

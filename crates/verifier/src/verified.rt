@@ -92,6 +92,10 @@ impl<D: Domain> TrapFree for Verified<D> {
         Verified::sizes(self).limit() as usize
     }
 
+    fn block(&self) -> usize {
+        Verified::sizes(self).block().bytes() as usize
+    }
+
     fn place_at(&self, slot: usize) -> Option<Place> {
         Verified::place_at(self, slot)
     }

@@ -15,12 +15,7 @@ use verifier::verify;
 type Told = (Area, Option<u16>);
 
 /// Looks where a program accesses memory at each of these slots.
-fn check(
-    rt: &impl Abort,
-    alloc: Global,
-    text: &str,
-    told: &[(usize, Told)],
-) -> Result<(), Fail> {
+fn check(rt: &impl Abort, alloc: Global, text: &str, told: &[(usize, Told)]) -> Result<(), Fail> {
     let verified = verify::<Intervals>(alloc, program(alloc, text)?, sizes(512, 16)?)?;
     for &(slot, (area, offset)) in told {
         let place = Place { area, offset };

@@ -1,7 +1,10 @@
 //! Accepted programs end the same with every check and over their superinstructions.
 
 use super::program;
-use super::programs::{BOUNDED, DECIDED, INDEXED, INDEXED_TWO, SKIPPING, TWO_FRAMES};
+use super::programs::{
+    AREAS, BOUNDED, DECIDED, INDEXED, INDEXED_TWO, KNOWN_LOADS, MOVES_AND_OPERATIONS, SKIPPING,
+    TWO_FRAMES,
+};
 use interp::Machine;
 use interval_domain::Intervals;
 use program_interface::{BlockSize, CONTEXT_BYTES, Context, RunSizes, SCRATCH_BYTES};
@@ -35,6 +38,10 @@ const SCENES: &[(Text, u32, u32, &[u8])] = &[
     (INDEXED, 0, 512, FIRSTS),
     (INDEXED_TWO, 0, 1024, FIRSTS),
     (BOUNDED, 16, 512, FIRSTS),
+    // What several instructions are done at once for.
+    (KNOWN_LOADS, 0, 512, FIRSTS),
+    (MOVES_AND_OPERATIONS, 0, 512, FIRSTS),
+    (AREAS, 0, 512, FIRSTS),
 ];
 
 /// Fills a block with bytes that look random, but for the first.
