@@ -1,11 +1,11 @@
 -- What a crash leaves while a batch is added, and while the end of a file is repaired.
-use Rattle.std.proofs.Common.{zero, suc, ◌≡◌, ◌≢◌, ◌⊎◌, inl, inr, ◌<◌, ◌≤◌, ◌^◌, ◌+◌, ◌-◌, ◌*◌, ◌/◌, ◌%◌, ℕ, List, [], ◌∷◌, ◌++◌, length, take, drop, get_or, replicate, refl, sym, ◌∙◌, ap, subst, arith, append_assoc, length-append, length-take, length-drop, take-append-drop}
+use Rattle.std.proofs.Common.{zero, suc, ◌≡◌, ◌≢◌, ◌⊎◌, inl, inr, ◌≤◌, ◌+◌, ◌-◌, ℕ, List, [], ◌∷◌, ◌++◌, length, take, drop, get_or, replicate, refl, sym, ◌∙◌, ap, subst, arith, append_assoc, length-append, length-take, length-drop, take-append-drop}
 use Rattle.std.proofs.lemmas.Bool.{cases_eq}
 use Rattle.std.proofs.lemmas.List.{take_at, drop_at, drop_more, drop-drop, take_all, drop_all, append-nil, length-replicate, replicate-append-replicate}
-use Rattle.stored_file.specs.File.{FileState, is_written, IsWhole, Torn, Cut, LeavesOnly}
+use Rattle.stored_file.specs.File.{is_written, Torn, Cut}
 use Rattle.event_journal.specs.Events.{spelled, AreSized}
-use Rattle.event_journal.specs.Journal.{IsSector, IsFrame, AreFrames, BeginsNoBatch, HasBatches, StandsFor, IsAt, payload_length}
-use Rattle.event_journal.proofs.Frames.{frames_whole, frames-append, one_frame, shut, too_few, front_nothing}
+use Rattle.event_journal.specs.Journal.{IsSector, AreFrames, IsEnd, HasBatches, StandsFor, payload_length}
+use Rattle.event_journal.proofs.Frames.{frames-append, one_frame, shut, front_end}
 
 length-sector : (gate : ℕ) (sector : List ℕ) → IsSector gate sector → length sector ≡ 4096
 length-sector gate sector is = omega (arith, ap length is.parts, is.size)
@@ -56,8 +56,8 @@ take_past (x ∷ xs) ys (suc m) le = ap (λ (l : List ℕ). x ∷ l) (take_past 
 -- ---- the repair of a file's end
 
 module _ (front : List ℕ) (batches : List (List (List ℕ))) (end : ℕ) (file : List ℕ) (has : HasBatches front batches end file) where
-  with_rest : (c rest : List ℕ) → BeginsNoBatch rest → c ≡ front ++ has.frames ++ rest → StandsFor front batches c
-  with_rest c rest nothing is = (end, record { frames = has.frames; are = has.are; rest = rest; parts = is; nothing = nothing; ends = has.ends })
+  with_rest : (c rest : List ℕ) → IsEnd rest → c ≡ front ++ has.frames ++ rest → StandsFor front batches c
+  with_rest c rest last is = (end, record { frames = has.frames; are = has.are; rest = rest; parts = is; last = last; ends = has.ends })
 
   long : end ≤ length file
   long = omega (arith, has.ends, ap length has.parts, length-append (front ++ has.frames) has.rest)
@@ -67,7 +67,7 @@ module _ (front : List ℕ) (batches : List (List (List ℕ))) (end : ℕ) (file
 
   pub cut_keeps : (c : List ℕ) → Cut end file c → StandsFor front batches c
   cut_keeps c cut =
-      with_rest c (take (length c - length (front ++ has.frames)) has.rest) (front_nothing (length c - length (front ++ has.frames)) has.rest has.nothing)
+      with_rest c (take (length c - length (front ++ has.frames)) has.rest) (front_end (length c - length (front ++ has.frames)) has.rest has.last)
       (cut.front ∙ ap (λ (l : List ℕ). take (length c) l) has.parts ∙ take_past (front ++ has.frames) has.rest (length c) (omega (arith, cut.no_shorter, long, has.ends)))
 
   pub cut_done : take end file ≡ front ++ has.frames
@@ -77,7 +77,7 @@ module _ (front : List ℕ) (batches : List (List (List ℕ))) (end : ℕ) (file
     -- one sector behind the batches is none
     pub torn_end : (c : List ℕ) → Torn end 4096 shortened c → StandsFor front batches c
     torn_end c torn =
-        with_rest c (drop end c) (too_few (drop end c) (omega (arith, length-drop end c, has.ends, torn.no_longer, ap length is)))
+        with_rest c (drop end c) (inr (omega (arith, length-drop end c, has.ends, torn.no_longer, ap length is)))
         (sym (take-append-drop end c) ∙ ap (λ (l : List ℕ). l ++ drop end c) (torn.before ∙ ap (λ (l : List ℕ). take end l) is ∙ take_all end (front ++ has.frames) (omega (arith, has.ends))))
 
     pub written_end : (sector c : List ℕ) → length sector ≡ 4096 → c ≡ is_written end sector shortened → c ≡ front ++ has.frames ++ sector
@@ -103,7 +103,7 @@ module _ (front frames : List ℕ) (before : List (List (List ℕ))) (are : AreF
       are = are;
       rest = sector ++ rest;
       parts = parts;
-      nothing = subst BeginsNoBatch (ap (λ (l : List ℕ). l ++ rest) (sym is.parts)) (shut value (is.behind ++ rest) not_open);
+      last = subst IsEnd (ap (λ (l : List ℕ). l ++ rest) (sym is.parts)) (shut value (is.behind ++ rest) not_open);
       ends = ends;
     },
   )
@@ -146,7 +146,7 @@ module _ (front frames : List ℕ) (before : List (List (List ℕ))) (are : AreF
         are = opened sector is;
         rest = payload.sector;
         parts = opened_parts sector c parts;
-        nothing = subst BeginsNoBatch (sym payload.is_closed.parts) (shut 0 payload.is_closed.behind (omega arith));
+        last = subst IsEnd (sym payload.is_closed.parts) (shut 0 payload.is_closed.behind (omega arith));
         ends = opened_end sector is;
       },
     )

@@ -1,12 +1,12 @@
 -- The steps of adding a batch and of repairing a file's end, each over the states of the file.
-use Rattle.std.proofs.Common.{◌≡◌, ◌⊎◌, inl, inr, ◌<◌, ◌≤◌, ◌+◌, ◌%◌, ℕ, List, [], ◌∷◌, ◌++◌, length, take, refl, sym, ◌∙◌, ap, subst, arith, length-append}
+use Rattle.std.proofs.Common.{◌≡◌, inl, ◌+◌, ℕ, List, [], ◌∷◌, ◌++◌, length, take, sym, ◌∙◌, ap, subst, arith, length-append}
 use Rattle.std.proofs.lemmas.List.{append-nil}
 use Rattle.stored_file.specs.File.{FileState, IsOnDisk, IsWhole, is_written, Torn, Cut, LeavesOnly}
 use Rattle.stored_file.proofs.Moments.{started, then_on, weaken}
 use Rattle.event_journal.specs.Events.{spelled, AreSized}
 use Rattle.event_journal.specs.Journal.{IsSector, HasBatches, StandsFor, IsAt, payload_length}
 use Rattle.event_journal.proofs.Frames.{frames_whole}
-use Rattle.event_journal.proofs.Crash.{IsPayload, Around, without, first_write, staged, second_write, both_written, opened, opened_parts, opened_end, frame_of, as_read, cut_keeps, cut_done, torn_end, written_end}
+use Rattle.event_journal.proofs.Crash.{IsPayload, Around, without, first_write, staged, second_write, both_written, opened, opened_parts, opened_end, frame_of, cut_keeps, cut_done, torn_end, written_end}
 
 module _ (front : List ℕ) (before : List (List (List ℕ))) (gate : ℕ) (old : FileState) (rests : IsAt front before gate old) where
   -- a gate stands at the start of a sector

@@ -1,5 +1,5 @@
 -- What a file stands for that has a journal behind its front.
-use Rattle.std.specs.Prelude.{◌≡◌, ℕ, ◌+◌, ◌*◌, ◌/◌, List, [], ◌∷◌, ◌++◌, length}
+use Rattle.std.specs.Prelude.{◌≡◌, ◌⊎◌, ◌<◌, ◌≤◌, ℕ, ◌+◌, ◌*◌, ◌/◌, List, [], ◌∷◌, ◌++◌, length}
 use Rattle.stored_file.specs.File.{FileState, IsOnDisk, IsWhole}
 use Rattle.event_journal.specs.Events.{spelled, AreSized}
 
@@ -41,14 +41,37 @@ GivesBatch told rest bytes = (events : List (List ℕ)) × (told ≡ spelled eve
 abbrev pub BeginsNoBatch : List ℕ → Type 0
 BeginsNoBatch bytes = (events : List (List ℕ)) (rest : List ℕ) → BeginsBatch events rest bytes → ⊥
 
--- behind this front the file has these batches, up to this offset, and then no further one
+-- an open gate stands at the front of bytes
+abbrev pub BeginsOpen : List ℕ → Type 0
+BeginsOpen bytes = (behind : List ℕ) × (bytes ≡ 1 ∷ behind)
+
+-- a crash may leave this behind the last batch: no open gate, or no more than the sector that was being written there
+abbrev pub IsEnd : List ℕ → Type 0
+IsEnd bytes = (BeginsOpen bytes → ⊥) ⊎ (length bytes ≤ 4096)
+
+-- and it doesn't leave this: an open gate with more than its sector, where no batch stands whole
+pub record IsDamage (bytes : List ℕ) : Type 0 where
+  pub is_open : BeginsOpen bytes
+  pub longer : 4096 < length bytes
+  pub nothing : BeginsNoBatch bytes
+
+-- behind this front the file has these batches, up to this offset, and then its end
 pub record HasBatches (front : List ℕ) (batches : List (List (List ℕ))) (end : ℕ) (file : List ℕ) : Type 0 where
   pub frames : List ℕ
   pub are : AreFrames batches frames
   pub rest : List ℕ
   pub parts : file ≡ front ++ frames ++ rest
-  pub nothing : BeginsNoBatch rest
+  pub last : IsEnd rest
   pub ends : end ≡ length (front ++ frames)
+
+-- behind this front the file has these batches, up to this offset, and then what no crash leaves
+pub record IsDamagedAt (front : List ℕ) (batches : List (List (List ℕ))) (damaged : ℕ) (file : List ℕ) : Type 0 where
+  pub frames : List ℕ
+  pub are : AreFrames batches frames
+  pub rest : List ℕ
+  pub parts : file ≡ front ++ frames ++ rest
+  pub damage : IsDamage rest
+  pub ends : damaged ≡ length (front ++ frames)
 
 -- the file stands for these batches
 abbrev pub StandsFor : List ℕ → List (List (List ℕ)) → List ℕ → Type 0

@@ -1,0 +1,60 @@
+-- What a new base with an empty journal stands for.
+use Rattle.std.proofs.Common.{◌≡◌, arith, ◌+◌, ◌-◌, ◌≤◌, ℕ, Bool, List, [], ◌∷◌, ◌++◌, length, take, replicate, refl, sym, ◌∙◌, ap, append_assoc, length-append}
+use Rattle.std.proofs.lemmas.List.{append-nil, take_all, length-replicate, replicate-append-replicate}
+use Rattle.stored_file.specs.File.{FileState, IsOnDisk}
+use Rattle.event_journal.proofs.Steps.{at_rest}
+use Rattle.durable_machine.specs.Files.{IsFront, IsState, IsDurable, whole_sectors}
+use Rattle.durable_machine.proofs.Files.{is_before}
+
+-- a base, and zeros up to a length and one byte and some bytes more
+zeros_behind : (base bytes : List ℕ) (front m n : ℕ) → length base ≤ front → n ≡ length base → bytes ≡ take (front + (1 + m)) base ++ replicate {A = ℕ} (front + (1 + m) - n) 0
+    → bytes ≡ (base ++ replicate {A = ℕ} (front - length base) 0) ++ [] ++ (0 ∷ replicate {A = ℕ} m 0)
+zeros_behind base bytes front m n long counted is =
+    is
+    ∙ ap (λ (k : ℕ). take (front + (1 + m)) base ++ replicate {A = ℕ} (front + (1 + m) - k) 0) counted
+    ∙ ap (λ (l : List ℕ). l ++ replicate {A = ℕ} (front + (1 + m) - length base) 0) (take_all (front + (1 + m)) base (omega (arith, long)))
+    ∙ ap (λ (k : ℕ). base ++ replicate {A = ℕ} k 0) zeros
+    ∙ ap (λ (l : List ℕ). base ++ l) (sym (replicate-append-replicate {A = ℕ} (front - length base) (1 + m) 0))
+    ∙ sym (append_assoc base (replicate {A = ℕ} (front - length base) 0) (replicate {A = ℕ} (1 + m) 0))
+    ∙ ap (λ (l : List ℕ). (base ++ replicate {A = ℕ} (front - length base) 0) ++ l) (sym (replicate-append-replicate {A = ℕ} 1 m 0))
+    ∙ ap (λ (l : List ℕ). l ++ (0 ∷ replicate {A = ℕ} m 0)) (sym (append-nil (base ++ replicate {A = ℕ} (front - length base) 0)))
+  where
+    zeros : front + (1 + m) - length base ≡ (front - length base) + (1 + m)
+    zeros = omega (arith, long)
+
+module _ {S : Type 0} (loads : List ℕ → S → Type 0) (next : S → Bool → List ℕ → S) (base bytes : List ℕ) (s : S) (loaded : loads base s) (front n : ℕ) (size : front ≡ whole_sectors (length base)) (counted : n ≡ length base)
+    (is : bytes ≡ take (front + 4096) base ++ replicate {A = ℕ} (front + 4096 - n) 0) where
+  long : length base ≤ front
+  long = omega (arith, size)
+
+  length-padded : length (base ++ replicate {A = ℕ} (front - length base) 0) ≡ front
+  length-padded = omega (arith, long, length-append base (replicate {A = ℕ} (front - length base) 0), length-replicate {A = ℕ} (front - length base) 0)
+
+  begins : IsFront loads next (base ++ replicate {A = ℕ} (front - length base) 0) s
+  begins = record { base = base; padding = replicate {A = ℕ} (front - length base) 0; loaded = loaded; parts = refl; size = length-padded ∙ size }
+
+  pub folded : (file : FileState) → file.seen ≡ bytes → IsOnDisk file → IsDurable loads next s front file
+  folded file sees durable = record {
+    front = base ++ replicate {A = ℕ} (front - length base) 0;
+    first = s;
+    begins = begins;
+    batches = [];
+    rests = record {
+      whole = omega (arith, length-padded, size);
+      frames = [];
+      are = refl;
+      sector = 0 ∷ replicate {A = ℕ} 4095 0;
+      is_closed = record { behind = replicate {A = ℕ} 4095 0; size = length-replicate {A = ℕ} 4095 0; parts = refl };
+      parts = sees ∙ zeros_behind base bytes front 4095 n long counted is;
+      ends = sym length-padded ∙ ap length (sym (append-nil (base ++ replicate {A = ℕ} (front - length base) 0)));
+      durable = durable;
+    };
+    leads = refl;
+  }
+
+  -- such a file stands for the machine
+  pub folded_state : (c : List ℕ) → c ≡ bytes → IsState loads next c s
+  folded_state c is_bytes =
+      let file : FileState = record { seen = c; moment = 0; left_since = λ t d. d ≡ c; faults = 0 } in
+      let durable : IsDurable loads next s front file = folded file is_bytes (λ d left. left) in
+      is_before loads next s front file durable c (at_rest durable.front durable.batches front file durable.rests)

@@ -1,0 +1,7 @@
+pub mod Batches
+pub mod ComingBack
+pub mod Files
+pub mod Folding
+pub mod Refusing
+pub mod Replaying
+pub mod Running

@@ -1,0 +1,62 @@
+-- What a file stands for.
+use Rattle.std.specs.Prelude.{◌≡◌, ◌⊎◌, ℕ, ◌+◌, ◌*◌, ◌/◌, Bool, List, [], ◌∷◌, ◌++◌, length}
+use Rattle.stored_file.specs.File.{FileState, LeavesOnly, MayLeave}
+use Rattle.event_journal.specs.Journal.{HasBatches, IsAt}
+use Rattle.durable_machine.specs.Runs.{state_again}
+
+-- so many bytes in whole sectors
+abbrev pub whole_sectors : ℕ → ℕ
+whole_sectors n = (n + 4095) / 4096 * 4096
+
+-- the events of all batches, in order
+abbrev pub joined : List (List (List ℕ)) → List (List ℕ)
+joined [] = []
+joined (batch ∷ batches) = batch ++ joined batches
+
+module _ {S : Type 0} (loads : List ℕ → S → Type 0) (next : S → Bool → List ℕ → S) where
+  -- a base that stands for a machine, in whole sectors
+  pub record IsFront (front : List ℕ) (first : S) : Type 0 where
+    pub base : List ℕ
+    pub padding : List ℕ
+    pub loaded : loads base first
+    pub parts : front ≡ base ++ padding
+    pub size : length front ≡ whole_sectors (length base)
+
+  -- the file stands for this state: it is the one to which the base's is led by the events behind it, up to this offset
+  pub record IsStateAt (end : ℕ) (file : List ℕ) (s : S) : Type 0 where
+    pub front : List ℕ
+    pub first : S
+    pub begins : IsFront front first
+    pub batches : List (List (List ℕ))
+    pub has : HasBatches front batches end file
+    pub leads : s ≡ state_again next (joined batches) first
+
+  -- the file stands for this state
+  abbrev pub IsState : List ℕ → S → Type 0
+  IsState file s = (end : ℕ) × IsStateAt end file s
+
+  -- a file stands for this state, and for no other
+  pub record IsItsState (file : List ℕ) (s : S) : Type 0 where
+    pub is : IsState file s
+    pub no_other : (t : S) → IsState file t → s ≡ t
+
+  -- what a file stands for, this one does, too
+  abbrev pub KeepsState : List ℕ → List ℕ → Type 0
+  KeepsState old file = (s : S) → IsState old s → IsState file s
+
+  -- a crash at any moment leaves a file that stands for what the old one does
+  abbrev pub AlwaysKeepsState : FileState → FileState → Type 0
+  AlwaysKeepsState old new = LeavesOnly old new (KeepsState old.seen)
+
+  -- what a crash might have left of a file, or a file that stands for this state
+  abbrev pub IsOldOrStands : FileState → S → List ℕ → Type 0
+  IsOldOrStands old s file = MayLeave old file ⊎ IsState file s
+
+  -- the machine is in the state that the file stands for, which is at rest, with its gate at this offset, and all of it on the disk
+  pub record IsDurable (machine : S) (gate : ℕ) (file : FileState) : Type 0 where
+    pub front : List ℕ
+    pub first : S
+    pub begins : IsFront front first
+    pub batches : List (List (List ℕ))
+    pub rests : IsAt front batches gate file
+    pub leads : machine ≡ state_again next (joined batches) first

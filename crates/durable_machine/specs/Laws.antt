@@ -1,0 +1,23 @@
+-- What is opened after a crash.
+use Rattle.std.specs.Prelude.{◌≡◌, ◌≤◌, ℕ, Bool, List, length, take}
+use Rattle.stored_file.specs.File.{FileState, MayLeave}
+use Rattle.durable_machine.specs.Files.{IsItsState, KeepsState, joined}
+use Rattle.durable_machine.specs.Batches.{IsAfterSome, LedTo}
+
+module _ {S : Type 0} (loads : List ℕ → S → Type 0) (next : S → Bool → List ℕ → S) where
+  -- of a file that a crash left while batches were served, the machine after the first of them is opened
+  abbrev pub FirstBatchesComeBack : Type 0
+  FirstBatchesComeBack =
+      (batches : List (List (List ℕ))) (old opened : S) (left : List ℕ)
+      → IsAfterSome loads next batches old left → IsItsState loads next left opened
+      → (n : ℕ) × (n ≤ length batches) × LedTo next (joined (take n batches)) old opened
+
+  -- of one that a crash left while it was opened, the same machine as before
+  abbrev pub OpeningChangesNothing : Type 0
+  OpeningChangesNothing =
+      (file left : List ℕ) (first second : S)
+      → IsItsState loads next file first → KeepsState loads next file left → IsItsState loads next left second → second ≡ first
+
+  -- of each that a crash leaves now, this machine
+  abbrev pub ComesBack : FileState → S → Type 0
+  ComesBack file s = (left : List ℕ) (opened : S) → MayLeave file left → IsItsState loads next left opened → opened ≡ s

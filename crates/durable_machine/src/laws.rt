@@ -1,0 +1,24 @@
+//! What is opened after a crash, as laws: these functions do nothing.
+
+ghost use Rattle.durable_machine.specs.Files.{IsDurable};
+ghost use Rattle.durable_machine.specs.Laws.{FirstBatchesComeBack, OpeningChangesNothing, ComesBack};
+
+use crate::{Durable, Machine};
+use stored_file::StoredFile;
+
+/// Of a file that a crash left while batches were served, the machine after the first of them is opened: some of them, none
+/// skipped and none in part.
+pub fn first_batches_come_back<M: Machine>()
+    ensures { FirstBatchesComeBack M.loads M.next }
+{}
+
+/// Of a file that a crash left while it was opened, the machine is opened that it stood for before.
+pub fn opening_changes_nothing<M: Machine>()
+    ensures { OpeningChangesNothing M.loads M.next }
+{}
+
+/// Whatever a crash leaves of a store at rest, its machine is opened of it: so no event is lost that was acknowledged.
+pub fn acknowledged_comes_back<M: Machine + Drop, F: StoredFile + Drop>(store: &Durable<M, F>)
+    requires { IsDurable M.loads M.next store.now.machine store.now.journal.gate (F.told store.now.journal.file) }
+    ensures { ComesBack M.loads M.next (F.told store.now.journal.file) store.now.machine }
+{}

@@ -1,0 +1,66 @@
+//! The machine.
+
+ghost use Rattle.std.specs.Prelude.{◌≡◌, ℕ, Bool, List, ◌++◌, IfOk, MatchOption};
+ghost use Rattle.durable_machine.specs.Applied.{HasApplied};
+ghost use Rattle.durable_machine.specs.Bases.{BeginsNoBase, BeginsBase};
+
+use std::alloc::{AllocError, Global};
+
+/// What an event came to.
+#[derive(Drop)]
+pub struct Applied<R: Drop> {
+    /// The reply.
+    pub reply: R,
+    /// Whether the machine may have changed. Where memory was refused, it hasn't.
+    pub changes: bool,
+}
+
+/// A machine to which events happen, each of them given by its bytes. What happens is determined, but for whether
+/// memory is refused.
+pub trait Machine {
+    /// What is told of an event.
+    type Reply: Drop;
+
+    /// The machine that a base stands for.
+    ghost loads: { List ℕ → Self → Type 0 };
+
+    /// What an event leads to, where memory is refused or not.
+    ghost next: { Self → Bool → List ℕ → Self };
+
+    /// What is replied to it.
+    ghost replies: { Self → Bool → List ℕ → Self.Reply → Type 0 };
+
+    /// The machine for which the base stands at the front of a file, and the base's length; `None` where no base stands
+    /// there.
+    ///
+    /// # Errors
+    ///
+    /// No memory.
+    fn load(alloc: Global, file: &[u8]) -> Result<Option<(Self, usize)>, AllocError>
+    where
+        Self: Sized,
+        ensures { IfOk result (λ found. MatchOption found (BeginsNoBase loads file.now)
+            (λ base. BeginsBase loads base.0 base.1 file.now)) };
+
+    /// Does one event.
+    ///
+    /// # Errors
+    ///
+    /// No memory for the reply.
+    fn apply(&mut self, alloc: Global, event: &[u8]) -> Result<Applied<Self::Reply>, AllocError>
+        ensures { IfOk result (λ done. HasApplied next replies event.now self.old done self.new) };
+
+    /// A file begins with one base, which stands for one machine.
+    ghost one_base: { (a b x y : List ℕ) (s t : Self) → loads a s → loads b t → a ++ x ≡ b ++ y → (a ≡ b) × (s ≡ t) };
+}
+
+/// A machine that can be told as a base.
+pub trait Saves: Machine {
+    /// A base that stands for the machine as it is.
+    ///
+    /// # Errors
+    ///
+    /// No memory.
+    fn save(&self, alloc: Global) -> Result<Vec<u8>, AllocError>
+        ensures { IfOk result (λ base. Self.loads base.items self.now) };
+}

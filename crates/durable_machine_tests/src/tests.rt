@@ -1,0 +1,181 @@
+//! Sessions that are cut off at each moment.
+
+ghost use Rattle.std.specs.Prelude.{IfOk};
+ghost use Rattle.stored_file.specs.Tearing.{told_of};
+ghost use Rattle.durable_machine_tests.specs.Number.{IsKept};
+
+use crate::Number;
+use durable_machine::{Durable, Fault};
+use std::alloc::{AllocError, Global};
+use std::test::Fail;
+use stored_file::{SECTOR, StoredFile, TearingFile};
+
+/// The choices of a disk that are tried at each moment.
+const SEEDS: u64 = 3;
+
+/// A batch of a session: some events of a byte, and before them one of two bytes, which changes nothing.
+fn batch(alloc: Global, index: u8) -> Result<Vec<Vec<u8>>, AllocError> {
+    let mut events = Vec::new(alloc);
+    events.push(vec![in alloc; index, index]?)?;
+    for byte in 0..index % 4 {
+        events.push(vec![in alloc; byte.wrapping_mul(7).wrapping_add(index)]?)?;
+    }
+    Ok(events)
+}
+
+/// The number behind a batch.
+fn after(number: Number, events: &[Vec<u8>]) -> Number {
+    let mut number = number;
+    for event in events {
+        number = number.after(event);
+    }
+    number
+}
+
+/// The store that a file of these bytes, all of them on the disk, opens as.
+fn opened(alloc: Global, bytes: &[u8]) -> Result<Durable<Number, TearingFile>, Fault>
+    ensures { IfOk result (λ store. IsKept store.machine store.journal.gate (told_of store.journal.file)) }
+{
+    match Durable::open(alloc, TearingFile::new(alloc, bytes)?) {
+        Ok(store) => Ok(store),
+        Err((fault, _file)) => Err(fault),
+    }
+}
+
+/// Whether a file that a crash left stands for one of two numbers. Opening it is cut off at each of its moments, too.
+fn comes_back(
+    alloc: Global,
+    left: &[u8],
+    seed: u64,
+    either: (Number, Number),
+) -> Result<bool, Fault> {
+    let store = opened(alloc, left)?;
+    let number = store.machine;
+    if number != either.0 && number != either.1 {
+        return Ok(false);
+    }
+    let file = &store.journal.file;
+    for moment in 0..=file.moment() {
+        let left = file.crashed(alloc, moment, seed)?;
+        if opened(alloc, &left)?.machine != number {
+            return Ok(false);
+        }
+    }
+    Ok(true)
+}
+
+/// Whether each crash at a moment from one to another, and at the last of them, leaves one of two numbers.
+fn each_comes_back(
+    alloc: Global,
+    file: &TearingFile,
+    from: usize,
+    either: (Number, Number),
+) -> Result<bool, Fault> {
+    for moment in from..=file.moment() {
+        let last = moment == file.moment();
+        let allowed = if last { (either.1, either.1) } else { either };
+        for seed in 0..SEEDS {
+            let left = file.crashed(alloc, moment, seed)?;
+            if !comes_back(alloc, &left, seed, allowed)? {
+                return Ok(false);
+            }
+        }
+    }
+    Ok(true)
+}
+
+#[test]
+fn each_batch_is_cut_off_at_each_moment(rt: HostRuntime) -> Result<(), Fail> {
+    let alloc = rt.alloc();
+    let mut bytes = vec![in alloc; 0; 2 * SECTOR]?;
+    for index in 0..6 {
+        let mut store = opened(alloc, &bytes)?;
+        let events = batch(alloc, index)?;
+        let from = store.journal.file.moment();
+        let before = store.machine;
+        let replies = store.serve(alloc, &events)?;
+        assert_eq!(rt; replies.len(), events.len());
+        assert!(rt; store.machine == after(before, &events));
+        assert!(rt; each_comes_back(alloc, &store.journal.file, from, (before, store.machine))?);
+        bytes = store.journal.file.bytes().to_vec(alloc)?;
+    }
+    Ok(())
+}
+
+#[test]
+fn a_fold_is_cut_off_at_each_moment(rt: HostRuntime) -> Result<(), Fail> {
+    let alloc = rt.alloc();
+    let bytes = vec![in alloc; 0; 2 * SECTOR]?;
+    let mut store = opened(alloc, &bytes)?;
+    let mut batches = Vec::new(alloc);
+    for index in 0..4 {
+        batches.push(batch(alloc, index)?)?;
+    }
+    let replies = store.serve_all(alloc, &batches)?;
+    assert_eq!(rt; replies.len(), batches.len());
+    let from = store.journal.file.moment();
+    let number = store.machine;
+    store.fold(alloc)?;
+    assert_eq!(rt; store.journal.file.bytes().len(), 2 * SECTOR);
+    assert!(rt; each_comes_back(alloc, &store.journal.file, from, (number, number))?);
+    Ok(())
+}
+
+/// Why a file of these bytes isn't opened.
+fn refusal(alloc: Global, bytes: &[u8]) -> Result<Option<Fault>, Fault> {
+    match opened(alloc, bytes) {
+        Ok(_store) => Ok(None),
+        Err(Fault::OfFile(error)) => Err(Fault::OfFile(error)),
+        Err(fault) => Ok(Some(fault)),
+    }
+}
+
+#[test]
+fn what_no_crash_leaves_is_refused(rt: HostRuntime) -> Result<(), Fail> {
+    let alloc = rt.alloc();
+    let bytes = vec![in alloc; 0; 2 * SECTOR]?;
+    let mut store = opened(alloc, &bytes)?;
+    store.serve(alloc, &batch(alloc, 1)?)?;
+    store.serve(alloc, &batch(alloc, 2)?)?;
+    let whole = store.journal.file.bytes().to_vec(alloc)?;
+    assert_eq!(rt; whole.len(), 6 * SECTOR);
+    // The second batch is cut short, or the byte behind its events is another.
+    let mut cut = whole.clone()?;
+    cut.truncate(4 * SECTOR + 100);
+    assert!(rt; refusal(alloc, &cut)? == Some(Fault::Damaged(3 * SECTOR)));
+    let mut changed = whole.clone()?;
+    changed[4 * SECTOR + 20] = 7;
+    assert!(rt; refusal(alloc, &changed)? == Some(Fault::Damaged(3 * SECTOR)));
+    // The front isn't whole.
+    cut.truncate(SECTOR - 1);
+    assert!(rt; refusal(alloc, &cut)? == Some(Fault::Unreadable));
+    assert!(rt; refusal(alloc, &whole)? == None);
+    Ok(())
+}
+
+#[test]
+fn what_no_sync_followed_is_torn(rt: HostRuntime) -> Result<(), Fail> {
+    let alloc = rt.alloc();
+    let old = vec![in alloc; 7; SECTOR]?;
+    let new = vec![in alloc; 9; SECTOR]?;
+    let mut file = TearingFile::new(alloc, &old)?;
+    file.write_at(0, &new)?;
+    let mut kept = false;
+    let mut whole = false;
+    let mut torn = false;
+    for seed in 0..64 {
+        let left = file.crashed(alloc, file.moment(), seed)?;
+        let is_old = left == old;
+        let is_new = left == new;
+        kept |= is_old;
+        whole |= is_new;
+        torn |= !is_old && !is_new;
+    }
+    assert!(rt; kept && whole && torn);
+    file.sync()?;
+    for seed in 0..64 {
+        let left = file.crashed(alloc, file.moment(), seed)?;
+        assert!(rt; left == new);
+    }
+    Ok(())
+}
