@@ -1,0 +1,3 @@
+pub mod Direction
+pub mod Sgl
+pub mod Answer

@@ -1,0 +1,4 @@
+mod Answering
+mod Dealt
+mod Joined
+mod Quiet

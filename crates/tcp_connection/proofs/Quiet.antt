@@ -1,0 +1,272 @@
+-- What a connection comes to keeps its queue, and is quiet.
+use Rattle.std.proofs.Common.{◌≡◌, ℕ, ◌==◌, ◌<◌, ◌≤◌, Bool, true, false, cond, not, List, [], ◌++◌, length, take, drop, Option, None, Some, is_some, IsTrue, Result, Ok, Err, refl, sym, ap, subst, ◌∙◌}
+use Rattle.std.proofs.lemmas.Bool.{and_parts}
+use Rattle.zone_state.specs.declared.status.Status.{Status}
+use Rattle.tcp_pdus.specs.declared.fatal_error.FatalError.{FatalError}
+use Rattle.tcp_pdus.specs.declared.fatal_error.FatalError.TheVariants.{PduSequence}
+use Rattle.tcp_pdus.specs.declared.received.HostPdu.{HostPdu}
+use Rattle.tcp_pdus.specs.declared.received.HostPdu.TheVariants.{IcReq, H2cTermReq, CapsuleCmd, H2cData}
+use Rattle.tcp_pdus.specs.Initialize.{initialize_checked, initialize_request_in}
+use Rattle.tcp_receiver.specs.declared.expected.Progress.{Progress}
+use Rattle.tcp_receiver.specs.declared.expected.Progress.TheVariants.{Partial, Whole, Failed}
+use Rattle.tcp_receiver.specs.Receiving.{IsBetween, ReceiverState, next, next_by}
+use Rattle.tcp_receiver.specs.Receiving as receiving
+use Rattle.tcp_capsules.specs.Direction.{identifier_of}
+use Rattle.tcp_capsules.specs.Sgl.{wanted_checked}
+use Rattle.tcp_connection.specs.declared.commands.WaitingCommand.{WaitingCommand}
+use Rattle.tcp_connection.specs.declared.queue.Outcome.{Outcome}
+use Rattle.tcp_connection.specs.declared.queue.Phase.{Phase}
+use Rattle.tcp_connection.specs.declared.queue.Phase.TheVariants.{Initializing, Open, Ended}
+use Rattle.tcp_connection.specs.declared.queue.Queue.{Queue}
+use Rattle.tcp_connection.specs.declared.state.ConnectionState.{ConnectionState}
+use Rattle.tcp_connection.specs.Commands.{first_of, is_running, running_with, started, waiting_with, without}
+use Rattle.tcp_connection.specs.Connection.{taken, takes, took}
+use Rattle.tcp_connection.specs.Dealing.{admitted, asked, commanded_by, dealt, dealt_by, initialized_by, joined, judged, looked_at, may_come, with_next}
+use Rattle.tcp_connection.specs.Executing.{Execution, IsQuiet, completed, completed_in, connected, data_sent, first_gone, gone, gone_by, ready, ready_by, waiting_ready}
+use Rattle.tcp_connection.specs.Queue.{is_ended}
+use Rattle.tcp_connection.specs.Sending.{answered, ended, failed}
+use Rattle.tcp_connection.specs.steps.Connection.{IsConnection}
+
+-- a connection that has the queue of another, and is quiet
+pub record Rests (s t : ConnectionState) : Type 0 where
+  pub queue : t.queue ≡ s.queue
+  pub quiet : IsQuiet t
+
+none_some : (execution : Execution) → ◌≡◌ {A = Option Execution} None (Some execution) → ⊥
+none_some execution e = cc
+
+pub quiet_between : (t : ConnectionState) → IsBetween t.receiver → IsQuiet t
+quiet_between t between = λ execution is. between
+
+quiet_none : (t : ConnectionState) → waiting_ready t ≡ None → IsQuiet t
+quiet_none t none = λ execution is. absurd (none_some execution (sym none ∙ is))
+
+whole_between : (r : ReceiverState) (pdu : HostPdu) → IsBetween (next_by (Whole pdu) r)
+whole_between r IcReq = record { nothing = refl; partial = refl }
+whole_between r H2cTermReq = record { nothing = refl; partial = refl }
+whole_between r CapsuleCmd = record { nothing = refl; partial = refl }
+whole_between r H2cData = record { nothing = refl; partial = refl }
+
+pub between_next : (r : ReceiverState) (pdu : HostPdu) → r.progress ≡ Whole pdu → IsBetween (next r)
+between_next r pdu is =
+    let P : Progress → Type 0 = λ p. IsBetween (next_by p r) in subst P (sym is) (whole_between r pdu)
+
+rests_ended : (s : ConnectionState) → Rests s (ended s)
+rests_ended s = record { queue = refl; quiet = quiet_none (ended s) refl }
+
+rests_initialized : (s : ConnectionState) → IsBetween (next s.receiver) → (r : Result ℕ FatalError) → Rests s (initialized_by r s).0
+rests_initialized s between (Ok alignment) =
+    record { queue = refl; quiet = quiet_between (initialized_by (Ok alignment) s).0 (record { nothing = between.nothing; partial = between.partial }) }
+rests_initialized s between (Err error) = rests_ended s
+
+rests_asked : (s t : ConnectionState) (command : ℕ) → t.queue ≡ s.queue → IsBetween t.receiver → (wanted : Option ℕ) → Rests s (asked command wanted t).0
+rests_asked s t command same between None = record { queue = same; quiet = quiet_between t between }
+rests_asked s t command same between (Some wanted) =
+    record {
+      queue = same;
+      quiet = quiet_between (asked command (Some wanted) t).0 (record { nothing = between.nothing; partial = between.partial });
+    }
+
+pub rests_looked : (s t : ConnectionState) → t.queue ≡ s.queue → IsBetween t.receiver → (first : Option WaitingCommand) → Rests s (looked_at first t).0
+rests_looked s t same between None = record { queue = same; quiet = quiet_between t between }
+rests_looked s t same between (Some first) = rests_asked s t (identifier_of first.entry) same between first.wanted
+
+rests_joined : (s : ConnectionState) (command : WaitingCommand) → IsBetween (next s.receiver) → Rests s (joined command s).0
+rests_joined s command between =
+    rests_looked s (record (with_next s) { commands = waiting_with command s.commands }) refl between
+    (cond (length s.commands.waiting == 0) (Some command) None)
+
+rests_admitted : (s : ConnectionState) (entry : List ℕ) (inside : ℕ) (wanted : Option ℕ) → IsBetween (next s.receiver) → waiting_ready s ≡ None
+    → Rests s (admitted entry inside wanted s).0
+rests_admitted s entry inside wanted between none =
+    elim (inside == 0) as (λ b. Rests s (cond b (joined (record { entry = entry; wanted = wanted }) s)
+    (record s { commands = running_with (identifier_of entry) s.commands }, [])).0) [
+      | true ↦ rests_joined s (record { entry = entry; wanted = wanted }) between
+      | false ↦
+          (let t : ConnectionState = record s { commands = running_with (identifier_of entry) s.commands } in
+          record { queue = refl; quiet = quiet_none t none })
+    ]
+
+rests_judged : (s : ConnectionState) (entry : List ℕ) (inside : ℕ) → IsBetween (next s.receiver) → waiting_ready s ≡ None
+    → (r : Result (Option ℕ) Status) → Rests s (judged r entry inside s).0
+rests_judged s entry inside between none (Ok wanted) = rests_admitted s entry inside wanted between none
+rests_judged s entry inside between none (Err status) =
+    record { queue = refl; quiet = quiet_between (judged (Err status) entry inside s).0 between }
+
+rests_commanded : (s : ConnectionState) (entry : List ℕ) (inside : ℕ) → IsBetween (next s.receiver) → waiting_ready s ≡ None
+    → Rests s (commanded_by entry inside s).0
+rests_commanded s entry inside between none =
+    elim (may_come (identifier_of entry) s) as (λ b. Rests s (cond b (judged (wanted_checked entry inside) entry inside s)
+    (failed PduSequence (take 72 s.receiver.pending) s)).0) [
+      | true ↦ rests_judged s entry inside between none (wanted_checked entry inside)
+      | false ↦ rests_ended s
+    ]
+
+-- what has come is dealt with
+rests_by : (s : ConnectionState) (p : Progress) → s.receiver.progress ≡ p → waiting_ready s ≡ None → Rests s (dealt_by p s).0
+rests_by s Partial is none = record { queue = refl; quiet = quiet_none s none }
+rests_by s (Failed error) is none = rests_ended s
+rests_by s (Whole IcReq) is none =
+    rests_initialized s (between_next s.receiver IcReq is) (initialize_checked (initialize_request_in (take 128 s.receiver.pending)))
+rests_by s (Whole H2cTermReq) is none = rests_ended s
+rests_by s (Whole CapsuleCmd) is none =
+    rests_commanded s (drop 8 (take 72 s.receiver.pending)) (length (drop 72 s.receiver.pending)) (between_next s.receiver CapsuleCmd is) none
+rests_by s (Whole H2cData) is none =
+    record { queue = refl; quiet = quiet_between (with_next s) (between_next s.receiver H2cData is) }
+
+rests_dealt : (s : ConnectionState) → waiting_ready s ≡ None → Rests s (dealt s).0
+rests_dealt s none = rests_by s s.receiver.progress refl none
+
+-- ---- a piece
+
+no_some : (o : Option Execution) → is_some o ≡ false → o ≡ None
+no_some None none = refl
+no_some (Some execution) none = absurd cc
+
+one_some : (o : Option Execution) → is_some o ≡ true → (execution : Execution) × (o ≡ Some execution)
+one_some None some = absurd cc
+one_some (Some execution) some = (execution, refl)
+
+not_true : (b : Bool) → not b ≡ true → b ≡ false
+not_true true is = absurd cc
+not_true false is = refl
+
+pub open_ready : (s : ConnectionState) → is_ended s.phase ≡ false → ready s ≡ ready_by s.receiver.progress s
+open_ready s is = ap (λ (b : Bool). cond b None (ready_by s.receiver.progress s)) is
+
+-- no command that waits is ready, where none is
+waiting_none : (s : ConnectionState) (p : Progress) → is_some (ready_by p s) ≡ false → waiting_ready s ≡ None
+waiting_none s Partial none = no_some (waiting_ready s) none
+waiting_none s (Failed error) none = no_some (waiting_ready s) none
+waiting_none s (Whole IcReq) none = no_some (waiting_ready s) none
+waiting_none s (Whole H2cTermReq) none = no_some (waiting_ready s) none
+waiting_none s (Whole CapsuleCmd) none = absurd cc
+waiting_none s (Whole H2cData) none = no_some (waiting_ready s) none
+
+-- what is expected isn't changed by a piece
+pub same_waiting : (s : ConnectionState) (piece : List ℕ) (p : Progress)
+    → waiting_ready (record s { receiver = (receiving.taken_by p s.receiver piece).0 }) ≡ waiting_ready s
+same_waiting s piece Partial = refl
+same_waiting s piece (Whole pdu) = refl
+same_waiting s piece (Failed error) = refl
+
+pub is_open : (s : ConnectionState) → takes s ≡ true → is_ended s.phase ≡ false
+is_open s is = not_true (is_ended s.phase) (and_parts (not (is_ended s.phase)) (not (is_some (ready s))) is).0
+
+pub none_waits : (s : ConnectionState) → takes s ≡ true → waiting_ready s ≡ None
+none_waits s is =
+    let parts = and_parts (not (is_ended s.phase)) (not (is_some (ready s))) is in
+    let same : ready s ≡ ready_by s.receiver.progress s = open_ready s (is_open s is) in
+    waiting_none s s.receiver.progress
+    (ap (λ (o : Option Execution). is_some o) (sym same) ∙ not_true (is_some (ready s)) parts.1)
+
+took_rests : (s : ConnectionState) (piece : List ℕ) → takes s ≡ true → Rests s (took s piece).state
+took_rests s piece is =
+    let none : waiting_ready s ≡ None = none_waits s is in
+    let t : ConnectionState = record s { receiver = (receiving.taken s.receiver piece).0 } in
+    let rests = rests_dealt t (same_waiting s piece s.receiver.progress ∙ none) in record { queue = rests.queue; quiet = rests.quiet }
+
+rests_taken : (s : ConnectionState) (piece : List ℕ) → IsQuiet s → (b : Bool) → takes s ≡ b → Rests s (taken s piece).state
+rests_taken s piece quiet true is =
+    let P : Bool → Type 0 = λ b. Rests s (cond b (took s piece) (record { state = s; sent = []; count = 0 })).state in
+    subst P (sym is) (took_rests s piece is)
+rests_taken s piece quiet false is =
+    let P : Bool → Type 0 = λ b. Rests s (cond b (took s piece) (record { state = s; sent = []; count = 0 })).state in
+    subst P (sym is) (record { queue = refl; quiet = quiet })
+
+sound : (s t : ConnectionState) → IsConnection s → Rests s t → IsConnection t
+sound s t connection rests =
+    record {
+      some = subst (λ (q : Queue). 0 < q.entries) (sym rests.queue) connection.some;
+      most = subst (λ (q : Queue). q.entries ≤ 128) (sym rests.queue) connection.most;
+      quiet = rests.quiet;
+    }
+
+pub taken_sound : (s : ConnectionState) (piece : List ℕ) → IsConnection s → IsConnection (taken s piece).state
+taken_sound s piece connection = sound s (taken s piece).state connection (rests_taken s piece connection.quiet (takes s) refl)
+
+-- ---- a command goes
+
+rests_first : (s : ConnectionState) → IsQuiet s → is_some (waiting_ready s) ≡ true → Rests s (first_gone s).0
+rests_first s quiet some =
+    let one = one_some (waiting_ready s) some in
+    let t : ConnectionState = record s { commands = started s.commands } in rests_looked s t refl (quiet one.0 one.1) (first_of t.commands)
+
+rests_gone : (s : ConnectionState) → IsQuiet s → (p : Progress) → s.receiver.progress ≡ p → is_some (ready_by p s) ≡ true → Rests s (gone_by p s).0
+rests_gone s quiet Partial is some = rests_first s quiet some
+rests_gone s quiet (Failed error) is some = rests_first s quiet some
+rests_gone s quiet (Whole IcReq) is some = rests_first s quiet some
+rests_gone s quiet (Whole H2cTermReq) is some = rests_first s quiet some
+rests_gone s quiet (Whole CapsuleCmd) is some =
+    record { queue = refl; quiet = quiet_between (with_next s) (between_next s.receiver CapsuleCmd is) }
+rests_gone s quiet (Whole H2cData) is some = rests_first s quiet some
+
+-- a command is ready only before the end
+ready_open : (s : ConnectionState) (b : Bool) → is_ended s.phase ≡ b → is_some (ready s) ≡ true → is_some (ready_by s.receiver.progress s) ≡ true
+ready_open s true is some =
+    let none : ready s ≡ None = ap (λ (b : Bool). cond b None (ready_by s.receiver.progress s)) is in absurd cc
+ready_open s false is some = ap (λ (o : Option Execution). is_some o) (sym (open_ready s is)) ∙ some
+
+pub gone_sound : (s : ConnectionState) → IsConnection s → IsTrue (is_some (ready s)) → IsConnection (gone s).0
+gone_sound s connection some =
+    sound s (gone s).0 connection
+    (rests_gone s connection.quiet s.receiver.progress refl
+    (ready_open s (is_ended s.phase) refl some))
+
+-- behind it the receiver is between PDUs
+between_asked : (t : ConnectionState) (command : ℕ) → IsBetween t.receiver → (wanted : Option ℕ) → IsBetween (asked command wanted t).0.receiver
+between_asked t command between None = between
+between_asked t command between (Some wanted) = record { nothing = between.nothing; partial = between.partial }
+
+between_looked : (t : ConnectionState) → IsBetween t.receiver → (first : Option WaitingCommand) → IsBetween (looked_at first t).0.receiver
+between_looked t between None = between
+between_looked t between (Some first) = between_asked t (identifier_of first.entry) between first.wanted
+
+between_first : (s : ConnectionState) → IsQuiet s → is_some (waiting_ready s) ≡ true → IsBetween (first_gone s).0.receiver
+between_first s quiet some =
+    let one = one_some (waiting_ready s) some in
+    let t : ConnectionState = record s { commands = started s.commands } in between_looked t (quiet one.0 one.1) (first_of t.commands)
+
+between_by : (s : ConnectionState) → IsQuiet s → (p : Progress) → s.receiver.progress ≡ p → is_some (ready_by p s) ≡ true
+    → IsBetween (gone_by p s).0.receiver
+between_by s quiet Partial is some = between_first s quiet some
+between_by s quiet (Failed error) is some = between_first s quiet some
+between_by s quiet (Whole IcReq) is some = between_first s quiet some
+between_by s quiet (Whole H2cTermReq) is some = between_first s quiet some
+between_by s quiet (Whole CapsuleCmd) is some = between_next s.receiver CapsuleCmd is
+between_by s quiet (Whole H2cData) is some = between_first s quiet some
+
+pub gone_between : (s : ConnectionState) → IsConnection s → IsTrue (is_some (ready s)) → IsBetween (gone s).0.receiver
+gone_between s connection some =
+    between_by s connection.quiet s.receiver.progress refl (ready_open s (is_ended s.phase) refl some)
+
+-- ---- a command is completed
+
+rests_completed : (s : ConnectionState) → IsQuiet s → (phase : Phase) (command : ℕ) (outcome : Outcome) (bytes : List ℕ)
+    → Rests s (completed_in phase command outcome bytes s).0
+rests_completed s quiet Initializing command outcome bytes = record { queue = refl; quiet = quiet }
+rests_completed s quiet Ended command outcome bytes = record { queue = refl; quiet = quiet }
+rests_completed s quiet (Open alignment) command outcome bytes =
+    let t : ConnectionState = (answered command outcome (record s { commands = without command s.commands })).0 in
+    let sent : List ℕ =
+    data_sent alignment command bytes ++ (answered command outcome (record s { commands = without command s.commands })).1 in
+    elim (is_running command s.commands) as (λ b. Rests s (cond {A = ConnectionState × List ℕ} b (t, sent) (s, [])).0) [
+      | true ↦ record { queue = refl; quiet = quiet }
+      | false ↦ record { queue = refl; quiet = quiet }
+    ]
+
+pub completed_sound : (s : ConnectionState) (command : ℕ) (outcome : Outcome) (bytes : List ℕ) → IsConnection s
+    → IsConnection (completed command outcome bytes s).0
+completed_sound s command outcome bytes connection =
+    sound s (completed command outcome bytes s).0 connection (rests_completed s connection.quiet s.phase command outcome bytes)
+
+-- ---- Connect
+
+pub connected_sound : (s : ConnectionState) (queue : Queue) (in_capsule : ℕ) → 0 < queue.entries → queue.entries ≤ 128 → IsBetween s.receiver
+    → IsConnection (connected queue in_capsule s)
+connected_sound s queue in_capsule some most between =
+    record {
+      some = some;
+      most = most;
+      quiet = quiet_between (connected queue in_capsule s) (record { nothing = between.nothing; partial = between.partial });
+    }

@@ -1,0 +1,100 @@
+-- What a connection makes of what has come (NVMe over TCP Transport 1.0, 3.6; NVMe Base 2.0, 3.3.3.1).
+use Rattle.std.specs.Prelude.{ℕ, Bool, nat_lt, not, ◌&&◌, ◌==◌, List, [], length, take, drop, Option, Some, None, Result, Ok, Err, if◌then◌else◌}
+use Rattle.tcp_pdus.specs.declared.fatal_error.FatalError.{FatalError}
+use Rattle.tcp_pdus.specs.declared.fatal_error.FatalError.TheVariants.{PduSequence}
+use Rattle.tcp_pdus.specs.declared.received.HostPdu.TheVariants.{IcReq, H2cTermReq, CapsuleCmd, H2cData}
+use Rattle.tcp_pdus.specs.declared.transfer.ReadyToTransfer.{ReadyToTransfer}
+use Rattle.tcp_pdus.specs.Initialize.{initialize_checked, initialize_request_in}
+use Rattle.tcp_pdus.specs.Sent.{ic_resp, r2t}
+use Rattle.tcp_receiver.specs.declared.expected.Progress.{Progress}
+use Rattle.tcp_receiver.specs.declared.expected.Progress.TheVariants.{Partial, Whole, Failed}
+use Rattle.tcp_receiver.specs.declared.receiver.TheConstants.{MOST_IN_CAPSULE}
+use Rattle.tcp_receiver.specs.Receiving.{awaiting, expecting, next}
+use Rattle.zone_state.specs.declared.status.Status.{Status}
+use Rattle.tcp_capsules.specs.Direction.{identifier_of}
+use Rattle.tcp_capsules.specs.Sgl.{wanted_checked}
+use Rattle.tcp_connection.specs.declared.commands.WaitingCommand.{WaitingCommand}
+use Rattle.tcp_connection.specs.declared.queue.Outcome.{Outcome}
+use Rattle.tcp_connection.specs.declared.queue.Phase.TheVariants.{Open}
+use Rattle.tcp_connection.specs.declared.state.ConnectionState.{ConnectionState}
+use Rattle.tcp_connection.specs.Commands.{count_of, has_command, running_with, waiting_with}
+use Rattle.tcp_connection.specs.Sending.{answered, ended, failed}
+
+-- the next PDU comes
+abbrev pub with_next : ConnectionState → ConnectionState
+with_next s = record s { receiver = next s.receiver }
+
+-- an ICReq is answered, and capsules and data come from then on
+abbrev pub initialized_by : Result ℕ FatalError → ConnectionState → ConnectionState × List ℕ
+initialized_by (Ok alignment) s =
+    (record s { receiver = awaiting MOST_IN_CAPSULE (next s.receiver); phase = Open alignment }, ic_resp)
+initialized_by (Err error) s = failed error (take 128 s.receiver.pending) s
+
+abbrev pub initialized : ConnectionState → ConnectionState × List ℕ
+initialized s = initialized_by (initialize_checked (initialize_request_in (take 128 s.receiver.pending))) s
+
+-- ---- commands
+
+-- the R2T for all data that a command wants, with tag 0, since no other is outstanding
+abbrev pub transfer_of : ℕ → ℕ → ReadyToTransfer
+transfer_of command wanted = record { command = command; tag = 0; length = wanted }
+
+-- the first command that waits is looked at: if it wants data, that is asked for
+abbrev pub asked : ℕ → Option ℕ → ConnectionState → ConnectionState × List ℕ
+asked command None s = (s, [])
+asked command (Some wanted) s =
+    (record s { receiver = expecting (Some (transfer_of command wanted)) s.receiver }, r2t (transfer_of command wanted))
+
+abbrev pub looked_at : Option WaitingCommand → ConnectionState → ConnectionState × List ℕ
+looked_at None s = (s, [])
+looked_at (Some first) s = asked (identifier_of first.entry) first.wanted s
+
+-- a command joins those that wait: if there were none it is the first
+abbrev pub joined_behind : List WaitingCommand → WaitingCommand → ConnectionState → ConnectionState × List ℕ
+joined_behind before command s =
+    let t = record (with_next s) { commands = waiting_with command s.commands } in
+    looked_at (if length before == 0 then Some command else None) t
+
+abbrev pub joined : WaitingCommand → ConnectionState → ConnectionState × List ℕ
+joined command s = joined_behind s.commands.waiting command s
+
+-- a command that passes joins those that wait; one with data in its capsule is executed at once, and its capsule stays until it is
+abbrev pub admitted : List ℕ → ℕ → Option ℕ → ConnectionState → ConnectionState × List ℕ
+admitted entry inside wanted s =
+    if inside == 0 then joined (record { entry = entry; wanted = wanted }) s
+    else (record s { commands = running_with (identifier_of entry) s.commands }, [])
+
+-- one that doesn't is completed at once, with the status of the first check that fails
+abbrev pub refusal : Status → Outcome
+refusal status = record { status = status; dw0 = 0; dw1 = 0 }
+
+abbrev pub judged : Result (Option ℕ) Status → List ℕ → ℕ → ConnectionState → ConnectionState × List ℕ
+judged (Ok wanted) entry inside s = admitted entry inside wanted s
+judged (Err status) entry inside s = answered (identifier_of entry) (refusal status) (with_next s)
+
+-- there are fewer commands without a completion than the queue has entries, and none with this identifier
+abbrev pub may_come : ℕ → ConnectionState → Bool
+may_come command s = nat_lt (count_of s.commands) s.queue.entries && not (has_command command s.commands)
+
+-- a capsule with this entry, and so many bytes of data
+abbrev pub commanded_by : List ℕ → ℕ → ConnectionState → ConnectionState × List ℕ
+commanded_by entry inside s =
+    if may_come (identifier_of entry) s then judged (wanted_checked entry inside) entry inside s
+    else failed PduSequence (take 72 s.receiver.pending) s
+
+abbrev pub commanded : ConnectionState → ConnectionState × List ℕ
+commanded s = commanded_by (drop 8 (take 72 s.receiver.pending)) (length (drop 72 s.receiver.pending)) s
+
+-- ---- all PDUs
+
+abbrev pub dealt_by : Progress → ConnectionState → ConnectionState × List ℕ
+dealt_by Partial s = (s, [])
+dealt_by (Failed error) s = failed error s.receiver.pending s
+dealt_by (Whole IcReq) s = initialized s
+dealt_by (Whole H2cTermReq) s = (ended s, [])
+dealt_by (Whole CapsuleCmd) s = commanded s
+dealt_by (Whole H2cData) s = (with_next s, [])
+
+-- what has come is dealt with, and what is sent then
+abbrev pub dealt : ConnectionState → ConnectionState × List ℕ
+dealt s = dealt_by s.receiver.progress s

@@ -1,0 +1,202 @@
+//! What a connection makes of what has come.
+
+ghost use Rattle.std.specs.Prelude.{◌≡◌, ◌≤◌, ◌<◌, ◌+◌, [], length, drop, take, vec_capacity, vec_len};
+ghost use Rattle.tcp_pdus.specs.declared.received.HostPdu.TheVariants.{CapsuleCmd, IcReq};
+ghost use Rattle.tcp_receiver.specs.declared.expected.Progress.TheVariants.{Whole};
+ghost use Rattle.tcp_receiver.specs.Receiving.{IsBetween};
+ghost use Rattle.tcp_capsules.specs.Sgl.{wanted_checked};
+ghost use Rattle.tcp_connection.specs.Commands.{count_of};
+ghost use Rattle.tcp_connection.specs.Dealing.{admitted, asked, commanded, commanded_by, dealt, initialized, joined, judged, may_come, refusal, with_next};
+ghost use Rattle.tcp_connection.specs.Sending.{Sends, answered};
+
+use crate::commands::{MOST_ENTRIES, WaitingCommand};
+use crate::queue::{Outcome, Phase};
+use crate::state::ConnectionState;
+use tcp_capsules::{ENTRY_BYTES, TransferLength, identifier, wanted_data};
+use tcp_pdus::{
+    COMMON_HEADER_BYTES, FatalError, HostPdu, InitializeRequest, MOST_HEADER_BYTES,
+    ReadyToTransfer, push_c2h_term_req, push_ic_resp, push_r2t,
+};
+use tcp_receiver::{MOST_IN_CAPSULE, Progress};
+use zone_state::Status;
+
+/// The most bytes that are sent for one PDU: a C2HTermReq with the longest header.
+pub const MOST_SENT: usize = 152;
+
+impl ConnectionState {
+    /// Deals with what has come.
+    pub(crate) fn deal(&mut self, out: &mut Vec<u8>)
+        requires some { 0 < self.old.queue.entries }
+        requires most { self.old.queue.entries ≤ MOST_ENTRIES }
+        requires room { vec_len out.old + MOST_SENT ≤ vec_capacity out.old }
+        ensures state { self.new ≡ (dealt self.old).0 }
+        ensures sent { Sends out.old out.new (dealt self.old).1 }
+    {
+        match self.receiver.progress() {
+            Progress::Partial => {}
+            Progress::Failed(error) => {
+                push_c2h_term_req(out, error, self.receiver.header());
+                self.end();
+            }
+            Progress::Whole(HostPdu::IcReq) => self.initialize(out),
+            Progress::Whole(HostPdu::H2cTermReq) => self.end(),
+            Progress::Whole(HostPdu::CapsuleCmd) => self.command(out),
+            Progress::Whole(HostPdu::H2cData) => self.receiver.next(),
+        }
+    }
+
+    /// Answers an ICReq.
+    fn initialize(&mut self, out: &mut Vec<u8>)
+        requires whole { self.old.receiver.progress ≡ Whole IcReq }
+        requires room { vec_len out.old + MOST_SENT ≤ vec_capacity out.old }
+        ensures state { self.new ≡ (initialized self.old).0 }
+        ensures sent { Sends out.old out.new (initialized self.old).1 }
+    {
+        match InitializeRequest::read(self.receiver.header()).check() {
+            Ok(alignment) => {
+                push_ic_resp(out);
+                self.receiver.next();
+                self.receiver.await_commands(MOST_IN_CAPSULE);
+                self.phase = Phase::Open { alignment };
+            }
+            Err(error) => {
+                push_c2h_term_req(out, error, self.receiver.header());
+                self.end();
+            }
+        }
+    }
+
+    /// Deals with a capsule.
+    fn command(&mut self, out: &mut Vec<u8>)
+        requires whole { self.old.receiver.progress ≡ Whole CapsuleCmd }
+        requires some { 0 < self.old.queue.entries }
+        requires most { self.old.queue.entries ≤ MOST_ENTRIES }
+        requires room { vec_len out.old + MOST_SENT ≤ vec_capacity out.old }
+        ensures state { self.new ≡ (commanded self.old).0 }
+        ensures sent { Sends out.old out.new (commanded self.old).1 }
+    {
+        let entry = entry_in(self.receiver.header());
+        let inside = self.receiver.data().len();
+        self.take_command(entry, inside, out);
+    }
+
+    /// Deals with a capsule that has this entry, and so many bytes of data.
+    fn take_command(&mut self, entry: [u8; ENTRY_BYTES], inside: usize, out: &mut Vec<u8>)
+        requires whole { self.old.receiver.progress ≡ Whole CapsuleCmd }
+        requires some { 0 < self.old.queue.entries }
+        requires most { self.old.queue.entries ≤ MOST_ENTRIES }
+        requires room { vec_len out.old + MOST_SENT ≤ vec_capacity out.old }
+        ensures state { self.new ≡ (commanded_by entry inside self.old).0 }
+        ensures sent { Sends out.old out.new (commanded_by entry inside self.old).1 }
+    {
+        if self.may_come(identifier(&entry)) {
+            self.judge(entry, inside, out);
+        } else {
+            push_c2h_term_req(out, FatalError::PduSequence, self.receiver.header());
+            self.end();
+        }
+    }
+
+    /// Completes a command at once, or has it be executed, or wait.
+    fn judge(&mut self, entry: [u8; ENTRY_BYTES], inside: usize, out: &mut Vec<u8>)
+        requires whole { self.old.receiver.progress ≡ Whole CapsuleCmd }
+        requires some { 0 < self.old.queue.entries }
+        requires few { count_of self.old.commands < MOST_ENTRIES }
+        requires room { vec_len out.old + MOST_SENT ≤ vec_capacity out.old }
+        ensures state { self.new ≡ (judged (wanted_checked entry inside) entry inside self.old).0 }
+        ensures sent { Sends out.old out.new (judged (wanted_checked entry inside) entry inside self.old).1 }
+    {
+        match wanted_data(&entry, inside) {
+            Ok(wanted) => self.admit(entry, inside, wanted, out),
+            Err(status) => self.refuse(identifier(&entry), status, out),
+        }
+    }
+
+    /// May a command with this identifier come?
+    fn may_come(&self, command: u16) -> bool
+        ensures { result ≡ may_come command self.now }
+    {
+        self.commands.len() < self.queue.entries as usize && !self.commands.has(command)
+    }
+
+    /// Completes a command at once.
+    fn refuse(&mut self, command: u16, status: Status, out: &mut Vec<u8>)
+        requires some { 0 < self.old.queue.entries }
+        requires room { vec_len out.old + MOST_SENT ≤ vec_capacity out.old }
+        ensures state { self.new ≡ (answered command (refusal status) (with_next self.old)).0 }
+        ensures sent { Sends out.old out.new (answered command (refusal status) (with_next self.old)).1 }
+    {
+        self.receiver.next();
+        let outcome = Outcome {
+            status,
+            dw0: 0,
+            dw1: 0,
+        };
+        self.answer(command, outcome, out);
+    }
+
+    /// Has a command with so many bytes of data in its capsule be executed, or wait for its turn.
+    fn admit(
+        &mut self,
+        entry: [u8; ENTRY_BYTES],
+        inside: usize,
+        wanted: Option<TransferLength>,
+        out: &mut Vec<u8>,
+    )
+        requires whole { self.old.receiver.progress ≡ Whole CapsuleCmd }
+        requires few { count_of self.old.commands < MOST_ENTRIES }
+        requires room { vec_len out.old + MOST_SENT ≤ vec_capacity out.old }
+        ensures state { self.new ≡ (admitted entry inside wanted self.old).0 }
+        ensures sent { Sends out.old out.new (admitted entry inside wanted self.old).1 }
+    {
+        if inside == 0 {
+            self.join(WaitingCommand { entry, wanted }, out);
+        } else {
+            self.commands.run(identifier(&entry));
+        }
+    }
+
+    /// Has a command wait for its turn, and looks at it if it is the first.
+    fn join(&mut self, command: WaitingCommand, out: &mut Vec<u8>)
+        requires whole { self.old.receiver.progress ≡ Whole CapsuleCmd }
+        requires few { count_of self.old.commands < MOST_ENTRIES }
+        requires room { vec_len out.old + MOST_SENT ≤ vec_capacity out.old }
+        ensures state { self.new ≡ (joined command self.old).0 }
+        ensures sent { Sends out.old out.new (joined command self.old).1 }
+    {
+        let is_first = self.commands.first().is_none();
+        self.receiver.next();
+        self.commands.wait(command);
+        if is_first {
+            self.ask(identifier(&command.entry), command.wanted, out);
+        }
+    }
+
+    /// Asks for the data that the first command which waits wants.
+    pub(crate) fn ask(&mut self, command: u16, wanted: Option<TransferLength>, out: &mut Vec<u8>)
+        requires between { IsBetween self.old.receiver }
+        requires room { vec_len out.old + 24 ≤ vec_capacity out.old }
+        ensures state { self.new ≡ (asked command wanted self.old).0 }
+        ensures sent { Sends out.old out.new (asked command wanted self.old).1 }
+    {
+        if let Some(length) = wanted {
+            let transfer = ReadyToTransfer {
+                command,
+                tag: 0,
+                length: length.get(),
+            };
+            push_r2t(out, transfer);
+            self.receiver.expect_data(Some(transfer));
+        }
+    }
+}
+
+/// The entry in the header of a capsule.
+pub(crate) fn entry_in(header: &[u8]) -> [u8; ENTRY_BYTES]
+    requires { length header.now ≡ 72 }
+    ensures { result ≡ drop 8 header.now }
+{
+    let mut entry = [0; ENTRY_BYTES];
+    entry.copy_from_slice(&header[COMMON_HEADER_BYTES..]);
+    entry
+}

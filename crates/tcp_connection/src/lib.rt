@@ -1,0 +1,18 @@
+//! One connection of NVMe over TCP, from its initialization to its end: what is sent for what comes.
+#![tactic(auto)]
+
+mod commands;
+mod connection;
+mod dealing;
+mod executing;
+mod laws;
+mod queue;
+mod state;
+mod taking;
+
+pub use commands::{MOST_ENTRIES, WaitingCommand};
+pub use connection::Connection;
+pub use dealing::MOST_SENT;
+pub use executing::MOST_BESIDE_DATA;
+pub use laws::steps_join;
+pub use queue::{Outcome, Phase, Queue, UNCONNECTED};

@@ -1,0 +1,247 @@
+//! What Linux 6.1 sent on a connection, and what answered it, byte by byte.
+
+ghost use Rattle.std.specs.Prelude.{◌≡◌, ◌<◌, ◌≤◌, ◌+◌, length};
+
+use std::alloc::Global;
+use std::process::Abort;
+use std::test::*;
+use tcp_capsules::identifier;
+use tcp_connection::{Connection, MOST_ENTRIES, Outcome, Queue};
+use zone_state::{Status, StatusType};
+
+/// An ICReq: PFV, HPDA, DGST and MAXR2T 0.
+fn ic_req() -> [u8; 128] {
+    let mut bytes = [0; 128];
+    bytes[2] = 128;
+    bytes[4] = 128;
+    bytes
+}
+
+/// The capsule of Connect to queue 1, but for its 1024 bytes of data: identifier 0, SQSIZE 127, all data in the capsule.
+const CONNECT: [u8; 72] = [
+    0x04, 0, 72, 72, 0x48, 4, 0, 0, 0x7F, 0x40, 0, 0, 0x01, 0, 0, 0, 0, 0, 0, 0, 0, 0, 0, 0, 0, 0,
+    0, 0, 0, 0, 0, 0, 0, 0, 0, 0, 0, 0, 0, 0, 0, 4, 0, 0, 0, 0, 0, 0x01, 0, 0, 1, 0, 127, 0, 0, 0,
+    0, 0, 0, 0, 0, 0, 0, 0, 0, 0, 0, 0, 0, 0, 0, 0,
+];
+
+/// The capsule of a Load of 7 bytes into slot 1: identifier 0069h, an SGL of type 5Ah.
+const LOAD: [u8; 72] = [
+    0x04, 0, 72, 0, 72, 0, 0, 0, 0xC1, 0x40, 0x69, 0, 1, 0, 0, 0, 0, 0, 0, 0, 0, 0, 0, 0, 0, 0, 0,
+    0, 0, 0, 0, 0, 0, 0, 0, 0, 0, 0, 0, 0, 7, 0, 0, 0, 0, 0, 0, 0x5A, 1, 0, 0, 0, 0x42, 0, 0, 0, 7,
+    0, 0, 0, 0, 0, 0, 0, 0, 0, 0, 0, 0, 0, 0, 0,
+];
+
+/// Its data in an H2CData.
+const LOAD_DATA: [u8; 31] = [
+    0x06, 4, 24, 24, 31, 0, 0, 0, 0x69, 0, 0, 0, 0, 0, 0, 0, 7, 0, 0, 0, 0, 0, 0, 0, 1, 2, 3, 4, 5,
+    6, 7,
+];
+
+/// The capsule of a Result that takes 8 bytes: identifier 006Bh, of slot 0.
+const RESULT: [u8; 72] = [
+    0x04, 0, 72, 0, 72, 0, 0, 0, 0xC2, 0x40, 0x6B, 0, 1, 0, 0, 0, 0, 0, 0, 0, 0, 0, 0, 0, 0, 0, 0,
+    0, 0, 0, 0, 0, 0, 0, 0, 0, 0, 0, 0, 0, 8, 0, 0, 0, 0, 0, 0, 0x5A, 0, 0, 0, 0, 0, 0, 0, 0, 0, 0,
+    0, 0, 0, 0, 0, 0, 0, 0, 0, 0, 0, 0, 0, 0,
+];
+
+/// What answers Connect: the ICResp (but for its zeros), and success with controller 1.
+const CONNECTED: [u8; 24] = [
+    5, 0, 24, 0, 24, 0, 0, 0, 1, 0, 0, 0, 0, 0, 0, 0, 1, 0, 1, 0, 0, 0, 0, 0,
+];
+
+/// What answers the Load: an R2T for 7 bytes, and Program Refused (7C2h) with Dword 1 14h and Do Not Retry.
+const LOADED: [u8; 48] = [
+    9, 0, 24, 0, 24, 0, 0, 0, 0x69, 0, 0, 0, 0, 0, 0, 0, 7, 0, 0, 0, 0, 0, 0, 0, 5, 0, 24, 0, 24,
+    0, 0, 0, 0, 0, 0, 0, 0x14, 0, 0, 0, 2, 0, 1, 0, 0x69, 0, 0x84, 0x8F,
+];
+
+/// What answers the Result: 8 bytes in a C2HData, and success.
+const GIVEN: [u8; 56] = [
+    7, 4, 24, 24, 32, 0, 0, 0, 0x6B, 0, 0, 0, 0, 0, 0, 0, 8, 0, 0, 0, 0, 0, 0, 0, 9, 9, 9, 9, 9, 9,
+    9, 9, 5, 0, 24, 0, 24, 0, 0, 0, 0, 0, 0, 0, 0, 0, 0, 0, 3, 0, 1, 0, 0x6B, 0, 0, 0,
+];
+
+/// The stream of the host.
+fn stream(alloc: Global) -> Result<Vec<u8>, Fail> {
+    let mut bytes = Vec::new(alloc);
+    bytes.extend_from_slice(&ic_req())?;
+    bytes.extend_from_slice(&CONNECT)?;
+    bytes.extend_from_slice(&[0x55; 1024])?;
+    bytes.extend_from_slice(&LOAD)?;
+    bytes.extend_from_slice(&LOAD_DATA)?;
+    bytes.extend_from_slice(&RESULT)?;
+    Ok(bytes)
+}
+
+/// A connection, and all that it sent.
+#[derive(Drop)]
+struct Served {
+    connection: Connection,
+    sent: Vec<u8>,
+}
+
+/// Takes a piece whole, and executes each command that is ready.
+fn serve(rt: &impl Abort, alloc: Global, served: &mut Served, piece: &[u8]) -> Result<(), Fail> {
+    let mut rest = piece;
+    for _ in 0..=piece.len() {
+        let mut out = Vec::with_capacity(alloc, 256)?;
+        let count = served.connection.take(rest, &mut out);
+        rest = &rest[count..];
+        served.sent.extend_from_slice(out.as_slice())?;
+        execute(rt, alloc, served)?;
+    }
+    assert!(rt; rest.is_empty() || served.connection.is_ended());
+    Ok(())
+}
+
+/// Executes the command that is ready, and those behind it.
+fn execute(rt: &impl Abort, alloc: Global, served: &mut Served) -> Result<(), Fail> {
+    for _ in 0..MOST_ENTRIES {
+        let Some(entry) = served.connection.ready() else {
+            return Ok(());
+        };
+        let size = served.connection.ready_data().len();
+        let mut out = Vec::with_capacity(alloc, 512)?;
+        served.connection.go(&mut out);
+        let command = identifier(&entry);
+        match entry[0] {
+            0x7F => {
+                assert_eq!(rt; size, 1024);
+                let queue = Queue {
+                    id: 1,
+                    entries: 128,
+                    has_flow_control: true,
+                };
+                served.connection.connect(queue, 0);
+            }
+            0xC1 => assert_eq!(rt; size, 7),
+            _ => assert_eq!(rt; size, 0),
+        }
+        served.sent.extend_from_slice(out.as_slice())?;
+        complete(alloc, served, entry[0], command)?;
+    }
+    Ok(())
+}
+
+/// Completes a command, by its opcode.
+fn complete(alloc: Global, served: &mut Served, opcode: u8, command: u16) -> Result<(), Fail> {
+    let mut out = Vec::with_capacity(alloc, 512)?;
+    let (status, dw0, dw1) = match opcode {
+        0x7F => (Status::SUCCESS, 1, 0),
+        0xC1 => (Status::PROGRAM_REFUSED, 0, 0x14),
+        _ => (Status::SUCCESS, 0, 0),
+    };
+    let outcome = Outcome { status, dw0, dw1 };
+    let data: &[u8] = if opcode == 0xC2 { &[9; 8] } else { &[] };
+    served.connection.complete(command, outcome, data, &mut out);
+    served.sent.extend_from_slice(out.as_slice())?;
+    Ok(())
+}
+
+/// A connection that has taken the stream in pieces of so many bytes.
+fn serve_stream(rt: &impl Abort, alloc: Global, stream: &[u8], size: usize) -> Result<Served, Fail>
+    requires { 0 < size }
+{
+    let mut served = Served {
+        connection: Connection::new(alloc)?,
+        sent: Vec::new(alloc),
+    };
+    for piece in stream.chunks(size) {
+        serve(rt, alloc, &mut served, piece)?;
+    }
+    Ok(served)
+}
+
+#[test]
+fn commands_are_answered(rt: HostRuntime) -> Result<(), Fail> {
+    let alloc = rt.alloc();
+    let stream = stream(alloc)?;
+    for size in [1, 7, 72, 1000, 2000] {
+        let served = serve_stream(&rt, alloc, stream.as_slice(), size)?;
+        let sent = served.sent.as_slice();
+        assert_eq!(rt; sent.len(), 128 + 24 + 48 + 56, "in pieces of {size}");
+        assert!(rt; sent[128..].starts_with(&CONNECTED));
+        assert!(rt; sent[152..].starts_with(&LOADED));
+        assert!(rt; sent[200..].starts_with(&GIVEN));
+        assert!(rt; !served.connection.is_ended());
+    }
+    Ok(())
+}
+
+/// The stream up to the Load, and these bytes behind it.
+fn stream_with(alloc: Global, behind: &[u8]) -> Result<Vec<u8>, Fail> {
+    let mut bytes = Vec::new(alloc);
+    bytes.extend_from_slice(&ic_req())?;
+    bytes.extend_from_slice(&CONNECT)?;
+    bytes.extend_from_slice(&[0x55; 1024])?;
+    bytes.extend_from_slice(&LOAD)?;
+    bytes.extend_from_slice(behind)?;
+    Ok(bytes)
+}
+
+/// What answers a Load that comes again before its data: PDU Sequence Error, and its header.
+const ENDED: [u8; 24] = [
+    3, 0, 24, 0, 96, 0, 0, 0, 2, 0, 0, 0, 0, 0, 0, 0, 0, 0, 0, 0, 0, 0, 0, 0,
+];
+
+#[test]
+fn an_identifier_in_use_ends_the_connection(rt: HostRuntime) -> Result<(), Fail> {
+    let alloc = rt.alloc();
+    let stream = stream_with(alloc, &LOAD)?;
+    for size in [1, 100, 2000] {
+        let mut served = serve_stream(&rt, alloc, stream.as_slice(), size)?;
+        serve(&rt, alloc, &mut served, &LOAD_DATA)?;
+        let sent = served.sent.as_slice();
+        assert_eq!(rt; sent.len(), 128 + 24 + 24 + 96);
+        assert!(rt; sent[176..].starts_with(&ENDED));
+        assert!(rt; sent[200..].starts_with(&LOAD));
+        assert!(rt; served.connection.is_ended());
+    }
+    Ok(())
+}
+
+#[test]
+fn the_host_may_end_the_connection(rt: HostRuntime) -> Result<(), Fail> {
+    let alloc = rt.alloc();
+    let mut end = [0; 24];
+    end[0] = 2;
+    end[2] = 24;
+    end[4] = 24;
+    let stream = stream_with(alloc, &end)?;
+    let mut served = serve_stream(&rt, alloc, stream.as_slice(), 50)?;
+    serve(&rt, alloc, &mut served, &LOAD_DATA)?;
+    assert_eq!(rt; served.sent.len(), 128 + 24 + 24);
+    assert!(rt; served.connection.is_ended());
+    Ok(())
+}
+
+/// Changes of the Result's capsule, each with the status that refuses it, as the last two bytes of its completion tell it.
+const REFUSED: &[(usize, u8, u16)] = &[
+    (9, 0x00, 0x8004),
+    (47, 0x0F, 0x8022),
+    (47, 0x01, 0x8022),
+    (8, 0xC1, 0x0000),
+];
+
+#[test]
+fn capsules_are_refused_at_once(rt: HostRuntime) -> Result<(), Fail> {
+    let alloc = rt.alloc();
+    for (place, byte, told) in REFUSED {
+        let mut result = RESULT;
+        if *place < result.len() {
+            result[*place] = *byte;
+        }
+        let stream = stream_with(alloc, &result)?;
+        let served = serve_stream(&rt, alloc, stream.as_slice(), 200)?;
+        let sent = served.sent.as_slice();
+        if *told == 0 {
+            assert_eq!(rt; sent.len(), 128 + 24 + 24);
+        } else {
+            assert_eq!(rt; sent.len(), 128 + 24 + 24 + 24);
+            let [low, high] = told.to_le_bytes();
+            assert_eq!(rt; sent[198], low, "at {place}");
+            assert_eq!(rt; sent[199], high, "at {place}");
+        }
+    }
+    Ok(())
+}

@@ -1,0 +1,11 @@
+//! Receives the PDUs of one connection of NVMe over TCP, from a stream that comes in any pieces.
+#![tactic(auto)]
+
+mod expected;
+mod laws;
+mod parts;
+mod receiver;
+
+pub use expected::{Expected, Progress};
+pub use laws::pieces_join;
+pub use receiver::{MOST_IN_CAPSULE, Receiver};
