@@ -1,2 +1,4 @@
 mod Passed
 mod Tables
+mod Functions
+mod Apart

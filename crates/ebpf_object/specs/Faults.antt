@@ -24,7 +24,7 @@ use Rattle.ebpf_object.specs.declared.symbol.TheConstants.{SYMBOL_BYTES}
 use Rattle.ebpf_object.specs.Header.{section_table}
 use Rattle.ebpf_object.specs.Names.{is_ended}
 use Rattle.ebpf_object.specs.Relocations.{changed_bytes, relocation_at}
-use Rattle.ebpf_object.specs.Sections.{contents, has_bytes, is_string_table, lies_inside, section_at}
+use Rattle.ebpf_object.specs.Sections.{contents, first_overlap, has_bytes, is_string_table, lies_inside, section_at}
 use Rattle.ebpf_object.specs.Symbols.{is_whole, symbol_at, symbol_count}
 
 -- ---- of the ELF header
@@ -75,6 +75,11 @@ any_section_checks bytes at =
 abbrev pub any_section_fault : List ℕ → Section → Option SectionFault
 any_section_fault bytes at = first_failed (any_section_checks bytes at)
 
+-- of a section that has bytes in common with this one of a lower number
+abbrev pub told_overlap : Option ℕ → Option SectionFault
+told_overlap None = None
+told_overlap (Some other) = Some (section.Overlap other)
+
 -- of a symbol table: it has whole entries, whose names are in a string table
 abbrev pub symbol_table_checks : List ℕ → Section → List (Option SectionFault)
 symbol_table_checks bytes at =
@@ -101,7 +106,8 @@ kind_fault bytes symbols at _ = None
 -- the first fault of the section with this number, where the symbol table has that number
 abbrev pub section_fault : List ℕ → ℕ → ℕ → Option SectionFault
 section_fault bytes symbols number =
-    let at = section_at bytes number in option_or (any_section_fault bytes at) (kind_fault bytes symbols at at.kind)
+    let at = section_at bytes number in
+    option_or (any_section_fault bytes at) (option_or (told_overlap (first_overlap bytes at number)) (kind_fault bytes symbols at at.kind))
 
 -- ---- of a symbol
 

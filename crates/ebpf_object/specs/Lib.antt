@@ -6,3 +6,4 @@ pub mod Relocations
 pub mod Faults
 pub mod First
 pub mod Objects
+pub mod Functions

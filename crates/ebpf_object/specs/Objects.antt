@@ -3,6 +3,7 @@ use Rattle.std.specs.Prelude.{◌≡◌, ◌<◌, ℕ, List, Option, None, Some,
 use Rattle.ebpf_object.specs.declared.fault.ObjectFault.{ObjectFault}
 use Rattle.ebpf_object.specs.declared.fault.ObjectFault.TheVariants.{Header, NoSymbols, Section, Symbol, Relocation}
 use Rattle.ebpf_object.specs.declared.fault.RelocationFault.{RelocationFault}
+use Rattle.ebpf_object.specs.declared.fault.SectionFault.{SectionFault}
 use Rattle.ebpf_object.specs.declared.section.SectionKind.{SectionKind}
 use Rattle.ebpf_object.specs.declared.section.SectionKind.TheVariants.{Relocations}
 use Rattle.ebpf_object.specs.Faults.{header_fault, relocation_fault, section_fault, symbol_fault}
@@ -10,7 +11,7 @@ use Rattle.ebpf_object.specs.First.{IsFirst, NoneHas}
 use Rattle.ebpf_object.specs.Header.{section_table}
 use Rattle.ebpf_object.specs.Names.{name_in}
 use Rattle.ebpf_object.specs.Relocations.{relocation_count}
-use Rattle.ebpf_object.specs.Sections.{contents, is_symbols, section_at}
+use Rattle.ebpf_object.specs.Sections.{IsIn, contents, is_symbols, section_at}
 use Rattle.ebpf_object.specs.Symbols.{symbol_at, symbol_count}
 
 -- how many sections there are
@@ -40,13 +41,19 @@ faults_in bytes symbols number = relocation_fault bytes (section_at bytes symbol
 
 -- no relocation of the sections below a number has a fault
 abbrev pub NoRelocationHas : List ℕ → ℕ → ℕ → Type 0
-NoRelocationHas bytes symbols count = (section : ℕ) → section < count → NoneHas (faults_in bytes symbols section) (relocations_in bytes section)
+NoRelocationHas bytes symbols count =
+    (section : ℕ) → section < count → NoneHas (faults_in bytes symbols section) (relocations_in bytes section)
 
 -- the first relocation with a fault, by its section and by its number in that
 pub record IsFirstRelocation (bytes : List ℕ) (symbols section number : ℕ) (fault : RelocationFault) : Type 0 where
   pub within : section < section_count bytes
   pub before : NoRelocationHas bytes symbols section
   pub here : IsFirst (faults_in bytes symbols section) (relocations_in bytes section) number fault
+
+-- the first section with a fault, where the symbol table is the section with this number
+abbrev pub IsFirstSection : List ℕ → ℕ → ℕ → SectionFault → Type 0
+IsFirstSection bytes symbols number fault =
+    IsSymbolTable bytes symbols × IsFirst (section_fault bytes symbols) (section_count bytes) number fault
 
 -- bytes whose header and sections have no fault; the symbol table is the section with this number
 pub record AreSections (bytes : List ℕ) (symbols : ℕ) : Type 0 where
@@ -69,13 +76,20 @@ abbrev pub IsTold : List ℕ → ObjectFault → Type 0
 IsTold bytes (Header fault) = header_fault bytes ≡ Some fault
 IsTold bytes NoSymbols = (header_fault bytes ≡ None) × NoneHas (symbol_table_at bytes) (section_count bytes)
 IsTold bytes (Section number fault) =
-    (symbols : ℕ) × (header_fault bytes ≡ None) × IsSymbolTable bytes symbols × IsFirst (section_fault bytes symbols) (section_count bytes) number fault
+    (symbols : ℕ) × (header_fault bytes ≡ None) × IsFirstSection bytes symbols number fault
 IsTold bytes (Symbol number fault) =
     (symbols : ℕ) × AreSections bytes symbols
     × IsFirst (symbol_fault bytes (section_at bytes symbols)) (symbol_count (section_at bytes symbols)) number fault
-IsTold bytes (Relocation section number fault) = (symbols : ℕ) × AreSymbols bytes symbols × IsFirstRelocation bytes symbols section number fault
+IsTold bytes (Relocation section number fault) =
+    (symbols : ℕ) × AreSymbols bytes symbols × IsFirstRelocation bytes symbols section number fault
 
 -- ---- what an object has
+
+-- no byte of the file is in two sections (gABI, chapter 4, Sections)
+abbrev pub AreApart : List ℕ → Type 0
+AreApart bytes =
+    (byte a b : ℕ) → a < section_count bytes → b < section_count bytes → IsIn byte (section_at bytes a) → IsIn byte (section_at bytes b)
+    → a ≡ b
 
 -- the name of the section with this number
 abbrev pub section_name : List ℕ → ℕ → List ℕ

@@ -1,5 +1,6 @@
 -- Section headers (gABI, chapter 4, Sections): 64 bytes each.
-use Rattle.std.specs.Prelude.{◌≡◌, ◌≤◌, ℕ, ◌+◌, ◌*◌, ◌==◌, ◌||◌, nat_le, Bool, true, false, not, List, [], length, take, drop, if◌then◌else◌}
+use Rattle.std.specs.Prelude.{◌≡◌, ◌<◌, ◌≤◌, ℕ, ◌+◌, ◌-◌, ◌*◌, zero, suc, ◌==◌, ◌&&◌, ◌||◌, nat_le, nat_lt, Bool, true, false, not, List, [], length, take, drop, Option, None, Some, if◌then◌else◌}
+use Rattle.std.specs.Option.{option_or}
 use Rattle.common_definitions.specs.Bytes.{field}
 use Rattle.ebpf_object.specs.declared.header.TheConstants.{SECTION_HEADER_BYTES}
 use Rattle.ebpf_object.specs.declared.header.SectionTable.{SectionTable}
@@ -49,6 +50,23 @@ contents bytes section = if has_contents section.kind then take section.size (dr
 -- do a section's bytes lie in the file?
 abbrev pub lies_inside : List ℕ → Section → Bool
 lies_inside bytes section = not (has_contents section.kind) || nat_le (section.offset + section.size) (length bytes)
+
+-- is this byte of the file one of a section's?
+pub record IsIn (byte : ℕ) (section : Section) : Type 0 where
+  pub has : has_contents section.kind ≡ true
+  pub from : section.offset ≤ byte
+  pub below : byte < section.offset + section.size
+
+-- have two sections a byte of the file in common? (then the greater of the two at which they begin is one)
+abbrev pub overlap : Section → Section → Bool
+overlap a b =
+    has_contents a.kind && has_contents b.kind && nat_lt (b.offset - a.offset) a.size && nat_lt (a.offset - b.offset) b.size
+
+-- the first section with a number below this one that has a byte in common with a section
+abbrev pub first_overlap : List ℕ → Section → ℕ → Option ℕ
+first_overlap bytes section zero = None
+first_overlap bytes section (suc count) =
+    option_or (first_overlap bytes section count) (if overlap (section_at bytes count) section then Some count else None)
 
 -- is it a string table?
 abbrev pub is_strings : SectionKind → Bool

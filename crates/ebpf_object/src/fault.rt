@@ -43,6 +43,9 @@ pub enum SectionFault {
     /// Its name begins behind the names of sections.
     #[error("has a name behind the names of sections")]
     Name,
+    /// It has bytes of the file in common with the section of this lower number, the first such one.
+    #[error("has bytes that section {0} has too")]
+    Overlap(usize),
     /// The last byte of a string table is not 0, or it has none.
     #[error("a string table that does not end with a 0")]
     Unended,

@@ -2,9 +2,11 @@
 //! and relocations. Reading one asks for no memory: what it has is read where it stands in the file.
 #![tactic(auto)]
 
+mod changes;
 mod entry_fault;
 mod fault;
 mod fields;
+mod function;
 mod header;
 mod names;
 mod object;
@@ -16,6 +18,7 @@ mod section_fault;
 mod symbol;
 
 pub use fault::{HeaderFault, ObjectFault, RelocationFault, SectionFault, SymbolFault};
+pub use function::Function;
 pub use header::SectionTable;
 pub use object::Object;
 pub use relocation::{Relocation, RelocationKind};

@@ -1,17 +1,20 @@
 //! Objects.
 
-ghost use Rattle.std.specs.Prelude.{ℕ, ◌≡◌, ◌<◌, ◌≤◌, ◌+◌, length, IfErr, IfOk, IsTrue, MatchResult, None};
+ghost use Rattle.std.specs.Prelude.{ℕ, ◌≡◌, ◌<◌, ◌≤◌, ◌+◌, ◌*◌, length, IfErr, IfOk, IfSome, IsTrue, MatchOption, MatchResult, None};
 ghost use Rattle.ebpf_object.specs.Faults.{header_fault, section_fault};
 ghost use Rattle.ebpf_object.specs.First.{NoneHas};
-ghost use Rattle.ebpf_object.specs.Objects.{AreSections, AreSymbols, IsObject, IsSymbolTable, IsTold, relocations_in, section_count, section_name, symbol_name};
+ghost use Rattle.ebpf_object.specs.Functions.{IsFirstChange, LiesIn, NoChange, code_of, function_of};
+ghost use Rattle.ebpf_object.specs.Objects.{AreApart, AreSections, AreSymbols, IsObject, IsSymbolTable, IsTold, relocations_in, section_count, section_name, symbol_name};
 ghost use Rattle.ebpf_object.specs.Relocations.{relocation_at};
 ghost use Rattle.ebpf_object.specs.Sections.{HeadersAre, contents, lies_inside, section_at};
 ghost use Rattle.ebpf_object.specs.Symbols.{symbol_at, symbol_count};
 
+use crate::changes::first_change;
 use crate::fault::ObjectFault;
+use crate::function::Function;
 use crate::header::{SectionTable, header_fault, section_table};
 use crate::names::name_in;
-use crate::parts::{relocation_of, section_of, symbol_of, symbol_table_of};
+use crate::parts::{function_with, relocation_of, section_of, symbol_of, symbol_table_of};
 use crate::relocation::{RELOCATION_BYTES, Relocation};
 use crate::search::{faulty_relocation, faulty_section, faulty_symbol, symbol_table};
 use crate::section::{Section, SectionKind, contents, section_at};
@@ -88,13 +91,15 @@ pub struct Object<'a> {
 }
 
 impl<'a> Object<'a> {
-    /// The object whose bytes these are. It asks for no memory, and takes a time that goes with their number.
+    /// The object whose bytes these are; no byte of the file is in two of its sections. It asks for no memory, and takes a time that
+    /// goes with the number of bytes and with the square of that of the sections.
     ///
     /// # Errors
     ///
     /// The first fault: of the header, else of the sections, else of the symbols, else of the relocations.
     pub fn read(bytes: &'a [u8]) -> Result<Object<'a>, ObjectFault>
         ensures found { IfOk result (λ object. object.bytes.now ≡ bytes.now) }
+        ensures apart { IfOk result (λ _. AreApart bytes.now) }
         ensures told { IfErr result (λ fault. IsTold bytes.now fault) }
     {
         let table = checked_header(bytes)?;
@@ -198,5 +203,36 @@ impl<'a> Object<'a> {
             self.contents(self.symbol_table().link),
             self.symbol(number).name,
         )
+    }
+
+    /// The function that the symbol with this number stands for; `None` where it stands for something else, or for a function
+    /// that isn't in this object.
+    pub fn function(&self, number: usize) -> Option<Function>
+        requires { number < symbol_count (section_at self.now.bytes.now self.now.symbols) }
+        ensures value { result ≡ function_of (symbol_at self.now.bytes.now (section_at self.now.bytes.now self.now.symbols) number) }
+        // It lies in a section that is there.
+        ensures inside { IfSome result (λ function. LiesIn self.now.bytes.now function) }
+    {
+        function_with(self.bytes, self.table, self.symbols, number)
+    }
+
+    /// The bytes of a function.
+    pub fn code(&self, function: Function) -> &'a [u8]
+        requires { LiesIn self.now.bytes.now function }
+        ensures value { result.now ≡ code_of self.now.bytes.now function }
+        ensures whole { length result.now ≡ 8 * function.slots }
+    {
+        &self.contents(function.section)[function.offset..][..8 * function.slots]
+    }
+
+    /// The first relocation that changes what begins at this byte of a section, with the number of the section that has it, and its
+    /// number there. `None` where nothing changes it.
+    pub fn change(&self, section: usize, byte: usize) -> Option<(usize, usize, Relocation)>
+        ensures first { MatchOption result (NoChange self.now.bytes.now section byte (section_count self.now.bytes.now))
+            (λ found. IsFirstChange self.now.bytes.now section byte found.0 found.1 found.2) }
+        // Its symbol is there.
+        ensures symbol { IfSome result (λ found. found.2.symbol < symbol_count (section_at self.now.bytes.now self.now.symbols)) }
+    {
+        first_change(self, section, byte)
     }
 }

@@ -1,12 +1,14 @@
 //! The parts of an object, by its bytes, its section headers and the number of its symbol table.
 
-ghost use Rattle.std.specs.Prelude.{ℕ, ◌≡◌, ◌<◌, ◌≤◌, ◌+◌, length, IsTrue};
+ghost use Rattle.std.specs.Prelude.{ℕ, ◌≡◌, ◌<◌, ◌≤◌, ◌+◌, length, IfSome, IsTrue};
+ghost use Rattle.ebpf_object.specs.Functions.{LiesIn, function_of};
 ghost use Rattle.ebpf_object.specs.Objects.{IsObject, relocations_in, section_count};
 ghost use Rattle.ebpf_object.specs.Relocations.{relocation_at};
 ghost use Rattle.ebpf_object.specs.Sections.{HeadersAre, lies_inside, section_at};
 ghost use Rattle.ebpf_object.specs.Symbols.{symbol_at, symbol_count};
 
 use crate::entry_fault::{relocation_at, symbol_at};
+use crate::function::{Function, function_of};
 use crate::header::SectionTable;
 use crate::relocation::Relocation;
 use crate::section::{Section, section_at};
@@ -66,4 +68,20 @@ pub(crate) fn relocation_of(
     ensures symbol { result.symbol < symbol_count (section_at bytes.now symbols) }
 {
     relocation_at(bytes, section_at(bytes, table, section), number)
+}
+
+/// The function that the symbol with this number stands for, where it stands for one of this object.
+pub(crate) fn function_with(
+    bytes: &[u8],
+    table: SectionTable,
+    symbols: usize,
+    number: usize,
+) -> Option<Function>
+    requires headers { HeadersAre bytes.now table }
+    requires object { IsObject bytes.now symbols }
+    requires there { number < symbol_count (section_at bytes.now symbols) }
+    ensures value { result ≡ function_of (symbol_at bytes.now (section_at bytes.now symbols) number) }
+    ensures inside { IfSome result (λ function. LiesIn bytes.now function) }
+{
+    function_of(&symbol_of(bytes, table, symbols, number))
 }

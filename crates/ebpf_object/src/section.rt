@@ -1,7 +1,7 @@
 //! Section headers (gABI, chapter 4, Sections).
 
 ghost use Rattle.std.specs.Prelude.{◌≡◌, ◌+◌, ◌*◌, ◌<◌, ◌≤◌, length, nat_lt, ◌&&◌, IsTrue};
-ghost use Rattle.ebpf_object.specs.Sections.{HeadersAre, contents, has_bytes, has_contents, is_string_table, lies_inside, section_at, section_header, section_kind};
+ghost use Rattle.ebpf_object.specs.Sections.{HeadersAre, contents, first_overlap, has_bytes, has_contents, is_string_table, lies_inside, overlap, section_at, section_header, section_kind};
 
 use crate::fields::{double_word_at, lie_in, word_at};
 use crate::header::{SECTION_HEADER_BYTES, SectionTable};
@@ -114,6 +114,35 @@ pub(crate) fn contents(bytes: &[u8], section: Section) -> &[u8]
     } else {
         &[]
     }
+}
+
+/// Have two sections a byte of the file in common?
+fn overlap(a: Section, b: Section) -> bool
+    ensures { result ≡ overlap a b }
+{
+    a.kind.has_contents()
+        && b.kind.has_contents()
+        && b.offset.saturating_sub(a.offset) < a.size
+        && a.offset.saturating_sub(b.offset) < b.size
+}
+
+/// The first section with a number below this one that has a byte in common with a section.
+pub(crate) fn first_overlap(
+    bytes: &[u8],
+    table: SectionTable,
+    section: Section,
+    count: usize,
+) -> Option<usize>
+    requires headers { HeadersAre bytes.now table }
+    requires there { count ≤ table.count }
+    ensures { result ≡ first_overlap bytes.now section count }
+{
+    for number in 0..count {
+        if overlap(section_at(bytes, table, number), section) {
+            return Some(number);
+        }
+    }
+    None
 }
 
 /// Is there a section with this number, and is it a string table?

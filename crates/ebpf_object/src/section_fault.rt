@@ -10,7 +10,8 @@ use crate::header::SectionTable;
 use crate::names::is_ended;
 use crate::relocation::RELOCATION_BYTES;
 use crate::section::{
-    Section, SectionKind, contents, has_bytes, is_string_table, lies_inside, section_at,
+    Section, SectionKind, contents, first_overlap, has_bytes, is_string_table, lies_inside,
+    section_at,
 };
 use crate::symbol::SYMBOL_BYTES;
 
@@ -101,6 +102,9 @@ pub(crate) fn section_fault(
     let section = section_at(bytes, table, number);
     if let Some(fault) = any_section_fault(bytes, table, section) {
         return Some(fault);
+    }
+    if let Some(other) = first_overlap(bytes, table, section, number) {
+        return Some(SectionFault::Overlap(other));
     }
     kind_fault(bytes, table, symbols, section)
 }
