@@ -244,8 +244,12 @@ fn instruction(opcode: Opcode, fields: &Fields, next: Option<Fields>) -> Option<
     }
 }
 
-/// The instruction of a slot, where the next slot is known, or its first fault.
-fn read(fields: &Fields, next: Option<Fields>) -> Result<Instruction, FaultKind>
+/// The instruction that begins at a slot with these fields, where the next slot is known (RFC 9669, 3).
+///
+/// # Errors
+///
+/// Its first fault.
+pub fn read(fields: &Fields, next: Option<Fields>) -> Result<Instruction, FaultKind>
     ensures { result ≡ read fields.now next }
 {
     let opcode = Opcode::named(fields.opcode).ok_or(FaultKind::Opcode)?;
@@ -259,8 +263,8 @@ fn read(fields: &Fields, next: Option<Fields>) -> Result<Instruction, FaultKind>
     }
 }
 
-/// The fields of a slot, where the bytes have it.
-pub(crate) fn slot_at(bytes: &[u8], slot: usize) -> Option<Fields>
+/// The fields of a slot (RFC 9669, 3.1), where the bytes have it whole. Any fields are given, also those that no instruction has.
+pub fn slot_at(bytes: &[u8], slot: usize) -> Option<Fields>
     ensures { result ≡ fields_in slot bytes.now }
 {
     if slot < bytes.len() / 8 {

@@ -9,7 +9,7 @@ pub mod laws;
 mod opcode;
 mod refusal;
 
-pub use decoding::decode;
+pub use decoding::{decode, read, slot_at};
 pub use encoding::{encode, push_instruction};
 pub use fault::{DecodeFault, Fault, FaultKind};
 pub use refusal::ProgramRefusal;
