@@ -6,7 +6,7 @@ use ebpf_asm::assemble;
 use ebpf_decode::decode;
 use instruction_set::Program;
 use interp::{Machine, Step};
-use program_interface::{CONTEXT_BYTES, LARGEST_BLOCK, SCRATCH_BYTES};
+use program_interface::{CONTEXT_BYTES, LARGEST_BLOCK, SCRATCH_BYTES, STACK_BYTES};
 use program_meaning::{Cause, End};
 use std::alloc::Global;
 use std::process::Abort;
@@ -29,9 +29,9 @@ fn program_of_slots(alloc: Global, slots: &[u64]) -> Result<Program, Fail> {
 
 /// A block run, and the number of steps.
 fn run(rt: &impl Abort, program: &Program, block: &[u8; 512]) -> (End, u64) {
-    let mut scratch = [0; SCRATCH_BYTES];
+    let (mut scratch, mut stack) = ([0; SCRATCH_BYTES], [0; STACK_BYTES]);
     let context = [0; CONTEXT_BYTES];
-    let mut machine = Machine::new(block, &context, &mut scratch);
+    let mut machine = Machine::new(block, &context, &mut scratch, &mut stack);
     assert!(rt; program.at(machine.slot()).is_some());
     let end = machine.run_checked(program, 0, 100, &mut []);
     (end, machine.steps())
@@ -101,9 +101,9 @@ fn check_filter(rt: &impl Abort, filter: &Program, run: BlockRun) {
     let mut block = [0; 512];
     block[0] = 7;
     let context = [0; CONTEXT_BYTES];
-    let mut scratch = [0; SCRATCH_BYTES];
+    let (mut scratch, mut stack) = ([0; SCRATCH_BYTES], [0; STACK_BYTES]);
     let mut group = [9; 12];
-    let mut machine = Machine::new(&block, &context, &mut scratch);
+    let mut machine = Machine::new(&block, &context, &mut scratch, &mut stack);
     assert!(rt; filter.at(machine.slot()).is_some());
     assert!(rt; limit <= 10 && fuel <= 100);
     assert_eq!(rt; machine.run_checked(filter, limit, fuel, &mut group), end);
@@ -143,9 +143,9 @@ fn a_frame_that_fills_the_largest_block(rt: HostRuntime) -> Result<(), Fail> {
     let mut block = [3; LARGEST_BLOCK];
     block[LARGEST_BLOCK - 1] = 0;
     let context = [0; CONTEXT_BYTES];
-    let mut scratch = [0; SCRATCH_BYTES];
+    let (mut scratch, mut stack) = ([0; SCRATCH_BYTES], [0; STACK_BYTES]);
     let mut group = [0; LARGEST_BLOCK];
-    let mut machine = Machine::new(&block, &context, &mut scratch);
+    let mut machine = Machine::new(&block, &context, &mut scratch, &mut stack);
     assert!(rt; program.at(machine.slot()).is_some());
     let end = machine.run_checked(&program, LARGEST_BLOCK, 100, &mut group);
     assert_eq!(rt;
@@ -168,9 +168,9 @@ fn the_slots_of_a_block_run(rt: HostRuntime) -> Result<(), Fail> {
     let mut block = [0; 512];
     block[0] = 7;
     let context = [0; CONTEXT_BYTES];
-    let mut scratch = [0; SCRATCH_BYTES];
+    let (mut scratch, mut stack) = ([0; SCRATCH_BYTES], [0; STACK_BYTES]);
     let mut group = [0; 10];
-    let mut machine = Machine::new(&block, &context, &mut scratch);
+    let mut machine = Machine::new(&block, &context, &mut scratch, &mut stack);
     for slot in 0..6usize {
         assert_eq!(rt; machine.slot(), slot);
         assert!(rt; filter.at(machine.slot()).is_some());

@@ -8,7 +8,7 @@ use program_meaning::End;
 impl Machine<'_> {
     ghost use Rattle.std.specs.Prelude.{◌≡◌, ◌+◌, ◌<◌, ◌≤◌, ◌^◌, drop, length};
     ghost use Rattle.interp.specs.BlockRuns.{machine_run, run_left};
-    ghost use Rattle.interp.specs.Machine.{group_length, scratch_name, machine_slot, steps_of};
+    ghost use Rattle.interp.specs.Machine.{group_length, scratch_name, stack_name, machine_slot, steps_of};
     ghost use Rattle.program_meaning.specs.Step.{IsAt};
 
     /// Takes steps from where the machine stands until the block run ends, and at most `fuel` of them; where they are
@@ -32,6 +32,7 @@ impl Machine<'_> {
         ensures used { group_length self.new ≤ length group.new }
         ensures beyond { drop (group_length self.new) group.new ≡ drop (group_length self.new) group.old }
         ensures same_scratch { scratch_name self.new ≡ scratch_name self.old }
+        ensures same_stack { stack_name self.new ≡ stack_name self.old }
     {
         let mut slot = self.slot;
         'steps: for step in 0..fuel {

@@ -8,6 +8,7 @@ steps-preserved c = record {
   at = search rules;
   steps = search rules;
   same_scratch = search rules;
+  same_stack = search rules;
   grows = omega (arith, c.advance.ensures.extends.grows, c.steps.invariant.grows);
   used = search rules;
   beyond = c.advance.ensures.extends.beyond ∙ drop_later _ _ _ _ c.advance.ensures.extends.grows c.steps.invariant.beyond;
