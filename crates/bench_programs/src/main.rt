@@ -13,7 +13,7 @@ use runs::{Form, repeat, run};
 use std::rt::Clock;
 use std::time::Instant;
 use std::{env, io};
-use verified_run::Prepared;
+use verified_run::{Prepared, Stack};
 use verifier::Verified;
 
 /// The form that a word names.
@@ -57,7 +57,15 @@ fn main(rt: HostRuntime) -> io::Result<()> {
     let context = [0; CONTEXT_BYTES];
     let mut scratch = [0; SCRATCH_BYTES];
     let mut group = [0; LARGEST_BLOCK];
-    let Some(exit) = run(&program, form, block, &context, &mut scratch, &mut group) else {
+    let Some(exit) = run(
+        &program,
+        form,
+        block,
+        &context,
+        &mut scratch,
+        &mut Stack::new(),
+        &mut group,
+    ) else {
         return Err(io::Error::other("a block run was not done"));
     };
     println!(rt;

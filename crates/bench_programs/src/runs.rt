@@ -6,9 +6,9 @@ ghost use Rattle.verifier.specs.Verified.{sizes_of};
 
 use interp::Machine;
 use interval_domain::Intervals;
-use program_interface::{CONTEXT_BYTES, LARGEST_BLOCK, SCRATCH_BYTES};
+use program_interface::{CONTEXT_BYTES, LARGEST_BLOCK, SCRATCH_BYTES, STACK_BYTES};
 use program_meaning::End;
-use verified_run::{Exit, Prepared, StepCount};
+use verified_run::{Exit, Prepared, Stack, StepCount};
 use verifier::Verified;
 
 /// How an accepted program is run.
@@ -28,6 +28,7 @@ pub fn run(
     block: &[u8],
     context: &[u8; CONTEXT_BYTES],
     scratch: &mut [u8; SCRATCH_BYTES],
+    stack: &mut Stack,
     group: &mut [u8; LARGEST_BLOCK],
 ) -> Option<Exit> {
     let verified = program.verified();
@@ -35,10 +36,16 @@ pub fn run(
     if block.len() != sizes.block().bytes() as usize || sizes.limit() as usize > group.len() {
         return None;
     }
-    let mut machine = Machine::new(block, context, scratch);
     match form {
-        Form::Checked => run_checked(verified, &mut machine, group),
-        Form::Prepared => Some(program.run(&mut machine, group, &mut StepCount::new())),
+        Form::Checked => {
+            let mut bytes = [0; STACK_BYTES];
+            let mut machine = Machine::new(block, context, scratch, &mut bytes);
+            run_checked(verified, &mut machine, group)
+        }
+        Form::Prepared => {
+            let count = &mut StepCount::new();
+            Some(program.run_over(block, context, scratch, stack, group, count))
+        }
     }
 }
 
@@ -77,10 +84,11 @@ pub fn repeat(
     group: &mut [u8; LARGEST_BLOCK],
 ) -> bool {
     let mut context = [0; CONTEXT_BYTES];
+    let mut stack = Stack::new();
     let mut done = true;
     for repeat in 0..repeats {
         context[0] = (repeat % 0x100) as u8;
-        done &= run(program, form, block, &context, scratch, group).is_some();
+        done &= run(program, form, block, &context, scratch, &mut stack, group).is_some();
     }
     done
 }

@@ -26,7 +26,7 @@ use command_files::{Failure, Files, printed, read, size_as_block};
 use instruction_set::Program;
 use interp::{Machine, Step};
 use program_interface::{
-    BlockSize, CONTEXT_BYTES, Context, LARGEST_BLOCK, RunSizes, SCRATCH_BYTES,
+    BlockSize, CONTEXT_BYTES, Context, LARGEST_BLOCK, RunSizes, SCRATCH_BYTES, STACK_BYTES,
 };
 use program_meaning::Cause;
 use std::alloc::{AllocError, Global};
@@ -217,7 +217,8 @@ impl Tracer<'_> {
             OnOk result (self.now.registers ≡ false → Appends (O.contents out.old) (O.contents out.new) lines) }
     {
         let mut scratch = [0; SCRATCH_BYTES];
-        let mut machine = Machine::new(block, context, &mut scratch);
+        let mut stack = [0; STACK_BYTES];
+        let mut machine = Machine::new(block, context, &mut scratch, &mut stack);
         // Brings in what holds of each program.
         let _ = self.program.slots();
         self.follow(&mut machine, fuel, group, out)

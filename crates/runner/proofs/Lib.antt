@@ -6,6 +6,7 @@ mod Drains
 mod Holding
 mod Loads
 mod MayBeThere
+mod NewDevices
 mod NextBlockRun
 mod Numbers
 mod Happened

@@ -3,7 +3,6 @@ pub mod Ready
 pub mod Admitting
 pub mod Answered
 pub mod Loading
-pub mod Ran
 pub mod Turning
 pub mod ActiveRuns
 pub mod ServedOne

@@ -1,6 +1,6 @@
 //! The device, to which events happen.
 
-ghost use Rattle.std.specs.Prelude.{◌≡◌, ◌≤◌, ◌<◌, ◌+◌, ◌*◌, ◌^◌, length, take, drop, OnOk, IfErr};
+ghost use Rattle.std.specs.Prelude.{◌≡◌, ◌≢◌, true, false, ◌≤◌, ◌<◌, ◌+◌, ◌*◌, ◌^◌, length, take, drop, OnOk, IfErr};
 ghost use Rattle.device_meaning.specs.Judging.{interval_judge};
 ghost use Rattle.nvme_entry.specs.declared.command.TheConstants.{MOST_BLOCKS};
 ghost use Rattle.device_events.specs.Replies.{data_length};
@@ -20,7 +20,7 @@ use nvme_entry::MOST_TRANSFER;
 use program_interface::LARGEST_BLOCK;
 use std::alloc::Global;
 use std::marker::Model;
-use verified_run::StepCount;
+use verified_run::{Stack, StepCount};
 use zns_commands::Image;
 use zone_resources::RUNS;
 
@@ -37,6 +37,8 @@ pub struct Device {
     /// What a Load takes its memory from.
     alloc: Global,
     state: DeviceState,
+    /// The stack of a turn's program.
+    stack: Stack,
     /// Where a turn's program emits to.
     group: [u8; LARGEST_BLOCK],
     /// The steps of its turns.
@@ -64,6 +66,7 @@ impl Device {
         Device {
             alloc,
             state: DeviceState::new(image),
+            stack: Stack::new(),
             group: [0; LARGEST_BLOCK],
             count: StepCount::new(),
         }
@@ -75,6 +78,14 @@ impl Device {
         ensures reached { IsReached interval_judge self.now }
     {
         self.state.namespace().image()
+    }
+
+    /// Has it neither a program nor a run, as one that was just made?
+    pub fn is_new(&self) -> bool
+        ensures new { result ≡ true → self.now ≡ new_state self.now.namespace }
+        ensures other { result ≡ false → self.now ≢ new_state self.now.namespace }
+    {
+        self.state.is_new()
     }
 
     /// Does one event: the reply with its data, and the state behind it, are those that the definitions of
@@ -96,7 +107,13 @@ impl Device {
                 let submission = Submission::new(*queue, entry, input.as_slice());
                 submit(self.alloc, &mut self.state, &submission, output)
             }
-            Event::Turn { run } => turn(&mut self.state, &mut self.group, &mut self.count, *run),
+            Event::Turn { run } => turn(
+                &mut self.state,
+                &mut self.stack,
+                &mut self.group,
+                &mut self.count,
+                *run,
+            ),
             Event::Fault { zone, state } => self.state.fault(*zone, *state),
         }
     }

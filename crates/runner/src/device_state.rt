@@ -1,6 +1,6 @@
 //! What a device has.
 
-ghost use Rattle.std.specs.Prelude.{◌≡◌, ◌<◌, ◌≤◌, ◌*◌, IfSome};
+ghost use Rattle.std.specs.Prelude.{◌≡◌, ◌≢◌, true, false, ◌<◌, ◌≤◌, ◌*◌, IfSome};
 ghost use Rattle.nvme_entry.specs.declared.command.TheConstants.{MOST_BLOCKS};
 ghost use Rattle.image_store.specs.Namespace.{IsNamespace};
 ghost use Rattle.device_events.specs.Replies.{data_length};
@@ -57,6 +57,14 @@ impl DeviceState {
             slots: [None, None, None, None, None, None, None, None],
             runs: [None, None, None, None, None, None, None, None],
         }
+    }
+
+    /// Has it neither a program nor a run?
+    pub fn is_new(&self) -> bool
+        ensures new { result ≡ true → self.now ≡ new_state self.now.namespace }
+        ensures other { result ≡ false → self.now ≢ new_state self.now.namespace }
+    {
+        !places::any_loaded(&self.slots) && !places::any_active(&self.runs)
     }
 
     /// The namespace.

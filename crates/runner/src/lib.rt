@@ -3,7 +3,6 @@
 
 mod active_run;
 mod admission;
-mod block_run;
 mod completion;
 mod device;
 mod device_state;

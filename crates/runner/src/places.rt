@@ -6,7 +6,8 @@ ghost use Rattle.runner.specs.steps.ActiveRuns.{destination_held, held_by, sourc
 ghost use Rattle.runner.specs.steps.Loading.{uses_slot};
 
 use crate::active_run::ActiveRun;
-use nvme_entry::ProgramSlot;
+use crate::loaded_program::LoadedProgram;
+use nvme_entry::{PROGRAM_SLOTS, ProgramSlot};
 use zns_commands::Holds;
 use zone_resources::RUNS;
 
@@ -16,6 +17,22 @@ pub fn count(runs: &[Option<ActiveRun>; RUNS]) -> usize
     ensures places { result ≡ length runs.now }
 {
     runs.len()
+}
+
+/// Is a program in one of the slots?
+pub fn any_loaded(slots: &[Option<LoadedProgram>; PROGRAM_SLOTS]) -> bool
+    ensures value { result ≡ list_any is_some slots.now }
+    ensures slots { length slots.now ≡ PROGRAM_SLOTS }
+{
+    slots.iter().any(|slot| slot.is_some())
+}
+
+/// Is a run active?
+pub fn any_active(runs: &[Option<ActiveRun>; RUNS]) -> bool
+    ensures value { result ≡ list_any is_some runs.now }
+    ensures places { length runs.now ≡ RUNS }
+{
+    runs.iter().any(|run| run.is_some())
 }
 
 /// The lowest number that an active run has.

@@ -13,7 +13,6 @@ ghost use Rattle.device_meaning.specs.Reached.{IsReached};
 ghost use Rattle.runner.specs.steps.Turning.{FitsAt, FitsIn, FitsOn, HasRoom, HasRunNext, IsTaking, Keeps, PlaceTurned, SlotTurned, Turned, next_block, next_block_run, steps_by, steps_of_turn, with_packer};
 
 use crate::active_run::ActiveRun;
-use crate::block_run::run_block;
 use crate::completion::complete;
 use crate::device_state::DeviceState;
 use crate::loaded_program::LoadedProgram;
@@ -22,7 +21,7 @@ use device_events::Reply;
 use nvme_entry::{PROGRAM_SLOTS, Status};
 use program_interface::{Context, LARGEST_BLOCK};
 use program_meaning::TrapFree;
-use verified_run::{Exit, Prepared, StepCount};
+use verified_run::{Exit, Prepared, Stack, StepCount};
 use zns_commands::{Answer, Namespace};
 
 /// The block that a run reads next.
@@ -42,6 +41,7 @@ fn run_next<V: TrapFree + Drop>(
     namespace: &Namespace,
     prepared: &Prepared<V>,
     active: &mut ActiveRun,
+    stack: &mut Stack,
     group: &mut [u8; LARGEST_BLOCK],
     count: &mut StepCount,
 ) -> Exit
@@ -63,11 +63,11 @@ fn run_next<V: TrapFree + Drop>(
         argument: command.argument,
     };
     let block = source_block(namespace, active);
-    run_block(
-        prepared,
+    prepared.run_over(
         block,
         &context.encode(),
         &mut active.scratch,
+        stack,
         group,
         count,
     )
@@ -121,6 +121,7 @@ fn advance<V: TrapFree + Drop>(
     namespace: &mut Namespace,
     prepared: &Prepared<V>,
     active: &mut ActiveRun,
+    stack: &mut Stack,
     group: &mut [u8; LARGEST_BLOCK],
     count: &mut StepCount,
 ) -> Option<Answer>
@@ -132,7 +133,7 @@ fn advance<V: TrapFree + Drop>(
     ensures kept { Keeps active.old active.new }
     ensures fits { IsNone result → FitsNamespace namespace.new active.new }
 {
-    let exit = run_next(namespace, prepared, active, group, count);
+    let exit = run_next(namespace, prepared, active, stack, group, count);
     put(namespace, active, &group[..exit.group_length]);
     active.index += 1;
     active.frames += exit.frames as u32;
@@ -154,6 +155,7 @@ fn advance_by_slot(
     namespace: &mut Namespace,
     slot: &mut Option<LoadedProgram>,
     active: &mut ActiveRun,
+    stack: &mut Stack,
     group: &mut [u8; LARGEST_BLOCK],
     count: &mut StepCount,
 ) -> Option<Answer>
@@ -164,7 +166,7 @@ fn advance_by_slot(
     let Some(loaded) = slot else {
         unreachable!();
     };
-    let answer = advance(namespace, &loaded.prepared, active, group, count)?;
+    let answer = advance(namespace, &loaded.prepared, active, stack, group, count)?;
     loaded.result = active.scratch;
     Some(answer)
 }
@@ -174,6 +176,7 @@ fn turn_place(
     namespace: &mut Namespace,
     slots: &mut [Option<LoadedProgram>; PROGRAM_SLOTS],
     place: &mut Option<ActiveRun>,
+    stack: &mut Stack,
     group: &mut [u8; LARGEST_BLOCK],
     count: &mut StepCount,
     run: u8,
@@ -187,7 +190,8 @@ fn turn_place(
         return Reply::Idle;
     };
     let slot = active.command.slot.index();
-    let Some(answer) = advance_by_slot(namespace, &mut slots[slot], active, group, count) else {
+    let Some(answer) = advance_by_slot(namespace, &mut slots[slot], active, stack, group, count)
+    else {
         return Reply::Pending { run };
     };
     let reply = complete(active.queue, active.cid, answer);
@@ -198,6 +202,7 @@ fn turn_place(
 /// Gives a run a turn.
 pub fn turn(
     state: &mut DeviceState,
+    stack: &mut Stack,
     group: &mut [u8; LARGEST_BLOCK],
     count: &mut StepCount,
     run: u8,
@@ -216,6 +221,7 @@ pub fn turn(
         &mut state.namespace,
         &mut state.slots,
         place,
+        stack,
         group,
         count,
         run,

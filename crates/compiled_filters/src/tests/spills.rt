@@ -17,7 +17,7 @@ use bytes::{group_of, put, put_at};
 use ebpf_decode::decode;
 use interp::Machine;
 use interval_domain::Intervals;
-use program_interface::{BlockSize, CONTEXT_BYTES, Context, SCRATCH_BYTES};
+use program_interface::{BlockSize, CONTEXT_BYTES, Context, SCRATCH_BYTES, STACK_BYTES};
 use program_meaning::End;
 use std::alloc::Global;
 use std::process::Abort;
@@ -144,9 +144,9 @@ fn over_superinstructions(
     let sizes = prepared.verified().sizes();
     assert!(rt; sizes.block().bytes() as usize == BLOCK);
     assert!(rt; sizes.limit() as usize <= BLOCK);
-    let mut group = [0; BLOCK];
+    let (mut stack, mut group) = ([0; STACK_BYTES], [0; BLOCK]);
     let exit = prepared.run(
-        &mut Machine::new(block, context, scratch),
+        &mut Machine::new(block, context, scratch, &mut stack),
         &mut group,
         &mut StepCount::new(),
     );
@@ -169,8 +169,8 @@ fn with_every_check(
     let (program, sizes) = (prepared.verified().program(), prepared.verified().sizes());
     let limit = sizes.limit() as usize;
     assert!(rt; limit <= BLOCK);
-    let mut group = [0; BLOCK];
-    let mut machine = Machine::new(block, context, scratch);
+    let (mut stack, mut group) = ([0; STACK_BYTES], [0; BLOCK]);
+    let mut machine = Machine::new(block, context, scratch, &mut stack);
     assert!(rt; program.at(machine.slot()).is_some());
     let end = machine.run_checked(
         program,

@@ -17,8 +17,8 @@ use Rattle.device_meaning.specs.View.{Active, turns_of}
 use Rattle.device_events.specs.declared.reply.Reply.{Reply}
 use Rattle.runner.specs.DeviceState.{active_of, device_state}
 use Rattle.runner.specs.steps.Ready.{FitsNamespace, IsForBlocks, IsReady}
+use Rattle.verified_run.specs.Ran.{HasRun}
 use Rattle.verified_run.specs.declared.exit.Exit.{Exit}
-use Rattle.runner.specs.steps.Ran.{HasRun}
 use Rattle.runner.specs.declared.active_run.ActiveRun.{ActiveRun}
 use Rattle.runner.specs.declared.loaded_program.LoadedProgram.{LoadedProgram}
 

@@ -42,6 +42,13 @@ xor r0, r4\nadd r0, r5\nxor r0, r7\nsub r0, r8\nmov r1, r4\nlsh r1, 32\nrsh r1, 
 mov r1, r6\nlsh r1, 32\nrsh r1, 32\njgt r1, r4, +1\nadd r0, 1\nmov r5, 11\njeq r9, 7, +1\nmov r5, r6\nadd r5, 1\nxor r0, r5\n\
 jgt r9, 50, +1\nlsh r4, 3\nadd r4, 9\nadd r0, r4\naddw r0, 1\nexit";
 
+/// Wide instructions, moves with an addition and a product, loads of fewer bytes than each of the stores has, and EXIT behind a move.
+pub(super) const WHOLE_STORES: Text = "\
+lddw r4, 0x123456789abcdef0\nlddw r5, 0xffffffff00000001\nldxdw r6, [r2+0]\nmov r7, r6\nadd r7, r4\nmov r8, r6\nmul r8, r5\n\
+stxdw [r10-16], r7\nstxdw [r10-8], r8\nstxdw [r3+8], r8\nldxw r1, [r10-16]\nldxh r4, [r10-14]\nldxb r5, [r10-9]\nadd r1, r4\n\
+xor r1, r5\nldxw r4, [r3+8]\nsub r1, r4\nldxh r4, [r3+10]\nldxb r5, [r3+15]\nmul r1, r4\nadd r1, r5\nstxdw [r3+0], r1\n\
+mov r0, 3\nexit";
+
 /// Loads of the context, loads and stores of scratch and of the stack, of each size, and sums that are kept in scratch.
 pub(super) const AREAS: Text = "\
 ldxdw r4, [r2+0]\nldxdw r5, [r3+8]\nadd r5, r4\nstxdw [r3+8], r5\nldxw r5, [r3+0]\nadd r5, 1\nstxw [r3+0], r5\n\

@@ -3,11 +3,11 @@
 use super::program;
 use super::programs::{
     AREAS, BOUNDED, DECIDED, INDEXED, INDEXED_TWO, KNOWN_LOADS, MOVES_AND_OPERATIONS, SKIPPING,
-    TWO_FRAMES,
+    TWO_FRAMES, WHOLE_STORES,
 };
 use interp::Machine;
 use interval_domain::Intervals;
-use program_interface::{BlockSize, CONTEXT_BYTES, Context, RunSizes, SCRATCH_BYTES};
+use program_interface::{BlockSize, CONTEXT_BYTES, Context, RunSizes, SCRATCH_BYTES, STACK_BYTES};
 use program_meaning::End;
 use std::alloc::Global;
 use std::process::Abort;
@@ -15,7 +15,7 @@ use std::test::Fail;
 use test_inputs::numbers::Numbers;
 use test_inputs::programs::{ADDING_THREE, GROWING, MATCHING, RETURNING, Text};
 use test_inputs::sizes::sizes;
-use verified_run::{Prepared, StepCount};
+use verified_run::{Prepared, Stack, StepCount};
 use verifier::{Verified, verify};
 
 /// The most bytes that a program of these tests emits for a block.
@@ -42,6 +42,7 @@ const SCENES: &[(Text, u32, u32, &[u8])] = &[
     (KNOWN_LOADS, 0, 512, FIRSTS),
     (MOVES_AND_OPERATIONS, 0, 512, FIRSTS),
     (AREAS, 0, 512, FIRSTS),
+    (WHOLE_STORES, 0, 512, FIRSTS),
 ];
 
 /// Fills a block with bytes that look random, but for the first.
@@ -67,7 +68,8 @@ fn context_of(size: BlockSize, index: u32, count: u32) -> [u8; CONTEXT_BYTES] {
     context.encode()
 }
 
-/// Runs a program both ways on a block, with the scratch bytes that each way left on the one before.
+/// Runs a program both ways on a block, with the scratch bytes that each way left on the one before, and the stack that one of them
+/// has for all blocks.
 fn compare_on(
     rt: &impl Abort,
     prepared: &Prepared<Verified<Intervals>>,
@@ -75,13 +77,15 @@ fn compare_on(
     context: &[u8; CONTEXT_BYTES],
     scratch: &mut [u8; SCRATCH_BYTES],
     other_scratch: &mut [u8; SCRATCH_BYTES],
+    other_stack: &mut Stack,
 ) {
     let (program, sizes) = (prepared.verified().program(), prepared.verified().sizes());
     let limit = sizes.limit() as usize;
     assert!(rt; block.len() == sizes.block().bytes() as usize);
     assert!(rt; limit <= MOST_EMITTED);
     let (mut group, mut other_group) = ([9; MOST_EMITTED], [9; MOST_EMITTED]);
-    let mut machine = Machine::new(block, context, scratch);
+    let mut stack = [0; STACK_BYTES];
+    let mut machine = Machine::new(block, context, scratch, &mut stack);
     assert!(rt; program.at(machine.slot()).is_some());
     let end = machine.run_checked(
         program,
@@ -89,8 +93,11 @@ fn compare_on(
         program.instruction_count() as u64,
         &mut group,
     );
-    let exit = prepared.run(
-        &mut Machine::new(block, context, other_scratch),
+    let exit = prepared.run_over(
+        block,
+        context,
+        other_scratch,
+        other_stack,
         &mut other_group,
         &mut StepCount::new(),
     );
@@ -114,6 +121,7 @@ fn compare(
     let verified = verify::<Intervals>(alloc, program(alloc, text)?, sizes)?;
     let prepared = Prepared::new(alloc, verified)?;
     let (mut scratch, mut other_scratch) = ([0; SCRATCH_BYTES], [0; SCRATCH_BYTES]);
+    let mut other_stack = Stack::new();
     let mut block = vec![in alloc; 0; sizes.block().bytes() as usize]?;
     let count = u32::try_from(firsts.len())?;
     for (index, first) in (0..count).zip(firsts) {
@@ -126,6 +134,7 @@ fn compare(
             &context,
             &mut scratch,
             &mut other_scratch,
+            &mut other_stack,
         );
     }
     Ok(())
@@ -146,9 +155,10 @@ fn a_record_as_long_as_the_block_says(rt: HostRuntime) -> Result<(), Fail> {
     let mut block = [0; 512];
     block[0] = 3;
     let (context, mut scratch) = ([0; CONTEXT_BYTES], [0; SCRATCH_BYTES]);
+    let mut stack = [0; STACK_BYTES];
     let mut group = [9; 10];
     let exit = prepared.run(
-        &mut Machine::new(&block, &context, &mut scratch),
+        &mut Machine::new(&block, &context, &mut scratch, &mut stack),
         &mut group,
         &mut StepCount::new(),
     );

@@ -2,7 +2,7 @@ use Rattle.std.proofs.Common.{◌≡◌, ap, sym, subst, ◌∙◌}
 use Rattle.program_meaning.specs.BlockRun.{BlockRun}
 use Rattle.image_store.specs.Geometry.{Shape}
 use Rattle.runner.specs.DeviceState.{active_of}
-use Rattle.runner.specs.steps.Ran.{HasRun}
+use Rattle.verified_run.specs.Ran.{HasRun}
 use Rattle.runner.specs.steps.Turning.{with_scratch}
 use Rattle.runner.proofs.NextBlockRun.{run_is, told_is}
 use Rattle.runner.proofs.turn.run_next.Goals as goal
@@ -16,7 +16,7 @@ returns-clause-next g c =
     let size : c.block.result ≡ ns.block = c.block.ensures.value ∙ ap (λ (s : Shape). s.block) c.geometry.ensures.value in
     let told = told_is ns code limit a c.encode.result c.from.result c.get.result c.block.result c.from.ensures c.get.ensures.value size c.encode.ensures in
     let same = run_is ns code limit a c.source_block-block.result.now c.encode.result c.source_block-block.ensures.value told in
-    let run = subst (λ (r : BlockRun). HasRun r c.run_block.result c.run_block.new.group c.run_block.new.scratch) same c.run_block.ensures.run in
+    let run = subst (λ (r : BlockRun). HasRun r c.run_over.result c.run_over.new.group c.run_over.new.scratch) same c.run_over.ensures.run in
     record {
       run = run;
       same = ap (with_scratch c.args.active.now) (sym run.scratch);
