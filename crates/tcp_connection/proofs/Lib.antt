@@ -1,4 +1,6 @@
 mod Answering
 mod Dealt
+mod Identifiers
 mod Joined
+mod Places
 mod Quiet

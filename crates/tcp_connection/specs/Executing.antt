@@ -48,6 +48,11 @@ ready_by (Failed error) s = waiting_ready s
 abbrev pub ready : ConnectionState → Option Execution
 ready s = if is_ended s.phase then None else ready_by s.receiver.progress s
 
+-- all of its data; none, where no command is ready
+abbrev pub data_of : Option Execution → List ℕ
+data_of None = []
+data_of (Some execution) = execution.data
+
 -- where one that waits is ready, the receiver is between PDUs
 abbrev pub IsQuiet : ConnectionState → Type 0
 IsQuiet s = (execution : Execution) → waiting_ready s ≡ Some execution → IsBetween s.receiver

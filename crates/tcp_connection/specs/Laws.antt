@@ -1,10 +1,15 @@
 -- What holds of connections.
-use Rattle.std.specs.Prelude.{ℕ, ◌≡◌, ◌+◌, List, ◌++◌}
+use Rattle.std.specs.Prelude.{ℕ, ◌≡◌, ◌+◌, ◌==◌, false, List, [], ◌∷◌, ◌++◌, map}
+use Rattle.std.specs.List.{list_any}
 use Rattle.tcp_receiver.specs.declared.expected.Progress.{Progress}
 use Rattle.tcp_receiver.specs.declared.expected.Progress.TheVariants.{Partial, Whole, Failed}
 use Rattle.tcp_receiver.specs.Receiving as receiving
+use Rattle.tcp_capsules.specs.Direction.{identifier_of}
+use Rattle.tcp_connection.specs.declared.queue.Outcome.{Outcome}
 use Rattle.tcp_connection.specs.declared.state.ConnectionState.{ConnectionState}
-use Rattle.tcp_connection.specs.Connection.{Step, taken}
+use Rattle.tcp_connection.specs.Commands.{CommandsState}
+use Rattle.tcp_connection.specs.Connection.{Step, begun, taken}
+use Rattle.tcp_connection.specs.Executing.{completed, gone}
 
 -- one step behind another
 abbrev pub both : Step → Step → Step
@@ -21,3 +26,29 @@ JoinsAt (Failed error) s first second = taken s first ≡ taken s (first ++ seco
 abbrev pub StepsJoin : Type 0
 StepsJoin =
     (s : ConnectionState) (first second : List ℕ) → JoinsAt (receiving.taken s.receiver first).0.progress s first second
+
+-- ---- identifiers
+
+-- the identifiers of the commands without a completion
+abbrev pub identifiers_of : CommandsState → List ℕ
+identifiers_of c = c.running ++ map (λ w. identifier_of w.entry) c.waiting
+
+-- no two are the same
+abbrev pub Differ : List ℕ → Type 0
+Differ [] = Unit {0}
+Differ (one ∷ others) = (list_any (λ other. other == one) others ≡ false) × Differ others
+
+-- no two commands without a completion have one identifier: not at first, nor behind whatever comes
+pub record IdentifiersDiffer : Type 0 where
+  pub begins : Differ (identifiers_of begun.commands)
+  pub takes : (s : ConnectionState) (piece : List ℕ) → Differ (identifiers_of s.commands)
+      → Differ (identifiers_of (taken s piece).state.commands)
+  pub goes : (s : ConnectionState) → Differ (identifiers_of s.commands) → Differ (identifiers_of (gone s).0.commands)
+  pub completes : (s : ConnectionState) (command : ℕ) (outcome : Outcome) (bytes : List ℕ) → Differ (identifiers_of s.commands)
+      → Differ (identifiers_of (completed command outcome bytes s).0.commands)
+
+-- so a command is completed once: what completes it again sends nothing
+abbrev pub CompletedOnce : Type 0
+CompletedOnce =
+    (s : ConnectionState) (command : ℕ) (first second : Outcome) (bytes more : List ℕ) → Differ (identifiers_of s.commands)
+    → (completed command second more (completed command first bytes s).0).1 ≡ []

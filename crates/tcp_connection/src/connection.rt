@@ -1,10 +1,10 @@
 //! A connection.
 
-ghost use Rattle.std.specs.Prelude.{◌≡◌, ◌≤◌, ◌<◌, ◌+◌, IfOk, IfSome, IsTrue, is_some, length, vec_capacity, vec_len};
+ghost use Rattle.std.specs.Prelude.{◌≡◌, ◌≤◌, ◌<◌, ◌+◌, IfOk, IsTrue, is_some, length, vec_capacity, vec_len};
 ghost use Rattle.std.specs.Option.{option_map};
 ghost use Rattle.tcp_receiver.specs.Receiving.{IsBetween};
 ghost use Rattle.tcp_connection.specs.Connection.{begun, taken};
-ghost use Rattle.tcp_connection.specs.Executing.{completed, connected, gone, ready};
+ghost use Rattle.tcp_connection.specs.Executing.{completed, connected, data_of, gone, ready};
 ghost use Rattle.tcp_connection.specs.Queue.{is_ended};
 ghost use Rattle.tcp_connection.specs.Sending.{Sends};
 
@@ -57,6 +57,17 @@ impl Connection {
         })
     }
 
+    /// Begins anew: a connection to which nothing has come.
+    pub fn restart(&mut self)
+        ensures { self.new ≡ begun }
+    {
+        self.state.receiver.restart();
+        self.state.commands.clear();
+        self.state.phase = Phase::Initializing;
+        self.state.queue = UNCONNECTED;
+        self.state.head = 0;
+    }
+
     /// Takes the bytes of a piece of the stream up to the end of a PDU, or to the check that fails first, deals with it, adds what is
     /// sent then, and gives how many bytes they are. Once a command is ready it takes none until that goes, and behind the end none.
     pub fn take(&mut self, piece: &[u8], out: &mut Vec<u8>) -> usize
@@ -77,9 +88,9 @@ impl Connection {
         self.state.ready()
     }
 
-    /// All of its data.
+    /// All of its data; none, where no command is ready.
     pub fn ready_data(&self) -> &[u8]
-        ensures { IfSome (ready self.now) (λ execution. result.now ≡ execution.data) }
+        ensures { result.now ≡ data_of (ready self.now) }
     {
         self.state.ready_data()
     }

@@ -1,9 +1,9 @@
 //! The command that is to be executed next, and what completes one.
 
-ghost use Rattle.std.specs.Prelude.{◌≡◌, ◌≤◌, ◌<◌, ◌+◌, IfSome, IsTrue, is_some, length, vec_capacity, vec_len};
+ghost use Rattle.std.specs.Prelude.{◌≡◌, ◌≤◌, ◌<◌, ◌+◌, IsTrue, is_some, length, vec_capacity, vec_len};
 ghost use Rattle.std.specs.Option.{option_map};
 ghost use Rattle.tcp_receiver.specs.Receiving.{IsBetween};
-ghost use Rattle.tcp_connection.specs.Executing.{IsQuiet, completed, completed_open, data_sent, first_gone, gone, ready, ready_by, waiting_ready};
+ghost use Rattle.tcp_connection.specs.Executing.{IsQuiet, completed, completed_open, data_of, data_sent, first_gone, gone, ready, ready_by, waiting_ready};
 ghost use Rattle.tcp_connection.specs.Sending.{Sends};
 
 use crate::dealing::entry_in;
@@ -54,7 +54,19 @@ impl ConnectionState {
     /// All of its data.
     pub(crate) fn ready_data(&self) -> &[u8]
         requires { IsQuiet self.now }
-        ensures { IfSome (ready self.now) (λ execution. result.now ≡ execution.data) }
+        ensures { result.now ≡ data_of (ready self.now) }
+    {
+        if self.phase.is_ended() {
+            &[]
+        } else {
+            self.open_data()
+        }
+    }
+
+    /// All of its data, while the connection is open.
+    fn open_data(&self) -> &[u8]
+        requires { IsQuiet self.now }
+        ensures { result.now ≡ data_of (ready_by self.now.receiver.progress self.now) }
     {
         match self.receiver.progress() {
             Progress::Whole(HostPdu::CapsuleCmd) => self.receiver.data(),
@@ -68,10 +80,12 @@ impl ConnectionState {
     /// The data of the first command that waits.
     fn waiting_data(&self) -> &[u8]
         requires { IsQuiet self.now }
-        ensures { IfSome (waiting_ready self.now) (λ execution. result.now ≡ execution.data) }
+        ensures { result.now ≡ data_of (waiting_ready self.now) }
     {
         match self.commands.first() {
-            Some(first) if first.wanted.is_some() => self.receiver.transfer(),
+            Some(first) if first.wanted.is_some() && self.receiver.outstanding().is_none() => {
+                self.receiver.transfer()
+            }
             Some(_) | None => &[],
         }
     }

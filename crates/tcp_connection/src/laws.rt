@@ -1,8 +1,18 @@
 //! Laws of the definitions. Each function does nothing: what it ensures is the law.
 
-ghost use Rattle.tcp_connection.specs.Laws.{StepsJoin};
+ghost use Rattle.tcp_connection.specs.Laws.{CompletedOnce, IdentifiersDiffer, StepsJoin};
 
 /// What a connection comes to, and what it sends, doesn't depend on how its stream is cut into pieces.
 pub fn steps_join()
     ensures { StepsJoin }
+{}
+
+/// No two commands without a completion have one identifier.
+pub fn identifiers_differ()
+    ensures { IdentifiersDiffer }
+{}
+
+/// A command is completed once.
+pub fn completed_once()
+    ensures { CompletedOnce }
 {}

@@ -61,6 +61,22 @@ impl Receiver {
         })
     }
 
+    /// Begins anew: nothing has come.
+    pub fn restart(&mut self)
+        ensures { self.new ≡ fresh }
+    {
+        let parts = &mut self.parts;
+        parts.header.clear();
+        parts.data.clear();
+        parts.transfer.clear();
+        self.expected = Expected {
+            awaits: Awaits::Initialization,
+            outstanding: None,
+            came: 0,
+        };
+        self.progress = Progress::Partial;
+    }
+
     /// Takes the bytes of a piece of the stream up to the end of a PDU, or to the check that fails first, and gives how many they
     /// are; all of them, where neither comes. Behind a whole PDU it takes none until [`Receiver::next`], and behind a check that
     /// failed none any more. What it comes to doesn't depend on how the stream is cut into pieces.
