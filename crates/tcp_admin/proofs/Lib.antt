@@ -1,0 +1,4 @@
+mod Parts
+mod Tables
+mod Whole
+mod Fitting

@@ -1,0 +1,9 @@
+pub mod Pages
+pub mod Transfers
+pub mod Properties
+pub mod Identify
+pub mod Logs
+pub mod Features
+pub mod Answers
+pub mod Admin
+pub mod Laws
