@@ -1,0 +1,3 @@
+pub mod Roles
+pub mod Table
+pub mod Associations

@@ -1,0 +1,19 @@
+//! Connect of NVMe over Fabrics: what its entry and its data say, and whether it succeeds.
+#![tactic(auto)]
+
+mod checks;
+mod connected;
+mod data;
+mod laws;
+mod qualified_name;
+mod request;
+
+pub use checks::{
+    CONNECT_CONTROLLER_BUSY, CONNECT_INCOMPATIBLE_FORMAT, CONNECT_INVALID_PARAMETERS,
+    DATA_SGL_LENGTH_INVALID, MOST_IO_QUEUES, answer_connect,
+};
+pub use connected::{Connected, Controllers, NamedController};
+pub use data::{CONNECT_DATA_BYTES, ConnectData, Host, is_same_host};
+pub use laws::statuses_are_the_standards;
+pub use qualified_name::{NQN_BYTES, name};
+pub use request::{ANY_CONTROLLER, ConnectRequest};
