@@ -1,0 +1,9 @@
+//! Places for the connections of a target: what is to be sent on each, and how many of its commands the device has.
+#![tactic(auto)]
+
+mod commands;
+mod laws;
+mod place;
+
+pub use laws::nothing_behind_the_end;
+pub use place::{MOST_KEPT, MOST_UNSENT, Place};

@@ -1,0 +1,2 @@
+mod Live
+mod Others

@@ -1,0 +1,5 @@
+pub mod Queues
+pub mod Ends
+pub mod Commands
+pub mod steps
+pub mod Laws

@@ -1,0 +1,18 @@
+//! Laws of the definitions. Each function does nothing: what it ensures is the law.
+
+ghost use Rattle.tcp_queues.specs.Laws.{GivenAreLive, OthersStay, PlacesStay};
+
+/// What happens on one connection leaves all others as they were.
+pub fn others_stay()
+    ensures { OthersStay }
+{}
+
+/// What happens to controllers changes nothing of what has come on connections, nor of what is to be sent.
+pub fn places_stay()
+    ensures { PlacesStay }
+{}
+
+/// An entry that goes to the device is that of the command which is ready on a connection with an I/O queue of a ready controller.
+pub fn given_are_live()
+    ensures { GivenAreLive }
+{}
