@@ -1,0 +1,5 @@
+pub mod Target
+pub mod Events
+pub mod Commands
+pub mod Laws
+pub mod Ready

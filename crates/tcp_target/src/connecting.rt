@@ -1,0 +1,72 @@
+//! Commands before Connect, and Connect.
+
+ghost use Rattle.std.specs.Prelude.{◌≡◌, ◌<◌, IsTrue, is_some};
+ghost use Rattle.tcp_connect.specs.Request.{request_in};
+ghost use Rattle.tcp_places.specs.Places.{ready_at};
+ghost use Rattle.tcp_queues.specs.Queues.{place_at};
+ghost use Rattle.tcp_target.specs.Commands.{connected_with, is_connect, served_unconnected, with_made};
+
+use crate::admin::is_fabrics;
+use crate::outcomes::COMMAND_SEQUENCE_ERROR;
+use crate::target::Target;
+use tcp_admin::Controller;
+use tcp_associations::MOST_CONNECTIONS;
+use tcp_capsules::{ENTRY_BYTES, identifier};
+use tcp_connect::{ConnectRequest, Connected};
+use tcp_connection::Outcome;
+
+/// Is it a Connect?
+fn is_connect(entry: &[u8; ENTRY_BYTES]) -> bool
+    ensures { result ≡ is_connect entry.now }
+{
+    is_fabrics(entry) && entry[4] == 0x01
+}
+
+impl Target {
+    /// Executes the command that is ready on a connection without a queue: a Connect.
+    pub(crate) fn serve_unconnected(&mut self, number: usize, entry: &[u8; ENTRY_BYTES])
+        requires number { number < MOST_CONNECTIONS }
+        requires ready { IsTrue (is_some (ready_at (place_at number self.old.queues))) }
+        ensures { self.new ≡ served_unconnected number entry.now self.old }
+    {
+        if is_connect(entry) {
+            self.connect(number, entry);
+        } else {
+            self.refuse(number, entry, COMMAND_SEQUENCE_ERROR);
+        }
+    }
+
+    /// Executes a Connect.
+    fn connect(&mut self, number: usize, entry: &[u8; ENTRY_BYTES])
+        requires number { number < MOST_CONNECTIONS }
+        requires ready { IsTrue (is_some (ready_at (place_at number self.old.queues))) }
+        ensures { self.new ≡ connected_with number entry.now (request_in entry.now) self.old }
+    {
+        let request = ConnectRequest::read(entry);
+        self.connect_as(number, entry, request);
+    }
+
+    /// Executes a Connect that asks for this.
+    fn connect_as(&mut self, number: usize, entry: &[u8; ENTRY_BYTES], request: ConnectRequest)
+        requires number { number < MOST_CONNECTIONS }
+        requires ready { IsTrue (is_some (ready_at (place_at number self.old.queues))) }
+        ensures { self.new ≡ connected_with number entry.now request self.old }
+    {
+        let nqn = self.subsystem.nqn.as_bytes();
+        let answer = self.queues.connect(number, identifier(entry), request, nqn);
+        self.make(request, answer);
+    }
+
+    /// Makes the controller of an admin queue that is connected.
+    fn make(&mut self, request: ConnectRequest, answer: Result<Connected, Outcome>)
+        ensures { self.new ≡ with_made request answer self.old }
+    {
+        if let Ok(connected) = answer
+            && connected.queue.id == 0
+        {
+            let id = connected.controller;
+            self.set_controller(id, Controller::new(id, request.keep_alive_timeout));
+            self.hear(id);
+        }
+    }
+}

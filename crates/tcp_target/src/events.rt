@@ -1,0 +1,163 @@
+//! What happens to a target.
+
+ghost use Rattle.std.specs.Prelude.{◌≡◌, ◌≤◌, ◌<◌, IfSome, IsTrue, OnSome, is_some, length};
+ghost use Rattle.std.specs.Option.{option_map};
+ghost use Rattle.tcp_connection.specs.Queue.{is_ended};
+ghost use Rattle.tcp_places.specs.Places.{has_room, ready_at};
+ghost use Rattle.tcp_queues.specs.Commands.{connect_data_at, given_to_device};
+ghost use Rattle.tcp_queues.specs.Ends.{is_cut_off};
+ghost use Rattle.tcp_queues.specs.Queues.{free_number, place_at};
+ghost use Rattle.tcp_target.specs.Events.{closed, count_of, executed, handed_over, heard_at, heard_on, opened, received, run_ended, sent};
+
+use crate::target::Target;
+use tcp_associations::{MOST_CONNECTIONS, Role};
+use tcp_capsules::ENTRY_BYTES;
+use tcp_connection::Outcome;
+use tcp_pdus::MOST_DATA;
+use tcp_places::MOST_KEPT;
+
+impl Target {
+    /// Begins a connection, and gives its number: the lowest that no connection has, and under which the device has no command of
+    /// the one before. `None` where there is none.
+    pub fn open(&mut self) -> Option<usize>
+        ensures number { result ≡ free_number self.old.queues }
+        ensures state { self.new ≡ opened self.old }
+        ensures within { IfSome result (λ number. number < MOST_CONNECTIONS) }
+    {
+        self.queues.open()
+    }
+
+    /// Takes bytes that came on a connection, up to the end of a PDU, and gives how many they are: none while too much is to be sent,
+    /// or a command is ready, which is served or handed over first.
+    pub fn receive(&mut self, number: usize, piece: &[u8]) -> usize
+        requires { number < MOST_CONNECTIONS }
+        ensures state { self.new ≡ received number piece.now self.old }
+        ensures count { result ≡ count_of number piece.now self.old }
+        ensures within { result ≤ length piece.now }
+    {
+        let count = self.queues.receive(number, piece);
+        self.hear_at(number, count);
+        count
+    }
+
+    /// Something has come of a host, where bytes came on an admin queue.
+    fn hear_at(&mut self, number: usize, count: usize)
+        ensures { self.new ≡ heard_at number count self.old }
+    {
+        if count != 0 {
+            let role = self.queues.role(number);
+            self.hear_on(role);
+        }
+    }
+
+    /// Something has come of a host, where this is an admin queue.
+    fn hear_on(&mut self, role: Role)
+        ensures { self.new ≡ heard_on role self.old }
+    {
+        match role {
+            Role::Admin { controller } => self.hear(controller),
+            Role::Unconnected | Role::Io { .. } | Role::Ended => {}
+        }
+    }
+
+    /// What is to be sent on a connection.
+    pub fn unsent(&self, number: usize) -> &[u8]
+        requires { number < MOST_CONNECTIONS }
+        ensures { result.now ≡ (place_at number self.now.queues).unsent }
+    {
+        self.queues.unsent(number)
+    }
+
+    /// Forgets the first bytes of it, which were sent.
+    pub fn sent(&mut self, number: usize, count: usize)
+        requires number { number < MOST_CONNECTIONS }
+        requires count { count ≤ length (place_at number self.old.queues).unsent }
+        ensures { self.new ≡ sent number count self.old }
+    {
+        self.queues.sent(number, count);
+    }
+
+    /// Has a connection ended? Then it is to be closed once all is sent.
+    pub fn is_ended(&self, number: usize) -> bool
+        requires { number < MOST_CONNECTIONS }
+        ensures { result ≡ is_ended (place_at number self.now.queues).connection.phase }
+    {
+        self.queues.is_ended(number)
+    }
+
+    /// Is a connection cut off, since its controller has ended or was stopped? Then it is to be closed at once.
+    pub fn is_cut_off(&self, number: usize) -> bool
+        ensures { result ≡ is_cut_off number self.now.queues }
+    {
+        self.queues.is_cut_off(number)
+    }
+
+    /// Says that a connection is closed, by whomever. No other gets its number until the device has none of its commands.
+    pub fn close(&mut self, number: usize)
+        requires { number < MOST_CONNECTIONS }
+        ensures { self.new ≡ closed number self.old }
+    {
+        self.queues.close(number);
+    }
+
+    /// The entry of the command of a connection that the device is to execute next, if there is one.
+    pub fn given_to_device(&self, number: usize) -> Option<[u8; ENTRY_BYTES]>
+        requires { number < MOST_CONNECTIONS }
+        ensures entry { result ≡ option_map (λ execution. execution.entry) (given_to_device number self.now.queues) }
+        ensures ready { OnSome result (IsTrue (is_some (ready_at (place_at number self.now.queues)))) }
+    {
+        self.queues.given_to_device(number)
+    }
+
+    /// All of its data.
+    pub fn given_data(&self, number: usize) -> &[u8]
+        requires { number < MOST_CONNECTIONS }
+        ensures { result.now ≡ connect_data_at number self.now.queues }
+    {
+        self.queues.ready_data(number)
+    }
+
+    /// Lets it go to the device.
+    pub fn hand_over(&mut self, number: usize)
+        requires number { number < MOST_CONNECTIONS }
+        requires ready { IsTrue (is_some (ready_at (place_at number self.old.queues))) }
+        ensures { self.new ≡ handed_over number self.old }
+    {
+        self.queues.hand_over(number);
+    }
+
+    /// Is there room on a connection for a completion with so many bytes of data?
+    pub fn has_room(&self, number: usize, size: usize) -> bool
+        requires number { number < MOST_CONNECTIONS }
+        requires size { size ≤ MOST_KEPT }
+        ensures { result ≡ has_room size (place_at number self.now.queues) }
+    {
+        self.queues.has_room(number, size)
+    }
+
+    /// Takes what the device gave at once for an entry that was handed over, and completes the command, unless its connection was
+    /// closed. Data that wasn't asked for is refused (Data SGL Length Invalid).
+    pub fn execute(
+        &mut self,
+        number: usize,
+        entry: &[u8; ENTRY_BYTES],
+        outcome: Outcome,
+        bytes: &[u8],
+    )
+        requires number { number < MOST_CONNECTIONS }
+        requires most { length bytes.now ≤ MOST_DATA }
+        requires room { IsTrue (has_room (length bytes.now) (place_at number self.old.queues)) }
+        ensures { self.new ≡ executed number entry.now outcome bytes.now self.old }
+    {
+        self.queues.execute(number, entry, outcome, bytes);
+    }
+
+    /// Completes a Run that the device has ended, unless its connection was closed.
+    pub fn end_run(&mut self, number: usize, command: u16, outcome: Outcome)
+        requires number { number < MOST_CONNECTIONS }
+        requires room { IsTrue (has_room 0 (place_at number self.old.queues)) }
+        ensures { self.new ≡ run_ended number command outcome self.old }
+    {
+        self.queues.end_run(number, command, outcome);
+    }
+}

@@ -1,0 +1,14 @@
+//! An NVMe/TCP target in front of a device: connections, associations and commands.
+#![tactic(auto)]
+
+mod admin;
+mod connecting;
+mod events;
+mod laws;
+mod outcomes;
+mod patience;
+mod ready;
+mod target;
+
+pub use laws::connections_stay;
+pub use target::Target;
