@@ -1,0 +1,6 @@
+mod Told
+mod Happened
+mod Agreeing
+mod Room
+mod Given
+mod Submitted

@@ -1,0 +1,69 @@
+-- All that is done with a served target, and what its device did then.
+use Rattle.std.specs.Prelude.{ℕ, ◌≡◌, List, [], ◌∷◌, ◌++◌, Option, Some, None}
+use Rattle.device_events.specs.declared.event.Event.{Event}
+use Rattle.device_events.specs.declared.event.Event.TheVariants as event
+use Rattle.tcp_connection.specs.Executing.{Execution}
+use Rattle.tcp_queues.specs.Commands.{given_to_device}
+use Rattle.tcp_target.specs.Events as target
+use Rattle.tcp_target.specs.Target.{ticked}
+use Rattle.tcp_device.specs.Served.{Serves, ServesGiven, Turns, TurnsGiven, next_run}
+use Rattle.tcp_device.specs.State.{ServedState, with_target}
+
+-- a connection begins; bytes come on one, or were sent on it; one is closed; so many milliseconds go by; a connection is served; or a
+-- run is given a turn
+pub data Deed : Type 0 where
+  Opened : Deed
+  Received : (number : ℕ) (piece : List ℕ) → Deed
+  Sent : (number count : ℕ) → Deed
+  Closed : (number : ℕ) → Deed
+  Ticked : (milliseconds : ℕ) → Deed
+  Served : (number : ℕ) → Deed
+  Turned : Deed
+
+-- what is left of a state by it
+abbrev pub Does : Deed → ServedState → ServedState → Type 0
+Does Opened old new = new ≡ with_target (target.opened old.target) old
+Does (Received number piece) old new = new ≡ with_target (target.received number piece old.target) old
+Does (Sent number count) old new = new ≡ with_target (target.sent number count old.target) old
+Does (Closed number) old new = new ≡ with_target (target.closed number old.target) old
+Does (Ticked milliseconds) old new = new ≡ with_target (ticked milliseconds old.target) old
+Does (Served number) old new = Serves number old new
+Does Turned old new = Turns old new
+
+-- ---- the device's events
+
+-- a command that goes to the device is a submission of just its entry and its data, to the queue that has its connection's number
+abbrev pub submissions : (given : Option Execution) (number : ℕ) (old new : ServedState) → ServesGiven given number old new → List Event
+submissions None number old new done = []
+submissions (Some execution) number old new done = event.Submit number execution.entry done.taken.carried ∷ []
+
+abbrev pub turns : (run : Option ℕ) (old new : ServedState) → TurnsGiven run old new → List Event
+turns None old new done = []
+turns (Some run) old new done = event.Turn run ∷ []
+
+-- nothing else that is done is an event of the device
+abbrev pub events_in : (deed : Deed) (old new : ServedState) → Does deed old new → List Event
+events_in Opened old new done = []
+events_in (Received number piece) old new done = []
+events_in (Sent number count) old new done = []
+events_in (Closed number) old new done = []
+events_in (Ticked milliseconds) old new done = []
+events_in (Served number) old new done = submissions (given_to_device number old.target.queues) number old new done
+events_in Turned old new done = turns (next_run old) old new done
+
+-- ---- deeds one behind another, of which the last stands first
+
+pub record Follows (before : ServedState → Type 0) (deed : Deed) (new : ServedState) : Type 0 where
+  pub between : ServedState
+  pub first : before between
+  pub last : Does deed between new
+
+abbrev pub AreDone : List Deed → ServedState → ServedState → Type 0
+AreDone [] old new = new ≡ old
+AreDone (deed ∷ deeds) old new = Follows (AreDone deeds old) deed new
+
+-- the device's events, in the order in which they happened
+abbrev pub events_of : (deeds : List Deed) (old new : ServedState) → AreDone deeds old new → List Event
+events_of [] old new done = []
+events_of (deed ∷ deeds) old new done =
+    events_of deeds old done.between done.first ++ events_in deed done.between new done.last

@@ -1,0 +1,32 @@
+-- What holds of a served target.
+use Rattle.std.specs.Prelude.{◌≡◌, List, map}
+use Rattle.std.specs.Option.{option_map}
+use Rattle.device_meaning.specs.Events.{HasServed}
+use Rattle.device_meaning.specs.Judging.{interval_judge}
+use Rattle.device_meaning.specs.State.{Place}
+use Rattle.image_store.specs.Namespace.{ZonedNamespace}
+use Rattle.tcp_admin.specs.declared.subsystem.NamespaceFormat.{NamespaceFormat}
+use Rattle.tcp_admin.specs.declared.subsystem.Subsystem.{Subsystem}
+use Rattle.tcp_device.specs.Deeds.{AreDone, Deed, Does, events_of}
+use Rattle.tcp_device.specs.State.{CommandOfRun, ServedState, begun}
+
+-- whatever is done with a served target, its device did just the events that these deeds are: so what is proved of lists of events
+-- holds of a device that hosts reach over a network
+abbrev pub DeedsAreEvents : Type 0
+DeedsAreEvents =
+    (deeds : List Deed) (old new : ServedState) (done : AreDone deeds old new)
+    → HasServed interval_judge (events_of deeds old new done) old.device new.device (λ replies. Unit {0})
+
+-- ---- each run completes the command that started it
+
+-- the command of a run, as the device has it: its queue has the connection's number
+abbrev pub command_of : Place → CommandOfRun
+command_of place = record { connection = place.queue; command = place.cid }
+
+-- the commands that are pending are those of the device's active runs
+abbrev pub Agrees : ServedState → Type 0
+Agrees s = s.pending ≡ map (option_map command_of) s.device.places
+
+pub record RunsHaveTheirCommands : Type 0 where
+  pub begin : (namespace : ZonedNamespace) (subsystem : Subsystem) (format : NamespaceFormat) → Agrees (begun namespace subsystem format)
+  pub stay : (deed : Deed) (old new : ServedState) → Does deed old new → Agrees old → Agrees new

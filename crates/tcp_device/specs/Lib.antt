@@ -1,0 +1,6 @@
+pub mod Outcome
+pub mod State
+pub mod Served
+pub mod Deeds
+pub mod Laws
+pub mod steps

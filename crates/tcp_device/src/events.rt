@@ -1,0 +1,82 @@
+//! What happens to a served target beside its commands.
+
+ghost use Rattle.std.specs.Prelude.{◌≡◌, ◌≤◌, ◌<◌, IfSome, length};
+ghost use Rattle.tcp_connection.specs.Queue.{is_ended};
+ghost use Rattle.tcp_queues.specs.Ends.{is_cut_off};
+ghost use Rattle.tcp_queues.specs.Queues.{free_number, place_at};
+ghost use Rattle.tcp_target.specs.Events.{count_of};
+ghost use Rattle.tcp_device.specs.Deeds.{Closed, Does, Opened, Received, Sent, Ticked};
+
+use crate::served::ServedTarget;
+use tcp_associations::MOST_CONNECTIONS;
+
+impl ServedTarget {
+    /// Begins a connection, and gives its number: the lowest that no connection has, and under which the device has no command of
+    /// the one before. `None` where there is none.
+    pub fn open(&mut self) -> Option<usize>
+        ensures number { result ≡ free_number self.old.target.queues }
+        ensures state { Does Opened self.old self.new }
+        ensures within { IfSome result (λ number. number < MOST_CONNECTIONS) }
+    {
+        self.target.open()
+    }
+
+    /// Takes bytes that came on a connection, up to the end of a PDU, and gives how many they are: none while too much is to be sent,
+    /// or a command is ready, which is to be served first.
+    pub fn receive(&mut self, number: usize, piece: &[u8]) -> usize
+        requires { number < MOST_CONNECTIONS }
+        ensures state { Does (Received number piece.now) self.old self.new }
+        ensures count { result ≡ count_of number piece.now self.old.target }
+        ensures within { result ≤ length piece.now }
+    {
+        self.target.receive(number, piece)
+    }
+
+    /// What is to be sent on a connection.
+    pub fn unsent(&self, number: usize) -> &[u8]
+        requires { number < MOST_CONNECTIONS }
+        ensures { result.now ≡ (place_at number self.now.target.queues).unsent }
+    {
+        self.target.unsent(number)
+    }
+
+    /// Forgets the first bytes of it, which were sent.
+    pub fn sent(&mut self, number: usize, count: usize)
+        requires number { number < MOST_CONNECTIONS }
+        requires count { count ≤ length (place_at number self.old.target.queues).unsent }
+        ensures { Does (Sent number count) self.old self.new }
+    {
+        self.target.sent(number, count);
+    }
+
+    /// Has a connection ended? Then it is to be closed once all is sent.
+    pub fn is_ended(&self, number: usize) -> bool
+        requires { number < MOST_CONNECTIONS }
+        ensures { result ≡ is_ended (place_at number self.now.target.queues).connection.phase }
+    {
+        self.target.is_ended(number)
+    }
+
+    /// Is a connection cut off, since its controller has ended or was stopped? Then it is to be closed at once.
+    pub fn is_cut_off(&self, number: usize) -> bool
+        ensures { result ≡ is_cut_off number self.now.target.queues }
+    {
+        self.target.is_cut_off(number)
+    }
+
+    /// Says that a connection is closed, by whomever. Runs of its commands go on, and their completions are dropped; no other
+    /// connection gets its number until the device has none of its commands.
+    pub fn close(&mut self, number: usize)
+        requires { number < MOST_CONNECTIONS }
+        ensures { Does (Closed number) self.old self.new }
+    {
+        self.target.close(number);
+    }
+
+    /// Says that so many milliseconds went by: the controllers of hosts that were silent too long end (NVMe Base 2.0, 3.9).
+    pub fn tick(&mut self, milliseconds: u32)
+        ensures { Does (Ticked milliseconds) self.old self.new }
+    {
+        self.target.tick(milliseconds);
+    }
+}

@@ -1,0 +1,13 @@
+//! The device behind an NVMe/TCP target: commands of hosts go to the device, and its completions to the hosts.
+#![tactic(auto)]
+
+mod events;
+pub mod laws;
+mod outcome;
+mod pending;
+mod serve;
+mod served;
+mod turns;
+
+pub use outcome::INTERNAL_ERROR;
+pub use served::ServedTarget;

@@ -1,0 +1,113 @@
+//! Commands that are ready on connections.
+
+ghost use Rattle.std.specs.Prelude.{◌≡◌, ◌≤◌, ◌<◌, IsTrue, is_some, length};
+ghost use Rattle.tcp_pdus.specs.declared.sent.TheConstants.{MOST_DATA};
+ghost use Rattle.tcp_places.specs.Places.{has_room, ready_at};
+ghost use Rattle.tcp_queues.specs.Commands.{connect_data_at};
+ghost use Rattle.tcp_queues.specs.Queues.{place_at};
+ghost use Rattle.tcp_target.specs.Ready.{is_ready};
+ghost use Rattle.tcp_device.specs.Deeds.{Does, Served};
+ghost use Rattle.tcp_device.specs.Served.{Submits, completed_by, kept_by};
+ghost use Rattle.tcp_device.specs.steps.Handing.{Hands};
+
+use crate::outcome::outcome_in;
+use crate::pending::{PendingCommand, put_pending};
+use crate::served::ServedTarget;
+use runner::{Device, Reply};
+use tcp_associations::MOST_CONNECTIONS;
+use tcp_capsules::{ENTRY_BYTES, identifier};
+use tcp_pdus::MOST_DATA;
+use tcp_queues::given_are_live;
+use tcp_target::Target;
+
+impl ServedTarget {
+    /// Does the command that is ready on a connection, and says whether there is one: the target executes it, or it goes to the
+    /// device, with just its data, on the queue that has the connection's number. What the device completes at once is completed; a
+    /// Run is completed by the last of its turns.
+    pub fn serve(&mut self, number: usize) -> bool
+        requires { number < MOST_CONNECTIONS }
+        ensures ready { result ≡ is_ready number self.old.target }
+        ensures done { Does (Served number) self.old self.new }
+    {
+        given_are_live();
+        let is_ready = self.target.is_ready(number);
+        match self.target.given_to_device(number) {
+            Some(entry) => self.submit(number, &entry),
+            None => self.target.serve(number),
+        }
+        is_ready
+    }
+
+    /// Submits the entry that goes to the device next.
+    fn submit(&mut self, number: usize, entry: &[u8; ENTRY_BYTES])
+        requires number { number < MOST_CONNECTIONS }
+        requires ready { IsTrue (is_some (ready_at (place_at number self.old.target.queues))) }
+        ensures { Submits entry.now (connect_data_at number self.old.target.queues) number self.old self.new }
+    {
+        let output = self.output.as_mut_slice();
+        let reply = hand(&mut self.device, &mut self.target, number, entry, output);
+        keep(&mut self.pending, number, entry, reply);
+    }
+}
+
+/// Hands an entry to the device, and completes the command if the device executes it at once.
+fn hand(
+    device: &mut Device,
+    target: &mut Target,
+    number: usize,
+    entry: &[u8; ENTRY_BYTES],
+    output: &mut [u8],
+) -> Reply
+    requires number { number < MOST_CONNECTIONS }
+    requires ready { IsTrue (is_some (ready_at (place_at number target.old.queues))) }
+    requires output { length output.old ≡ MOST_DATA }
+    ensures { Hands entry.now (connect_data_at number target.old.queues) number device.old device.new target.old target.new result }
+{
+    let input = target.given_data(number);
+    let reply = device.submit(number as u16, entry, input, output);
+    target.hand_over(number);
+    let bytes = &output[..reply.data_length()];
+    complete(target, number, entry, reply, bytes);
+    reply
+}
+
+/// Completes a command that the device has executed at once.
+fn complete(
+    target: &mut Target,
+    number: usize,
+    entry: &[u8; ENTRY_BYTES],
+    reply: Reply,
+    bytes: &[u8],
+)
+    requires number { number < MOST_CONNECTIONS }
+    requires most { length bytes.now ≤ MOST_DATA }
+    requires room { IsTrue (has_room MOST_DATA (place_at number target.old.queues)) }
+    ensures { target.new ≡ completed_by reply bytes.now number entry.now target.old }
+{
+    match reply {
+        Reply::Complete {
+            entry: completion,
+            ..
+        } => target.execute(number, entry, outcome_in(&completion), bytes),
+        Reply::Pending { .. } | Reply::Idle | Reply::FaultTaken | Reply::FaultRefused => {}
+    }
+}
+
+/// Keeps a command that a run completes later.
+fn keep(
+    pending: &mut [Option<PendingCommand>],
+    number: usize,
+    entry: &[u8; ENTRY_BYTES],
+    reply: Reply,
+)
+    requires { number < MOST_CONNECTIONS }
+    ensures { pending.new ≡ kept_by reply number entry.now pending.old }
+{
+    match reply {
+        Reply::Pending { run } => {
+            let command = PendingCommand::new(number, identifier(entry));
+            put_pending(pending, usize::from(run), Some(command));
+        }
+        Reply::Complete { .. } | Reply::Idle | Reply::FaultTaken | Reply::FaultRefused => {}
+    }
+}
