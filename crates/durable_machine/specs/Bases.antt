@@ -10,3 +10,7 @@ module _ {S : Type 0} (loads : List ℕ → S → Type 0) where
   -- no base stands at the front
   abbrev pub BeginsNoBase : List ℕ → Type 0
   BeginsNoBase file = (base rest : List ℕ) (s : S) → loads base s → file ≡ base ++ rest → ⊥
+
+  -- no base stands for this machine
+  abbrev pub HasNoBase : S → Type 0
+  HasNoBase s = (base : List ℕ) → loads base s → ⊥

@@ -21,7 +21,7 @@ ghost use Rattle.durable_machine.specs.Batches.{
 
 use crate::base::put_base;
 use crate::replay::replay;
-use crate::{Fault, Machine, Saves};
+use crate::{Fault, Machine};
 use event_journal::{Journal, add_event, repair};
 use std::alloc::{AllocError, Global};
 use stored_file::{FileError, StoredFile, read_durable};
@@ -128,16 +128,16 @@ impl<M: Machine + Drop, F: StoredFile + Drop> Durable<M, F> {
         }
         Ok(replies)
     }
-}
 
-impl<M: Saves + Drop, F: StoredFile + Drop> Durable<M, F> {
-    /// Makes a file that stands for a machine, with an empty journal, in the place of what the file was. An `Err` hands the
-    /// file back.
+    /// Makes a file of a base, which stands for the machine, and an empty journal, in the place of what the file was. An `Err`
+    /// hands the file back.
     ///
     /// # Errors
     ///
     /// No memory, or the disk's.
-    pub fn create(alloc: Global, machine: M, mut file: F) -> Result<Durable<M, F>, (FileError, F)>
+    pub fn create(machine: M, base: Vec<u8>, mut file: F) -> Result<Durable<M, F>, (FileError, F)>
+        requires stands { M.loads base.items machine }
+
         ensures same { IfOk result (λ store. store.machine ≡ machine) }
         ensures durable { IfOk result (λ store.
             IsDurable M.loads M.next store.machine store.journal.gate (F.told store.journal.file)) }
@@ -151,7 +151,7 @@ impl<M: Saves + Drop, F: StoredFile + Drop> Durable<M, F> {
         // It doesn't give up by itself.
         ensures cause { IfErr result (λ failure. failure.0 ≡ Failed → (F.told file).faults < (F.told failure.1).faults) }
     {
-        match put_base(alloc, &machine, &mut file) {
+        match put_base(&machine, base, &mut file) {
             Ok(gate) => Ok(Durable {
                 machine,
                 journal: Journal { file, gate },
@@ -160,14 +160,16 @@ impl<M: Saves + Drop, F: StoredFile + Drop> Durable<M, F> {
         }
     }
 
-    /// Folds the journal into a new base, which a new file has in place of the old one, with an empty journal behind it.
-    /// A crash at any moment leaves a file that stands for the same state. At `Err`, the file has to be opened again.
+    /// Folds the journal into a new base, which stands for the machine: a new file has it in place of the old one, with an empty
+    /// journal behind it. A crash at any moment leaves a file that stands for the same state. At `Err`, the file has to be opened
+    /// again.
     ///
     /// # Errors
     ///
     /// No memory, or the disk's.
-    pub fn fold(&mut self, alloc: Global) -> Result<(), FileError>
-        requires { IsDurable M.loads M.next self.old.machine self.old.journal.gate (F.told self.old.journal.file) }
+    pub fn fold(&mut self, base: Vec<u8>) -> Result<(), FileError>
+        requires stands { M.loads base.items self.old.machine }
+        requires durable { IsDurable M.loads M.next self.old.machine self.old.journal.gate (F.told self.old.journal.file) }
         ensures same { self.new.machine ≡ self.old.machine }
         ensures acknowledged { OnOk result
             (IsDurable M.loads M.next self.new.machine self.new.journal.gate (F.told self.new.journal.file)) }
@@ -175,7 +177,7 @@ impl<M: Saves + Drop, F: StoredFile + Drop> Durable<M, F> {
             (λ c. IsState M.loads M.next c self.old.machine) }
         ensures cause { HasCause (F.told self.old.journal.file) (F.told self.new.journal.file) result }
     {
-        self.journal.gate = put_base(alloc, &self.machine, &mut self.journal.file)?;
+        self.journal.gate = put_base(&self.machine, base, &mut self.journal.file)?;
         Ok(())
     }
 }

@@ -55,7 +55,7 @@ impl Machine for Number {
 }
 
 impl Saves for Number {
-    fn save(&self, alloc: Global) -> Result<Vec<u8>, AllocError> {
-        Ok(vec![in alloc; self.value]?)
+    fn save(&self, alloc: Global) -> Result<Option<Vec<u8>>, AllocError> {
+        Ok(Some(vec![in alloc; self.value]?))
     }
 }

@@ -2,13 +2,13 @@
 
 ghost use Rattle.std.specs.Prelude.{IfOk};
 ghost use Rattle.stored_file.specs.Tearing.{told_of};
-ghost use Rattle.durable_machine_tests.specs.Number.{IsKept};
+ghost use Rattle.durable_machine_tests.specs.Number.{IsBaseOf, IsKept};
 
 use crate::Number;
-use durable_machine::{Durable, Fault};
+use durable_machine::{Durable, Fault, Saves};
 use std::alloc::{AllocError, Global};
 use std::test::Fail;
-use stored_file::{SECTOR, StoredFile, TearingFile};
+use stored_file::{FileError, SECTOR, StoredFile, TearingFile};
 
 /// The choices of a disk that are tried at each moment.
 const SEEDS: u64 = 3;
@@ -39,6 +39,28 @@ fn opened(alloc: Global, bytes: &[u8]) -> Result<Durable<Number, TearingFile>, F
     match Durable::open(alloc, TearingFile::new(alloc, bytes)?) {
         Ok(store) => Ok(store),
         Err((fault, _file)) => Err(fault),
+    }
+}
+
+/// The base of a number.
+fn base_of(alloc: Global, number: Number) -> Result<Vec<u8>, FileError>
+    ensures { IfOk result (λ base. IsBaseOf base.items number) }
+{
+    match number.save(alloc)? {
+        Some(base) => Ok(base),
+        None => Err(FileError::Failed),
+    }
+}
+
+/// A new store of the number 0, in the place of a file of no bytes.
+fn created(alloc: Global) -> Result<Durable<Number, TearingFile>, FileError>
+    ensures { IfOk result (λ store. IsKept store.machine store.journal.gate (told_of store.journal.file)) }
+{
+    let number = Number { value: 0 };
+    let base = base_of(alloc, number)?;
+    match Durable::create(number, base, TearingFile::new(alloc, &[])?) {
+        Ok(store) => Ok(store),
+        Err((error, _file)) => Err(error),
     }
 }
 
@@ -87,7 +109,8 @@ fn each_comes_back(
 #[test]
 fn each_batch_is_cut_off_at_each_moment(rt: HostRuntime) -> Result<(), Fail> {
     let alloc = rt.alloc();
-    let mut bytes = vec![in alloc; 0; 2 * SECTOR]?;
+    let first = created(alloc)?;
+    let mut bytes = first.journal.file.bytes().to_vec(alloc)?;
     for index in 0..6 {
         let mut store = opened(alloc, &bytes)?;
         let events = batch(alloc, index)?;
@@ -105,8 +128,7 @@ fn each_batch_is_cut_off_at_each_moment(rt: HostRuntime) -> Result<(), Fail> {
 #[test]
 fn a_fold_is_cut_off_at_each_moment(rt: HostRuntime) -> Result<(), Fail> {
     let alloc = rt.alloc();
-    let bytes = vec![in alloc; 0; 2 * SECTOR]?;
-    let mut store = opened(alloc, &bytes)?;
+    let mut store = created(alloc)?;
     let mut batches = Vec::new(alloc);
     for index in 0..4 {
         batches.push(batch(alloc, index)?)?;
@@ -115,7 +137,7 @@ fn a_fold_is_cut_off_at_each_moment(rt: HostRuntime) -> Result<(), Fail> {
     assert_eq!(rt; replies.len(), batches.len());
     let from = store.journal.file.moment();
     let number = store.machine;
-    store.fold(alloc)?;
+    store.fold(base_of(alloc, number)?)?;
     assert_eq!(rt; store.journal.file.bytes().len(), 2 * SECTOR);
     assert!(rt; each_comes_back(alloc, &store.journal.file, from, (number, number))?);
     Ok(())
@@ -133,8 +155,7 @@ fn refusal(alloc: Global, bytes: &[u8]) -> Result<Option<Fault>, Fault> {
 #[test]
 fn what_no_crash_leaves_is_refused(rt: HostRuntime) -> Result<(), Fail> {
     let alloc = rt.alloc();
-    let bytes = vec![in alloc; 0; 2 * SECTOR]?;
-    let mut store = opened(alloc, &bytes)?;
+    let mut store = created(alloc)?;
     store.serve(alloc, &batch(alloc, 1)?)?;
     store.serve(alloc, &batch(alloc, 2)?)?;
     let whole = store.journal.file.bytes().to_vec(alloc)?;

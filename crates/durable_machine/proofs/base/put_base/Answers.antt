@@ -4,9 +4,6 @@ use Rattle.durable_machine.specs.Files.{IsOldOrStands, whole_sectors}
 use Rattle.durable_machine.proofs.Folding.{folded, folded_state}
 use Rattle.durable_machine.proofs.base.put_base.Goals as goal
 
-pub returns-in_err-bytes-clause-any_moment : goal.returns-in_err-bytes-clause-any_moment
-returns-in_err-bytes-clause-any_moment g c = started _ _ (λ file left. inl left)
-
 pub returns-in_err-resize-clause-any_moment : goal.returns-in_err-resize-clause-any_moment
 returns-in_err-resize-clause-any_moment g c = started _ _ (λ file left. inl left)
 
@@ -16,11 +13,11 @@ returns-in_err-replace-clause-any_moment g c =
     let next = g.M.Machine.next in
     let machine = c.args.machine.now in
     let old = g.F.StoredFile.told c.args.file.now in
-    let counted : vec_len c.in_ok-bytes.bytes ≡ length c.in_ok-bytes.bytes.items = search rules in
-    let size : c.in_sectors-front.result ≡ whole_sectors (length c.in_ok-bytes.bytes.items) = c.in_sectors-front.ensures ∙ ap whole_sectors (search rules) in
+    let counted : vec_len c.args.base ≡ length c.args.base.items = search rules in
+    let size : c.in_sectors-front.result ≡ whole_sectors (length c.args.base.items) = c.in_sectors-front.ensures ∙ ap whole_sectors (search rules) in
     goes_on old old _ (IsOldOrStands loads next old machine) (started old _ (λ file left. inl left)) c.replace.ensures.time
     (λ file now. ⊎_elim (λ before. inl before)
-    (λ is. inr (folded_state loads next c.in_ok-bytes.bytes.items c.deref.result.now machine c.in_ok-bytes.ensures c.in_sectors-front.result (vec_len c.in_ok-bytes.bytes) size counted (c.deref.ensures.value ∙ c.in_ok-resize.ensures.items) file is))
+    (λ is. inr (folded_state loads next c.args.base.items c.deref.result.now machine c.requires.stands c.in_sectors-front.result (vec_len c.args.base) size counted (c.deref.ensures.value ∙ c.in_ok-resize.ensures.items) file is))
     (c.replace.ensures.crash file now))
 
 pub returns-clause-any_moment : goal.returns-clause-any_moment
@@ -29,16 +26,16 @@ returns-clause-any_moment g c =
     let next = g.M.Machine.next in
     let machine = c.args.machine.now in
     let old = g.F.StoredFile.told c.args.file.now in
-    let counted : vec_len c.in_ok-bytes.bytes ≡ length c.in_ok-bytes.bytes.items = search rules in
-    let size : c.in_sectors-front.result ≡ whole_sectors (length c.in_ok-bytes.bytes.items) = c.in_sectors-front.ensures ∙ ap whole_sectors (search rules) in
+    let counted : vec_len c.args.base ≡ length c.args.base.items = search rules in
+    let size : c.in_sectors-front.result ≡ whole_sectors (length c.args.base.items) = c.in_sectors-front.ensures ∙ ap whole_sectors (search rules) in
     goes_on old old _ (IsOldOrStands loads next old machine) (started old _ (λ file left. inl left)) c.replace.ensures.time
     (λ file now. ⊎_elim (λ before. inl before)
-    (λ is. inr (folded_state loads next c.in_ok-bytes.bytes.items c.deref.result.now machine c.in_ok-bytes.ensures c.in_sectors-front.result (vec_len c.in_ok-bytes.bytes) size counted (c.deref.ensures.value ∙ c.in_ok-resize.ensures.items) file is))
+    (λ is. inr (folded_state loads next c.args.base.items c.deref.result.now machine c.requires.stands c.in_sectors-front.result (vec_len c.args.base) size counted (c.deref.ensures.value ∙ c.in_ok-resize.ensures.items) file is))
     (c.replace.ensures.crash file now))
 
 pub returns-clause-durable : goal.returns-clause-durable
 returns-clause-durable g c =
-    let counted : vec_len c.in_ok-bytes.bytes ≡ length c.in_ok-bytes.bytes.items = search rules in
-    let size : c.in_sectors-front.result ≡ whole_sectors (length c.in_ok-bytes.bytes.items) = c.in_sectors-front.ensures ∙ ap whole_sectors (search rules) in
-    folded g.M.Machine.loads g.M.Machine.next c.in_ok-bytes.bytes.items c.deref.result.now c.args.machine.now c.in_ok-bytes.ensures c.in_sectors-front.result (vec_len c.in_ok-bytes.bytes) size counted (c.deref.ensures.value ∙ c.in_ok-resize.ensures.items)
+    let counted : vec_len c.args.base ≡ length c.args.base.items = search rules in
+    let size : c.in_sectors-front.result ≡ whole_sectors (length c.args.base.items) = c.in_sectors-front.ensures ∙ ap whole_sectors (search rules) in
+    folded g.M.Machine.loads g.M.Machine.next c.args.base.items c.deref.result.now c.args.machine.now c.requires.stands c.in_sectors-front.result (vec_len c.args.base) size counted (c.deref.ensures.value ∙ c.in_ok-resize.ensures.items)
     (g.F.StoredFile.told c.replace.new.self) c.in_ok-replace.ensures.replaced c.in_ok-replace.ensures.durable

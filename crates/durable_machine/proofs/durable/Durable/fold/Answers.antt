@@ -6,9 +6,9 @@ use Rattle.durable_machine.proofs.durable.Durable.fold.Goals as goal
 pub returns-in_err-self-clause-any_moment : goal.returns-in_err-self-clause-any_moment
 returns-in_err-self-clause-any_moment g c =
     weaken _ _ _ _ c.put_base.ensures.any_moment
-    (λ file. ⊎_elim (rests_before g.M.Machine.loads g.M.Machine.next c.args.self.now.machine c.args.self.now.journal.gate _ c.requires file) (λ is. is))
+    (λ file. ⊎_elim (rests_before g.M.Machine.loads g.M.Machine.next c.args.self.now.machine c.args.self.now.journal.gate _ c.requires.durable file) (λ is. is))
 
 pub returns-clause-any_moment : goal.returns-clause-any_moment
 returns-clause-any_moment g c =
     weaken _ _ _ _ c.put_base.ensures.any_moment
-    (λ file. ⊎_elim (rests_before g.M.Machine.loads g.M.Machine.next c.args.self.now.machine c.args.self.now.journal.gate _ c.requires file) (λ is. is))
+    (λ file. ⊎_elim (rests_before g.M.Machine.loads g.M.Machine.next c.args.self.now.machine c.args.self.now.journal.gate _ c.requires.durable file) (λ is. is))
