@@ -1,0 +1,88 @@
+//! A base, and the image that it stands for.
+
+ghost use Rattle.std.specs.Prelude.{◌≡◌, List, ℕ, IfOk, MatchOption, Ok};
+ghost use Rattle.durable_machine.specs.Bases.{BeginsBase, BeginsNoBase};
+ghost use Rattle.image_base.specs.Base.{IsBaseOf, IsBehindMagic, IsNoText};
+ghost use Rattle.image_text.specs.Reading.{namespace_in};
+ghost use Rattle.image_text.specs.Text.{text};
+
+use event_journal::{add_event, first_event};
+use image_store::Image;
+use image_text::{Buffer, ImageText, LoadFault};
+use std::alloc::{AllocError, Global};
+
+/// The first bytes of a base (profile).
+pub const MAGIC: [u8; 8] = *b"ZNSJRN01";
+
+/// The image for which a base stands at the front of a file, and the base's length in bytes; `None` where no base stands there.
+///
+/// # Errors
+///
+/// No memory.
+pub fn load_base(alloc: Global, file: &[u8]) -> Result<Option<(Image, usize)>, AllocError>
+    ensures { IfOk result (λ found. MatchOption found (BeginsNoBase IsBaseOf file.now) (λ base. BeginsBase IsBaseOf base.0 base.1 file.now)) }
+{
+    let Some(behind) = behind_magic(file) else {
+        return Ok(None);
+    };
+    let Some((text, rest)) = first_event(behind) else {
+        return Ok(None);
+    };
+    match image_of(alloc, text)? {
+        Some(image) => Ok(Some((image, file.len() - rest.len()))),
+        None => Ok(None),
+    }
+}
+
+/// A base that stands for an image.
+///
+/// # Errors
+///
+/// No memory.
+pub fn save_base(alloc: Global, image: &Image) -> Result<Vec<u8>, AllocError>
+    ensures { IfOk result (λ base. IsBaseOf base.items image.now) }
+{
+    // Brings in what holds of each image.
+    let _ = image.geometry();
+    let text = text_of(alloc, image)?;
+    let mut base = Vec::new(alloc);
+    base.extend_from_slice(&MAGIC)?;
+    add_event(&mut base, &text)?;
+    Ok(base)
+}
+
+/// What stands behind the magic; `None` where the file doesn't begin with it.
+fn behind_magic(file: &[u8]) -> Option<&[u8]>
+    ensures { MatchOption result ((behind : List ℕ) → IsBehindMagic file.now behind → ⊥) (λ behind. IsBehindMagic file.now behind.now) }
+{
+    let Some((front, behind)) = file.split_first_chunk::<8>() else {
+        return None;
+    };
+    if *front != MAGIC {
+        return None;
+    }
+    Some(behind)
+}
+
+/// The image of a text; `None` where the bytes are none.
+fn image_of(alloc: Global, text: &[u8]) -> Result<Option<Image>, AllocError>
+    ensures { IfOk result (λ found. MatchOption found (IsNoText text.now) (λ image. namespace_in text.now ≡ Ok image)) }
+{
+    let mut source = text;
+    match Image::load(alloc, &mut source) {
+        Ok(image) => Ok(Some(image)),
+        Err(LoadFault::Memory) => Err(AllocError),
+        Err(_) => Ok(None),
+    }
+}
+
+/// The text of an image.
+fn text_of(alloc: Global, image: &Image) -> Result<Vec<u8>, AllocError>
+    ensures { IfOk result (λ bytes. bytes.items ≡ text image.now) }
+{
+    let mut buffer = Buffer::new(alloc);
+    match image.save(&mut buffer) {
+        Ok(()) => Ok(buffer.into_bytes()),
+        Err(_) => Err(AllocError),
+    }
+}
