@@ -1,5 +1,9 @@
-//! The tests of `ebpf_object`, a crate of their own, so that `ebpf_object` is proved once.
+//! The tests of `ebpf_object` and `ebpf_calls`, a crate of their own, so that those are proved once.
 #![tactic(auto)]
 
+#[cfg(test)]
+mod calls_object;
+#[cfg(test)]
+mod references;
 #[cfg(test)]
 mod tests;

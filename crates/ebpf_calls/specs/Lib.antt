@@ -1,0 +1,4 @@
+pub mod First
+pub mod Functions
+pub mod References
+pub mod CallTrees
