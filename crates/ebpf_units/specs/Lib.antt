@@ -1,0 +1,4 @@
+pub mod Units
+pub mod Frames
+pub mod Checks
+pub mod Sizes
