@@ -7,6 +7,13 @@ pub(super) const TWO_FRAMES: Text = "\
 ldxb r6, [r2+0]\nmov r1, r2\nmov r2, 8\njne r6, 7, +1\ncall 1\nmov r1, r10\nadd r1, -8\nmov r2, 4\ncall 1\nmov r0, 0\n\
 exit";
 
+/// Emits bytes of each area from places that are known: of the block and of the stack behind a move of their number, of scratch
+/// without one, and of the context both ways, by a jump over the move.
+pub(super) const KNOWN_FRAMES: Text = "\
+mov r6, r1\nmov r7, r2\nmov r8, r3\nldxb r9, [r2+0]\nldxdw r4, [r2+1]\nstxdw [r10-8], r4\nstxdw [r3+8], r4\n\
+mov r1, r7\nadd r1, 5\nmov r2, 3\ncall 1\nmov r1, r10\nadd r1, -7\nmov r2, 2\ncall 1\nmov r2, 1\nmov r1, r8\nadd r1, 9\ncall 1\n\
+mov r1, r6\nadd r1, 8\nmov r2, 1\njeq r9, 7, +1\nmov r2, 2\ncall 1\nmov r0, r2\nadd r0, r9\nexit";
+
 /// Loads the byte that a block's first two tell.
 pub(super) const INDEXED: Text = "ldxh r6, [r2+0]\nand r6, 511\nadd r2, r6\nldxb r0, [r2+0]\nexit";
 

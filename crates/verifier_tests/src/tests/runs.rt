@@ -2,8 +2,8 @@
 
 use super::program;
 use super::programs::{
-    AREAS, BOUNDED, DECIDED, INDEXED, INDEXED_TWO, KNOWN_LOADS, MOVES_AND_OPERATIONS, SKIPPING,
-    TWO_FRAMES, WHOLE_STORES,
+    AREAS, BOUNDED, DECIDED, INDEXED, INDEXED_TWO, KNOWN_FRAMES, KNOWN_LOADS, MOVES_AND_OPERATIONS,
+    SKIPPING, TWO_FRAMES, WHOLE_STORES,
 };
 use interp::Machine;
 use interval_domain::Intervals;
@@ -43,6 +43,7 @@ const SCENES: &[(Text, u32, u32, &[u8])] = &[
     (MOVES_AND_OPERATIONS, 0, 512, FIRSTS),
     (AREAS, 0, 512, FIRSTS),
     (WHOLE_STORES, 0, 512, FIRSTS),
+    (KNOWN_FRAMES, 16, 512, FIRSTS),
 ];
 
 /// Fills a block with bytes that look random, but for the first.
