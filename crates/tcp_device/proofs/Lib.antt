@@ -4,3 +4,4 @@ mod Agreeing
 mod Room
 mod Given
 mod Submitted
+mod Queues

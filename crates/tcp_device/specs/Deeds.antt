@@ -1,5 +1,6 @@
--- All that is done with a served target, and what its device did then.
+-- All that is done with a served target, and what its device did and replied then.
 use Rattle.std.specs.Prelude.{ℕ, ◌≡◌, List, [], ◌∷◌, ◌++◌, Option, Some, None}
+use Rattle.device_events.specs.Replies.{ReplyWithData}
 use Rattle.device_events.specs.declared.event.Event.{Event}
 use Rattle.device_events.specs.declared.event.Event.TheVariants as event
 use Rattle.tcp_connection.specs.Executing.{Execution}
@@ -51,6 +52,28 @@ events_in (Ticked milliseconds) old new done = []
 events_in (Served number) old new done = submissions (given_to_device number old.target.queues) number old new done
 events_in Turned old new done = turns (next_run old) old new done
 
+-- ---- the device's replies
+
+-- the reply to a submission is the one that the host's completion is made of, or that names the run that will complete the command
+abbrev pub submission_replies : (given : Option Execution) (number : ℕ) (old new : ServedState)
+    → ServesGiven given number old new → List ReplyWithData
+submission_replies None number old new done = []
+submission_replies (Some execution) number old new done = done.reply ∷ []
+
+-- and that to a turn is the one of which the completion of the run's command is made, where it ends the run
+abbrev pub turn_replies : (run : Option ℕ) (old new : ServedState) → TurnsGiven run old new → List ReplyWithData
+turn_replies None old new done = []
+turn_replies (Some run) old new done = done.reply ∷ []
+
+abbrev pub replies_in : (deed : Deed) (old new : ServedState) → Does deed old new → List ReplyWithData
+replies_in Opened old new done = []
+replies_in (Received number piece) old new done = []
+replies_in (Sent number count) old new done = []
+replies_in (Closed number) old new done = []
+replies_in (Ticked milliseconds) old new done = []
+replies_in (Served number) old new done = submission_replies (given_to_device number old.target.queues) number old new done
+replies_in Turned old new done = turn_replies (next_run old) old new done
+
 -- ---- deeds one behind another, of which the last stands first
 
 pub record Follows (before : ServedState → Type 0) (deed : Deed) (new : ServedState) : Type 0 where
@@ -67,3 +90,9 @@ abbrev pub events_of : (deeds : List Deed) (old new : ServedState) → AreDone d
 events_of [] old new done = []
 events_of (deed ∷ deeds) old new done =
     events_of deeds old done.between done.first ++ events_in deed done.between new done.last
+
+-- and the replies to these
+abbrev pub replies_of : (deeds : List Deed) (old new : ServedState) → AreDone deeds old new → List ReplyWithData
+replies_of [] old new done = []
+replies_of (deed ∷ deeds) old new done =
+    replies_of deeds old done.between done.first ++ replies_in deed done.between new done.last

@@ -7,15 +7,24 @@ use Rattle.device_meaning.specs.State.{Place}
 use Rattle.image_store.specs.Namespace.{ZonedNamespace}
 use Rattle.tcp_admin.specs.declared.subsystem.NamespaceFormat.{NamespaceFormat}
 use Rattle.tcp_admin.specs.declared.subsystem.Subsystem.{Subsystem}
-use Rattle.tcp_device.specs.Deeds.{AreDone, Deed, Does, events_of}
+use Rattle.tcp_target.specs.Apart.{HasQueuesApart}
+use Rattle.tcp_device.specs.Deeds.{AreDone, Deed, Does, events_of, replies_of}
 use Rattle.tcp_device.specs.State.{CommandOfRun, ServedState, begun}
 
--- whatever is done with a served target, its device did just the events that these deeds are: so what is proved of lists of events
--- holds of a device that hosts reach over a network
+-- whatever is done with a served target, its device did just the events that these deeds are, and what hosts are answered is made of
+-- its replies to these, each of them, in order: so what is proved of lists of events and of the replies to them holds of a device that
+-- hosts reach over a network
 abbrev pub DeedsAreEvents : Type 0
 DeedsAreEvents =
     (deeds : List Deed) (old new : ServedState) (done : AreDone deeds old new)
-    → HasServed interval_judge (events_of deeds old new done) old.device new.device (λ replies. Unit {0})
+    → HasServed interval_judge (events_of deeds old new done) old.device new.device
+    (λ replies. replies ≡ replies_of deeds old new done)
+
+-- each queue has a connection of its own, in every state that deeds lead to from the beginning
+abbrev pub QueuesAreApart : Type 0
+QueuesAreApart =
+    (namespace : ZonedNamespace) (subsystem : Subsystem) (format : NamespaceFormat) (deeds : List Deed) (new : ServedState)
+    → AreDone deeds (begun namespace subsystem format) new → HasQueuesApart new.target
 
 -- ---- each run completes the command that started it
 

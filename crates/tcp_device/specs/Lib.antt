@@ -1,5 +1,6 @@
 pub mod Outcome
 pub mod State
+pub mod Format
 pub mod Served
 pub mod Deeds
 pub mod Laws

@@ -1,15 +1,24 @@
 //! Laws of the definitions. Each function does nothing: what it ensures is the law.
 
-ghost use Rattle.tcp_device.specs.Laws.{DeedsAreEvents, RunsHaveTheirCommands};
+ghost use Rattle.tcp_device.specs.Laws.{DeedsAreEvents, QueuesAreApart, RunsHaveTheirCommands};
 ghost use Rattle.tcp_device.specs.Outcome.{OutcomesAreTold};
 
 use nvme_entry::laws::completions_tell;
+use tcp_target::queues_stay_apart;
 
 /// Whatever is done with a served target, its device did a list of events: the entries that were handed over, each with just its data
-/// and on the queue that has its connection's number, and turns, in this order.
+/// and on the queue that has its connection's number, and turns, in this order; and what hosts are answered is made of its replies to
+/// these.
 pub fn deeds_are_events()
     ensures { DeedsAreEvents }
 {}
+
+/// No two connections have one queue of one controller (NVMe Base 2.0, 6.3), in every state that a served target comes to.
+pub fn queues_are_apart()
+    ensures { QueuesAreApart }
+{
+    queues_stay_apart();
+}
 
 /// The commands that are pending are those of the device's active runs, by their numbers: so a run that ends completes the command
 /// that started it.

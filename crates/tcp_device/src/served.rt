@@ -1,6 +1,8 @@
 //! A target with the device behind it.
 
 ghost use Rattle.std.specs.Prelude.{◌≡◌, IfOk};
+ghost use Rattle.image_store.specs.Namespace.{shape};
+ghost use Rattle.tcp_device.specs.Format.{IsFormatOf};
 ghost use Rattle.tcp_device.specs.State.{begun};
 
 use crate::pending::PendingCommand;
@@ -39,7 +41,8 @@ impl Model for ServedTarget {
 }
 
 impl ServedTarget {
-    /// A device with the namespace of an image, and a target without connections before it.
+    /// A device with the namespace of an image, and a target without connections before it, which tells hosts the format of that
+    /// namespace.
     ///
     /// # Errors
     ///
@@ -50,6 +53,7 @@ impl ServedTarget {
         subsystem: Subsystem,
         format: NamespaceFormat,
     ) -> Result<ServedTarget, AllocError>
+        requires format { IsFormatOf (shape image) format }
         ensures { IfOk result (λ served. served ≡ begun image subsystem format) }
     {
         Ok(ServedTarget {

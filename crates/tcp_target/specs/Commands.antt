@@ -1,5 +1,5 @@
 -- The commands that a target executes itself.
-use Rattle.std.specs.Prelude.{ℕ, Bool, ◌+◌, ◌^◌, ◌/◌, ◌%◌, ◌==◌, ◌&&◌, List, [], Option, Some, None, Result, Ok, Err, if◌then◌else◌, slice_index}
+use Rattle.std.specs.Prelude.{ℕ, Bool, ◌^◌, ◌/◌, ◌%◌, ◌==◌, ◌&&◌, List, [], Option, Some, None, Result, Ok, Err, if◌then◌else◌, slice_index}
 use Rattle.zone_state.specs.declared.status.Status.{Status}
 use Rattle.zone_state.specs.declared.status.TheConstants.Status.{INVALID_COMMAND_OPCODE, SUCCESS}
 use Rattle.tcp_capsules.specs.Direction.{identifier_of}

@@ -2,4 +2,5 @@ pub mod Target
 pub mod Events
 pub mod Commands
 pub mod Laws
+pub mod Apart
 pub mod Ready

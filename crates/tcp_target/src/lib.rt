@@ -10,5 +10,5 @@ mod patience;
 mod ready;
 mod target;
 
-pub use laws::connections_stay;
+pub use laws::{connections_stay, queues_stay_apart};
 pub use target::Target;
