@@ -5,17 +5,9 @@ set -eu
 here=$(cd "$(dirname "$0")" && pwd)
 folder=$1
 shift
-crate=$here/../../crates/device_library
+built=$("$here/../built.sh" device_library)
 kit=$(dirname "$(dirname "$(realpath "$(command -v rt)")")")
-built=$crate/out/libdevice_library.a
 mkdir -p "$folder"
-newer() {
-    find "$here/../../crates" "$here/../../crates.txt" -name out -prune -o \
-        \( -name '*.rt' -o -name '*.antt' -o -name crates.txt \) -newer "$built" -print
-}
-if [ ! -e "$built" ] || [ -n "$(newer)" ]; then
-    (cd "$crate" && rt lib >&2)
-fi
 parts=$(mktemp -d)
 trap 'rm -rf "$parts"' EXIT
 ${CC:-gcc} -std=c11 -O2 -Wall -Wextra -Werror "$@" -c "$here/pifnjarl_device.c" -o "$parts/pifnjarl_device.o"

@@ -1,0 +1,5 @@
+pub mod Kinds
+pub mod Answers
+pub mod Opening
+pub mod Calls
+pub mod Lying

@@ -1,0 +1,106 @@
+//! A target that C holds.
+
+ghost use Rattle.std.specs.Prelude.{◌≡◌, ◌^◌, IfOk};
+ghost use Rattle.tcp_device.specs.Format.{IsFormatOf};
+ghost use Rattle.tcp_library.specs.Opening.{HasOpened, IsTargetOf};
+
+use image_store::{Geometry, Image};
+use image_text::{ImageText, LoadFault};
+use program_interface::BlockSize;
+use std::alloc::{AllocError, Global};
+use tcp_admin::{NamespaceFormat, QualifiedName, Subsystem};
+use tcp_device::ServedTarget;
+
+/// The name of the target (NVMe Base 2.0, 4.5).
+const NAME: &[u8] = b"nqn.2014-08.org.nvmexpress:uuid:0f2b6a34-8c1d-4e7a-9b35-7a6f6e6a6172";
+
+/// NGUID of its namespace (NVMe Base 2.0, 5.17.2.1): the UUID of its name.
+const NGUID: [u8; 16] = [
+    0x0F, 0x2B, 0x6A, 0x34, 0x8C, 0x1D, 0x4E, 0x7A, 0x9B, 0x35, 0x7A, 0x6F, 0x6E, 0x6A, 0x61, 0x72,
+];
+
+/// What lies in the memory that C brings: a target, or none and why.
+#[derive(Drop)]
+pub struct Handle {
+    /// What opening and saving take their memory from.
+    pub alloc: Global,
+    /// The target with its device, where it was opened.
+    pub served: Option<ServedTarget>,
+    /// 0, or the number of the image's fault or of want of memory, where there is no target.
+    pub opened: u32,
+}
+
+/// The target of the image that these bytes tell, or none and why.
+pub fn make(alloc: Global, image: &[u8]) -> Handle
+    ensures { HasOpened image.now result.served result.opened }
+{
+    let mut rest = image;
+    match Image::load(alloc, &mut rest) {
+        Ok(image) => match target_of(alloc, image) {
+            Ok(served) => Handle {
+                alloc,
+                served: Some(served),
+                opened: 0,
+            },
+            Err(_) => Handle {
+                alloc,
+                served: None,
+                opened: u32::from(LoadFault::Memory.number()),
+            },
+        },
+        Err(fault) => Handle {
+            alloc,
+            served: None,
+            opened: u32::from(fault.number()),
+        },
+    }
+}
+
+/// A target whose device has the namespace of an image.
+fn target_of(alloc: Global, image: Image) -> Result<ServedTarget, AllocError>
+    ensures { IfOk result (λ served. IsTargetOf image served) }
+{
+    let format = format_of(image.geometry());
+    ServedTarget::new(alloc, image, subsystem(alloc)?, format)
+}
+
+/// What the target is. The texts are the serial number, the model and the firmware's revision.
+fn subsystem(alloc: Global) -> Result<Subsystem, AllocError> {
+    Ok(Subsystem {
+        nqn: QualifiedName::new(alloc, NAME)?,
+        serial_number: *b"1                   ",
+        model: *b"Pifnjarl                                ",
+        firmware: *b"1       ",
+        nguid: NGUID,
+    })
+}
+
+/// What the namespace of an image is like.
+fn format_of(geometry: Geometry) -> NamespaceFormat
+    ensures { IsFormatOf geometry result }
+{
+    NamespaceFormat {
+        blocks: geometry.blocks(),
+        block_size_log2: log2_of(geometry.block()),
+        zone_blocks: u64::from(geometry.size()),
+        active_limit: geometry.limits().active_limit,
+        open_limit: geometry.limits().open_limit,
+    }
+}
+
+/// The logarithm to base 2 of the bytes of a block.
+fn log2_of(block: BlockSize) -> u8
+    ensures { 2 ^ result ≡ block }
+{
+    match block.bytes() {
+        512 => 9,
+        1024 => 10,
+        2048 => 11,
+        4096 => 12,
+        8192 => 13,
+        _ => 14,
+    }
+}
+
+/// Ends a handle.
+pub fn end(_handle: Handle) {}

@@ -1,0 +1,135 @@
+/* An NVMe/TCP target with a zoned device behind it, in memory that the caller brings: what crates/tcp_library exports, and a function
+   for each kind of its call.
+
+   What the caller owes, which nothing checks: the memory of a target has as many bytes as are told, is aligned to 16, and is used by
+   one call at a time; a pointer that comes with a number of bytes isn't null, and what a call writes to overlaps nothing else that it
+   is given; the stack has room for 1 MiB. Where there is no target, or no connection can have the number, a call does nothing, and
+   gives 0. */
+#ifndef TARGET_LIBRARY_H
+#define TARGET_LIBRARY_H
+
+#include <stdbool.h>
+#include <stddef.h>
+#include <stdint.h>
+
+#define TARGET_CONNECTIONS 40 /* numbers of connections are below it */
+
+/* what opening came to: done, or no target: want of memory, or the number of the first fault of the image */
+#define TARGET_OPENED 0
+#define TARGET_WANT_OF_MEMORY 17
+
+/* what is to be done with a connection */
+#define TARGET_GOES_ON 0
+#define TARGET_ENDS 1    /* it is to be closed once all is sent */
+#define TARGET_CUT_OFF 2 /* it is to be closed at once */
+
+enum target_kind {
+    TARGET_ASKS_OPENED = 0,
+    TARGET_ACCEPT = 1,
+    TARGET_RECEIVE = 2,
+    TARGET_SERVE = 3,
+    TARGET_UNSENT = 4,
+    TARGET_SENT = 5,
+    TARGET_ENDING = 6,
+    TARGET_CLOSE = 7,
+    TARGET_TICK = 8,
+    TARGET_TURN = 9,
+    TARGET_SAVE = 10
+};
+
+/* How many bytes of memory a target needs. */
+size_t target_library_handle_bytes(void);
+
+/* Opens a target there, on the image that these bytes tell. Where they tell none or memory is wanting, there is no target, and all the
+   same it has to be ended. */
+void target_library_open(unsigned char *target, const unsigned char *image, size_t image_bytes);
+
+/* Does what is asked for, as the functions below say, and gives the answer. */
+size_t target_library_call(unsigned char *target, uint32_t kind, size_t number, size_t count, const unsigned char *piece,
+                           size_t piece_bytes, unsigned char *out, size_t room);
+
+/* Ends a target; the memory is the caller's again. */
+void target_library_end(unsigned char *target);
+
+/* A call that takes no bytes and gives none. */
+static inline size_t target_ask(unsigned char *target, enum target_kind kind, size_t number, size_t count)
+{
+    unsigned char none[1];
+    return target_library_call(target, kind, number, count, (const unsigned char *)"", 0, none, 0);
+}
+
+/* What opening came to. */
+static inline size_t target_opened(unsigned char *target)
+{
+    return target_ask(target, TARGET_ASKS_OPENED, 0, 0);
+}
+
+/* Begins a connection, and gives its number; TARGET_CONNECTIONS where none is free. */
+static inline size_t target_accept(unsigned char *target)
+{
+    return target_ask(target, TARGET_ACCEPT, 0, 0);
+}
+
+/* Takes the first bytes of what came on a connection, and gives how many. */
+static inline size_t target_receive(unsigned char *target, size_t number, const unsigned char *bytes, size_t count)
+{
+    unsigned char none[1];
+    return target_library_call(target, TARGET_RECEIVE, number, 0, bytes, count, none, 0);
+}
+
+/* Does the command that is ready on a connection, and says whether there was one. */
+static inline bool target_serve(unsigned char *target, size_t number)
+{
+    return target_ask(target, TARGET_SERVE, number, 0) != 0;
+}
+
+/* Puts the first bytes of what is to be sent into `out`, as many as there are and it has room for, and gives how many. */
+static inline size_t target_unsent(unsigned char *target, size_t number, unsigned char *out, size_t room)
+{
+    return target_library_call(target, TARGET_UNSENT, number, 0, (const unsigned char *)"", 0, out, room);
+}
+
+/* Is anything to be sent? */
+static inline bool target_has_unsent(unsigned char *target, size_t number)
+{
+    unsigned char first[1];
+    return target_unsent(target, number, first, sizeof first) > 0;
+}
+
+/* Forgets the first bytes of what is to be sent, which were sent. */
+static inline void target_sent(unsigned char *target, size_t number, size_t count)
+{
+    target_ask(target, TARGET_SENT, number, count);
+}
+
+/* What is to be done with a connection. */
+static inline size_t target_ending(unsigned char *target, size_t number)
+{
+    return target_ask(target, TARGET_ENDING, number, 0);
+}
+
+/* Says that a connection is closed. */
+static inline void target_close(unsigned char *target, size_t number)
+{
+    target_ask(target, TARGET_CLOSE, number, 0);
+}
+
+/* Says that so many milliseconds went by. */
+static inline void target_tick(unsigned char *target, size_t milliseconds)
+{
+    target_ask(target, TARGET_TICK, 0, milliseconds);
+}
+
+/* Gives a run a turn, and says whether there was one that could have it. */
+static inline bool target_turn(unsigned char *target)
+{
+    return target_ask(target, TARGET_TURN, 0, 0) != 0;
+}
+
+/* Gives how many bytes the image has, which are in front of `out` where it has room for all; 0 where memory is wanting. */
+static inline size_t target_save(unsigned char *target, unsigned char *out, size_t room)
+{
+    return target_library_call(target, TARGET_SAVE, 0, 0, (const unsigned char *)"", 0, out, room);
+}
+
+#endif
