@@ -1,0 +1,4 @@
+mod Sections
+mod Counts
+mod Parts
+mod Needs

@@ -1,0 +1,4 @@
+pub mod Data
+pub mod Bodies
+pub mod Linked
+pub mod Needs
