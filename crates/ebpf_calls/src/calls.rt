@@ -35,7 +35,8 @@ fn slots_at(
 ) -> Result<usize, CallFault>
     requires inside { LiesIn object.now.bytes.now function }
     requires there { slot < function.slots }
-    ensures value { result ≡ slots_at (tree_slots object.now.bytes.now object.now.symbols depth) object.now.bytes.now object.now.symbols function slot }
+    ensures value { let called = tree_slots object.now.bytes.now object.now.symbols depth in
+        result ≡ slots_at called object.now.bytes.now object.now.symbols function slot }
     ensures few { IfOk result (λ slots. slots ≤ MOST_SLOTS) }
 {
     match reference_of(object, function, slot) {
@@ -49,7 +50,8 @@ fn slots_at(
 #[cycle(tree)]
 fn body_slots(object: &Object<'_>, function: Function, depth: usize) -> Result<usize, CallFault>
     requires { LiesIn object.now.bytes.now function }
-    ensures value { result ≡ body_slots (tree_slots object.now.bytes.now object.now.symbols depth) object.now.bytes.now object.now.symbols function }
+    ensures value { let called = tree_slots object.now.bytes.now object.now.symbols depth in
+        result ≡ body_slots called object.now.bytes.now object.now.symbols function }
     ensures few { IfOk result (λ slots. slots ≤ MOST_SLOTS) }
 {
     let mut slots = 0;

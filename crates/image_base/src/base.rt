@@ -20,7 +20,8 @@ pub const MAGIC: [u8; 8] = *b"ZNSJRN01";
 ///
 /// No memory.
 pub fn load_base(alloc: Global, file: &[u8]) -> Result<Option<(Image, usize)>, AllocError>
-    ensures { IfOk result (λ found. MatchOption found (BeginsNoBase IsBaseOf file.now) (λ base. BeginsBase IsBaseOf base.0 base.1 file.now)) }
+    ensures { IfOk result (λ found. MatchOption found
+        (BeginsNoBase IsBaseOf file.now) (λ base. BeginsBase IsBaseOf base.0 base.1 file.now)) }
 {
     let Some(behind) = behind_magic(file) else {
         return Ok(None);
