@@ -2,7 +2,8 @@
 # Runs the filters of examples/ and of bench/filters, as examples/Makefile makes them for v2, over a block of 4096 bytes:
 # with every check, over their superinstructions, and in DPDK's interpreter (Debian's libdpdk-dev), which takes no 32-bit compares.
 # Prints the nanoseconds of a block run, the least of several rounds and launches, with their ratios to DPDK's, and the geometric
-# mean of the ratios of the second. A filter that DPDK doesn't load in 5 seconds has no ratio.
+# mean of the ratios of the second. A filter that DPDK doesn't load in 5 seconds has no ratio. Then the same of bench/unseen: filters
+# of other kinds, which no superinstruction was chosen by.
 set -eu
 here=$(cd "$(dirname "$0")" && pwd)
 program=filters
@@ -11,39 +12,52 @@ ours=$here/../crates/bench_programs/out/bench_programs
 awk 'BEGIN { for (i = 0; i < 4096; i++) printf "%02x", (i * i * 31 + int(i / 7)) % 256 }' | xxd -r -p > "$work/block.bin"
 rounds=10
 repeats=1000
+mkdir "$work/seen" "$work/unseen"
 for folder in "$here/../examples" "$here/filters"; do
-    make -s -f "$here/../examples/Makefile" FROM="$folder" TO="$work" CPU=v2
+    make -s -f "$here/../examples/Makefile" FROM="$folder" TO="$work/seen" CPU=v2
 done
+make -s -f "$here/../examples/Makefile" FROM="$here/unseen" TO="$work/unseen" CPU=v2
 # builds the program where it has to
-(cd "$here/../crates/bench_programs" && rt run -- "$work/filter.bin" "$work/block.bin" 0 0 checked > /dev/null 2>&1)
-for file in "$work"/*.bin; do
-    name=$(basename "$file" .bin)
-    if [ "$name" = block ]; then continue; fi
-    if ! wanted=$("$ours" "$file" "$work/block.bin" 0 0 prepared 2>&1); then
-        echo "$name: $wanted"
-        continue
-    fi
-    if [ "$wanted" != "$("$ours" "$file" "$work/block.bin" 0 0 checked)" ]; then
-        echo "$name: what is printed differs" >&2
-        exit 1
-    fi
-    checked=$(least 2 "$ours" "$file" "$work/block.bin" $rounds $repeats checked)
-    prepared=$(least 2 "$ours" "$file" "$work/block.bin" $rounds $repeats prepared)
-    if timeout 5 "$work/dpdk" "$file" "$work/block.bin" 0 0 > /dev/null 2>&1; then
-        theirs=$(least 2 "$work/dpdk" "$file" "$work/block.bin" $rounds $repeats 2> /dev/null)
-    else
-        theirs=0
-    fi
-    echo "$name $checked $prepared $theirs"
-done > "$work/times"
-awk 'NF == 4 {
-    printf "%s: checked %.1f ns, prepared %.1f ns", $1, $2 / 1000, $3 / 1000
-    if ($4) {
-        printf ", DPDK %.1f ns, ratios %.2f and %.2f", $4 / 1000, $2 / $4, $3 / $4
-        sum += log($3 / $4); count++
-    }
-    print ""
-    next
+(cd "$here/../crates/bench_programs" && rt run -- "$work/seen/filter.bin" "$work/block.bin" 0 0 checked > /dev/null 2>&1)
+# times each filter of a folder
+timed() {
+    for file in "$1"/*.bin; do
+        name=$(basename "$file" .bin)
+        if ! wanted=$("$ours" "$file" "$work/block.bin" 0 0 prepared 2>&1); then
+            echo "$name: $wanted"
+            continue
+        fi
+        if [ "$wanted" != "$("$ours" "$file" "$work/block.bin" 0 0 checked)" ]; then
+            echo "$name: what is printed differs" >&2
+            exit 1
+        fi
+        checked=$(least 2 "$ours" "$file" "$work/block.bin" $rounds $repeats checked)
+        prepared=$(least 2 "$ours" "$file" "$work/block.bin" $rounds $repeats prepared)
+        if timeout 5 "$work/dpdk" "$file" "$work/block.bin" 0 0 > /dev/null 2>&1; then
+            theirs=$(least 2 "$work/dpdk" "$file" "$work/block.bin" $rounds $repeats 2> /dev/null)
+        else
+            theirs=0
+        fi
+        echo "$name $checked $prepared $theirs"
+    done
 }
-{ print }
-END { if (count) printf "geometric mean of %d: %.2f\n", count, exp(sum / count) }' "$work/times"
+
+# prints times
+printed() {
+    awk 'NF == 4 {
+        printf "%s: checked %.1f ns, prepared %.1f ns", $1, $2 / 1000, $3 / 1000
+        if ($4) {
+            printf ", DPDK %.1f ns, ratios %.2f and %.2f", $4 / 1000, $2 / $4, $3 / $4
+            sum += log($3 / $4); count++
+        }
+        print ""
+        next
+    }
+    { print }
+    END { if (count) printf "geometric mean of %d: %.2f\n", count, exp(sum / count) }'
+}
+
+for folder in seen unseen; do
+    timed "$work/$folder" > "$work/times"
+    printed < "$work/times"
+done
