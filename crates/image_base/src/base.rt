@@ -54,7 +54,8 @@ pub fn save_base(alloc: Global, image: &Image) -> Result<Vec<u8>, AllocError>
 
 /// What stands behind the magic; `None` where the file doesn't begin with it.
 fn behind_magic(file: &[u8]) -> Option<&[u8]>
-    ensures { MatchOption result ((behind : List ℕ) → IsBehindMagic file.now behind → ⊥) (λ behind. IsBehindMagic file.now behind.now) }
+    ensures { MatchOption result
+        ((behind : List ℕ) → IsBehindMagic file.now behind → ⊥) (λ behind. IsBehindMagic file.now behind.now) }
 {
     let Some((front, behind)) = file.split_first_chunk::<8>() else {
         return None;
