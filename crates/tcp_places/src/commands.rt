@@ -6,8 +6,9 @@ ghost use Rattle.tcp_connection.specs.Executing.{ready};
 ghost use Rattle.tcp_places.specs.Places.{has_room, ready_at};
 ghost use Rattle.tcp_places.specs.Events.{answered_at, completed_at, connected_at, executed, handed_over, joined, kept, returned};
 
+use crate::outgoing;
 use crate::place::{MOST_KEPT, MOST_UNSENT, Place};
-use tcp_connection::{MOST_BESIDE_DATA, MOST_ENTRIES, Outcome, Queue};
+use tcp_connection::{MOST_BESIDE_DATA, MOST_ENTRIES, MOST_SENT, Outcome, Queue};
 use tcp_pdus::MOST_DATA;
 use tcp_receiver::MOST_IN_CAPSULE;
 
@@ -20,7 +21,8 @@ impl Place {
         ensures between { IsBetween self.new.connection.receiver }
         ensures few { length self.new.unsent ≤ MOST_UNSENT + 24 }
     {
-        self.connection.go(&mut self.unsent);
+        outgoing::make_room(&mut self.outgoing, &mut self.sent, MOST_SENT);
+        self.connection.go(&mut self.outgoing);
     }
 
     /// Completes a command that went.
@@ -29,8 +31,13 @@ impl Place {
         requires few { length self.old.unsent + MOST_BESIDE_DATA + length bytes.now ≤ MOST_KEPT }
         ensures { self.new ≡ completed_at command outcome bytes.now self.old }
     {
+        outgoing::make_room(
+            &mut self.outgoing,
+            &mut self.sent,
+            MOST_BESIDE_DATA + bytes.len(),
+        );
         self.connection
-            .complete(command, outcome, bytes, &mut self.unsent);
+            .complete(command, outcome, bytes, &mut self.outgoing);
     }
 
     /// Lets the command that is ready go, and keeps it: it has no completion yet.

@@ -3,6 +3,7 @@
 
 mod commands;
 mod laws;
+mod outgoing;
 mod place;
 
 pub use laws::nothing_behind_the_end;

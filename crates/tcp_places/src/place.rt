@@ -7,10 +7,11 @@ ghost use Rattle.tcp_connection.specs.Queue.{is_ended};
 ghost use Rattle.tcp_places.specs.Places.{goes_on, has_room, is_free, ready_at, vacant};
 ghost use Rattle.tcp_places.specs.Events.{closed, opened, received, sent};
 
+use crate::outgoing::{self, MOST_HELD};
 use std::alloc::{AllocError, Global};
 use std::marker::Model;
 use tcp_capsules::ENTRY_BYTES;
-use tcp_connection::{Connection, MOST_BESIDE_DATA, MOST_ENTRIES};
+use tcp_connection::{Connection, MOST_BESIDE_DATA, MOST_ENTRIES, MOST_SENT};
 
 /// While more bytes are to be sent on a connection, nothing is taken of what comes (profile: 256 KiB).
 pub const MOST_UNSENT: usize = 262_144;
@@ -25,18 +26,22 @@ pub struct Place {
     pub(crate) connection: Connection,
     pub(crate) is_open: bool,
     pub(crate) executing: u16,
-    pub(crate) unsent: Vec<u8>,
+    /// What was sent, and behind it what is to be sent.
+    pub(crate) outgoing: Vec<u8>,
+    /// How many bytes of it were sent.
+    pub(crate) sent: usize,
 }
 
 impl Model for Place {
+    ghost use Rattle.std.specs.Prelude.{drop};
     ghost use Rattle.tcp_places.specs.Places.{PlaceState};
     ghost use Rattle.tcp_places.specs.steps.Room.{HasRoom};
 
     ghost Value = { PlaceState };
 
-    ghost view = { λ p. record { connection = p.connection; is_open = p.is_open; executing = p.executing; unsent = p.unsent.items } };
+    ghost view = { λ p. record { connection = p.connection; is_open = p.is_open; executing = p.executing; unsent = drop p.sent p.outgoing.items } };
 
-    ghost invariant = { λ p. HasRoom p.unsent };
+    ghost invariant = { λ p. HasRoom p.outgoing p.sent };
 }
 
 impl Place {
@@ -52,7 +57,8 @@ impl Place {
             connection: Connection::new(alloc)?,
             is_open: false,
             executing: 0,
-            unsent: Vec::with_capacity(alloc, MOST_KEPT)?,
+            outgoing: Vec::with_capacity(alloc, MOST_HELD)?,
+            sent: 0,
         })
     }
 
@@ -83,7 +89,7 @@ impl Place {
     {
         self.connection.restart();
         self.is_open = true;
-        self.unsent.clear();
+        outgoing::clear(&mut self.outgoing, &mut self.sent);
     }
 
     /// Is something taken of what comes, and may a command go?
@@ -92,7 +98,7 @@ impl Place {
         ensures few { IsTrue result → length self.now.unsent ≤ MOST_UNSENT }
     {
         self.is_open
-            && self.unsent.len() <= MOST_UNSENT
+            && self.unsent().len() <= MOST_UNSENT
             && usize::from(self.executing) < MOST_ENTRIES
     }
 
@@ -103,7 +109,8 @@ impl Place {
         ensures within { result ≤ length piece.now }
     {
         if self.goes_on() {
-            self.connection.take(piece, &mut self.unsent)
+            outgoing::make_room(&mut self.outgoing, &mut self.sent, MOST_SENT);
+            self.connection.take(piece, &mut self.outgoing)
         } else {
             0
         }
@@ -132,14 +139,15 @@ impl Place {
         requires { size ≤ MOST_KEPT }
         ensures { result ≡ has_room size self.now }
     {
-        self.unsent.len() <= MOST_KEPT && self.unsent.len() + MOST_BESIDE_DATA + size <= MOST_KEPT
+        let unsent = self.unsent().len();
+        unsent <= MOST_KEPT && unsent + MOST_BESIDE_DATA + size <= MOST_KEPT
     }
 
     /// What is to be sent.
     pub fn unsent(&self) -> &[u8]
         ensures { result.now ≡ self.now.unsent }
     {
-        self.unsent.as_slice()
+        &self.outgoing[self.sent..]
     }
 
     /// Forgets the first bytes of it, which were sent.
@@ -147,9 +155,7 @@ impl Place {
         requires { count ≤ length self.old.unsent }
         ensures { self.new ≡ sent count self.old }
     {
-        let rest = self.unsent.len() - count;
-        self.unsent.rotate_left(count);
-        self.unsent.truncate(rest);
+        outgoing::forget(&mut self.outgoing, &mut self.sent, count);
     }
 
     /// Closes the connection. What was to be sent is forgotten, and what the device still executes is dropped once it is done.
@@ -157,6 +163,6 @@ impl Place {
         ensures { self.new ≡ closed self.old }
     {
         self.is_open = false;
-        self.unsent.clear();
+        outgoing::clear(&mut self.outgoing, &mut self.sent);
     }
 }
