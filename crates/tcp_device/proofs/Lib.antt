@@ -5,3 +5,4 @@ mod Room
 mod Given
 mod Submitted
 mod Queues
+mod Cuts

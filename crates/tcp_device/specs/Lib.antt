@@ -4,4 +4,5 @@ pub mod Format
 pub mod Served
 pub mod Deeds
 pub mod Laws
+pub mod Pieces
 pub mod steps

@@ -5,9 +5,11 @@ mod events;
 pub mod laws;
 mod outcome;
 mod pending;
+mod pieces;
 mod serve;
 mod served;
 mod turns;
 
 pub use outcome::INTERNAL_ERROR;
+pub use pieces::pieces_join;
 pub use served::ServedTarget;

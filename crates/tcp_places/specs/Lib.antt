@@ -1,4 +1,5 @@
 pub mod Places
 pub mod Events
 pub mod Laws
+pub mod Pieces
 pub mod steps

@@ -4,7 +4,9 @@
 mod commands;
 mod laws;
 mod outgoing;
+mod pieces;
 mod place;
 
 pub use laws::nothing_behind_the_end;
+pub use pieces::pieces_join;
 pub use place::{MOST_KEPT, MOST_UNSENT, Place};

@@ -1,2 +1,3 @@
+mod Cuts
 mod Live
 mod Others

@@ -3,3 +3,4 @@ pub mod Ends
 pub mod Commands
 pub mod steps
 pub mod Laws
+pub mod Pieces

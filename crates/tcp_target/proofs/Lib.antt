@@ -2,5 +2,6 @@ mod Served
 mod ConnectionsStay
 mod Roles
 mod Connects
+mod Cuts
 mod Associations
 pub mod Apart

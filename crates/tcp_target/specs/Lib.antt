@@ -4,3 +4,4 @@ pub mod Commands
 pub mod Laws
 pub mod Apart
 pub mod Ready
+pub mod Pieces

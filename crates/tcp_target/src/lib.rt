@@ -7,8 +7,10 @@ mod events;
 mod laws;
 mod outcomes;
 mod patience;
+mod pieces;
 mod ready;
 mod target;
 
 pub use laws::{connections_stay, queues_stay_apart};
+pub use pieces::pieces_join;
 pub use target::Target;
