@@ -2,16 +2,19 @@
 
     python3 fuzz.py COUNT SEED [FIRST]
 
-sends COUNT streams to a target over a new image. Each is made of the seed and of its number alone, so that one that fails is sent
-again alone by a COUNT of 1 and its number as FIRST. What is answered has to be PDUs that a controller may send, and the host that was
-there before, and a new one, find the target as it should be.
+sends COUNT streams to a target over a new image, eight at a time, each on a connection of its own. Each is made of the seed and of its
+number alone, so that one that fails is sent again alone by a COUNT of 1 and its number as FIRST, or with the others of its batch by a
+COUNT of 8 and the first number of these. What is answered has to be PDUs that a controller may send, and the host that was there
+before, and a new one, find the target as it should be behind each batch.
 """
 
 from __future__ import annotations
 
 import random
 import sys
-from typing import Callable, List, Tuple
+from collections import Counter
+from contextlib import suppress
+from typing import Callable, List, NamedTuple, Tuple
 
 import target
 from cases import HOST_DATA, PEER_IDENTIFIER, PEER_NQN, peer_data
@@ -132,8 +135,8 @@ def more(rng: random.Random, sent: Pdus) -> None:
 MUTATIONS: List[Callable[[random.Random, Pdus], None]] = [other_byte, other_byte, other_number, fewer, again, swapped, more]
 
 
-def stream(seed: str) -> bytes:
-    """The bytes of a stream."""
+def stream(seed: str) -> Pdus:
+    """The PDUs of a stream, or what was made of them."""
     rng = random.Random(seed)
     sent = session(rng)
     # often the connection gets as far as its commands
@@ -142,34 +145,48 @@ def stream(seed: str) -> bytes:
     for _ in range(rng.randrange(4)):
         if changed:
             rng.choice(MUTATIONS)(rng, changed)
-    return b"".join(begins + changed)
+    return begins + changed
 
 
 # ---- sending them
+
+BATCH = 8
+"""How many streams are sent at a time: most of them find an I/O queue or a controller free."""
+
+
+class Sent(NamedTuple):
+    """How many PDUs were sent, and how many of each kind answered them."""
+
+    pdus: int
+    answers: Counter[Kind]
+
+
+def begin(program: target.Target, seed: str, pdus: Pdus) -> Connection:
+    """Sends a stream in a few pieces, and says that no more comes."""
+    sent, rng = b"".join(pdus), random.Random(seed)
+    connection = Connection(program.address)
+    with suppress(Ended, TimedOut):
+        connection.send(sent, sorted(rng.randrange(len(sent) + 1) for _ in range(rng.randrange(4))))
+        connection.end()
+    return connection
 
 
 def answers(connection: Connection) -> List[Kind]:
     """The PDUs that come until the connection ends; the last may be cut off."""
     came = []
-    try:
+    with suppress(Ended):
         while True:
             came.append(connection.receive().kind)
-    except Ended:
-        return came
-
-
-def send(program: target.Target, seed: str) -> List[Kind]:
-    """Sends a stream in a few pieces, and gives the PDUs that answer it."""
-    sent, rng = stream(seed), random.Random(seed)
-    connection = Connection(program.address)
-    try:
-        connection.send(sent, sorted(rng.randrange(len(sent) + 1) for _ in range(rng.randrange(4))))
-        connection.end()
-    except (Ended, TimedOut):
-        pass
-    came = answers(connection)
     connection.shut()
     return came
+
+
+def send(program: target.Target, seeds: List[str]) -> Sent:
+    """Sends the streams of a batch, whose connections are there at once."""
+    streams = [stream(seed) for seed in seeds]
+    connections = [begin(program, seed, pdus) for seed, pdus in zip(seeds, streams)]
+    pdus = sum(1 for sent in streams for each in sent if each)
+    return Sent(pdus, Counter(kind for connection in connections for kind in answers(connection)))
 
 
 def works(program: target.Target, host: Host) -> None:
@@ -183,17 +200,22 @@ def works(program: target.Target, host: Host) -> None:
         new.queue(1).read(0, 1)
 
 
-def run(count: int, seed: str, first: int = 0) -> List[Kind]:
-    """Sends so many streams, and gives all PDUs that answered them."""
-    came: List[Kind] = []
+def run(count: int, seed: str, first: int = 0) -> Sent:
+    """Sends so many streams, and gives how many PDUs they had, and what answered them."""
+    pdus = 0
+    came: Counter[Kind] = Counter()
+    end = first + count
     with target.started() as program, Host(program.address, identifier=HOST_IDENTIFIER, name=HOST_NQN) as host:
-        for number in range(first, first + count):
+        for number in range(first, end, BATCH):
+            batch = range(number, min(number + BATCH, end))
             try:
-                came += send(program, f"{seed} {number}")
+                sent = send(program, [f"{seed} {each}" for each in batch])
                 works(program, host)
             except Exception as error:
-                raise AssertionError(f"stream {number} of seed {seed}: {error!r}") from error
-    return came
+                raise AssertionError(f"streams {batch[0]} to {batch[-1]} of seed {seed}: {error!r}") from error
+            pdus += sent.pdus
+            came += sent.answers
+    return Sent(pdus, came)
 
 
 def main() -> int:
@@ -201,8 +223,9 @@ def main() -> int:
     if len(sys.argv) not in (3, 4):
         print(__doc__, file=sys.stderr)
         return 2
-    came = run(int(sys.argv[1]), sys.argv[2], int(sys.argv[3]) if len(sys.argv) == 4 else 0)
-    print(f"{sys.argv[1]} streams, answered by " + ", ".join(f"{came.count(kind)} {kind.name}" for kind in sorted(set(came))))
+    sent = run(int(sys.argv[1]), sys.argv[2], int(sys.argv[3]) if len(sys.argv) == 4 else 0)
+    kinds = ", ".join(f"{count} {kind.name}" for kind, count in sorted(sent.answers.items()))
+    print(f"{sys.argv[1]} streams of {sent.pdus} PDUs, answered by {sum(sent.answers.values())}: {kinds}")
     return 0
 
 
