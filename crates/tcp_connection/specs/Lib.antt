@@ -5,4 +5,5 @@ pub mod Dealing
 pub mod Executing
 pub mod Connection
 pub mod Laws
+pub mod Order
 pub mod steps

@@ -1,6 +1,7 @@
 //! Laws of the definitions. Each function does nothing: what it ensures is the law.
 
 ghost use Rattle.tcp_connection.specs.Laws.{CompletedOnce, IdentifiersDiffer, StepsJoin};
+ghost use Rattle.tcp_connection.specs.Order.{CommandsGoInOrder};
 
 /// What a connection comes to, and what it sends, doesn't depend on how its stream is cut into pieces.
 pub fn steps_join()
@@ -15,4 +16,9 @@ pub fn identifiers_differ()
 /// A command is completed once.
 pub fn completed_once()
     ensures { CompletedOnce }
+{}
+
+/// Where capsules have no data, as those of I/O queues, commands go in the order of their capsules, each once, and none is skipped.
+pub fn commands_go_in_order()
+    ensures { CommandsGoInOrder }
 {}

@@ -14,5 +14,5 @@ pub use commands::{MOST_ENTRIES, WaitingCommand};
 pub use connection::Connection;
 pub use dealing::MOST_SENT;
 pub use executing::MOST_BESIDE_DATA;
-pub use laws::{completed_once, identifiers_differ, steps_join};
+pub use laws::{commands_go_in_order, completed_once, identifiers_differ, steps_join};
 pub use queue::{Outcome, Phase, Queue, UNCONNECTED};
