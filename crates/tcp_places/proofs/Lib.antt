@@ -1,2 +1,4 @@
 mod Cuts
 mod Ends
+mod Order
+pub mod Proved

@@ -2,4 +2,5 @@ pub mod Places
 pub mod Events
 pub mod Laws
 pub mod Pieces
+pub mod Order
 pub mod steps

@@ -7,6 +7,6 @@ mod outgoing;
 mod pieces;
 mod place;
 
-pub use laws::nothing_behind_the_end;
+pub use laws::{nothing_behind_the_end, places_keep_order};
 pub use pieces::pieces_join;
 pub use place::{MOST_KEPT, MOST_UNSENT, Place};
