@@ -61,6 +61,9 @@ abbrev pub with_status : ℕ → Bool → Option Association → List (Option As
 with_status id ready None table = table
 with_status id ready (Some association) table = slice_set table id (Some (record association { is_ready = ready }))
 
+abbrev pub controllers_with : ℕ → Bool → List (Option Association) → List (Option Association)
+controllers_with id ready table = with_status id ready (with_id id table) table
+
 -- and its I/O queues end where it isn't
 abbrev pub roles_with : ℕ → Bool → List Role → List Role
 roles_with id true roles = roles
@@ -68,7 +71,7 @@ roles_with id false roles = map (λ role. without_io id role) roles
 
 abbrev pub readied : ℕ → Bool → Associations → Associations
 readied id ready s = record {
-  controllers = with_status id ready (with_id id s.controllers) s.controllers;
+  controllers = controllers_with id ready s.controllers;
   roles = roles_with id ready s.roles;
 }
 

@@ -1,8 +1,7 @@
 //! Associations.
 
 ghost use Rattle.std.specs.Prelude.{◌≡◌, ◌<◌};
-ghost use Rattle.tcp_associations.specs.Associations.{ended, is_live, left, no_associations, readied, role_at, with_status};
-ghost use Rattle.tcp_associations.specs.Table.{with_id};
+ghost use Rattle.tcp_associations.specs.Associations.{controllers_with, ended, is_live, left, no_associations, readied, role_at};
 
 use crate::role::{MOST_CONNECTIONS, Role, without_controller, without_queues};
 use crate::table::{Association, PLACES, is_ready, put, with_id};
@@ -62,7 +61,7 @@ impl Associations {
 
     /// Says whether a controller is ready.
     fn set_status(&mut self, id: u16, is_ready: bool)
-        ensures { self.new ≡ record self.old { controllers = with_status id is_ready (with_id id self.old.controllers) self.old.controllers } }
+        ensures { self.new ≡ record self.old { controllers = controllers_with id is_ready self.old.controllers } }
     {
         if let Some(association) = with_id(&self.controllers, id) {
             let changed = Association {

@@ -7,3 +7,4 @@ mod Order
 mod Places
 pub mod Proved
 mod Quiet
+mod Settled

@@ -26,6 +26,7 @@ use Rattle.tcp_connection.specs.Order.{AwaitsEntries, Came, CommandsGoInOrder, C
 use Rattle.tcp_connection.specs.Queue.{is_ended}
 use Rattle.tcp_connection.specs.Sending.{answered, ended, failed}
 use Rattle.tcp_connection.proofs.Entries.{IsShort, TakesEntries, takes_entries}
+use Rattle.tcp_connection.proofs.Settled.{IsSettled, stays_settled}
 
 -- ---- steps that change nothing of it
 
@@ -227,12 +228,21 @@ shut_behind (Completed command outcome bytes) s is =
 pub record Moves (went came : List (List ℕ)) (old new : ConnectionState) : Type 0 where
   pub keeps : IsOfEntries old → KeepsOrder went came old new
   pub shut : is_ended old.phase ≡ true → IsShut went came new
+  pub settles : IsSettled old → IsSettled new
 
 pub moves : (happening : Happening) (s : ConnectionState) → Moves (went_by happening s) (came_by happening s) s (after happening s)
-moves happening s = record { keeps = happens_in_order happening s; shut = shut_behind happening s }
+moves happening s = record {
+  keeps = happens_in_order happening s;
+  shut = shut_behind happening s;
+  settles = stays_settled happening s;
+}
 
 pub stays : (s : ConnectionState) → Moves [] [] s s
-stays s = record { keeps = keeps s s refl; shut = λ is. record { none_went = refl; none_came = refl; still = is } }
+stays s = record {
+  keeps = keeps s s refl;
+  shut = λ is. record { none_went = refl; none_came = refl; still = is };
+  settles = λ settled. settled;
+}
 
 -- one behind another
 module _ (went went_then came came_then : List (List ℕ)) (old between new : ConnectionState)
@@ -287,6 +297,7 @@ module _ (went went_then came came_then : List (List ℕ)) (old between new : Co
         let two = second.keeps one.entries in
         record { order = by one.order two.order (is_ended between.phase) refl; entries = two.entries });
     shut = shut_both;
+    settles = λ settled. second.settles (first.settles settled);
   }
 
 all_moves : (happenings : List Happening) (s : ConnectionState) → Moves (went_in happenings s) (came_in happenings s) s (after_all happenings s)

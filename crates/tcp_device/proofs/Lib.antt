@@ -6,3 +6,4 @@ mod Given
 mod Submitted
 mod Queues
 mod Cuts
+mod Order

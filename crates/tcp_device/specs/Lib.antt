@@ -5,4 +5,5 @@ pub mod Served
 pub mod Deeds
 pub mod Laws
 pub mod Pieces
+pub mod Order
 pub mod steps

@@ -1,10 +1,11 @@
 //! Laws of the definitions. Each function does nothing: what it ensures is the law.
 
 ghost use Rattle.tcp_device.specs.Laws.{DeedsAreEvents, QueuesAreApart, RunsHaveTheirCommands};
+ghost use Rattle.tcp_device.specs.Order.{CommandsAreInOrder};
 ghost use Rattle.tcp_device.specs.Outcome.{OutcomesAreTold};
 
 use nvme_entry::laws::completions_tell;
-use tcp_target::queues_stay_apart;
+use tcp_target::{connections_stay, queues_stay_apart};
 
 /// Whatever is done with a served target, its device did a list of events: the entries that were handed over, each with just its data
 /// and on the queue that has its connection's number, and turns, in this order; and what hosts are answered is made of its replies to
@@ -31,4 +32,12 @@ pub fn outcomes_are_told()
     ensures { OutcomesAreTold }
 {
     completions_tell();
+}
+
+/// The device gets the commands of an I/O queue in the order of their capsules, each once, and none is skipped but those that the target
+/// answers itself.
+pub fn commands_are_in_order()
+    ensures { CommandsAreInOrder }
+{
+    connections_stay();
 }

@@ -5,3 +5,5 @@ mod Connects
 mod Cuts
 mod Associations
 pub mod Apart
+pub mod Order
+pub mod Used
