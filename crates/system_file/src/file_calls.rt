@@ -1,0 +1,53 @@
+//! What is asked of the system for a file.
+
+ghost use Rattle.std.specs.Prelude.{◌≡◌, false, is_ok, List, ◌∷◌};
+ghost use Rattle.system_file.specs.Calls.{Call, Written, Shortened, Synced, Replaced, Refused, has_failed};
+
+use stored_file::FileError;
+
+/// The calls of the system for one file, each of which is noted with its answer. None is made behind one that failed.
+pub trait FileCalls {
+    /// Each call so far, of which the last stands first.
+    ghost notes: { Self → List Call };
+
+    /// Writes bytes at an offset, over what is there and past the end.
+    ///
+    /// # Errors
+    ///
+    /// The system's, or no memory.
+    fn write_at(&mut self, at: usize, bytes: &[u8]) -> Result<(), FileError>
+        requires usable { has_failed (notes self.old) ≡ false }
+        ensures noted { notes self.new ≡ Written at bytes.now (is_ok result) ∷ notes self.old };
+
+    /// Sets the length.
+    ///
+    /// # Errors
+    ///
+    /// The system's, or no memory.
+    fn set_len(&mut self, len: usize) -> Result<(), FileError>
+        requires usable { has_failed (notes self.old) ≡ false }
+        ensures noted { notes self.new ≡ Shortened len (is_ok result) ∷ notes self.old };
+
+    /// Waits until all that was written is on the disk.
+    ///
+    /// # Errors
+    ///
+    /// The system's, or no memory.
+    fn sync(&mut self) -> Result<(), FileError>
+        requires usable { has_failed (notes self.old) ≡ false }
+        ensures noted { notes self.new ≡ Synced (is_ok result) ∷ notes self.old };
+
+    /// Puts a new file of these bytes, which are on the disk before it has the name, in the place of this one, and waits until its
+    /// name is on the disk.
+    ///
+    /// # Errors
+    ///
+    /// The system's, or no memory.
+    fn replace(&mut self, bytes: &[u8]) -> Result<(), FileError>
+        requires usable { has_failed (notes self.old) ≡ false }
+        ensures noted { notes self.new ≡ Replaced bytes.now (is_ok result) ∷ notes self.old };
+
+    /// Notes a call that isn't made.
+    fn refuse(&mut self)
+        ensures noted { notes self.new ≡ Refused ∷ notes self.old };
+}
