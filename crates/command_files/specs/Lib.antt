@@ -7,6 +7,7 @@ pub mod Shown
 pub mod Number
 pub mod Arguments
 pub mod Made
+pub mod Crash
 pub mod Surroundings
 pub mod MemoryFiles
 pub mod UserTold

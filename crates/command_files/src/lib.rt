@@ -15,14 +15,16 @@ mod lines;
 mod memory_files;
 mod numbers;
 mod shown;
+mod unfinished;
 mod whole;
 
 pub use counted::Counted;
 pub use data_fault::DataFault;
-pub use disk::{Disk, FileReader, FileWriter};
+pub use disk::{Disk, FileReader};
 pub use failure::{Conclusion, Failure, conclude, printed};
 pub use file_cause::FileCause;
 pub use files::{FileFault, Files};
 pub use memory_files::{MemoryFiles, MemoryReader, MemoryWriter};
 pub use shown::Shown;
+pub use unfinished::FileWriter;
 pub use whole::{cannot_read, cannot_write, read, size_as_block, write};

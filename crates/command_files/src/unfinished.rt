@@ -1,0 +1,225 @@
+//! Files of the system that aren't finished: written beside the one whose name is held, which they get at the end.
+
+ghost use Rattle.std.specs.Prelude.{◌≡◌, [], IfOk, option_map, string_bytes};
+
+use crate::file_cause::FileCause;
+use crate::files::FileFault;
+use crate::held_file::{HeldFile, folder_of};
+use image_text::{Sink, StreamFault};
+use placed_file::{Placing, Progress, put_in_place};
+use std::alloc::{AllocError, Global};
+use std::fs::File;
+use std::io::{BufWriter, ErrorKind, Write};
+use std::{fs, mem, rt};
+
+/// How many names for a file that isn't finished are tried: others are then in use.
+const MOST_NAMES: u32 = 1000;
+
+/// The permission bits that a new file is made with, less those that the user's mask takes away.
+const NEW_MODE: u32 = 0o666;
+
+/// Those of a file that gets the ones of the file before, until it has them.
+const OWN_MODE: u32 = 0o600;
+
+/// A name that is held.
+#[derive(Drop)]
+pub(crate) struct HeldName {
+    pub(crate) name: String,
+    /// Where it leads, through all links.
+    pub(crate) target: String,
+    /// The file that is there.
+    pub(crate) file: Option<HeldFile>,
+}
+
+/// A file of no bytes yet beside the one that is held, whose permissions and owner it has.
+pub(crate) fn begin_beside<R: rt::Files<File = File> + AllocGlobal>(
+    rt: &R,
+    held: &HeldName,
+) -> Result<FileWriter, FileFault>
+    ensures { IfOk result (λ file. file.failures ≡ 0) }
+{
+    let (name, created) = create_beside(rt, held)?;
+    match writer_of(rt, held, &created) {
+        Ok(file) => Ok(FileWriter {
+            file,
+            created,
+            name,
+            failures: 0,
+        }),
+        Err(fault) => {
+            // What failed is told; a failure to remove the file would hide it.
+            let _ = fs::remove_file(rt, name.as_str());
+            Err(fault)
+        }
+    }
+}
+
+/// A new file beside the one that is held, with its name, which no other command uses.
+fn create_beside<R: rt::Files<File = File> + AllocGlobal>(
+    rt: &R,
+    held: &HeldName,
+) -> Result<(String, HeldFile), FileFault> {
+    let mode = if held.file.is_some() {
+        OWN_MODE
+    } else {
+        NEW_MODE
+    };
+    for number in 0..MOST_NAMES {
+        let name = unfinished(rt.alloc(), held.target.as_str(), number)?;
+        if let Some(created) = HeldFile::create_anew(rt, name.as_str(), mode)? {
+            return Ok((name, created));
+        }
+    }
+    Err(FileFault::Failed(FileCause::InUse))
+}
+
+/// The names that a file has which is to replace another one, until it is finished: they are tried from 0 on.
+fn unfinished(alloc: Global, target: &str, number: u32) -> Result<String, AllocError> {
+    if number == 0 {
+        format!(in alloc; "{target}.unfinished")
+    } else {
+        format!(in alloc; "{target}.unfinished.{number}")
+    }
+}
+
+/// What writes to a file that was created to replace the one that is held.
+fn writer_of<R: rt::Files<File = File> + AllocGlobal>(
+    rt: &R,
+    held: &HeldName,
+    created: &HeldFile,
+) -> Result<BufWriter<File>, FileFault> {
+    if let Some(before) = &held.file {
+        created.take_after(before)?;
+    }
+    Ok(BufWriter::new(rt.alloc(), created.handle()?)?)
+}
+
+/// A file that is written, on its way to the name that is held. Each method makes one call of the system, or one after a flush, and notes
+/// it with its answer.
+#[derive(Drop)]
+struct Unplaced<'w, 'a, R> {
+    rt: &'a R,
+    held: &'w HeldName,
+    file: &'w mut FileWriter,
+    progress: Progress,
+}
+
+impl<R: rt::Files<File = File>> Placing for Unplaced<'_, '_, R> {
+    type Fault = FileFault;
+
+    ghost progress = { λ new. new.progress };
+
+    fn sync(&mut self) -> Result<(), FileFault> {
+        let done = sync_written(self.file);
+        self.progress.note_sync(done.is_ok());
+        done
+    }
+
+    fn rename(&mut self) -> Result<(), FileFault> {
+        let done = give_name(self.rt, self.held, self.file.name.as_str());
+        self.progress.note_rename(done.is_ok());
+        done
+    }
+
+    fn settle(&mut self) -> Result<(), FileFault> {
+        let done = settle_name(self.rt, self.held);
+        self.progress.note_settling(done.is_ok());
+        done
+    }
+}
+
+/// Gives a file that is written the name that is held: where the power fails, the name leads to all of the old bytes or to all of the
+/// new ([`put_in_place`]).
+pub(crate) fn place_under<R: rt::Files<File = File>>(
+    rt: &R,
+    held: &HeldName,
+    file: &mut FileWriter,
+) -> Result<(), FileFault> {
+    put_in_place(&mut Unplaced {
+        rt,
+        held,
+        file,
+        progress: Progress::begun(),
+    })
+}
+
+/// Brings the bytes of a file that is written to the disk.
+fn sync_written(file: &mut FileWriter) -> Result<(), FileFault> {
+    file.file.flush()?;
+    Ok(file.file.get_ref().sync_all()?)
+}
+
+/// Brings a name to the disk.
+pub(crate) fn settle_name<R: rt::Files<File = File>>(
+    rt: &R,
+    held: &HeldName,
+) -> Result<(), FileFault> {
+    Ok(fs::open(rt, folder_of(held.target.as_str()))?.sync_all()?)
+}
+
+/// Holds a file that has its name now in place of the one that had it.
+pub(crate) fn hold_finished(held: &mut Option<HeldName>, created: HeldFile)
+    ensures { option_map (λ held. string_bytes held.name) held.new ≡ option_map (λ held. string_bytes held.name) held.old }
+{
+    if let Some(name) = held {
+        let before = mem::replace(&mut name.file, None);
+        name.file = Some(match before {
+            Some(before) => created.after(before),
+            None => created,
+        });
+    }
+}
+
+/// Gives a file the name that is held, in place of the file that is held. Where none is, no file that another command has made
+/// meanwhile loses the name.
+fn give_name<R: rt::Files>(rt: &R, held: &HeldName, unfinished: &str) -> Result<(), FileFault> {
+    let target = held.target.as_str();
+    if held.file.is_some() {
+        return Ok(fs::rename(rt, unfinished, target)?);
+    }
+    match fs::hard_link(rt, unfinished, target) {
+        Ok(()) => {
+            // The file has its name. That it has another one too harms nobody.
+            let _ = fs::remove_file(rt, unfinished);
+            Ok(())
+        }
+        Err(error) if error.kind() == ErrorKind::AlreadyExists => {
+            Err(FileFault::Failed(FileCause::InUse))
+        }
+        // The file system has no links.
+        Err(_) => Ok(fs::rename(rt, unfinished, target)?),
+    }
+}
+
+/// A file of the system that is written in pieces.
+#[derive(Drop)]
+pub struct FileWriter {
+    file: BufWriter<File>,
+    /// The same file, which is held until it is finished.
+    pub(crate) created: HeldFile,
+    /// Its name until it is finished.
+    pub(crate) name: String,
+    failures: u64,
+}
+
+impl Sink for FileWriter {
+    ghost tells = { ⊥ };
+
+    ghost taken = { λ _. [] };
+
+    ghost failures = { λ writer. writer.failures };
+
+    fn write(&mut self, from: &[u8]) -> Result<usize, StreamFault> {
+        match self.file.write_all(from) {
+            Ok(()) => Ok(from.len()),
+            Err(_) => {
+                self.failures += 1;
+                Err(StreamFault)
+            }
+        }
+    }
+
+    fn failures(&self) -> u64 {
+        self.failures
+    }
+}
