@@ -5,8 +5,10 @@ ghost use Rattle.std.specs.Prelude.{◌≡◌, OnOk, Some};
 
 use command_files::{Disk, FileCause, FileFault, Files};
 use image_text::{Sink, Source};
+use std::alloc::Global;
 use std::io::{self, Write};
 use std::str;
+use stored_file::{SECTOR, StoredFile};
 
 fn main(rt: HostRuntime) -> io::Result<()> {
     let mut files = Disk::new(&rt);
@@ -23,7 +25,12 @@ fn main(rt: HostRuntime) -> io::Result<()> {
     finish(&mut files, "new", &mut out)?;
     finish(&mut files, ".", &mut out)?;
     discard(&mut files, "made", &mut out)?;
-    finish_twice(&mut files, &mut Disk::new(&rt), "made", &mut out)
+    finish_twice(&mut files, &mut Disk::new(&rt), "made", &mut out)?;
+    store(&rt, "stored", &mut out)?;
+    match files.read("stored") {
+        Ok(bytes) => writeln!(out, "{} bytes: {:?}", bytes.len(), bytes.first()),
+        Err(fault) => failed("read", "stored", fault, &mut out),
+    }
 }
 
 /// Reads a whole file.
@@ -137,6 +144,38 @@ fn discard<F: Files, W: Write>(files: &mut F, path: &str, out: &mut W) -> io::Re
         }
         Err(fault) => failed("begin", path, fault, out),
     }
+}
+
+/// Opens a file to read and write it durably, and reads what is there then.
+fn store<W: Write>(rt: &HostRuntime, path: &str, out: &mut W) -> io::Result<()> {
+    let mut files = Disk::new(rt);
+    write(&mut files, path, "old", out)?;
+    hold(&mut files, path, out)?;
+    match disk_file::open(rt.alloc(), &mut files) {
+        Ok(mut stored) => {
+            changes(rt.alloc(), &mut stored, out)?;
+            hold(&mut files, path, out)?;
+            drop(stored);
+            hold(&mut files, path, out)
+        }
+        Err(fault) => failed("open", path, fault, out),
+    }
+}
+
+/// Reads a file, writes sectors and puts another file in its place.
+fn changes<F: StoredFile, W: Write>(alloc: Global, file: &mut F, out: &mut W) -> io::Result<()> {
+    match file.read(alloc) {
+        Ok(bytes) => writeln!(out, "stored: {} bytes", bytes.len())?,
+        Err(error) => writeln!(out, "stored: {error:?}")?,
+    }
+    writeln!(out, "read again: {:?}", file.read(alloc).err())?;
+    writeln!(out, "cut: {:?}", file.set_len(0))?;
+    writeln!(out, "written: {:?}", file.write_at(0, &[b'a'; SECTOR]))?;
+    writeln!(out, "synced: {:?}", file.sync())?;
+    writeln!(out, "replaced: {:?}", file.replace(&[b'b'; SECTOR]))?;
+    writeln!(out, "cut: {:?}", file.set_len(0))?;
+    writeln!(out, "written: {:?}", file.write_at(0, &[b'c'; SECTOR]))?;
+    writeln!(out, "synced: {:?}", file.sync())
 }
 
 /// Holds a name, and begins a file that two pieces are written to.

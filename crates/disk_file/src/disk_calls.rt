@@ -1,0 +1,119 @@
+//! The calls of the system for a file that is held.
+
+ghost use Rattle.std.specs.Prelude.{◌≡◌, is_ok, IfOk};
+ghost use Rattle.stored_file.specs.File.{IsOnDisk};
+
+use command_files::{Disk, FileFault};
+use std::alloc::Global;
+use std::fs::File;
+use std::io::{self, Read, Seek};
+use std::os::fd::AsRawFd;
+use std::os::unix::fs::FileExt;
+use std::rt;
+use stored_file::{FileError, StoredFile};
+use system_file::{FileCalls, Record, SystemFile};
+
+/// A file of the system that is held, under an exclusive lock until this is dropped. Each method makes one call, and then notes it
+/// with its answer. No clause says that it makes that call: this is to be read.
+#[derive(Drop)]
+pub struct DiskCalls<'a, R> {
+    /// What holds its name.
+    disk: Disk<'a, R>,
+    file: File,
+    notes: Record,
+}
+
+/// The file whose name is held, as what reads and writes it durably: it and its name are on the disk, and what is read is what is
+/// there. It is held on, and no name is held where it was.
+///
+/// # Errors
+///
+/// No name is held, no file has it, it can't be read or brought to the disk, or memory is wanting. The name is held no longer then.
+pub fn open<'a, R: rt::Files<File = File> + AllocGlobal>(
+    alloc: Global,
+    files: &mut Disk<'a, R>,
+) -> Result<SystemFile<DiskCalls<'a, R>>, FileFault>
+    ensures { IfOk result (λ opened. IsOnDisk (⟦<SystemFile<DiskCalls<'a, R>> as StoredFile>⟧.told opened)) }
+{
+    let disk = files.take();
+    disk.settle()?;
+    let mut file = disk.handle()?;
+    forget_pages(&file)?;
+    let bytes = whole(alloc, &mut file)?;
+    let notes = Record::opened(bytes.as_slice());
+    Ok(SystemFile::new(DiskCalls { disk, file, notes }, bytes))
+}
+
+/// Has the system read a file from the disk again: where an earlier program failed to bring it there, what the system keeps in
+/// memory may be other than what is on the disk.
+fn forget_pages(file: &File) -> io::Result<()> {
+    match libc::posix_fadvise(file.as_raw_fd(), 0, 0, libc::POSIX_FADV_DONTNEED) {
+        0 => Ok(()),
+        error => Err(io::Error::from_raw_os_error(error)),
+    }
+}
+
+/// All bytes of a file.
+fn whole(alloc: Global, file: &mut File) -> Result<Vec<u8>, FileFault> {
+    let most = usize::try_from(file.metadata()?.len()).unwrap_or(0);
+    let mut bytes = Vec::with_capacity(alloc, most)?;
+    file.rewind()?;
+    file.read_to_end(&mut bytes)?;
+    Ok(bytes)
+}
+
+/// What a call came to, without its cause.
+fn told<E: Into<FileFault>>(done: Result<(), E>) -> Result<(), FileError>
+    ensures { is_ok result ≡ is_ok done }
+{
+    match done {
+        Ok(()) => Ok(()),
+        Err(error) => match error.into() {
+            FileFault::Memory => Err(FileError::Memory),
+            FileFault::Failed(_) => Err(FileError::Failed),
+        },
+    }
+}
+
+impl<R: rt::Files<File = File> + AllocGlobal> DiskCalls<'_, R> {
+    /// Puts a new file in the place of the one that is held, and holds it.
+    fn put(&mut self, bytes: &[u8]) -> Result<(), FileFault>
+        ensures { self.new.notes ≡ self.old.notes }
+    {
+        self.disk.replace(bytes)?;
+        self.file = self.disk.handle()?;
+        Ok(())
+    }
+}
+
+impl<R: rt::Files<File = File> + AllocGlobal> FileCalls for DiskCalls<'_, R> {
+    ghost notes = { λ calls. calls.notes.calls };
+
+    fn write_at(&mut self, at: usize, bytes: &[u8]) -> Result<(), FileError> {
+        let done = told(self.file.write_all_at(bytes, at as u64));
+        self.notes.written(at, bytes, done.is_ok());
+        done
+    }
+
+    fn set_len(&mut self, len: usize) -> Result<(), FileError> {
+        let done = told(self.file.set_len(len as u64));
+        self.notes.shortened(len, done.is_ok());
+        done
+    }
+
+    fn sync(&mut self) -> Result<(), FileError> {
+        let done = told(self.file.sync_data());
+        self.notes.synced(done.is_ok());
+        done
+    }
+
+    fn replace(&mut self, bytes: &[u8]) -> Result<(), FileError> {
+        let done = told(self.put(bytes));
+        self.notes.replaced(bytes, done.is_ok());
+        done
+    }
+
+    fn refuse(&mut self) {
+        self.notes.refused();
+    }
+}
