@@ -1,0 +1,5 @@
+mod Again
+mod Bytes
+mod Frames
+mod Kept
+mod Told

@@ -1,0 +1,54 @@
+-- What files stand for, and what comes back of them, in the device's words.
+use Rattle.std.specs.Prelude.{◌≡◌, ◌≤◌, ℕ, Bool, false, List, length, take, Some}
+use Rattle.std.specs.List.{AllByRecursion}
+use Rattle.common_definitions.specs.Bytes.{AreBytes}
+use Rattle.stored_file.specs.File.{FileState, MayLeave}
+use Rattle.event_journal.specs.Journal.{StandsFor as HasJournal}
+use Rattle.durable_machine.specs.Files.{IsFront, joined}
+use Rattle.image_store.specs.Namespace.{ZonedNamespace}
+use Rattle.device_events.specs.ToldEvents.{ToldEvent}
+use Rattle.device_meaning.specs.Events.{Occurrence, state_after}
+use Rattle.device_meaning.specs.Judging.{interval_judge}
+use Rattle.device_meaning.specs.Reached.{IsReached}
+use Rattle.device_meaning.specs.State.{State, new_state}
+use Rattle.durable_device.specs.FrameEvents.{IsFrameOf, frame_event}
+use Rattle.durable_device.specs.Kept.{StandsFor, StandsForIt}
+use Rattle.durable_device.specs.Machine.{IsDeviceBase, next_state}
+use Rattle.durable_device.specs.Serving.{AreTold, IsAfterSome, Leads}
+
+-- frames tell events: that of an event tells it, and bytes tell an event only where they are its frame
+pub record FramesTellEvents : Type 0 where
+  pub told : (e : ToldEvent) (bytes : List ℕ) → IsFrameOf e bytes → frame_event bytes ≡ Some e
+  pub only : (e : ToldEvent) (bytes : List ℕ) → AreBytes bytes → frame_event bytes ≡ Some e → IsFrameOf e bytes
+
+-- a file has at its front the base of an image with this namespace, in whole sectors, and behind it a journal of these batches of frames
+pub record HasFrames (file : List ℕ) (ns : ZonedNamespace) (batches : List (List (List ℕ))) : Type 0 where
+  pub front : List ℕ
+  pub begins : IsFront IsDeviceBase next_state front (new_state ns)
+  pub journal : HasJournal front batches file
+
+-- a device in this state is led from an image to it by the events in a file, with memory given to each
+pub record ComesOf (file : List ℕ) (s : State) : Type 0 where
+  pub namespace : ZonedNamespace
+  pub batches : List (List (List ℕ))
+  pub has : HasFrames file namespace batches
+  pub occurrences : List Occurrence
+  pub told : AreTold (joined batches) occurrences
+  pub given : AllByRecursion (λ o. o.starved ≡ false) occurrences
+  pub state : s ≡ state_after interval_judge occurrences (new_state namespace)
+  pub reached : IsReached interval_judge s
+
+-- what a file of bytes stands for comes of the events in it
+abbrev pub FilesAreReached : Type 0
+FilesAreReached = (file : List ℕ) (s : State) → AreBytes file → StandsFor file s → ComesOf file s
+
+-- of a file that a crash left while batches of frames were served, the device is opened after the events of the first of them: some of
+-- the batches, none skipped and none in part
+abbrev pub FirstBatchesComeBack : Type 0
+FirstBatchesComeBack =
+    (batches : List (List (List ℕ))) (old opened : State) (left : List ℕ) → IsAfterSome batches old left → StandsForIt left opened
+    → (n : ℕ) × (n ≤ length batches) × Leads (joined (take n batches)) old opened
+
+-- of each file that a crash leaves now, a device in this state is opened
+abbrev pub ComesBack : FileState → State → Type 0
+ComesBack file s = (left : List ℕ) (opened : State) → MayLeave file left → StandsForIt left opened → opened ≡ s

@@ -1,0 +1,6 @@
+pub mod FrameEvents
+pub mod Changing
+pub mod Machine
+pub mod Kept
+pub mod Serving
+pub mod Laws

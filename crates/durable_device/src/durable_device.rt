@@ -1,0 +1,211 @@
+//! A device, and the journal of what happened to it.
+
+ghost use Rattle.std.specs.Prelude.{◌≡◌, ◌≢◌, ◌<◌, IfOk, IfErr, IsErrOf, OnOk};
+ghost use Rattle.stored_file.specs.File.{IsOnDisk, LeavesOnly};
+ghost use Rattle.stored_file.specs.Cause.{HasCause};
+ghost use Rattle.stored_file.specs.declared.stored_file.FileError.TheVariants.{Failed};
+ghost use Rattle.durable_machine.specs.Batches.{batches_of, bytes_of, lists_of};
+ghost use Rattle.durable_machine.specs.Files.{joined};
+ghost use Rattle.device_meaning.specs.Judging.{interval_judge};
+ghost use Rattle.device_meaning.specs.Reached.{IsReached};
+ghost use Rattle.device_meaning.specs.State.{new_state};
+ghost use Rattle.durable_device.specs.Kept.{AlwaysStandsForIt, IsKept, IsOldOrStandsFor, RefusesFile, StandsFor, StandsForIt};
+ghost use Rattle.durable_device.specs.Machine.{IsDeviceBase};
+ghost use Rattle.durable_device.specs.Serving.{HasServed, HaveServed, IsAfterSome, IsBeforeOrAfter, Leads};
+
+use crate::{FoldFault, FrameDevice, Given};
+use durable_machine::{Durable, Fault};
+use image_base::save_base;
+use image_store::Image;
+use runner::Device;
+use std::alloc::{AllocError, Global};
+use stored_file::{FileError, StoredFile};
+
+/// A device, and the journal of what happened to it, in a file. After a crash at any moment, during a call or between two, the device
+/// that is opened again is the device after some of the events that were handed in, in order: all whose replies were handed out, and
+/// at most those handed in.
+#[derive(Drop)]
+pub struct DurableDevice<F: StoredFile + Drop> {
+    /// The device and its journal.
+    pub store: Durable<FrameDevice, F>,
+}
+
+impl<F: StoredFile + Drop> DurableDevice<F> {
+    /// Opens the device of a file that a crash may have left. It may crash too, at any moment, and then the file stands for the same
+    /// device. An `Err` hands the file back.
+    ///
+    /// # Errors
+    ///
+    /// The file doesn't begin with a base in whole sectors, or has what no crash leaves: then it stands for no device, and stays as
+    /// it is. No memory, or the disk's.
+    pub fn open(alloc: Global, file: F) -> Result<DurableDevice<F>, (Fault, F)>
+        // After a restart, what is read is what is on the disk.
+        requires restarted { IsOnDisk (F.told file) }
+
+        ensures state { IfOk result (λ device. StandsForIt (F.told file).seen device.store.machine) }
+        ensures reached { IfOk result (λ device. IsReached interval_judge device.store.machine) }
+        ensures kept { IfOk result (λ device.
+            IsKept device.store.machine device.store.journal.gate (F.told device.store.journal.file)) }
+
+        // A crash at any moment leaves the same device.
+        ensures any_moment { IfOk result (λ device. AlwaysStandsForIt (F.told file) (F.told device.store.journal.file)) }
+        ensures any_moment_err { IfErr result (λ refusal. AlwaysStandsForIt (F.told file) (F.told refusal.1)) }
+
+        ensures refused { IfErr result (λ refusal. RefusesFile (F.told file) (F.told refusal.1) refusal.0) }
+    {
+        match Durable::<FrameDevice, F>::open(alloc, file) {
+            Ok(store) => {
+                // Brings in that the device is in a state that events leave.
+                let _ = store.machine.image();
+                Ok(DurableDevice { store })
+            }
+            Err(refusal) => Err(refusal),
+        }
+    }
+
+    /// Makes a file of an image, and an empty journal, in the place of what the file was: the device has neither a program nor a
+    /// run. An `Err` hands the file back.
+    ///
+    /// # Errors
+    ///
+    /// No memory, or the disk's.
+    pub fn create(alloc: Global, image: Image, file: F) -> Result<DurableDevice<F>, (FileError, F)>
+        ensures new { IfOk result (λ device. device.store.machine ≡ new_state image) }
+        ensures kept { IfOk result (λ device.
+            IsKept device.store.machine device.store.journal.gate (F.told device.store.journal.file)) }
+
+        // A crash at any moment leaves what it might have left before, or a file that stands for the device.
+        ensures any_moment { IfOk result (λ device. LeavesOnly (F.told file) (F.told device.store.journal.file)
+            (IsOldOrStandsFor (F.told file) (new_state image))) }
+        ensures any_moment_err { IfErr result (λ failure. LeavesOnly (F.told file) (F.told failure.1)
+            (IsOldOrStandsFor (F.told file) (new_state image))) }
+
+        // It doesn't give up by itself.
+        ensures cause { IfErr result (λ failure. failure.0 ≡ Failed → (F.told file).faults < (F.told failure.1).faults) }
+    {
+        let (machine, base) = match first(alloc, image) {
+            Ok(made) => made,
+            Err(AllocError) => return Err((FileError::Memory, file)),
+        };
+        match Durable::<FrameDevice, F>::create(machine, base, file) {
+            Ok(store) => Ok(DurableDevice { store }),
+            Err(failure) => Err(failure),
+        }
+    }
+
+    /// Does the events of frames, all or none, and gives the reply to each; `None` for bytes that are the frame of no event, which
+    /// change nothing. At `Ok` they are acknowledged: from then on each crash leaves a file that stands for the device behind them.
+    /// At `Err`, the file has to be opened again. Where no event may have changed the device, as where all are read or refused, the
+    /// disk isn't waited for.
+    ///
+    /// # Errors
+    ///
+    /// No memory, or the disk's.
+    pub fn serve(
+        &mut self,
+        alloc: Global,
+        frames: &[Vec<u8>],
+    ) -> Result<Vec<Option<Given>>, FileError>
+        requires { IsKept self.old.store.machine self.old.store.journal.gate (F.told self.old.store.journal.file) }
+
+        ensures served { IfOk result (λ given.
+            HasServed (bytes_of frames.now) self.old.store.machine self.new.store.machine given.items) }
+
+        ensures acknowledged { OnOk result
+            (IsKept self.new.store.machine self.new.store.journal.gate (F.told self.new.store.journal.file)) }
+
+        // A crash at any moment of the call leaves the device from before it, or that after all the events.
+        ensures any_moment { LeavesOnly (F.told self.old.store.journal.file) (F.told self.new.store.journal.file)
+            (IsBeforeOrAfter (bytes_of frames.now) self.old.store.machine) }
+
+        // It doesn't give up by itself.
+        ensures cause { HasCause (F.told self.old.store.journal.file) (F.told self.new.store.journal.file) result }
+    {
+        self.store.serve(alloc, frames)
+    }
+
+    /// Does the events of batches of frames, one batch after another. A crash at any moment leaves the device after the events of
+    /// the first of them, none skipped and none in part. At `Ok`, all are acknowledged.
+    ///
+    /// # Errors
+    ///
+    /// Those of [`DurableDevice::serve`], at the first batch that has one.
+    pub fn serve_all(
+        &mut self,
+        alloc: Global,
+        batches: &[Vec<Vec<u8>>],
+    ) -> Result<Vec<Vec<Option<Given>>>, FileError>
+        requires { IsKept self.old.store.machine self.old.store.journal.gate (F.told self.old.store.journal.file) }
+
+        ensures served { IfOk result (λ given.
+            HaveServed (batches_of batches.now) self.old.store.machine self.new.store.machine (lists_of given.items)) }
+
+        ensures led { OnOk result (Leads (joined (batches_of batches.now)) self.old.store.machine self.new.store.machine) }
+
+        ensures acknowledged { OnOk result
+            (IsKept self.new.store.machine self.new.store.journal.gate (F.told self.new.store.journal.file)) }
+
+        ensures any_moment { LeavesOnly (F.told self.old.store.journal.file) (F.told self.new.store.journal.file)
+            (IsAfterSome (batches_of batches.now) self.old.store.machine) }
+
+        ensures cause { HasCause (F.told self.old.store.journal.file) (F.told self.new.store.journal.file) result }
+    {
+        self.store.serve_all(alloc, batches)
+    }
+
+    /// Puts a new file in the place of the old one, with an image of the device as its base and an empty journal. A crash at any
+    /// moment leaves a file that stands for the same device. At an `Err` of the file or for memory, the file has to be opened again.
+    ///
+    /// # Errors
+    ///
+    /// The device has a program or a run: nothing has changed then. No memory, or the disk's.
+    pub fn fold(&mut self, alloc: Global) -> Result<(), FoldFault>
+        requires { IsKept self.old.store.machine self.old.store.journal.gate (F.told self.old.store.journal.file) }
+        ensures same { self.new.store.machine ≡ self.old.store.machine }
+        ensures kept { OnOk result
+            (IsKept self.new.store.machine self.new.store.journal.gate (F.told self.new.store.journal.file)) }
+        ensures in_use { IsErrOf result FoldFault.InUse
+            → self.old.store.machine ≢ new_state self.old.store.machine.namespace × (self.new ≡ self.old) }
+        ensures any_moment { LeavesOnly (F.told self.old.store.journal.file) (F.told self.new.store.journal.file)
+            (λ c. StandsFor c self.old.store.machine) }
+        ensures cause { IsErrOf result (FoldFault.OfFile FileError.Failed)
+            → (F.told self.old.store.journal.file).faults < (F.told self.new.store.journal.file).faults }
+    {
+        match self.store.machine.base(alloc)? {
+            Some(base) => Ok(self.store.fold(base)?),
+            None => Err(FoldFault::InUse),
+        }
+    }
+
+    /// The device.
+    pub fn device(&self) -> &Device
+        ensures { result.now ≡ self.now.store.machine }
+    {
+        self.store.machine.device()
+    }
+
+    /// The namespace as an image. The device is in a state that events leave.
+    pub fn image(&self) -> &Image
+        ensures value { result.now ≡ self.now.store.machine.namespace }
+        ensures reached { IsReached interval_judge self.now.store.machine }
+    {
+        self.store.machine.image()
+    }
+
+    /// How many bytes of the file the base and the journal behind it take. Opening reads them, and does the events again; so where
+    /// they have grown long, it is time to fold.
+    pub fn length(&self) -> usize
+        ensures { result ≡ self.now.store.journal.gate }
+    {
+        self.store.journal.gate
+    }
+}
+
+/// A device that has the namespace of an image and nothing else, and its base.
+fn first(alloc: Global, image: Image) -> Result<(FrameDevice, Vec<u8>), AllocError>
+    ensures new { IfOk result (λ made. made.0 ≡ new_state image) }
+    ensures stands { IfOk result (λ made. IsDeviceBase made.1.items made.0) }
+{
+    let base = save_base(alloc, &image)?;
+    Ok((FrameDevice::new(alloc, image)?, base))
+}

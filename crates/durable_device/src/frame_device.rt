@@ -1,0 +1,158 @@
+//! The device as a machine whose events are frames.
+
+ghost use Rattle.std.specs.Prelude.{◌≡◌, ◌≢◌, ◌≤◌, length, take, IfOk, MatchOption};
+ghost use Rattle.nvme_entry.specs.declared.command.TheConstants.{MOST_TRANSFER};
+ghost use Rattle.device_events.specs.Replies.{data_length};
+ghost use Rattle.device_meaning.specs.Judging.{interval_judge};
+ghost use Rattle.device_meaning.specs.Reached.{IsReached};
+ghost use Rattle.device_meaning.specs.State.{new_state};
+ghost use Rattle.durable_device.specs.FrameEvents.{told_by};
+ghost use Rattle.durable_device.specs.Machine.{HasDone, HasReplied, IsDeviceBase, next_state, one_device};
+
+use crate::changes::may_change;
+use crate::frame_event::{FrameEvent, event_in};
+use device_events::{Event, Reply};
+use durable_machine::{Applied, Machine};
+use image_base::{load_base, save_base};
+use image_store::Image;
+use nvme_entry::MOST_TRANSFER;
+use runner::Device;
+use std::alloc::{AllocError, Global};
+use std::marker::Model;
+
+/// A reply with its data.
+#[derive(Drop)]
+pub struct Given {
+    /// The reply.
+    pub reply: Reply,
+    /// Its data.
+    pub data: Vec<u8>,
+}
+
+/// A device, and room for the data of a reply. A clause sees the device's state.
+#[derive(Drop)]
+pub struct FrameDevice {
+    device: Device,
+    output: Vec<u8>,
+}
+
+impl Model for FrameDevice {
+    ghost use Rattle.std.specs.Prelude.{◌≤◌, length};
+    ghost use Rattle.nvme_entry.specs.declared.command.TheConstants.{MOST_TRANSFER};
+    ghost use Rattle.device_meaning.specs.State.{State};
+
+    ghost Value = { State };
+
+    ghost view = { λ d. d.device };
+
+    ghost invariant = { λ d. MOST_TRANSFER ≤ length d.output.items };
+}
+
+impl FrameDevice {
+    /// A device with the namespace of an image, without a program or a run.
+    ///
+    /// # Errors
+    ///
+    /// No memory.
+    pub fn new(alloc: Global, image: Image) -> Result<FrameDevice, AllocError>
+        ensures { IfOk result (λ device. device ≡ new_state image) }
+    {
+        let output = vec![in alloc; 0; MOST_TRANSFER]?;
+        Ok(FrameDevice {
+            device: Device::new(alloc, image),
+            output,
+        })
+    }
+
+    /// The device.
+    pub fn device(&self) -> &Device
+        ensures { result.now ≡ self.now }
+    {
+        &self.device
+    }
+
+    /// The namespace as an image. The device is in a state that events leave.
+    pub fn image(&self) -> &Image
+        ensures value { result.now ≡ self.now.namespace }
+        ensures reached { IsReached interval_judge self.now }
+    {
+        self.device.image()
+    }
+
+    /// A base that stands for the device; `None` where it has a program or a run.
+    ///
+    /// # Errors
+    ///
+    /// No memory.
+    #[tactic(auto, using(crate::proofs::Kept::base_for))]
+    pub fn base(&self, alloc: Global) -> Result<Option<Vec<u8>>, AllocError>
+        ensures { IfOk result (λ base. MatchOption base
+            (self.now ≢ new_state self.now.namespace) (λ base. IsDeviceBase base.items self.now)) }
+    {
+        if self.device.is_new() {
+            Ok(Some(save_base(alloc, self.device.image())?))
+        } else {
+            Ok(None)
+        }
+    }
+}
+
+impl Machine for FrameDevice {
+    type Reply = Option<Given>;
+
+    ghost loads = { IsDeviceBase };
+
+    ghost next = { next_state };
+
+    ghost replies = { HasReplied };
+
+    ghost one_base = { one_device };
+
+    #[tactic(auto, using(crate::proofs::Kept::begins_device))]
+    fn load(alloc: Global, file: &[u8]) -> Result<Option<(Self, usize)>, AllocError> {
+        match load_base(alloc, file)? {
+            Some((image, base)) => Ok(Some((FrameDevice::new(alloc, image)?, base))),
+            None => Ok(None),
+        }
+    }
+
+    fn apply(&mut self, alloc: Global, frame: &[u8]) -> Result<Applied<Option<Given>>, AllocError> {
+        let Some(event) = event_in(frame) else {
+            return Ok(Applied {
+                reply: None,
+                changes: false,
+            });
+        };
+        let reply = perform(&mut self.device, &event, &mut self.output);
+        let data = self.output[..reply.data_length()].to_vec(alloc)?;
+        let changes = may_change(&event, &reply);
+        Ok(Applied {
+            reply: Some(Given { reply, data }),
+            changes,
+        })
+    }
+}
+
+/// Does an event, from its data where that lies. The data of the reply goes to the front of `output`.
+#[tactic(auto, using(crate::proofs::Told::taken_done, crate::proofs::Told::happened_done))]
+fn perform(device: &mut Device, event: &FrameEvent<'_>, output: &mut [u8]) -> Reply
+    requires { MOST_TRANSFER ≤ length output.old }
+    ensures done { HasDone (told_by event.now) device.old device.new (record { reply = result; bytes = take (data_length result) output.new }) }
+    ensures within { data_length result ≤ length output.new }
+{
+    match event {
+        FrameEvent::Submit {
+            queue,
+            entry,
+            input,
+        } => device.submit(*queue, entry, input, output),
+        FrameEvent::Turn { run } => device.apply(&Event::Turn { run: *run }, output),
+        FrameEvent::Fault { zone, state } => device.apply(
+            &Event::Fault {
+                zone: *zone,
+                state: *state,
+            },
+            output,
+        ),
+    }
+}

@@ -1,0 +1,32 @@
+//! What is kept of a device, as laws: these functions do nothing.
+
+ghost use Rattle.durable_device.specs.Kept.{IsKept};
+ghost use Rattle.durable_device.specs.Laws.{ComesBack, FilesAreReached, FirstBatchesComeBack, FramesTellEvents};
+
+use crate::DurableDevice;
+use stored_file::StoredFile;
+
+/// The frame of an event tells it, and bytes tell no event but the one whose frame they are.
+pub fn frames_tell_events()
+    ensures { FramesTellEvents }
+{}
+
+/// What a file stands for is the device after the events in it, from the image on that is its base; and it is in a state that events
+/// leave, of which all laws of the device hold.
+pub fn files_are_reached()
+    ensures { FilesAreReached }
+{}
+
+/// Of a file that a crash left while batches were served, the device is opened after the events of the first of them: some of them,
+/// none skipped and none in part.
+pub fn first_batches_come_back()
+    ensures { FirstBatchesComeBack }
+{}
+
+/// Whatever a crash leaves of a device at rest, that device is opened of it: so no event is lost that was acknowledged.
+pub fn acknowledged_comes_back<F: StoredFile + Drop>(device: &DurableDevice<F>)
+    requires { IsKept device.now.store.machine device.now.store.journal.gate (F.told device.now.store.journal.file) }
+    ensures { ComesBack (F.told device.now.store.journal.file) device.now.store.machine }
+{
+    durable_machine::laws::acknowledged_comes_back(&device.store);
+}
