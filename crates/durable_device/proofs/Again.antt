@@ -1,5 +1,5 @@
 -- Which events are to be done again.
-use Rattle.std.proofs.Common.{◌≡◌, ◌<◌, ◌^◌, ◌+◌, ◌*◌, ◌/◌, ◌%◌, ℕ, Bool, true, false, ◌&&◌, not, List, length, Option, Some, None, Result, Ok, Err, refl, ap, ◌∙◌, sym, inl, inr, ◌⊎◌, arith}
+use Rattle.std.proofs.Common.{◌≡◌, ◌<◌, ◌^◌, ◌+◌, ◌*◌, ◌/◌, ◌%◌, ℕ, Bool, true, false, ◌&&◌, not, List, length, Option, Some, None, Result, Ok, Err, refl, ap, inl, inr, ◌⊎◌, arith}
 use Rattle.std.proofs.lemmas.Bool.Decides.{nat_tests}
 use Rattle.zone_state.specs.declared.status.Status.{Status}
 use Rattle.zone_state.specs.declared.status.TheConstants.Status.{SUCCESS, WANT_OF_MEMORY}
@@ -18,10 +18,9 @@ use Rattle.zns_commands.specs.Effect.{Effect, concluded}
 use Rattle.zns_commands.specs.Fault.{faulted_by, zone_fault_refusal}
 use Rattle.zns_commands.specs.Meaning.{change_of, effect_of, meaning, refusal_of}
 use Rattle.zns_commands.specs.Transfer.{transfer_checks}
-use Rattle.device_events.specs.Replies.{ReplyWithData, without_data}
+use Rattle.device_events.specs.Replies.{ReplyWithData}
 use Rattle.device_events.specs.ToldEvents.{ToldEvent}
 use Rattle.device_events.specs.ToldEvents as told
-use Rattle.device_events.specs.declared.reply.Reply.{Reply}
 use Rattle.device_meaning.specs.Admission.{Loaded}
 use Rattle.device_meaning.specs.EventReplies.{Happening, Submission, completion_reply, submission_of}
 use Rattle.device_meaning.specs.Happenings.{fault_reply, happens, load_checks, load_unless, result_by, submitted, turn_reply, turned}

@@ -1,8 +1,8 @@
 -- Frames tell the events whose frames they are.
-use Rattle.std.proofs.Common.{◌≡◌, ◌<◌, ◌≤◌, ◌+◌, ◌*◌, ◌/◌, ◌%◌, ◌^◌, ◌==◌, ◌&&◌, ℕ, Bool, true, false, not, cond, List, [], ◌∷◌, ◌++◌, length, take, drop, replicate, slice_index, Option, Some, None, refl, sym, ap, subst, ◌∙◌, arith, length-append}
+use Rattle.std.proofs.Common.{◌≡◌, ◌<◌, ◌≤◌, ◌^◌, ◌==◌, ◌&&◌, ℕ, Bool, true, false, not, cond, List, [], ◌∷◌, ◌++◌, length, take, drop, slice_index, Some, None, refl, sym, ap, subst, ◌∙◌, arith, length-append}
 use Rattle.std.specs.Prelude.{nat_le}
 use Rattle.std.proofs.lemmas.Bool.{and_from, and_parts, cond_both, eq-eqb, eqb-true, le-leb, leb-true}
-use Rattle.std.proofs.lemmas.List.{append-nil, drop_at, take_at, take-append-drop, nil_from_length, length-take, length-drop}
+use Rattle.std.proofs.lemmas.List.{drop_at, take_at, take-append-drop, nil_from_length, length-take}
 use Rattle.byteorder.specs.Endian.{little_bytes}
 use Rattle.common_definitions.specs.Bytes.{AreBytes, field}
 use Rattle.common_definitions.proofs.Proved.{bytes_from, front_spelled}
@@ -10,8 +10,8 @@ use Rattle.zone_state.specs.declared.state.FaultState.{FaultState}
 use Rattle.zone_state.specs.declared.state.FaultState.TheVariants.{ReadOnly, Offline}
 use Rattle.nvme_entry.specs.declared.command.TheConstants.{MOST_TRANSFER}
 use Rattle.device_events.specs.ToldEvents.{ToldEvent, Submitted, Turned, Faulted}
-use Rattle.event_frames.specs.Frames.{header, request_frame, state_number}
-use Rattle.durable_device.specs.FrameEvents.{IsFrameOf, event_by, fault_in, frame_event, header_in, request_of, submission_in, turn_in}
+use Rattle.event_frames.specs.Frames.{header, state_number}
+use Rattle.durable_device.specs.FrameEvents.{IsFrameOf, event_by, fault_in, frame_event, header_in, submission_in, turn_in}
 use Rattle.durable_device.specs.Laws.{FramesTellEvents}
 use Rattle.durable_device.specs.declared.frame_event.Header.{Header}
 

@@ -1,8 +1,8 @@
 -- What files stand for, in the device's words.
-use Rattle.std.proofs.Common.{◌≡◌, ◌≤◌, ℕ, List, ◌++◌, take, refl, sym, ap, subst, ◌∙◌, inl, inr}
+use Rattle.std.proofs.Common.{◌≡◌, ℕ, List, ◌++◌, take, refl, sym, ap, subst, ◌∙◌, inl, inr}
 use Rattle.common_definitions.specs.Bytes.{AreBytes}
 use Rattle.common_definitions.proofs.Proved.{front_fit, rest_fit}
-use Rattle.image_store.specs.Namespace.{IsNamespace, ZonedNamespace}
+use Rattle.image_store.specs.Namespace.{ZonedNamespace}
 use Rattle.image_text.proofs.Proved.{loaded_texts_are_namespaces}
 use Rattle.image_base.specs.Base.{IsBaseOf}
 use Rattle.durable_machine.specs.Bases.{BeginsBase, BeginsNoBase}

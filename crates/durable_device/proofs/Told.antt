@@ -1,12 +1,11 @@
 -- What frames did, in the words of the events that they tell.
-use Rattle.std.proofs.Common.{◌≡◌, ◌≤◌, ◌++◌, ℕ, zero, suc, arith, Bool, true, false, List, [], ◌∷◌, length, map, take, Option, Some, None, option_map, refl, sym, ap, subst, ◌∙◌, inl, inr, ◌⊎◌, not}
+use Rattle.std.proofs.Common.{◌≡◌, ◌≤◌, ◌++◌, ℕ, zero, suc, arith, Bool, false, List, [], ◌∷◌, length, map, take, Option, Some, None, option_map, refl, sym, ap, subst, ◌∙◌}
 use Rattle.std.specs.Prelude.{is_some}
 use Rattle.std.specs.List.{AllByRecursion, cons_option, filter_map}
 use Rattle.durable_machine.specs.Applied.{HasApplied}
 use Rattle.durable_machine.specs.Batches.{HasServed as HasServedBytes, HaveServed as HaveServedBytes, LedTo}
 use Rattle.durable_machine.specs.Runs.{AreReplies, HasRun, state_again}
 use Rattle.durable_machine.specs.Runs as machine
-use Rattle.durable_machine.specs.declared.machine.Applied.{Applied}
 use Rattle.device_events.specs.Replies.{ReplyWithData}
 use Rattle.device_events.specs.ToldEvents.{ToldEvent, told_of}
 use Rattle.device_events.specs.ToldEvents as told

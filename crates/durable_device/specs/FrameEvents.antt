@@ -1,5 +1,5 @@
 -- Which event a frame tells (profile).
-use Rattle.std.specs.Prelude.{ℕ, Bool, ◌≡◌, ◌==◌, ◌&&◌, not, nat_le, if◌then◌else◌, List, length, take, drop, slice_index, Option, Some, None}
+use Rattle.std.specs.Prelude.{ℕ, ◌≡◌, ◌==◌, ◌&&◌, not, nat_le, if◌then◌else◌, List, length, take, drop, slice_index, Option, Some, None}
 use Rattle.common_definitions.specs.Bytes.{field}
 use Rattle.zone_state.specs.declared.state.FaultState.TheVariants.{ReadOnly, Offline}
 use Rattle.nvme_entry.specs.declared.command.TheConstants.{MOST_TRANSFER}

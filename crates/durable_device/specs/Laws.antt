@@ -1,5 +1,5 @@
 -- What files stand for, and what comes back of them, in the device's words.
-use Rattle.std.specs.Prelude.{◌≡◌, ◌≤◌, ℕ, Bool, false, List, length, take, Some}
+use Rattle.std.specs.Prelude.{◌≡◌, ◌≤◌, ℕ, false, List, length, take, Some}
 use Rattle.std.specs.List.{AllByRecursion}
 use Rattle.common_definitions.specs.Bytes.{AreBytes}
 use Rattle.stored_file.specs.File.{FileState, MayLeave}

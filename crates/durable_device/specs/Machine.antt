@@ -1,7 +1,6 @@
 -- The device as a machine whose events are frames, and whose bases are images.
 use Rattle.std.specs.Prelude.{◌≡◌, ℕ, Bool, List, ◌++◌, Option, Some, None, option_map}
 use Rattle.std.proofs.Common.{ap, sym, ◌∙◌}
-use Rattle.image_store.specs.Namespace.{ZonedNamespace}
 use Rattle.image_base.specs.Base.{IsBaseOf}
 use Rattle.image_base.proofs.Proved.{one_base}
 use Rattle.device_events.specs.Replies.{ReplyWithData}

@@ -1,5 +1,5 @@
 -- What frames lead to, in the device's words: by the events that they tell.
-use Rattle.std.specs.Prelude.{◌≡◌, ◌⊎◌, ◌≤◌, ℕ, Bool, List, [], ◌∷◌, length, map, take, is_some, Option, option_map}
+use Rattle.std.specs.Prelude.{◌≡◌, ◌⊎◌, ◌≤◌, ℕ, List, [], ◌∷◌, length, map, take, is_some, Option, option_map}
 use Rattle.std.specs.List.{filter_map}
 use Rattle.durable_machine.specs.Files.{joined}
 use Rattle.device_meaning.specs.Events.{Occurrence, replies_to, state_after}

@@ -32,7 +32,8 @@ pub struct Given {
 /// A device, and room for the data of a reply. A clause sees the device's state.
 #[derive(Drop)]
 pub struct FrameDevice {
-    device: Device,
+    /// On the heap, since it is moved from hand to hand while a file is opened.
+    device: Box<Device>,
     output: Vec<u8>,
 }
 
@@ -43,7 +44,7 @@ impl Model for FrameDevice {
 
     ghost Value = { State };
 
-    ghost view = { λ d. d.device };
+    ghost view = { λ d. d.device.value };
 
     ghost invariant = { λ d. MOST_TRANSFER ≤ length d.output.items };
 }
@@ -59,7 +60,7 @@ impl FrameDevice {
     {
         let output = vec![in alloc; 0; MOST_TRANSFER]?;
         Ok(FrameDevice {
-            device: Device::new(alloc, image),
+            device: Box::new(alloc, Device::new(alloc, image))?,
             output,
         })
     }
@@ -123,7 +124,7 @@ impl Machine for FrameDevice {
                 changes: false,
             });
         };
-        let reply = perform(&mut self.device, &event, &mut self.output);
+        let reply = perform(&mut *self.device, &event, &mut self.output);
         let data = self.output[..reply.data_length()].to_vec(alloc)?;
         let changes = may_change(&event, &reply);
         Ok(Applied {
@@ -137,7 +138,8 @@ impl Machine for FrameDevice {
 #[tactic(auto, using(crate::proofs::Told::taken_done, crate::proofs::Told::happened_done))]
 fn perform(device: &mut Device, event: &FrameEvent<'_>, output: &mut [u8]) -> Reply
     requires { MOST_TRANSFER ≤ length output.old }
-    ensures done { HasDone (told_by event.now) device.old device.new (record { reply = result; bytes = take (data_length result) output.new }) }
+    ensures done { HasDone (told_by event.now) device.old device.new
+        (record { reply = result; bytes = take (data_length result) output.new }) }
     ensures within { data_length result ≤ length output.new }
 {
     match event {

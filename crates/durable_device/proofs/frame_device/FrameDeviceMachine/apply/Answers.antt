@@ -1,4 +1,4 @@
-use Rattle.std.proofs.Common.{rules, ◌≡◌, ◌≤◌, ℕ, List, Option, Some, option_map, length, take, sym, ◌∙◌, ap}
+use Rattle.std.proofs.Common.{rules, ◌≡◌, ◌≤◌, ℕ, List, Option, Some, option_map, take, sym, ◌∙◌, ap}
 use Rattle.device_events.specs.Replies.{ReplyWithData, data_length}
 use Rattle.durable_device.specs.FrameEvents.{frame_event, told_by}
 use Rattle.durable_device.specs.Machine.{HasDone, given_reply}
