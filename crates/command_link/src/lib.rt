@@ -1,0 +1,6 @@
+//! The command that makes a program of an object as clang makes it.
+#![tactic(auto)]
+
+pub mod link;
+mod making;
+mod refusal;

@@ -1,0 +1,133 @@
+//! The command `link`: an object to a program.
+
+ghost use Rattle.std.specs.Prelude.{◌≡◌, IfErr, OnErr, OnOk};
+ghost use Rattle.command_files.specs.Arguments.{value_of};
+ghost use Rattle.command_files.specs.Made.{MakesOne};
+ghost use Rattle.command_files.specs.declared.arguments.TheConstants.{PROGRAM};
+
+use crate::making::{bytes_of, made};
+use crate::refusal::Refusal;
+use clap::{Arg, ArgAction, ArgMatches, Command};
+use command_files::arguments::{
+    BLOCK_OPTION, PROGRAM, and_argument, block_option, block_size, number, option, required,
+};
+use command_files::{Failure, Files, printed, read, write};
+use ebpf_link::Linked;
+use program_interface::BlockSize;
+use std::alloc::{AllocError, Global};
+use std::io::Write;
+
+/// The command's name.
+pub const NAME: &str = "link";
+
+const OBJECT: &str = "OBJECT";
+
+const FUNCTION: &str = "function";
+
+const VERBOSE: &str = "verbose";
+
+const LONG_ABOUT: &str = "\
+Makes a program of an object, a file of C as `clang -target bpf -c` makes it, for blocks of one size.
+
+The program starts with the object's only global function, or the one that --function names. Functions that it calls are put \
+where they are called, constant data onto the stack, and memcpy, memset and memcmp of a constant length are written out. Loops \
+are unrolled as often as they can go round, as far as is known of registers. In front of an access or an emit that isn't known \
+to lie within an area stands a compare, that ends the block run where it does not.
+
+`verify` judges the program like any other. Of an object that no program is made of, `link refused` and a sentence tell \
+why, and no file is written.";
+
+const EXAMPLE: &str = "\
+Example:
+
+  clang -target bpf -O2 -c filter.c -o filter.o
+  zscli link filter.o --block 4096 -o filter.bin
+  zscli verify filter.bin --block 4096 --emit 4096";
+
+/// How the command stands on the command line.
+///
+/// # Errors
+///
+/// Want of memory.
+pub fn subcommand<'a>(alloc: Global) -> Result<Command<'a>, AllocError> {
+    let object = Arg::new(alloc, OBJECT)
+        .required(true)
+        .help("The object, as clang makes it");
+    let program = Arg::new(alloc, PROGRAM)
+        .short('o')
+        .long("output")
+        .value_name(PROGRAM)
+        .action(ArgAction::Set)
+        .required(true)
+        .help("The program that is written");
+    let function = option(alloc, FUNCTION, "NAME").help("The function to start with");
+    let verbose = Arg::new(alloc, VERBOSE)
+        .long(VERBOSE)
+        .action(ArgAction::SetTrue)
+        .help("Print how many slots the program has, and how many compares were put in");
+    let command = Command::new(alloc, NAME)
+        .about("Makes a program of an object that clang made of C")
+        .long_about(LONG_ABOUT)
+        .after_help(EXAMPLE);
+    let command = and_argument(Ok(command), object);
+    let command = and_argument(command, block_option(alloc));
+    let command = and_argument(command, program);
+    let command = and_argument(command, function);
+    and_argument(command, verbose)
+}
+
+/// Makes one file, in the program file's place: the program of the object file's bytes. Where it fails, no file is made, but for what
+/// [`Files::write`] says. Nothing is promised of which program it is: `verify` and Load judge it like any other.
+///
+/// # Errors
+///
+/// [`Failure::NotAccepted`] where no program is made of the object, which standard output tells. Else a word is no block size, a file
+/// can't be read or written, standard output fails, or memory is wanting.
+pub fn link<'a, F: Files, O: Write>(
+    alloc: Global,
+    matches: &ArgMatches<'a>,
+    files: &mut F,
+    out: &mut O,
+) -> Result<(), Failure<'a>>
+    ensures made { OnOk result (MakesOne (value_of matches.now PROGRAM.now) (F.made files.old) (F.made files.new)) }
+    ensures kept { OnErr result (F.made files.new ≡ F.made files.old) }
+    ensures contents { OnErr result (F.contents files.new ≡ F.contents files.old) }
+{
+    let block = block_size(number(matches, BLOCK_OPTION)?)?;
+    let object = read(required(matches, OBJECT), files)?;
+    let name = required(matches, FUNCTION);
+    let linked = linked(alloc, object.as_slice(), name, block, out)?;
+    if required(matches, VERBOSE) == "true" {
+        tell(&linked, out)?;
+    }
+    let bytes = bytes_of(alloc, linked.slots.as_slice())?;
+    write(required(matches, PROGRAM), bytes.as_slice(), files)
+}
+
+/// The program of the object of these bytes; where there is none, standard output tells why.
+fn linked<'a, O: Write>(
+    alloc: Global,
+    bytes: &[u8],
+    name: &str,
+    block: BlockSize,
+    out: &mut O,
+) -> Result<Linked, Failure<'a>> {
+    match made(alloc, bytes, name, block) {
+        Ok(linked) => Ok(linked),
+        Err(Refusal::Memory) => Err(Failure::NoMemory),
+        Err(Refusal::Told(text)) => {
+            printed(writeln!(out, "link refused: {text}"))?;
+            Err(Failure::NotAccepted)
+        }
+    }
+}
+
+/// Tells how many slots a program has, and how many guards of each kind.
+fn tell<'a, O: Write>(linked: &Linked, out: &mut O) -> Result<(), Failure<'a>> {
+    let slots = linked.slots.len();
+    let [memory, emit, size] = linked.guards;
+    printed(writeln!(
+        out,
+        "{slots} slots; compares put in: {memory} of accesses, {emit} of emits, {size} of the block's size"
+    ))
+}

@@ -1,0 +1,14 @@
+//! The functions of an object that a program is made of, with the constant data that they refer to, as functions that call one another:
+//! what `ebpf_units` and `ebpf_inline` make one program of.
+#![tactic(auto)]
+
+mod fault;
+mod frame;
+mod gathering;
+mod library;
+mod slots;
+mod wanted;
+
+pub use fault::{GatherFault, SlotProblem};
+pub use gathering::{SPARE_BYTES, gather};
+pub use wanted::{LibraryCall, LibraryFunction, Wanted};

@@ -1,0 +1,246 @@
+//! Pieces as slots: what computes nothing that is read is left out, and jumps get their distances.
+
+use crate::fault::LinkFault;
+use crate::guards::Guard;
+use crate::layout::{Layout, Linked};
+use crate::liveness::{Registers, at, before, bit, reads, writes};
+use crate::pieces::Piece;
+use instruction_set::{Instruction, Register};
+use program_interface::MOST_SLOTS;
+use std::alloc::{AllocError, Global};
+
+/// Does an instruction nothing else than to write its destination?
+fn only_writes(instruction: &Instruction) -> bool {
+    match *instruction {
+        Instruction::LoadImmediate { .. }
+        | Instruction::Load { .. }
+        | Instruction::LoadSigned { .. }
+        | Instruction::Arithmetic { .. }
+        | Instruction::Negate { .. }
+        | Instruction::MoveSigned { .. }
+        | Instruction::SwapBytes { .. } => true,
+        _ => false,
+    }
+}
+
+/// Sets what a list has at a place.
+fn set(list: &mut [usize], place: usize, number: usize) {
+    if let Some(found) = list.get_mut(place) {
+        *found = number;
+    }
+}
+
+/// So many zeros.
+fn zeros(alloc: Global, count: usize) -> Result<Vec<usize>, AllocError> {
+    let mut list = Vec::new(alloc);
+    for _ in 0..count {
+        list.push(0)?;
+    }
+    Ok(list)
+}
+
+/// So many empty sets.
+fn empty_sets(alloc: Global, count: usize) -> Result<Vec<Registers>, AllocError> {
+    let mut list = Vec::new(alloc);
+    for _ in 0..count {
+        list.push(0)?;
+    }
+    Ok(list)
+}
+
+/// The registers that are read from a piece on, and whether it stays, by what is read behind it.
+fn piece_before(piece: &Piece, behind: Registers, live: &mut [Registers]) -> (Registers, bool) {
+    match piece {
+        Piece::Begins(slot) => {
+            if let Some(found) = live.get_mut(*slot) {
+                *found = behind;
+            }
+            (behind, false)
+        }
+        Piece::Plain(Instruction::Exit) => (bit(Register::R0), true),
+        Piece::Plain(instruction) => {
+            if only_writes(instruction) && writes(instruction) & behind == 0 {
+                return (behind, false);
+            }
+            (before(instruction, behind), true)
+        }
+        Piece::Jump(instruction, to) => {
+            let there = at(live, *to);
+            if matches!(instruction, Instruction::Jump { .. }) {
+                return (there, true);
+            }
+            (behind | there | reads(instruction), true)
+        }
+    }
+}
+
+/// How many slots a piece takes that stays.
+fn slots_taken(piece: &Piece) -> usize {
+    match piece {
+        Piece::Plain(instruction) => instruction.slots(),
+        _ => 1,
+    }
+}
+
+/// How many slots each piece takes: none, where it is left out.
+fn sizes(alloc: Global, pieces: &[Piece], slots: usize) -> Result<Vec<usize>, AllocError> {
+    let mut live = empty_sets(alloc, slots)?;
+    let mut sizes = zeros(alloc, pieces.len())?;
+    let mut behind = 0;
+    for back in 0..pieces.len() {
+        let place = pieces.len() - 1 - back;
+        let (read, stays) = piece_before(&pieces[place], behind, &mut live);
+        behind = read;
+        if stays {
+            set(&mut sizes, place, slots_taken(&pieces[place]));
+        }
+    }
+    Ok(sizes)
+}
+
+/// The number at a place of a list, or 0.
+fn number_at(list: &[usize], place: usize) -> usize {
+    match list.get(place) {
+        Some(found) => *found,
+        None => 0,
+    }
+}
+
+/// The distance from a slot to another one.
+fn distance(from: usize, to: usize) -> i16 {
+    let from = from.min(MOST_SLOTS) as i32;
+    let to = to.min(MOST_SLOTS) as i32;
+    (to - from - 1).max(0) as i16
+}
+
+/// The same jump by another distance.
+fn by_distance(instruction: Instruction, slots: i16) -> Instruction {
+    match instruction {
+        Instruction::Branch {
+            width,
+            relation,
+            dst,
+            source,
+            ..
+        } => Instruction::Branch {
+            width,
+            relation,
+            dst,
+            source,
+            distance: slots,
+        },
+        _ => Instruction::Jump { distance: slots },
+    }
+}
+
+/// The distances of jumps, by their pieces.
+fn distances(
+    alloc: Global,
+    pieces: &[Piece],
+    sizes: &[usize],
+    slots: usize,
+    count: usize,
+) -> Result<Vec<i16>, AllocError> {
+    let mut begins = zeros(alloc, slots)?;
+    let mut all = Vec::new(alloc);
+    for _ in 0..pieces.len() {
+        all.push(0)?;
+    }
+    let mut behind = count;
+    for back in 0..pieces.len() {
+        let place = pieces.len() - 1 - back;
+        let here = behind.saturating_sub(number_at(sizes, place));
+        match &pieces[place] {
+            Piece::Begins(slot) => set(&mut begins, *slot, here),
+            Piece::Jump(_, to) => {
+                if let Some(found) = all.get_mut(place) {
+                    *found = distance(here, number_at(&begins, *to));
+                }
+            }
+            Piece::Plain(_) => {}
+        }
+        behind = here;
+    }
+    Ok(all)
+}
+
+/// How many slots all pieces take.
+fn count(sizes: &[usize]) -> usize {
+    let mut count: usize = 0;
+    for size in sizes {
+        count = count.saturating_add(*size);
+    }
+    count
+}
+
+/// Adds the slots of a piece that stays.
+fn push_piece(
+    slots: &mut Vec<Option<Instruction>>,
+    piece: &Piece,
+    distance: i16,
+) -> Result<(), AllocError> {
+    match piece {
+        Piece::Begins(_) => Ok(()),
+        Piece::Jump(instruction, _) => {
+            slots.extend_from_slice(&[Some(by_distance(*instruction, distance))])
+        }
+        Piece::Plain(instruction) => {
+            slots.extend_from_slice(&[Some(*instruction)])?;
+            if instruction.slots() == 2 {
+                slots.extend_from_slice(&[None])?;
+            }
+            Ok(())
+        }
+    }
+}
+
+/// The kinds of guards that a piece leads to the end of.
+fn counted(guards: &mut [usize; Guard::COUNT], piece: &Piece, slots: usize) {
+    if let Piece::Jump(_, to) = piece {
+        if *to >= slots {
+            let index = *to - slots;
+            if index < Guard::COUNT {
+                guards[index] = guards[index].saturating_add(1);
+            }
+        }
+    }
+}
+
+/// Sizes without the stores of addresses that nothing loads.
+fn without_idle_stores(layout: &Layout<'_>, sizes: &mut [usize]) {
+    if layout.own > 488 {
+        return;
+    }
+    if !layout.uses_block {
+        set(sizes, 0, 0);
+    }
+    if !layout.uses_scratch {
+        set(sizes, 1, 0);
+    }
+}
+
+/// The program of the pieces that were laid out.
+pub(crate) fn assembled(alloc: Global, layout: &Layout<'_>) -> Result<Linked, LinkFault> {
+    let pieces = layout.pieces.as_slice();
+    let all = layout.slots.len().saturating_add(Guard::COUNT);
+    let mut sizes = sizes(alloc, pieces, all)?;
+    without_idle_stores(layout, &mut sizes);
+    let count = count(&sizes);
+    if count > MOST_SLOTS {
+        return Err(LinkFault::TooLong(count));
+    }
+    let distances = distances(alloc, pieces, &sizes, all, count)?;
+    let mut slots = Vec::new(alloc);
+    let mut guards = [0; Guard::COUNT];
+    for (place, piece) in pieces.iter().enumerate() {
+        if number_at(&sizes, place) > 0 {
+            counted(&mut guards, piece, layout.slots.len());
+            let distance = match distances.get(place) {
+                Some(found) => *found,
+                None => 0,
+            };
+            push_piece(&mut slots, piece, distance)?;
+        }
+    }
+    Ok(Linked { slots, guards })
+}

@@ -1,0 +1,179 @@
+//! What is known where a slot is come to: the facts of a verifier, by the same domain. Nothing rests on these being true: the program
+//! that is made is judged like any other.
+
+use crate::stack::{join_cells, load, store};
+use accepted_programs::Facts;
+use instruction_set::{Instruction, Register, Size, Source, Width};
+use interval_domain::Intervals;
+use program_interface::{Area, CLEARED_REGISTERS, FRAME_LENGTH_BYTES, REGISTERS, STACK_BYTES};
+use program_meaning::Arithmetic;
+use word_domain::Domain;
+
+/// What is known.
+pub(crate) type Known = Facts<Intervals>;
+
+/// What is known at the start of a block run.
+pub(crate) fn at_start() -> Known {
+    let zero = Intervals::constant(0);
+    Facts {
+        registers: [
+            zero,
+            Intervals::pointer(Area::Context, 0),
+            Intervals::pointer(Area::Block, 0),
+            Intervals::pointer(Area::Scratch, 0),
+            zero,
+            zero,
+            zero,
+            zero,
+            zero,
+            zero,
+            Intervals::pointer(Area::Stack, STACK_BYTES as u32),
+        ],
+        cells: [None; accepted_programs::CELLS],
+        emitted: 0,
+    }
+}
+
+/// Joins what is known on another way.
+pub(crate) fn join(known: &mut Known, other: &Known) {
+    for j in 0..REGISTERS {
+        let joined = known.registers[j].join(other.registers[j]);
+        known.registers[j] = joined;
+    }
+    join_cells(&mut known.cells, &other.cells);
+    known.emitted = known.emitted.max(other.emitted);
+}
+
+/// The fact of a second operand.
+pub(crate) fn source_fact(known: &Known, source: Source) -> Intervals {
+    match source {
+        Source::Register(register) => known.get(register),
+        Source::Immediate(value) => Intervals::constant(Instruction::immediate_word(value)),
+    }
+}
+
+/// The fact of a second operand of a compare.
+fn compared(width: Width, known: &Known, source: Source) -> Intervals {
+    match (source, width) {
+        (Source::Immediate(value), Width::Bits32) => {
+            Intervals::constant(Instruction::immediate_word(value) % 0x1_0000_0000)
+        }
+        _ => source_fact(known, source),
+    }
+}
+
+/// Narrows what is known to what it is along an edge of a compare. False where there is no such edge.
+pub(crate) fn narrow(known: &mut Known, branch: &Instruction, taken: bool) -> bool {
+    let Instruction::Branch {
+        width,
+        relation,
+        dst,
+        source,
+        ..
+    } = *branch
+    else {
+        return true;
+    };
+    let same = source == Source::Register(dst);
+    let second = compared(width, known, source);
+    match Intervals::refine(width, relation, taken, known.get(dst), second, same) {
+        Some((first, second)) => {
+            known.set(dst, first);
+            if let Source::Register(register) = source {
+                known.set(register, second);
+            }
+            true
+        }
+        None => false,
+    }
+}
+
+/// What a call leaves known.
+fn emit(known: &mut Known) {
+    let most = known.get(Register::R2).bounds().high;
+    let most = most.min(0x1_0000_0000) as usize;
+    for j in 0..CLEARED_REGISTERS {
+        known.registers[j] = Intervals::constant(0);
+    }
+    known.emitted = known
+        .emitted
+        .saturating_add(FRAME_LENGTH_BYTES)
+        .saturating_add(most);
+}
+
+/// What an instruction writes to its destination.
+fn written(known: &Known, instruction: &Instruction) -> Option<(Register, Intervals)> {
+    let (dst, arithmetic, first, second) = match *instruction {
+        Instruction::LoadImmediate { dst, value } => {
+            return Some((dst, Intervals::constant(value)));
+        }
+        Instruction::Load {
+            size: Size::DoubleWord,
+            dst,
+            src,
+            offset,
+        } => return Some((dst, load(known, src, offset))),
+        Instruction::Load { size, dst, .. } => return Some((dst, Intervals::loaded(size))),
+        Instruction::LoadSigned { size, dst, .. } => {
+            return Some((dst, Intervals::loaded_signed(size)));
+        }
+        Instruction::Arithmetic {
+            width,
+            operation,
+            dst,
+            source,
+        } => {
+            let arithmetic = Arithmetic::Binary { width, operation };
+            (dst, arithmetic, known.get(dst), source_fact(known, source))
+        }
+        Instruction::Negate { width, dst } => {
+            let arithmetic = Arithmetic::Negate { width };
+            (dst, arithmetic, known.get(dst), Intervals::constant(0))
+        }
+        Instruction::MoveSigned {
+            extension,
+            dst,
+            src,
+        } => {
+            let arithmetic = Arithmetic::MoveSigned { extension };
+            (dst, arithmetic, Intervals::constant(0), known.get(src))
+        }
+        Instruction::SwapBytes { swap, size, dst } => {
+            let arithmetic = Arithmetic::SwapBytes { swap, size };
+            (dst, arithmetic, known.get(dst), Intervals::constant(0))
+        }
+        _ => return None,
+    };
+    Some((dst, Intervals::alu(arithmetic, first, second)))
+}
+
+/// Changes what is known to what is behind an instruction that isn't a jump.
+pub(crate) fn step(known: &mut Known, instruction: &Instruction) {
+    match *instruction {
+        Instruction::StoreImmediate {
+            size,
+            dst,
+            offset,
+            ..
+        } => store(known, size, dst, offset, None),
+        Instruction::StoreRegister {
+            size,
+            dst,
+            src,
+            offset,
+        } => {
+            let word = if 1 <= src.index() && src.index() <= 9 {
+                Some(known.get(src))
+            } else {
+                None
+            };
+            store(known, size, dst, offset, word);
+        }
+        Instruction::Call { .. } => emit(known),
+        _ => {
+            if let Some((dst, fact)) = written(known, instruction) {
+                known.set(dst, fact);
+            }
+        }
+    }
+}

@@ -1,0 +1,146 @@
+//! Loops, by slots: from where a jump leads back to, up to the last jump that leads there. Two loops have no slot in common, or one is
+//! within the other.
+
+use crate::pieces::target;
+use instruction_set::Instruction;
+use std::alloc::{AllocError, Global};
+
+/// The loops of a program.
+#[derive(Drop)]
+pub(crate) struct Loops {
+    /// The last slot of the loop that begins at each slot; the slot itself, where none begins there or it is one of one slot.
+    ends: Vec<usize>,
+    /// Does a loop begin at each slot?
+    heads: Vec<bool>,
+    /// The first slot of the innermost loop around each slot that doesn't begin there.
+    around: Vec<Option<usize>>,
+}
+
+/// The slot to which an instruction leads back.
+fn back(slot: usize, instruction: &Option<Instruction>) -> Option<usize> {
+    let Some(instruction) = instruction else {
+        return None;
+    };
+    let distance = instruction.distance()?;
+    let to = target(slot, distance);
+    if to >= 0 && to as u64 <= slot as u64 {
+        Some(to as usize)
+    } else {
+        None
+    }
+}
+
+/// The greater of a number in a list and another one.
+fn raise(list: &mut [usize], at: usize, number: usize) {
+    if let Some(found) = list.get_mut(at) {
+        *found = number.max(*found);
+    }
+}
+
+/// The number at a place of a list, or 0.
+fn at(list: &[usize], place: usize) -> usize {
+    match list.get(place) {
+        Some(found) => *found,
+        None => 0,
+    }
+}
+
+/// The last slots of loops, each as if there were no other.
+fn first_ends(
+    alloc: Global,
+    slots: &[Option<Instruction>],
+) -> Result<(Vec<usize>, Vec<bool>), AllocError> {
+    let mut ends = Vec::new(alloc);
+    let mut heads = Vec::new(alloc);
+    for slot in 0..slots.len() {
+        ends.push(slot)?;
+        heads.push(false)?;
+    }
+    for (slot, instruction) in slots.iter().enumerate() {
+        if let Some(target) = back(slot, instruction) {
+            raise(&mut ends, target, slot);
+            if let Some(head) = heads.get_mut(target) {
+                *head = true;
+            }
+        }
+    }
+    Ok((ends, heads))
+}
+
+/// The last slot of the loop that begins at a slot, with the loops that begin within it.
+fn whole_end(ends: &[usize], head: usize) -> usize {
+    let mut end = at(ends, head);
+    for slot in 0..ends.len() {
+        if slot > head && slot <= end {
+            end = at(ends, slot).max(end);
+        }
+    }
+    end
+}
+
+impl Loops {
+    /// The loops of these slots.
+    pub fn of(alloc: Global, slots: &[Option<Instruction>]) -> Result<Loops, AllocError> {
+        let (mut ends, heads) = first_ends(alloc, slots)?;
+        for slot in 0..heads.len() {
+            if heads[slot] {
+                let end = whole_end(&ends, slot);
+                raise(&mut ends, slot, end);
+            }
+        }
+        let mut around: Vec<Option<usize>> = Vec::new(alloc);
+        for slot in 0..heads.len() {
+            let before = innermost_before(&around, &ends, &heads, slot);
+            around.push(before)?;
+        }
+        Ok(Loops {
+            ends,
+            heads,
+            around,
+        })
+    }
+
+    /// The last slot of the loop that begins at a slot.
+    pub fn end(&self, head: usize) -> usize {
+        at(&self.ends, head)
+    }
+
+    /// The first slot of the innermost loop that a slot is in.
+    pub fn innermost(&self, slot: usize) -> Option<usize> {
+        match self.heads.get(slot) {
+            Some(true) => Some(slot),
+            _ => self.around(slot),
+        }
+    }
+
+    /// The first slot of the innermost loop that a slot is in, but for one that begins there.
+    pub fn around(&self, slot: usize) -> Option<usize> {
+        *self.around.get(slot)?
+    }
+}
+
+/// The first slot of the innermost loop around a slot that doesn't begin there: the loop that begins right before it or one around that.
+fn innermost_before(
+    around: &[Option<usize>],
+    ends: &[usize],
+    heads: &[bool],
+    slot: usize,
+) -> Option<usize> {
+    if slot == 0 {
+        return None;
+    }
+    let mut head = match heads.get(slot - 1) {
+        Some(true) => Some(slot - 1),
+        _ => *around.get(slot - 1)?,
+    };
+    for _ in 0..ends.len() {
+        let Some(found) = head else {
+            return None;
+        };
+        if at(ends, found) >= slot {
+            return head;
+        }
+        head = *around.get(found)?;
+    }
+    None
+}

@@ -1,0 +1,306 @@
+//! What is laid out of a slot.
+
+use crate::fault::LinkFault;
+use crate::folding::rebased;
+use crate::guards::Guard;
+use crate::known::{Known, narrow, source_fact};
+use crate::layout::{Layout, boxed};
+use crate::pieces::target;
+use instruction_set::{Instruction, Operation, Register, Relation, Size, Source, Width};
+use program_interface::Area;
+use std::alloc::Global;
+use word_domain::Domain;
+
+/// The byte of the context at which the size of a block stands.
+const BLOCK_SIZE_BYTE: i64 = 16;
+
+/// The greatest number that a mask is put behind.
+const ONES: u32 = 0xf_ffff;
+
+/// The greatest word that isn't negative, as a signed one of a width.
+fn greatest(width: Width) -> u64 {
+    match width {
+        Width::Bits32 => 0x7fff_ffff,
+        Width::Bits64 => 0x7fff_ffff_ffff_ffff,
+    }
+}
+
+/// The relation of unsigned numbers that is the same for those that aren't negative.
+fn unsigned(relation: Relation) -> Relation {
+    match relation {
+        Relation::SignedGreater => Relation::Greater,
+        Relation::SignedGreaterOrEqual => Relation::GreaterOrEqual,
+        Relation::SignedLess => Relation::Less,
+        Relation::SignedLessOrEqual => Relation::LessOrEqual,
+        other => other,
+    }
+}
+
+/// The relation that holds where one doesn't, if there is one.
+fn opposite(relation: Relation) -> Option<Relation> {
+    match relation {
+        Relation::Equal => Some(Relation::NotEqual),
+        Relation::NotEqual => Some(Relation::Equal),
+        Relation::Greater => Some(Relation::LessOrEqual),
+        Relation::LessOrEqual => Some(Relation::Greater),
+        Relation::GreaterOrEqual => Some(Relation::Less),
+        Relation::Less => Some(Relation::GreaterOrEqual),
+        Relation::SignedGreater => Some(Relation::SignedLessOrEqual),
+        Relation::SignedLessOrEqual => Some(Relation::SignedGreater),
+        Relation::SignedGreaterOrEqual => Some(Relation::SignedLess),
+        Relation::SignedLess => Some(Relation::SignedGreaterOrEqual),
+        Relation::AnyBitSet => None,
+    }
+}
+
+/// A compare by another relation.
+fn by_relation(branch: Instruction, by: Relation) -> Instruction {
+    match branch {
+        Instruction::Branch {
+            width,
+            dst,
+            source,
+            distance,
+            ..
+        } => Instruction::Branch {
+            width,
+            relation: by,
+            dst,
+            source,
+            distance,
+        },
+        other => other,
+    }
+}
+
+/// A compare of numbers that aren't negative as one of unsigned numbers.
+fn as_unsigned(known: &Known, branch: &Instruction) -> Instruction {
+    let Instruction::Branch {
+        width,
+        relation,
+        dst,
+        source,
+        ..
+    } = *branch
+    else {
+        return *branch;
+    };
+    let most = greatest(width);
+    let first = known.get(dst).bounds().high;
+    let second = match source {
+        Source::Immediate(number) if number >= 0 => 0,
+        _ => source_fact(known, source).bounds().high,
+    };
+    if first <= most && second <= most {
+        return by_relation(*branch, unsigned(relation));
+    }
+    *branch
+}
+
+/// The mask that an OR or XOR leaves as it is, where both operands are small.
+fn idle_mask(known: &Known, instruction: &Instruction) -> Option<(Width, Register, i32)> {
+    let Instruction::Arithmetic {
+        width,
+        operation: Operation::Or | Operation::Xor,
+        dst,
+        source,
+    } = *instruction
+    else {
+        return None;
+    };
+    let first = known.get(dst).bounds();
+    let second = source_fact(known, source).bounds();
+    let both_known = first.low == first.high && second.low == second.high;
+    let most = first.high | second.high;
+    if both_known || most > u64::from(ONES) {
+        return None;
+    }
+    Some((width, dst, mask_over(most)))
+}
+
+/// The least number of ones alone that isn't less than a small one.
+fn mask_over(most: u64) -> i32 {
+    let mut mask = 0;
+    for cut in 0..20u32 {
+        if u64::from(ONES >> cut) >= most {
+            mask = ONES >> cut;
+        }
+    }
+    mask.min(ONES) as i32
+}
+
+impl Layout<'_> {
+    /// Is it a load of the block's size from the context?
+    fn loads_block_size(&self, known: &Known, instruction: &Instruction) -> Option<Register> {
+        let Instruction::Load {
+            size: Size::Word,
+            dst,
+            src,
+            offset,
+        } = *instruction
+        else {
+            return None;
+        };
+        let told = known.get(src).offsets()?;
+        let at = told.low.wrapping_add(i64::from(offset));
+        if told.area == Area::Context && told.low == told.high && at == BLOCK_SIZE_BYTE {
+            Some(dst)
+        } else {
+            None
+        }
+    }
+
+    /// Puts the guards in front of an instruction. False where it is never come to.
+    fn guard(
+        &mut self,
+        known: &mut Known,
+        slot: usize,
+        instruction: &Instruction,
+    ) -> Result<bool, LinkFault> {
+        if instruction.is_emit() {
+            return self.guard_emit(known, slot, instruction);
+        }
+        match instruction.access() {
+            Some(access) => self.guard_access(known, slot, instruction, access),
+            None => Ok(true),
+        }
+    }
+
+    /// Puts an instruction that is no jump, and what makes more known behind it. False where what is behind is never come to.
+    fn put_straight(
+        &mut self,
+        known: &mut Known,
+        instruction: Instruction,
+    ) -> Result<bool, LinkFault> {
+        let mask = idle_mask(known, &instruction);
+        let size = self.loads_block_size(known, &instruction);
+        self.put(known, rebased(known, &instruction))?;
+        if let Some((width, dst, mask)) = mask {
+            self.put(
+                known,
+                Instruction::Arithmetic {
+                    width,
+                    operation: Operation::And,
+                    dst,
+                    source: Source::Immediate(mask),
+                },
+            )?;
+        }
+        if let Some(dst) = size {
+            let bytes = self.block.bytes() as i32;
+            return self.put_guard(known, Guard::Block, Relation::NotEqual, dst, bytes);
+        }
+        Ok(true)
+    }
+
+    /// The compare that leads to the slot behind it where a compare leads on, if the next slot is the one to which that jumps.
+    fn inverted(&self, slot: usize, branch: &Instruction, target: i64) -> Option<Instruction> {
+        let Instruction::Branch { relation, .. } = *branch else {
+            return None;
+        };
+        if self.next(slot) != Some(target.max(0) as usize) {
+            return None;
+        }
+        Some(by_relation(*branch, opposite(relation)?))
+    }
+
+    /// Puts a jump to a slot; to none, where it is before the first.
+    fn jump(&mut self, jump: Instruction, to: i64) -> Result<(), LinkFault> {
+        if to < 0 {
+            return Err(LinkFault::Leaves(0));
+        }
+        self.push_jump(jump, to as usize)
+    }
+
+    /// Lays a compare out whose both edges can be taken.
+    fn fork(
+        &mut self,
+        slot: usize,
+        branch: Instruction,
+        behind: i64,
+        target: i64,
+    ) -> Result<(), LinkFault> {
+        if target == behind {
+            return self.lead(slot, behind);
+        }
+        match self.inverted(slot, &branch, target) {
+            Some(inverted) => self.jump(inverted, behind),
+            None => {
+                self.jump(branch, target)?;
+                self.lead(slot, behind)
+            }
+        }
+    }
+
+    /// Lays a compare out.
+    fn visit_branch(
+        &mut self,
+        alloc: Global,
+        slot: usize,
+        branch: Instruction,
+        mut known: Box<Known>,
+        to: i64,
+    ) -> Result<(), LinkFault> {
+        let behind = target(slot, 0);
+        let branch = as_unsigned(&known, &branch);
+        let mut taken = boxed(alloc, *known)?;
+        let is_taken = narrow(&mut taken, &branch, true);
+        let is_passed = narrow(&mut known, &branch, false);
+        if is_taken {
+            self.give(to, taken)?;
+        }
+        if is_passed {
+            self.give(behind, known)?;
+        }
+        match (is_taken, is_passed) {
+            (true, true) => self.fork(slot, branch, behind, to),
+            (true, false) => self.lead(slot, to),
+            (false, true) => self.lead(slot, behind),
+            (false, false) => Ok(()),
+        }
+    }
+
+    /// Lays an instruction out that is no jump.
+    fn visit_straight(
+        &mut self,
+        slot: usize,
+        instruction: Instruction,
+        mut known: Box<Known>,
+    ) -> Result<(), LinkFault> {
+        if !self.guard(&mut known, slot, &instruction)? {
+            return Ok(());
+        }
+        if !self.put_straight(&mut known, instruction)? {
+            return Ok(());
+        }
+        let behind = target(slot, instruction.slots() as i32 - 1);
+        self.give(behind, known)?;
+        self.lead(slot, behind)
+    }
+
+    /// Lays out what stands at a slot, where this is known.
+    pub(crate) fn visit(
+        &mut self,
+        alloc: Global,
+        slot: usize,
+        known: Box<Known>,
+    ) -> Result<(), LinkFault> {
+        self.push_begin(slot)?;
+        let instruction = match self.slots.get(slot) {
+            Some(Some(instruction)) => *instruction,
+            _ => return Err(LinkFault::Leaves(slot)),
+        };
+        let Some(distance) = instruction.distance() else {
+            if matches!(instruction, Instruction::Exit) {
+                return self.push_plain(instruction);
+            }
+            return self.visit_straight(slot, instruction, known);
+        };
+        let to = target(slot, distance);
+        if let Instruction::Branch { .. } = instruction {
+            return self.visit_branch(alloc, slot, instruction, known, to);
+        }
+        self.give(to, known)?;
+        self.lead(slot, to)
+    }
+}
