@@ -1,8 +1,10 @@
-//! The tests of `ebpf_object` and `ebpf_calls`, a crate of their own, so that those are proved once.
+//! The tests of `ebpf_object`, `ebpf_calls` and what makes programs of objects, a crate of their own, so that those are proved once.
 #![tactic(auto)]
 
 #[cfg(test)]
 mod calls_object;
+#[cfg(test)]
+mod programs;
 #[cfg(test)]
 mod references;
 #[cfg(test)]
