@@ -1,5 +1,6 @@
 #!/usr/bin/env python3
-"""Looks whether must-fail edits can still be applied: the text of each `old:` stands exactly once in its file.
+"""Looks whether must-fail edits, and those of failing/edits, can still be applied: the text of each `old:` stands exactly once in its
+file.
 
     .ci/edits.py CRATE..    the edits of these crates; prints one line for each that can't be applied, and then ends with 1
 """
@@ -8,12 +9,11 @@ import sys
 from pathlib import Path
 from typing import Dict, Optional
 
-CRATES = Path(__file__).resolve().parent.parent / "crates"
+TOP = Path(__file__).resolve().parent.parent
 
 
-def fault(edit: Path) -> Optional[str]:
-    """Why the edit can't be applied; a later pair applies to what the earlier ones made of the file."""
-    crate = edit.parent.parent
+def fault(crate: Path, edit: Path) -> Optional[str]:
+    """Why the edit can't be applied to the crate; a later pair applies to what the earlier ones made of the file."""
     texts: Dict[str, str] = {}
     path = old = ""
     for line in edit.read_text().splitlines():
@@ -37,8 +37,9 @@ def main() -> int:
     """Looks at the edits of the crates that are named."""
     status = 0
     for crate in sys.argv[1:]:
-        for edit in sorted((CRATES / crate / "must-fail").glob("*.edit")):
-            why = fault(edit)
+        edits = [*(TOP / "crates" / crate / "must-fail").glob("*.edit"), *(TOP / "failing" / "edits" / crate).glob("*.edit")]
+        for edit in sorted(edits):
+            why = fault(TOP / "crates" / crate, edit)
             if why:
                 print(f"{crate}: {edit.name} can't be applied: {why}")
                 status = 1
