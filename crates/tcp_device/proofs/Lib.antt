@@ -4,6 +4,7 @@ mod Agreeing
 mod Room
 mod Given
 mod Submitted
+mod Reached
 mod Queues
 mod Cuts
 mod Order

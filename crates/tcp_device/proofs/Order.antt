@@ -24,13 +24,14 @@ use Rattle.tcp_target.specs.Commands.{served}
 use Rattle.tcp_target.specs.Events as target
 use Rattle.tcp_target.specs.Laws.{ConnectionsStay}
 use Rattle.tcp_target.specs.Target.{TargetState, ticked, with_queues}
-use Rattle.tcp_target.proofs.Order.{MovesAt, ends_run, executes, hands_over, receives, same_at, sends, serves, ticks}
-use Rattle.tcp_target.proofs.Order as on
+use Rattle.tcp_target.proofs.Order.{MovesAt, ends_run, executes, hands_over, left_role, receives, same_at, sends, serves, ticks}
+use Rattle.tcp_target.proofs.Used.{AreFine, begins_fine, closes_fine, ends_run_fine, executes_fine, hands_over_fine, opens_fine, receives_fine, sends_fine, serves_fine, ticks_fine}
 use Rattle.tcp_device.specs.Deeds.{AreDone, Closed, Deed, Does, Opened, Received, Sent, Served, Ticked, Turned, events_in, events_of, submissions, turns}
-use Rattle.tcp_device.specs.Order.{AwaitsEntriesAt, CommandsAreInOrder, Departure, HasQueue, IsInOrder, came_by, came_on, departure, entries, given, place_of, submitted_by, submitted_to, went_by, went_on}
+use Rattle.tcp_device.specs.Order.{CommandsAreInOrder, Departure, HasQueue, IsInOrder, came_by, came_on, departure, entries, given, place_of, submitted_by, submitted_to, went_by, went_on}
 use Rattle.tcp_device.specs.Outcome.{outcome_in}
 use Rattle.tcp_device.specs.Served.{ServesGiven, TurnsGiven, completed_by, ended_by, ended_with as ended_run, next_run}
-use Rattle.tcp_device.specs.State.{CommandOfRun, ServedState, with_target}
+use Rattle.tcp_device.specs.State.{CommandOfRun, ServedState, begun}
+use Rattle.tcp_device.proofs.Reached.{Stays, ready_given, reached}
 
 -- ---- what is submitted is what is given
 
@@ -49,7 +50,7 @@ module _ (number n : ℕ) (old new : ServedState) where
 
   given_if : (n == number) ≡ true → (execution : Execution) (b : Bool) (done : ServesGiven (cond b (Some execution) None) n old new)
       → submitted_to number (submissions (cond b (Some execution) None) n old new done)
-          ≡ entries (given (record { entry = execution.entry; is_given = b } ∷ []))
+      ≡ entries (given (record { entry = execution.entry; is_given = b } ∷ []))
   given_if is execution true done = ap (λ (b : Bool). cond b (execution.entry ∷ []) [] ++ []) is
   given_if is execution false done = refl
 
@@ -60,7 +61,7 @@ module _ (number n : ℕ) (old new : ServedState) where
 
   submits_if : (b : Bool) → (n == number) ≡ b → (done : ServesGiven (given_to_device n old.target.queues) n old new)
       → submitted_to number (submissions (given_to_device n old.target.queues) n old new done)
-          ≡ entries (given (cond b (departure (ready_at (place_of n old)) n old.target.queues) []))
+      ≡ entries (given (cond b (departure (ready_at (place_of n old)) n old.target.queues) []))
   submits_if true is done = here is (ready_at (place_of n old)) done
   submits_if false is done = elsewhere is (given_to_device n old.target.queues) done
 
@@ -97,18 +98,6 @@ all_submitted number (deed ∷ deeds) old new done =
 unlike : (number n : ℕ) → (n == number) ≡ false → number ≢ n
 unlike number n is same = eqb-false n number is (sym same)
 
-left_role : (roles : List Role) (number : ℕ) → role_at number (record { controllers = []; roles = set roles number Unconnected }) ≡ Unconnected
-left_role [] number = refl
-left_role (role ∷ roles) zero = refl
-left_role (role ∷ roles) (suc number) = left_role roles number
-
-there : (number : ℕ) (q : QueuesState) (execution : Execution) (found : Option Execution) → given_by found number q ≡ Some execution
-    → found ≡ Some execution
-there number q execution None is = absurd cc
-there number q execution (Some other) is =
-    elim (is_for_device number other.entry q) as (λ b. cond {A = Option Execution} b (Some other) None ≡ Some execution
-    → ◌≡◌ {A = Option Execution} (Some other) (Some execution)) [ true ↦ (λ same. same) | false ↦ (λ none. absurd cc) ] is
-
 departed : (found : Option Execution) (number : ℕ) (q : QueuesState) → entries (departure found number q) ≡ entry_of found
 departed None number q = refl
 departed (Some execution) number q = refl
@@ -117,10 +106,7 @@ module _ (law : ConnectionsStay) (number : ℕ) where
   abbrev Here : TargetState → Type 0
   Here t = (place_at number t.queues).is_open ≡ true
 
-  -- what happens on the connection with a number, by whether that is this one
-  abbrev If : ℕ → (went came : Bool → List (List ℕ)) (t u : TargetState) → Type 0
-  If n went came t u = MovesAt number (went (n == number)) (came (n == number)) t u
-
+  -- what happens on another connection
   another : (n : ℕ) (t u : TargetState) → Here t → (n == number) ≡ false
       → ((other : ℕ) → other ≢ n → place_at other u.queues ≡ place_at other t.queues) → MovesAt number [] [] t u
   another n t u held is same = same_at number t u held (same number (unlike number n is))
@@ -173,22 +159,22 @@ module _ (law : ConnectionsStay) (number : ℕ) where
 
   -- a reply completes a command
   replies : (n : ℕ) (entry bytes : List ℕ) (r : Reply) (t : TargetState) → Here t → MovesAt number [] [] t (completed_by r bytes n entry t)
-  replies n entry bytes (reply.Complete queue completion length) t is_open = executes_if n entry completion bytes t held (n == number) refl
-  replies n entry bytes (reply.Pending run) t is_open = same_at number t t held refl
-  replies n entry bytes reply.Idle t is_open = same_at number t t held refl
-  replies n entry bytes reply.FaultTaken t is_open = same_at number t t held refl
-  replies n entry bytes reply.FaultRefused t is_open = same_at number t t held refl
+  replies n entry bytes (reply.Complete queue completion length) t held = executes_if n entry completion bytes t held (n == number) refl
+  replies n entry bytes (reply.Pending run) t held = same_at number t t held refl
+  replies n entry bytes reply.Idle t held = same_at number t t held refl
+  replies n entry bytes reply.FaultTaken t held = same_at number t t held refl
+  replies n entry bytes reply.FaultRefused t held = same_at number t t held refl
 
   ends_with : (command : Option CommandOfRun) (completion : List ℕ) (t : TargetState) → Here t → MovesAt number [] [] t (ended_run command completion t)
-  ends_with None completion t is_open = same_at number t t held refl
-  ends_with (Some p) completion t is_open = ends_run_if p.connection p.command completion t held (p.connection == number) refl
+  ends_with None completion t held = same_at number t t held refl
+  ends_with (Some p) completion t held = ends_run_if p.connection p.command completion t held (p.connection == number) refl
 
   ends : (r : Reply) (command : Option CommandOfRun) (t : TargetState) → Here t → MovesAt number [] [] t (ended_by r command t)
-  ends (reply.Complete queue completion length) command t is_open = ends_with command completion t held
-  ends (reply.Pending run) command t is_open = same_at number t t held refl
-  ends reply.Idle command t is_open = same_at number t t held refl
-  ends reply.FaultTaken command t is_open = same_at number t t held refl
-  ends reply.FaultRefused command t is_open = same_at number t t held refl
+  ends (reply.Complete queue completion length) command t held = ends_with command completion t held
+  ends (reply.Pending run) command t held = same_at number t t held refl
+  ends reply.Idle command t held = same_at number t t held refl
+  ends reply.FaultTaken command t held = same_at number t t held refl
+  ends reply.FaultRefused command t held = same_at number t t held refl
 
   -- one behind another
   behind : (went went_then came came_then : List (List ℕ)) (t between u : TargetState) → MovesAt number went came t between
@@ -217,7 +203,7 @@ module _ (law : ConnectionsStay) (number : ℕ) where
         (serves_if n id queue old.target held role is (n == number) refl)
     serves_given n id queue role (Some execution) is done =
         let ready : ready_at (place_of n old) ≡ Some execution =
-        there n old.target.queues execution (ready_at (place_of n old)) is in
+        ready_given n old.target.queues execution (ready_at (place_of n old)) is in
         let went : List (List ℕ) = cond (n == number) (execution.entry ∷ []) [] in
         let between : TargetState = target.handed_over n old.target in
         let after : TargetState = completed_by done.reply.reply done.reply.bytes n execution.entry between in
@@ -303,12 +289,29 @@ module _ (law : ConnectionsStay) (number : ℕ) where
       (behind (entries before) (entries last) came came_then old.target between.target new.target one
       (does between new one.is_open deed id queue done.last (role_there id queue deeds old between done.first has.0) has.1))
 
+  role_first : (id queue : ℕ) (deeds : List Deed) (old new : ServedState) (done : AreDone deeds old new) → HasQueue number id queue deeds old new done
+      → role_at number old.target.queues.associations ≡ Io id queue
+  role_first id queue [] old new done has = ap (λ (s : ServedState). role_at number s.target.queues.associations) (sym done) ∙ has
+  role_first id queue (deed ∷ deeds) old new done has = role_first id queue deeds old done.between done.first has.0
+
+-- ---- from the beginning on
+
+stay_fine : Stays (λ t. AreFine t.queues)
+stay_fine = record {
+  opens = λ t fine. opens_fine t.queues fine (free_number t.queues) refl;
+  receives = λ number piece t fine. receives_fine number t fine piece;
+  serves = serves_fine;
+  sends = λ number count t fine. sends_fine number t fine count;
+  hands_over = λ number execution t ready fine. hands_over_fine number t fine execution ready;
+  executes = λ number entry outcome bytes t fine. executes_fine number t fine entry outcome bytes;
+  ends_run = λ number command outcome t fine. ends_run_fine number t fine command outcome;
+  closes = λ number t fine. closes_fine t.queues fine number;
+  ticks = ticks_fine;
+}
+
 pub commands_are_in_order : ConnectionsStay → CommandsAreInOrder
-commands_are_in_order law number id queue deeds old new done awaits has =
-    let all = do_all law number id queue deeds old new done awaits.is_open has in
-    let kept = all.moves.keeps awaits.entries in
-    record {
-      order = kept.order;
-      submitted = all_submitted number deeds old new done;
-      still = record { is_open = all.is_open; entries = kept.entries };
-    }
+commands_are_in_order law namespace subsystem format before deeds old new first done number id queue has =
+    let fine : AreFine old.target.queues = reached (λ t. AreFine t.queues) stay_fine before (begun namespace subsystem format) old first begins_fine in
+    let used = (fine number).io id queue (role_first law number id queue deeds old new done has) in
+    let all = do_all law number id queue deeds old new done used.is_open has in
+    record { order = (all.moves.keeps used.entries).order; submitted = all_submitted number deeds old new done }

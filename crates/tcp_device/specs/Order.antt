@@ -1,10 +1,13 @@
 -- The order in which a device gets the commands of a connection (NVMe Base 2.0, 3.3.3).
-use Rattle.std.specs.Prelude.{ℕ, ◌≡◌, Bool, true, ◌==◌, List, [], ◌∷◌, ◌++◌, map, Option, Some, None, if◌then◌else◌}
+use Rattle.std.specs.Prelude.{ℕ, ◌≡◌, Bool, ◌==◌, List, [], ◌∷◌, ◌++◌, map, Option, Some, None, if◌then◌else◌}
 use Rattle.std.specs.List.{filter}
 use Rattle.device_events.specs.declared.event.Event.{Event}
 use Rattle.device_events.specs.declared.event.Event.TheVariants as event
+use Rattle.image_store.specs.Namespace.{ZonedNamespace}
+use Rattle.tcp_admin.specs.declared.subsystem.NamespaceFormat.{NamespaceFormat}
+use Rattle.tcp_admin.specs.declared.subsystem.Subsystem.{Subsystem}
 use Rattle.tcp_connection.specs.Executing.{Execution}
-use Rattle.tcp_connection.specs.Order.{GoInOrder, IsOfEntries}
+use Rattle.tcp_connection.specs.Order.{GoInOrder}
 use Rattle.tcp_associations.specs.declared.role.Role.TheVariants.{Io}
 use Rattle.tcp_associations.specs.Associations.{role_at}
 use Rattle.tcp_places.specs.Places.{PlaceState, ready_at}
@@ -12,7 +15,7 @@ use Rattle.tcp_places.specs.Order.{brought_at}
 use Rattle.tcp_queues.specs.Commands.{is_for_device}
 use Rattle.tcp_queues.specs.Queues.{QueuesState, place_at}
 use Rattle.tcp_device.specs.Deeds.{AreDone, Closed, Deed, Does, Opened, Received, Sent, Served, Ticked, Turned, events_of}
-use Rattle.tcp_device.specs.State.{ServedState}
+use Rattle.tcp_device.specs.State.{ServedState, begun}
 
 abbrev pub place_of : ℕ → ServedState → PlaceState
 place_of number s = place_at number s.target.queues
@@ -78,11 +81,6 @@ submitted_to number (one ∷ later) = submitted_by number one ++ submitted_to nu
 
 -- ---- their order
 
--- a host has the connection, which awaits capsules that are an entry alone
-pub record AwaitsEntriesAt (number : ℕ) (s : ServedState) : Type 0 where
-  pub is_open : (place_of number s).is_open ≡ true
-  pub entries : IsOfEntries (place_of number s).connection
-
 -- the connection has this I/O queue of this controller as long as these deeds last
 abbrev pub HasQueue : (number id queue : ℕ) (deeds : List Deed) (old new : ServedState) → AreDone deeds old new → Type 0
 HasQueue number id queue [] old new done = role_at number new.target.queues.associations ≡ Io id queue
@@ -95,10 +93,10 @@ pub record IsInOrder (number : ℕ) (deeds : List Deed) (old new : ServedState) 
   pub order : GoInOrder (entries (went_on number deeds old new done)) (came_on number deeds old new done)
       (place_of number old).connection (place_of number new).connection
   pub submitted : submitted_to number (events_of deeds old new done) ≡ entries (given (went_on number deeds old new done))
-  pub still : AwaitsEntriesAt number new
 
--- so it is on every connection that has an I/O queue, whatever is done with a served target
+-- so it is on each connection as long as it has an I/O queue, in every state that deeds lead to from the beginning
 abbrev pub CommandsAreInOrder : Type 0
 CommandsAreInOrder =
-    (number id queue : ℕ) (deeds : List Deed) (old new : ServedState) (done : AreDone deeds old new)
-    → AwaitsEntriesAt number old → HasQueue number id queue deeds old new done → IsInOrder number deeds old new done
+    (namespace : ZonedNamespace) (subsystem : Subsystem) (format : NamespaceFormat) (before deeds : List Deed) (old new : ServedState)
+    → AreDone before (begun namespace subsystem format) old → (done : AreDone deeds old new) (number id queue : ℕ)
+    → HasQueue number id queue deeds old new done → IsInOrder number deeds old new done

@@ -223,9 +223,11 @@ module _ (number : ℕ) (t : TargetState) (fine : AreFine t.queues) (execution :
 
   -- the connection has it, and a host has that
   found : (b : Bool) → goes_on p ≡ b → cond b (ready p.connection) None ≡ Some execution → (ready p.connection ≡ Some execution) × (p.is_open ≡ true)
-  found true goes is =
-      (is, (and_parts p.is_open (nat_le (length p.unsent) 262144)
-      (and_parts (p.is_open && nat_le (length p.unsent) 262144) (nat_lt p.executing 128) goes).0).0)
+  found true goes is = (
+    is,
+    (and_parts p.is_open (nat_le (length p.unsent) 262144)
+        (and_parts (p.is_open && nat_le (length p.unsent) 262144) (nat_lt p.executing 128) goes).0).0,
+  )
   found false goes is = absurd cc
 
   held : p.is_open ≡ true
