@@ -12,6 +12,7 @@ use command_explain::explain;
 use command_files::arguments::{and_command, no_command};
 use command_files::{Failure, Files, Shown, printed};
 use command_images::{format, report, upgrade, zones};
+use command_link::link;
 use command_programs::{asm, disasm, trace, unpack, verify};
 use command_serve::serve;
 use std::alloc::{AllocError, Global};
@@ -215,6 +216,7 @@ fn perform_without_image<'a, F: Files, O: Write>(
     match name {
         asm::NAME => asm::asm(alloc, matches, files),
         disasm::NAME => disasm::disasm(alloc, matches, files, out),
+        link::NAME => link::link(alloc, matches, files, out),
         trace::NAME => trace::trace(alloc, matches, files, out),
         verify::NAME => verify::verify(alloc, matches, files, out),
         unpack::NAME => unpack::unpack(alloc, matches, files, out),
@@ -240,6 +242,7 @@ fn command_line<'a>(alloc: Global) -> Result<Command<'a>, AllocError> {
     let line = and_command(line, serve::subcommand(alloc));
     let line = and_command(line, asm::subcommand(alloc));
     let line = and_command(line, disasm::subcommand(alloc));
+    let line = and_command(line, link::subcommand(alloc));
     let line = and_command(line, trace::subcommand(alloc));
     let line = and_command(line, verify::subcommand(alloc));
     let line = and_command(line, unpack::subcommand(alloc));
