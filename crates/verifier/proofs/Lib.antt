@@ -1,4 +1,5 @@
 mod Joins
+mod SlotLists
 mod SlotPlaces
 mod Fills
 mod Stores

@@ -1,7 +1,5 @@
--- The places of a program's slots, one more at a time.
-use Rattle.std.proofs.Common.{inl, inr, ◌≡◌, ℕ, ◌+◌, ◌<◌, ◌≤◌, ◌++◌, List, [], ◌∷◌, length, get_or, Option, None, refl, sym, ap, subst, ◌∙◌, arith}
-use Rattle.std.proofs.Math.ListN.{get_or-append}
-use Rattle.std.proofs.Math.Seq.{get_or-append_seam}
+-- The places of a program's slots.
+use Rattle.std.proofs.Common.{inl, inr, ◌≡◌, ℕ, ◌<◌, ◌≤◌, List, length, get_or, Option, None, refl, sym, ap, ◌∙◌, arith}
 use Rattle.std.proofs.lemmas.Bool.{cases_lt}
 use Rattle.std.proofs.lemmas.List.{get_or_past}
 use Rattle.std.proofs.lemmas.Option.{slice_get_past}
@@ -15,19 +13,6 @@ use Rattle.accepted_programs.specs.Places.{ArePlaces, place_at}
 module _ {D : Type 0} (operations : Operations D) (block : ℕ) (program : List (Option Instruction)) where
   abbrev at : ℕ → Option Place
   at slot = place_at operations block program slot
-
-  -- the places of the slots below one, and its own behind them
-  pub place_more : (n : ℕ) (places : List (Option Place)) (place : Option Place) → length places ≡ n
-      → ((slot : ℕ) → slot < n → get_or places slot None ≡ at slot) → place ≡ at n
-      → (slot : ℕ) → slot < n + 1 → get_or (places ++ (place ∷ [])) slot None ≡ at slot
-  place_more n places place long are is slot within = elim (cases_lt slot n) [
-    | inl before ↦ get_or-append places (place ∷ []) None slot (omega (arith, before, long)) ∙ are slot before
-    | inr from ↦
-        let last : length places ≡ slot = omega (arith, long, within, from) in
-        let same : n ≡ slot = omega (arith, within, from) in
-        subst (λ k. get_or (places ++ (place ∷ [])) k None ≡ at k) last
-        (get_or-append_seam places place [] None ∙ is ∙ ap at (sym long))
-  ]
 
   -- past the program's end nothing is known
   none_past : (slot : ℕ) → length program ≤ slot → at slot ≡ None

@@ -1,4 +1,5 @@
 pub mod VerifyFault
 pub mod Verified
 pub mod Judged
+pub mod Known
 pub mod steps

@@ -61,7 +61,7 @@ fn boxed_start<D: Domain>(alloc: Global) -> Result<Box<Facts<D>>, AllocError>
 }
 
 /// The facts for so many slots, before any is visited: those of the start at the first.
-fn first_rows<D: Domain>(alloc: Global, slots: usize) -> Result<Vec<Row<D>>, AllocError>
+pub(crate) fn first_rows<D: Domain>(alloc: Global, slots: usize) -> Result<Vec<Row<D>>, AllocError>
     requires { 1 ≤ slots }
     ensures len { IfOk result (λ rows. length rows.items ≡ slots) }
     ensures rows { IfOk result (λ rows. (s : ℕ) → s < slots → held_at rows.items s ≡ (if s == 0 then Some (facts_at_start D.operations) else None)) }

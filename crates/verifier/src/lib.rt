@@ -7,6 +7,7 @@ mod edges;
 mod facts;
 mod fault;
 mod judging;
+mod known;
 mod places;
 mod reasons;
 mod rows;
@@ -15,6 +16,7 @@ mod verifying;
 
 pub use fault::VerifyFault;
 pub use judging::{Judgement, judge};
+pub use known::known_facts;
 pub use rows::Refused;
 pub use verified::Verified;
 pub use verifying::verify;

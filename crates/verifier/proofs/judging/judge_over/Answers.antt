@@ -4,12 +4,13 @@ use Rattle.instruction_set.specs.Program.{instruction_at}
 use Rattle.accepted_programs.specs.Accepted.{refusal_at, refusal_below}
 use Rattle.accepted_programs.specs.Facts.{facts_at}
 use Rattle.accepted_programs.specs.Emitted.{group_in, most_below}
-use Rattle.accepted_programs.specs.Places.{place_known}
+use Rattle.accepted_programs.specs.Places.{place_at, place_known}
 use Rattle.verifier.specs.steps.Rows.{held, held_at, refusal_in}
 use Rattle.verifier.proofs.Emitted.{most_more}
 use Rattle.accepted_programs.proofs.Proved.{refusal_is_at_its_slot}
 use Rattle.verifier.proofs.Refusals.{first_found, none_more, rows_more}
-use Rattle.verifier.proofs.SlotPlaces.{all_places, place_more}
+use Rattle.verifier.proofs.SlotLists.{one_more}
+use Rattle.verifier.proofs.SlotPlaces.{all_places}
 use Rattle.verifier.proofs.judging.judge_over.Goals as goal
 
 pub returns-in-Some : goal.returns-in-Some
@@ -53,7 +54,7 @@ loop-slot-preserved g c =
           ∙ ap refusal_in c.in_default.is);
       placed = omega (arith, c.in_ok-push.ensures.len, c.loop-slot.invariant.placed);
       places = λ s within. rw pushed
-          (place_more ops c.args.sizes.block program slot c.loop-slot.places.items c.place_in.result c.loop-slot.invariant.placed
+          (one_more (place_at ops c.args.sizes.block program) slot c.loop-slot.places.items c.place_in.result c.loop-slot.invariant.placed
           c.loop-slot.invariant.places (place ∙ ap (place_known ops c.args.sizes.block (instruction_at program slot)) known) s within);
       most = c.max-most_emitted.ensures ∙ most_more ops program c.args.sizes.block slot c.group.result c.loop-slot.most_emitted
           (c.group.ensures ∙ ap group_in here) c.loop-slot.invariant.most;
