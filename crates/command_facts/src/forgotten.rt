@@ -1,0 +1,238 @@
+//! Where an instruction makes a word of an address that is known as an address no more.
+
+use accepted_programs::{CELL_BYTES, Facts};
+use instruction_set::{Instruction, Operation, Register, Size, Source, Width};
+use interval_domain::{Fact, Intervals};
+use program_interface::{Area, CLEARED_REGISTERS};
+use program_meaning::Arithmetic;
+use std::fmt;
+use word_domain::{Bounds, Domain, Offsets};
+
+/// Why a word that is made of an address isn't known as one.
+#[derive(Clone, Copy)]
+pub(crate) enum Cause {
+    /// Another operation than MOV, ADD and SUB at 64 bits.
+    Operation,
+    /// An address is added to it, or subtracted.
+    Address,
+    /// A number is added to it, or subtracted, that may or may not be negative: its bounds have no one sign.
+    EitherSign,
+    /// It may be farther from its area's first byte than is known of addresses.
+    Far,
+}
+
+impl fmt::Display for Cause {
+    fn fmt<W: fmt::Write>(&self, f: &mut fmt::Formatter<W>) -> fmt::Result {
+        f.write_str(match *self {
+            Cause::Operation => "only mov, add and sub of 64 bits keep an address",
+            Cause::Address => "an address is added or subtracted",
+            Cause::EitherSign => "nothing bounds the number below 2^63",
+            Cause::Far => "it may be over 2^20 bytes away",
+        })
+    }
+}
+
+/// An address that is forgotten.
+#[derive(Clone, Copy)]
+pub(crate) struct Forgotten {
+    /// What was known of it.
+    pub(crate) address: Offsets,
+    /// The register with the word that is made of it.
+    pub(crate) register: Register,
+    /// Why that isn't known as an address.
+    pub(crate) cause: Cause,
+}
+
+/// An instruction that computes, with what is known of the words that it takes.
+#[derive(Clone, Copy)]
+struct Computed {
+    register: Register,
+    arithmetic: Arithmetic,
+    first: Intervals,
+    second: Intervals,
+}
+
+impl Computed {
+    /// The address that it takes, if one of its words is known as one.
+    fn address(&self) -> Option<Offsets> {
+        self.first.offsets().or(self.second.offsets())
+    }
+
+    /// What is known of the word that it makes.
+    fn word(&self) -> Intervals {
+        Intervals::alu(self.arithmetic, self.first, self.second)
+    }
+
+    /// The address that it takes, if what it makes of it isn't known as one.
+    fn forgotten(&self) -> Option<Forgotten> {
+        let address = self.address()?;
+        match self.word().offsets() {
+            Some(_) => None,
+            None => Some(Forgotten {
+                address,
+                register: self.register,
+                cause: self.cause(),
+            }),
+        }
+    }
+
+    /// Why no address is known of it, where one is of a word that it takes.
+    fn cause(&self) -> Cause {
+        let (first, second) = (self.first.fact(), self.second.fact());
+        match self.arithmetic {
+            Arithmetic::Binary {
+                width: Width::Bits64,
+                operation: Operation::Add,
+            } => cause_of_sum(first, second),
+            Arithmetic::Binary {
+                width: Width::Bits64,
+                operation: Operation::Subtract,
+            } => cause_of_difference(second),
+            _ => Cause::Operation,
+        }
+    }
+}
+
+/// Why a sum with an address isn't known as one.
+fn cause_of_sum(first: Fact, second: Fact) -> Cause {
+    match (first, second) {
+        (Fact::Words(words), _) | (_, Fact::Words(words)) => cause_of_number(words),
+        _ => Cause::Address,
+    }
+}
+
+/// Why a difference, from an address or of one, isn't known as one.
+fn cause_of_difference(second: Fact) -> Cause {
+    match second {
+        Fact::Words(words) => cause_of_number(words),
+        Fact::Pointer { .. } => Cause::Address,
+    }
+}
+
+/// Why an address isn't known as one any more where a number between these bounds is added or subtracted.
+fn cause_of_number(words: Bounds) -> Cause {
+    if words.high < 1 << 63 || words.low >= 1 << 63 {
+        Cause::Far
+    } else {
+        Cause::EitherSign
+    }
+}
+
+/// An instruction that computes, and what is known of the words that it takes. Where it takes one alone, 0 stands for the other.
+fn computed_by(instruction: &Instruction, facts: &Facts<Intervals>) -> Option<Computed> {
+    let zero = Intervals::constant(0);
+    let (register, arithmetic, first, second) = match *instruction {
+        Instruction::Arithmetic {
+            width,
+            operation,
+            dst,
+            source,
+        } => {
+            let arithmetic = Arithmetic::Binary { width, operation };
+            let first = match operation {
+                Operation::Move => zero,
+                _ => facts.get(dst),
+            };
+            (dst, arithmetic, first, source_of(source, facts))
+        }
+        Instruction::Negate { width, dst } => {
+            (dst, Arithmetic::Negate { width }, facts.get(dst), zero)
+        }
+        Instruction::MoveSigned {
+            extension,
+            dst,
+            src,
+        } => (
+            dst,
+            Arithmetic::MoveSigned { extension },
+            zero,
+            facts.get(src),
+        ),
+        Instruction::SwapBytes { swap, size, dst } => {
+            let arithmetic = Arithmetic::SwapBytes { swap, size };
+            (dst, arithmetic, facts.get(dst), zero)
+        }
+        _ => return None,
+    };
+    Some(Computed {
+        register,
+        arithmetic,
+        first,
+        second,
+    })
+}
+
+/// What is known of the source of an arithmetic instruction.
+fn source_of(source: Source, facts: &Facts<Intervals>) -> Intervals {
+    match source {
+        Source::Register(register) => facts.get(register),
+        Source::Immediate(value) => Intervals::constant(Instruction::immediate_word(value)),
+    }
+}
+
+/// The address that an instruction takes, if it computes from one what isn't known as an address.
+pub(crate) fn forgotten_by(
+    instruction: &Instruction,
+    facts: &Facts<Intervals>,
+) -> Option<Forgotten> {
+    computed_by(instruction, facts)?.forgotten()
+}
+
+/// What an instruction leaves in a register, on the way to the slot behind it, where it is no jump.
+pub(crate) fn left_in(
+    register: Register,
+    instruction: &Instruction,
+    facts: &Facts<Intervals>,
+) -> Intervals {
+    match *instruction {
+        Instruction::Call { .. } if register.index() < CLEARED_REGISTERS => Intervals::constant(0),
+        _ if !instruction.writes(register) => facts.get(register),
+        Instruction::Load {
+            size: Size::DoubleWord,
+            src,
+            offset,
+            ..
+        } => match word_at(src, offset, facts) {
+            Some((_, Some(known))) => known,
+            _ => Intervals::any(),
+        },
+        _ => match computed_by(instruction, facts) {
+            Some(computed) => computed.word(),
+            None => Intervals::any(),
+        },
+    }
+}
+
+/// The distance of the word of the stack that an instruction loads whole, if nothing is known of it.
+pub(crate) fn unknown_word(instruction: &Instruction, facts: &Facts<Intervals>) -> Option<usize> {
+    let Instruction::Load {
+        size: Size::DoubleWord,
+        src,
+        offset,
+        ..
+    } = *instruction
+    else {
+        return None;
+    };
+    match word_at(src, offset, facts)? {
+        (distance, None) => Some(distance),
+        _ => None,
+    }
+}
+
+/// The distance of the word of the stack at an offset from a register, and what is known of it, if it is one.
+fn word_at(
+    register: Register,
+    offset: i16,
+    facts: &Facts<Intervals>,
+) -> Option<(usize, Option<Intervals>)> {
+    let told = facts.get(register).offsets()?;
+    let distance = told.low.checked_add(i64::from(offset))?;
+    let byte = usize::try_from(distance).ok()?;
+    let known = facts.cells.get(byte / CELL_BYTES)?;
+    if matches!(told.area, Area::Stack) && told.low == told.high && byte % CELL_BYTES == 0 {
+        Some((byte, *known))
+    } else {
+        None
+    }
+}

@@ -1,0 +1,12 @@
+//! What is known at the slots of a program, as lines that users read, and which registers an instruction reads.
+#![tactic(auto)]
+
+mod forgotten;
+mod listing;
+mod reads;
+mod register_set;
+mod wanted;
+mod ways;
+
+pub use listing::fact_lines;
+pub use reads::registers_read;

@@ -1,0 +1,170 @@
+//! The lines.
+
+use crate::forgotten::{forgotten_by, unknown_word};
+use crate::reads::registers_read;
+use crate::register_set::RegisterSet;
+use crate::wanted::registers_wanted;
+use crate::ways::Known;
+use accepted_programs::{Facts, Refusal};
+use ebpf_asm::instruction_text;
+use instruction_set::{Instruction, Program, Register};
+use interval_domain::{Fact, Intervals};
+use program_interface::RunSizes;
+use std::alloc::{AllocError, Global};
+use verifier::known_facts;
+use word_domain::Bounds;
+
+/// What is known at each slot of a program, up to the first that is refused: a line with the instruction behind its slot, as
+/// `disasm` lists it, and what is known of each register that it reads; behind the slot of the refusal a `>` stands. Lines
+/// behind that one say which addresses are forgotten there, in which register, and why: where ways meet, of the registers that
+/// are read from there on, and by the instruction; and that nothing is known of the word of the stack that it loads.
+///
+/// # Errors
+///
+/// Want of memory.
+pub fn fact_lines(
+    alloc: Global,
+    program: &Program,
+    sizes: RunSizes,
+    refusal: Option<Refusal>,
+) -> Result<String, AllocError> {
+    let facts = known_facts::<Intervals>(alloc, program, sizes)?;
+    let wanted = registers_wanted(alloc, program)?;
+    let known = Known {
+        program,
+        facts: &facts,
+    };
+    let refused = refusal.map(|refusal| refusal.slot);
+    let mut text = String::new(alloc);
+    for slot in 0..facts.len() {
+        if let Some(instruction) = program.at(slot) {
+            let mark = if refused == Some(slot) { "> " } else { "  " };
+            push_instruction(alloc, slot, mark, instruction, &mut text)?;
+            let wanted = wanted.get(slot).copied().unwrap_or(RegisterSet::NONE);
+            push_known(&known, slot, instruction, wanted, &mut text)?;
+        }
+    }
+    Ok(text)
+}
+
+/// An instruction behind its slot and a mark.
+fn push_instruction(
+    alloc: Global,
+    slot: usize,
+    mark: &str,
+    instruction: &Instruction,
+    text: &mut String,
+) -> Result<(), AllocError> {
+    let listed = instruction_text(alloc, instruction)?;
+    write!(text, "{slot:4}{mark}{listed}")
+}
+
+/// What is known where an instruction is, and the end of its line; and lines that say what is forgotten there.
+fn push_known(
+    known: &Known<'_>,
+    slot: usize,
+    instruction: &Instruction,
+    wanted: RegisterSet,
+    text: &mut String,
+) -> Result<(), AllocError> {
+    let Some(facts) = known.at(slot) else {
+        return text.push_str("  no slot leads here\n");
+    };
+    let [first, second] = registers_read(instruction);
+    push_register("  ", first, facts, text)?;
+    push_register(", ", second, facts, text)?;
+    push_emitted(instruction, facts, text)?;
+    text.push_str("\n")?;
+    push_meetings(known, slot, facts, wanted, text)?;
+    push_forgotten(instruction, facts, text)
+}
+
+/// What is known of a register, if there is one, behind this.
+fn push_register(
+    before: &str,
+    register: Option<Register>,
+    facts: &Facts<Intervals>,
+    text: &mut String,
+) -> Result<(), AllocError> {
+    let Some(register) = register else {
+        return Ok(());
+    };
+    let (number, fact) = (register.number(), facts.get(register).fact());
+    write!(text, "{before}r{number} is {fact}")
+}
+
+/// In front of an emit, how many bytes were emitted before at most.
+fn push_emitted(
+    instruction: &Instruction,
+    facts: &Facts<Intervals>,
+    text: &mut String,
+) -> Result<(), AllocError> {
+    if instruction.is_emit() {
+        let emitted = facts.emitted;
+        write!(text, ", emitted at most {emitted}")?;
+    }
+    Ok(())
+}
+
+/// The addresses that are forgotten where ways meet at a slot, in these registers.
+fn push_meetings(
+    known: &Known<'_>,
+    slot: usize,
+    facts: &Facts<Intervals>,
+    wanted: RegisterSet,
+    text: &mut String,
+) -> Result<(), AllocError> {
+    if !known.is_target(slot) {
+        return Ok(());
+    }
+    for number in 0..11 {
+        let register = Register::from_number(number);
+        if wanted.has(register) && is_any(facts.get(register).fact()) {
+            push_meeting(known, slot, register, text)?;
+        }
+    }
+    Ok(())
+}
+
+/// The address that is forgotten in a register where ways meet at a slot, if one is.
+fn push_meeting(
+    known: &Known<'_>,
+    slot: usize,
+    register: Register,
+    text: &mut String,
+) -> Result<(), AllocError> {
+    let Some(meeting) = known.meeting(slot, register) else {
+        return Ok(());
+    };
+    let (number, address, other) = (register.number(), meeting.address, meeting.other);
+    let (from, other_from) = (meeting.from, meeting.other_from);
+    writeln!(
+        text,
+        "      forgotten in r{number}: {address} from slot {from}, {other} from slot {other_from}"
+    )
+}
+
+/// The address that an instruction forgets, if it does, and that nothing is known of the word that it loads.
+fn push_forgotten(
+    instruction: &Instruction,
+    facts: &Facts<Intervals>,
+    text: &mut String,
+) -> Result<(), AllocError> {
+    if let Some(forgotten) = forgotten_by(instruction, facts) {
+        let (number, address) = (forgotten.register.number(), forgotten.address);
+        let cause = forgotten.cause;
+        writeln!(text, "      forgotten in r{number}: {address}; {cause}")?;
+    }
+    if let Some(distance) = unknown_word(instruction, facts) {
+        writeln!(
+            text,
+            "      nothing is known of the word at stack + {distance}"
+        )?;
+    }
+    Ok(())
+}
+
+/// Is it every word?
+fn is_any(fact: Fact) -> bool {
+    fact == Fact::Words(Bounds::FULL)
+}
