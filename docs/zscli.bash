@@ -21,7 +21,7 @@ _zscli() {
         "zscli asm") commands="" options="--help" ;;
         "zscli disasm") commands="" options="--slots --help" ;;
         "zscli trace") commands="" options="--emit --argument --fuel --registers --help" ;;
-        "zscli verify") commands="" options="--block --emit --explain --json --help" ;;
+        "zscli verify") commands="" options="--block --emit --explain --facts --json --help" ;;
         "zscli unpack") commands="" options="--block --json --help" ;;
         "zscli entry") commands="append write read open close finish reset offline report load run result" options="--help" ;;
         "zscli entry append") commands="" options="--lba --data --block --queue --cid --into --help" ;;

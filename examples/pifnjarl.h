@@ -57,6 +57,17 @@ static inline u64 masked(u64 index, u64 mask)
     return index;
 }
 
+/* A number of 32 bits scaled to one below a count, of which the program has the number: what their product has above its low
+   32 bits. It spreads hashes over the entries of a table as evenly as a remainder would, of which nothing is known:
+
+       count[scaled(hash, 48)]++; */
+static inline u64 scaled(u64 number, u64 count)
+{
+    number = (number & 0xffffffff) * count >> 32;
+    barrier(number);
+    return number;
+}
+
 /* Is the variable, of 64 bits, in a range with both its ends? Two compares of this very variable, behind which its range
    is known:
 

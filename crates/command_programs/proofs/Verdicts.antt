@@ -46,15 +46,14 @@ says_around result front words behind old first second new at_first then at_last
     on_ok_weaker result (grows_around old first second new front words behind at_first then) at_last
 
 -- that a program is accepted was printed
-pub says_accepted : {T E : Type 0} (result : Result T E) (program : List (Option Instruction)) (sizes : Sizes) (form : Form) (instructions emitted : ℕ)
-    (before after : Option (List ℕ)) → refusal intervals program sizes ≡ None → instructions ≡ instruction_count program
-    → emitted ≡ most_emitted intervals program sizes.block → OnOk result (PrintsAcceptance form instructions emitted before after)
+pub says_accepted : {T E : Type 0} (result : Result T E) (program : List (Option Instruction)) (sizes : Sizes) (form : Form) (emitted : ℕ)
+    (before after : Option (List ℕ)) → refusal intervals program sizes ≡ None → emitted ≡ most_emitted intervals program sizes.block
+    → OnOk result (PrintsAcceptance form (instruction_count program) emitted before after)
     → OnOk result (SaysAccepted program sizes form before after)
-says_accepted (Err error) program sizes form instructions emitted before after accepted counted bounded printed = tt
-says_accepted (Ok done) program sizes form instructions emitted before after accepted counted bounded printed = record {
+says_accepted (Err error) program sizes form emitted before after accepted bounded printed = tt
+says_accepted (Ok done) program sizes form emitted before after accepted bounded printed = record {
   accepted = accepted;
-  printed = subst (λ (n : ℕ). PrintsAcceptance form n (most_emitted intervals program sizes.block) before after) counted
-      (subst (λ (n : ℕ). PrintsAcceptance form instructions n before after) bounded printed);
+  printed = subst (λ (n : ℕ). PrintsAcceptance form (instruction_count program) n before after) bounded printed;
 }
 
 -- a program was judged, which was decoded of the file that is asked for

@@ -19,7 +19,7 @@ use Rattle.command_files.specs.Lines.{GrowsAround}
 use Rattle.command_programs.specs.Asked.{AsksForSizes, Spell, is_set}
 use Rattle.command_programs.specs.declared.unpack.TheConstants.{FILE}
 use Rattle.command_programs.specs.declared.verify.Form.{Form}
-use Rattle.command_programs.specs.declared.verify.Form.TheVariants.{Explained, Json, Line}
+use Rattle.command_programs.specs.declared.verify.Form.TheVariants.{Json, Line, Worded}
 
 -- the listing of a program, with the slot of each instruction before it or without
 abbrev pub listed : Bool → List (Option Instruction) → List ℕ
@@ -88,26 +88,26 @@ place_fields refusal = codes ",\"slot\":" ++ decimal refusal.slot ++ codes ",\"r
 abbrev pub refused_front : ℕ → Refusal → List ℕ
 refused_front instructions refusal = codes "{\"accepted\":false,\"instruction_count\":" ++ decimal instructions ++ place_fields refusal
 
--- the form that a command line asks for: as JSON, and else with words where these are asked for
-abbrev pub form_asked : Bool → Bool → Form
-form_asked true explained = Json
-form_asked false true = Explained
-form_asked false false = Line
+-- the form that a command line asks for: as JSON, and else with words where some are asked for
+abbrev pub form_asked : (json explained facts : Bool) → Form
+form_asked true explained facts = Json
+form_asked false false false = Line
+form_asked false explained facts = Worded explained facts
 
 abbrev pub form_of : ArgMatches → Form
-form_of matches = form_asked (is_set matches (codes "json")) (is_set matches (codes "explain"))
+form_of matches = form_asked (is_set matches (codes "json")) (is_set matches (codes "explain")) (is_set matches (codes "facts"))
 
 -- This is printed, and nothing else, where the output tells what it has: that a program of so many instructions is accepted, which
 -- emits at most so many bytes for a block; on a line, with some words behind it, or as JSON.
 abbrev pub PrintsAcceptance : Form → ℕ → ℕ → Option (List ℕ) → Option (List ℕ) → Type 0
 PrintsAcceptance Line instructions emitted before after = Appends before after (accepted_line instructions)
-PrintsAcceptance Explained instructions emitted before after = GrowsAround (accepted_line instructions) [] before after
+PrintsAcceptance (Worded explained facts) instructions emitted before after = GrowsAround (accepted_line instructions) [] before after
 PrintsAcceptance Json instructions emitted before after = Appends before after (accepted_object instructions emitted)
 
 -- that it is refused; as JSON with some fields behind the first ones
 abbrev pub PrintsFirstRefusal : Form → ℕ → Refusal → Option (List ℕ) → Option (List ℕ) → Type 0
 PrintsFirstRefusal Line instructions first before after = Appends before after (refused_line first)
-PrintsFirstRefusal Explained instructions first before after = GrowsAround (refused_line first) [] before after
+PrintsFirstRefusal (Worded explained facts) instructions first before after = GrowsAround (refused_line first) [] before after
 PrintsFirstRefusal Json instructions first before after = GrowsAround (refused_front instructions first) (codes "}\n") before after
 
 module _ (program : List (Option Instruction)) (sizes : Sizes) (form : Form) (before after : Option (List ℕ)) where

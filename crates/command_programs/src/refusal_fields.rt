@@ -1,7 +1,8 @@
 //! The same as fields of a JSON object. Their values are numbers, `null`, and words and texts of instructions in which no
 //! character has to be escaped.
 
-use crate::refused_instruction::{Detail, RefusedInstruction, registers_read};
+use crate::refused_instruction::{Detail, RefusedInstruction};
+use command_facts::registers_read;
 use instruction_set::Register;
 use interval_domain::Fact;
 use program_interface::Area;

@@ -4,9 +4,9 @@ ghost use Rattle.std.specs.Prelude.{◌<◌};
 ghost use Rattle.program_interface.specs.declared.TheConstants.{MOST_SLOTS};
 
 use accepted_programs::{Facts, Reason};
-use instruction_set::{Access, Instruction, Operation, Register, Source};
+use instruction_set::{Access, Instruction, Register};
 use interval_domain::{Fact, Intervals};
-use program_interface::{Area, EMIT, RunSizes};
+use program_interface::{Area, RunSizes};
 use word_domain::{Domain, Offsets};
 
 /// An instruction that is refused, of a program of so many slots, the reason, and what is known at its slot.
@@ -152,44 +152,5 @@ fn helper_of(instruction: &Instruction) -> Option<Detail> {
     match *instruction {
         Instruction::Call { helper } => Some(Detail::Helper(helper)),
         _ => None,
-    }
-}
-
-/// The registers that an instruction reads, each once: those of an emit are R1 and R2.
-pub(crate) fn registers_read(instruction: &Instruction) -> [Option<Register>; 2] {
-    match *instruction {
-        Instruction::Load { src, .. }
-        | Instruction::LoadSigned { src, .. }
-        | Instruction::MoveSigned { src, .. } => [Some(src), None],
-        Instruction::StoreImmediate { dst, .. }
-        | Instruction::Negate { dst, .. }
-        | Instruction::SwapBytes { dst, .. } => [Some(dst), None],
-        Instruction::StoreRegister { dst, src, .. } => both(dst, Source::Register(src)),
-        Instruction::Arithmetic {
-            operation: Operation::Move,
-            source,
-            ..
-        } => [register_in(source), None],
-        Instruction::Arithmetic { dst, source, .. } | Instruction::Branch { dst, source, .. } => {
-            both(dst, source)
-        }
-        Instruction::Call { helper: EMIT } => [Some(Register::R1), Some(Register::R2)],
-        Instruction::LoadImmediate { .. }
-        | Instruction::Jump { .. }
-        | Instruction::JumpLong { .. }
-        | Instruction::Call { .. }
-        | Instruction::Exit => [None, None],
-    }
-}
-
-fn both(register: Register, source: Source) -> [Option<Register>; 2] {
-    let other = register_in(source).filter(|other| *other != register);
-    [Some(register), other]
-}
-
-fn register_in(source: Source) -> Option<Register> {
-    match source {
-        Source::Register(register) => Some(register),
-        Source::Immediate(_) => None,
     }
 }

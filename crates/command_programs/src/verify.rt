@@ -1,6 +1,6 @@
 //! The command `verify`: says whether a program is accepted.
 
-ghost use Rattle.std.specs.Prelude.{◌≡◌, ◌≢◌, codes, Err, Some, IfErr, IfOk, OnOk};
+ghost use Rattle.std.specs.Prelude.{◌≡◌, ◌≢◌, codes, Err, Some, IfOk, OnOk};
 ghost use Rattle.std.specs.Io.KnownBytes.{Appends};
 ghost use Rattle.clap.specs.Matches.{found_of, first_value};
 ghost use Rattle.instruction_set.specs.Program.{instruction_count};
@@ -17,6 +17,7 @@ use crate::refused_instruction::RefusedInstruction;
 use crate::sizes::{limit, run_sizes};
 use accepted_programs::{Facts, Refusal};
 use clap::{Arg, ArgAction, ArgMatches, Command};
+use command_facts::fact_lines;
 use command_files::arguments::{
     BLOCK_OPTION, PROGRAM, and_argument, block_option, block_size, emit_option, number,
     program_argument, required,
@@ -27,7 +28,6 @@ use instruction_set::Program;
 use interval_domain::Intervals;
 use program_interface::RunSizes;
 use std::alloc::{AllocError, Global};
-use std::fmt::InlineText;
 use std::io::{self, Write};
 use verifier::{Judgement, Refused, judge};
 
@@ -36,19 +36,23 @@ pub const NAME: &str = "verify";
 
 const EXPLAIN: &str = "explain";
 
+const FACTS: &str = "facts";
+
 /// How a verdict is printed.
 #[derive(Clone, Copy)]
 pub enum Form {
     /// On a line.
     Line,
-    /// On a line, with words behind it.
-    Explained,
+    /// On a line, with lines for people behind it.
+    Worded {
+        /// Those that say why, or how much a block takes.
+        explained: bool,
+        /// Those that say what is known at each slot.
+        facts: bool,
+    },
     /// As one JSON object.
     Json,
 }
-
-/// Room for a line with two numbers.
-type Line = InlineText<128>;
 
 const LONG_ABOUT: &str = "\
 Says whether a program is accepted for a block size and a limit of what it may emit for a block:
@@ -66,6 +70,11 @@ steps, or emit more than E bytes
 With --explain lines behind the first say more: of an accepted program how many steps and bytes a block takes at \
 most, the steps as many as it has instructions; of a refused one the instruction, the reason with its numbers, and what is known of each \
 register that the instruction reads.
+
+With --facts lines behind these say what is known at each slot, up to the first that is refused, behind which a > stands: the \
+instruction, and what is known of each register that it reads. Below it, further in, stands which address is forgotten there, in \
+which register, and why: the instruction makes something else of it, or ways meet, on one of which the register has another area's \
+address or none, and it is still read. A load of a word of the stack of which nothing is known is told so, too.
 
 With --json one JSON object is printed, on a line. `accepted` is true or false, and `instruction_count` how many instructions \
 the program has. Of an accepted program `most_emitted` is how many bytes a block emits at most. Of a refused one there are \
@@ -96,6 +105,10 @@ pub fn subcommand<'a>(alloc: Global) -> Result<Command<'a>, AllocError> {
         .long(EXPLAIN)
         .action(ArgAction::SetTrue)
         .help("Say in words what is known");
+    let facts = Arg::new(alloc, FACTS)
+        .long(FACTS)
+        .action(ArgAction::SetTrue)
+        .help("List what is known at each slot");
     let command = Command::new(alloc, NAME)
         .about("Says whether a program is accepted")
         .long_about(LONG_ABOUT)
@@ -104,12 +117,13 @@ pub fn subcommand<'a>(alloc: Global) -> Result<Command<'a>, AllocError> {
     let command = and_argument(command, block_option(alloc));
     let command = and_argument(command, emit_option(alloc));
     let command = and_argument(command, explain);
+    let command = and_argument(command, facts);
     and_argument(command, json_flag(alloc))
 }
 
 /// Prints whether the program that the file's bytes spell is accepted for the sizes that the options give, or the first
-/// refusal, on a line; with `--explain` words behind it, which aren't said; with `--json` in their place one JSON object, of a
-/// refused program with further fields, which aren't said either. It makes no file: each has the bytes that it had.
+/// refusal, on a line; with `--explain` and with `--facts` lines behind it, which aren't said; with `--json` in place of all these
+/// one JSON object, of a refused program with further fields, which aren't said either. It makes no file: each has the bytes that it had.
 ///
 /// # Errors
 ///
@@ -138,10 +152,11 @@ pub fn verify<'a, F: Files, O: Write>(
 fn form_asked(matches: &ArgMatches<'_>) -> Form
     ensures { result ≡ form_of matches.now }
 {
+    let (explained, facts) = (is_set(matches, EXPLAIN), is_set(matches, FACTS));
     if is_set(matches, JSON) {
         Form::Json
-    } else if is_set(matches, EXPLAIN) {
-        Form::Explained
+    } else if explained || facts {
+        Form::Worded { explained, facts }
     } else {
         Form::Line
     }
@@ -180,7 +195,7 @@ fn say<'a, O: Write>(
 {
     match judge::<Intervals>(alloc, program, sizes)? {
         Judgement::Accepted { most_emitted, .. } => {
-            say_accepted(program.instruction_count(), most_emitted, form, out)
+            say_accepted(alloc, program, sizes, most_emitted, form, out)
         }
         Judgement::Refused(Refused { refusal, facts }) => {
             say_refused(alloc, program, sizes, refusal, &*facts, form, out)?;
@@ -189,35 +204,62 @@ fn say<'a, O: Write>(
     }
 }
 
-/// Prints that a program of so many instructions is accepted, which emits at most so many bytes for a block.
+/// Prints that a program is accepted, which emits at most so many bytes for a block.
 fn say_accepted<'a, O: Write>(
-    instructions: usize,
+    alloc: Global,
+    program: &Program,
+    sizes: RunSizes,
     most_emitted: usize,
     form: Form,
     out: &mut O,
 ) -> Result<(), Failure<'a>>
-    ensures printed { OnOk result (PrintsAcceptance form instructions most_emitted (O.contents out.old) (O.contents out.new)) }
-    ensures failed { IfErr result (λ failure. failure ≡ Failure.CannotPrint) }
+    ensures printed { let instructions = instruction_count program.now in
+        OnOk result (PrintsAcceptance form instructions most_emitted (O.contents out.old) (O.contents out.new)) }
+    ensures not_judged { result ≢ Err Failure.NotAccepted }
 {
+    let instructions = program.instruction_count();
     match form {
         Form::Line => printed(writeln!(out, "accepted {instructions}")),
-        Form::Explained => {
+        Form::Worded { explained, facts } => {
             printed(writeln!(out, "accepted {instructions}"))?;
-            let words = bounds(instructions, most_emitted);
-            print(words.as_str().as_bytes(), out)
+            let told = words_of_acceptance(alloc, program, sizes, most_emitted, explained, facts)?;
+            print(told.as_str().as_bytes(), out)
         }
-        Form::Json => printed(writeln!(
-            out,
-            "{{\"accepted\":true,\"instruction_count\":{instructions},\"most_emitted\":{most_emitted}}}"
-        )),
+        Form::Json => printed(print_accepted(instructions, most_emitted, out)),
     }
 }
 
-/// How many steps and bytes a block takes at most, as a line.
-fn bounds(instructions: usize, most_emitted: usize) -> Line {
-    let taken = Counted(instructions as u64, "step");
-    let emitted = Counted(most_emitted as u64, "byte");
-    Line::of(format_args!("for a block at most {taken}, and {emitted} emitted\n"))
+/// Prints that a program of so many instructions is accepted, which emits at most so many bytes for a block, as one JSON object.
+fn print_accepted<O: Write>(instructions: usize, most_emitted: usize, out: &mut O) -> io::Result<()>
+    ensures { OnOk result (PrintsAcceptance Form.Json instructions most_emitted (O.contents out.old) (O.contents out.new)) }
+{
+    writeln!(
+        out,
+        "{{\"accepted\":true,\"instruction_count\":{instructions},\"most_emitted\":{most_emitted}}}"
+    )
+}
+
+/// The lines that are asked for behind that of an accepted program: how many steps and bytes a block takes at most, and what is
+/// known at each slot.
+fn words_of_acceptance(
+    alloc: Global,
+    program: &Program,
+    sizes: RunSizes,
+    most_emitted: usize,
+    explained: bool,
+    facts: bool,
+) -> Result<String, AllocError> {
+    let mut told = String::new(alloc);
+    if explained {
+        let taken = Counted(program.instruction_count() as u64, "step");
+        let emitted = Counted(most_emitted as u64, "byte");
+        writeln!(told, "for a block at most {taken}, and {emitted} emitted")?;
+    }
+    if facts {
+        let lines = fact_lines(alloc, program, sizes, None)?;
+        told.push_str(lines.as_str())?;
+    }
+    Ok(told)
 }
 
 /// Prints the first refusal of a program.
@@ -236,10 +278,10 @@ fn say_refused<'a, O: Write>(
 {
     match form {
         Form::Line => printed(print_refused(refusal, out)),
-        Form::Explained => {
+        Form::Worded { .. } => {
             printed(print_refused(refusal, out))?;
-            let words = explanation(alloc, program, sizes, refusal, facts, form)?;
-            print(words.as_slice(), out)
+            let told = words_of_refusal(alloc, program, sizes, refusal, facts, form)?;
+            print(told.as_slice(), out)
         }
         Form::Json => {
             let fields = explanation(alloc, program, sizes, refusal, facts, form)?;
@@ -285,6 +327,30 @@ fn print_place<O: Write>(refusal: Refusal, out: &mut O) -> io::Result<()>
     write!(out, ",\"slot\":{slot},\"reason\":{number}")
 }
 
+/// The lines that are asked for behind that of a refusal.
+fn words_of_refusal(
+    alloc: Global,
+    program: &Program,
+    sizes: RunSizes,
+    refusal: Refusal,
+    known: &Facts<Intervals>,
+    form: Form,
+) -> Result<Vec<u8>, AllocError> {
+    let mut told = Vec::new(alloc);
+    if let Form::Worded {
+        explained: true,
+        ..
+    } = form
+    {
+        told = explanation(alloc, program, sizes, refusal, known, form)?;
+    }
+    if let Form::Worded { facts: true, .. } = form {
+        let lines = fact_lines(alloc, program, sizes, Some(refusal))?;
+        told.extend_from_slice(lines.as_str().as_bytes())?;
+    }
+    Ok(told)
+}
+
 /// Why a program isn't accepted, the instruction, the reason and what is known there: as lines, or as fields of a JSON object.
 ///
 /// # Errors
@@ -314,7 +380,7 @@ fn explanation(
     };
     let written = match form {
         Form::Json => refused.print_fields(text.as_str(), &mut told),
-        Form::Line | Form::Explained => refused.explain(text.as_str(), &mut told),
+        Form::Line | Form::Worded { .. } => refused.explain(text.as_str(), &mut told),
     };
     match written {
         Ok(()) => Ok(told),

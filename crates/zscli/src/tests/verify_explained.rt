@@ -1,9 +1,10 @@
-//! Programs, each with what `verify --explain` says: every reason, and the words of every kind of fact.
+//! Programs, each with what `verify --explain` says: every reason, and the words of every kind of fact; and what `--facts` lists.
 
 use super::scenes::Act::{self, Verify};
 use super::scenes::{Scene, play};
 use std::test::Fail;
 use test_inputs::programs::{EMITTING_TWICE, MATCHING, ONCE_OR_TWICE};
+use test_inputs::slots;
 
 const ACCEPTED: &[Act] = &[
     Verify(
@@ -169,6 +170,65 @@ r1 is block + 0\nr2 is 3",
     ),
 ];
 
+/// A sum that forgets an address, a word of the stack that nothing is known of, a slot to which none leads, and ways that forget
+/// an address where they meet.
+const FORGETTING: &str = "\
+ldxw r6, [r2+0]
+mov r4, r2
+add r4, r6
+ldxdw r5, [r10-8]
+ja +1
+mov r0, r4
+mov r7, r2
+jeq r6, 0, +1
+mov r7, r3
+ldxb r0, [r7+0]
+exit
+";
+
+const FORGOTTEN: &str = "refused 9 5
+   0  ldxw r6, [r2+0]  r2 is block + 0
+   1  mov r4, r2  r2 is block + 0
+   2  add r4, r6  r4 is block + 0, r6 is 0 to 4294967295
+      forgotten in r4: block + 0; it may be over 2^20 bytes away
+   3  ldxdw r5, [r10-8]  r10 is stack + 512
+      nothing is known of the word at stack + 504
+   4  ja +1
+   5  mov r0, r4  no slot leads here
+   6  mov r7, r2  r2 is block + 0
+   7  jeq r6, 0, +1  r6 is 0 to 4294967295
+   8  mov r7, r3  r3 is scratch + 0
+   9> ldxb r0, [r7+0]  r7 is any word
+      forgotten in r7: block + 0 from slot 7, scratch + 0 from slot 8
+";
+
+const EXPLAINED_WITH_FACTS: &str = "accepted 7
+for a block at most 7 steps, and 10 bytes emitted
+   0  ldxb r6, [r2+0]  r2 is block + 0
+   1  jne r6, 7, +3  r6 is 0 to 255
+   2  mov r1, r2  r2 is block + 0
+   3  mov r2, 8
+   4  call 1  r1 is block + 0, r2 is 8, emitted at most 0
+   5  mov r0, 0
+   6  exit
+";
+
+const FACTS: &[Act] = &[
+    Act::Text("text", FORGETTING),
+    Act::Prints("zscli asm text made", ""),
+    Act::Fails(
+        "zscli verify made --block 512 --emit 0 --facts",
+        3,
+        FORGOTTEN,
+        "",
+    ),
+    Act::Slots("made", &slots::MATCHING),
+    Act::Prints(
+        "zscli verify made --block 512 --emit 10 --facts --explain",
+        EXPLAINED_WITH_FACTS,
+    ),
+];
+
 const SCENES: &[Scene] = &[
     Scene {
         name: "what an accepted program takes",
@@ -189,6 +249,10 @@ const SCENES: &[Scene] = &[
     Scene {
         name: "emits",
         acts: EMITS,
+    },
+    Scene {
+        name: "facts",
+        acts: FACTS,
     },
 ];
 
