@@ -15,9 +15,9 @@ from typing import Dict, Iterator, List, Optional, Tuple, Union
 ROOT = Path(__file__).resolve().parent.parent
 CRATES = (
     *("zscli", "command_files", "command_images", "command_exec", "command_serve"),
-    *("command_programs", "command_entry", "command_explain"),
+    *("command_programs", "command_link", "command_entry", "command_explain"),
 )
-TOKEN = re.compile(r'"(?:[^"\\]|\\.)*"|\w+(?:::\w+)*|[^\w\s]', re.S)
+TOKEN = re.compile(r'"(?:[^"\\]|\\.)*"|\'\w\'|\w+(?:::\w+)*|[^\w\s]', re.S)
 CONSTANT = re.compile(r'^(?:pub(?:\(crate\))? )?const (\w+): &str =\s+("(?:[^"\\]|\\.)*");', re.M | re.S)
 IMPORT = re.compile(r"^use (?:\w+::)*?(\w+)::(?:\{(.*?)\}|(\w+));", re.M | re.S)
 FUNCTION = re.compile(r"^(?:pub(?:\(crate\))? )?fn (\w+)<'a>\(([^()]*)\) -> (?:Result<Command|Arg)[^{]*\{\n(.*?)^\}", re.M | re.S)
@@ -29,6 +29,7 @@ class Arg:
     """An argument or an option."""
 
     id: str
+    short: Optional[str] = None
     long: Optional[str] = None
     value: Optional[str] = None
     flag: bool = False
@@ -41,7 +42,8 @@ class Arg:
         """As a usage line shows it."""
         if self.long is None:
             return f"<{self.id}>"
-        return f"--{self.long}" if self.flag else f"--{self.long} <{self.value or self.id}>"
+        names = f"--{self.long}" if self.short is None else f"-{self.short}, --{self.long}"
+        return names if self.flag else f"{names} <{self.value or self.id}>"
 
 
 @dataclass
@@ -140,7 +142,7 @@ class Reader:
     def first(self) -> Value:
         """A literal, a name or a call."""
         token = self.take()
-        if token.startswith('"'):
+        if token[0] in "\"'":
             return text_of(token)
         if self.tokens and self.tokens[0] == "(":
             return self.call(token, self.arguments())
@@ -278,7 +280,7 @@ def valued(command: Command) -> Iterator[Arg]:
         yield from valued(below)
 
 
-FILES = {"FILE", "IMAGE", "COMMANDS"}
+FILES = {"FILE", "IMAGE", "COMMANDS", "PROGRAM"}
 
 
 def completion(line: Command) -> str:

@@ -3,15 +3,15 @@ _zscli() {
     local word=${COMP_WORDS[COMP_CWORD]} before=${COMP_WORDS[COMP_CWORD-1]} words=zscli commands="" options=""
     case "$before" in
         --state) COMPREPLY=($(compgen -W "all empty implicit explicit closed full readonly offline" -- "$word")); return ;;
-        --commands | --data | --image | --into | --program) COMPREPLY=($(compgen -f -- "$word")); return ;;
-        --active | --argument | --block | --blocks | --capacity | --cid | --dwords | --emit | --from | --fuel | --lba | --open | --queue | --size | --slot | --to | --zones) return ;;
+        --commands | --data | --image | --into | --output | --program) COMPREPLY=($(compgen -f -- "$word")); return ;;
+        --active | --argument | --block | --blocks | --capacity | --cid | --dwords | --emit | --from | --fuel | --function | --lba | --open | --queue | --size | --slot | --to | --zones) return ;;
     esac
     [ "$COMP_CWORD" -gt 1 ] && words+=" ${COMP_WORDS[1]}"
     case "${COMP_WORDS[1]}" in
         "entry") [ "$COMP_CWORD" -gt 2 ] && words+=" ${COMP_WORDS[2]}" ;;
     esac
     case "$words" in
-        "zscli") commands="format zones report upgrade exec serve asm disasm trace verify unpack entry entries explain" options="--help --version" ;;
+        "zscli") commands="format zones report upgrade exec serve asm disasm link trace verify unpack entry entries explain" options="--help --version" ;;
         "zscli format") commands="" options="--block --zones --size --capacity --open --active --force --help" ;;
         "zscli zones") commands="" options="--help" ;;
         "zscli report") commands="" options="--json --help" ;;
@@ -20,6 +20,7 @@ _zscli() {
         "zscli serve") commands="" options="--frames --drain --help" ;;
         "zscli asm") commands="" options="--help" ;;
         "zscli disasm") commands="" options="--slots --help" ;;
+        "zscli link") commands="" options="--block --output --function --verbose --help" ;;
         "zscli trace") commands="" options="--emit --argument --fuel --registers --help" ;;
         "zscli verify") commands="" options="--block --emit --explain --facts --json --help" ;;
         "zscli unpack") commands="" options="--block --json --help" ;;
