@@ -1,9 +1,8 @@
 -- A connection deals with each PDU as soon as it has come whole, but for a capsule with data, which stays until its command goes.
-use Rattle.std.proofs.Common.{◌≡◌, ℕ, ◌==◌, ◌&&◌, Bool, true, false, cond, not, List, [], ◌++◌, length, take, drop, Option, None, Some, is_some, Result, Ok, Err, refl, sym, ap, subst, ◌∙◌}
+use Rattle.std.proofs.Common.{◌≡◌, ℕ, ◌==◌, Bool, true, false, cond, List, [], ◌++◌, length, take, drop, Option, None, Some, is_some, Result, Ok, Err, refl, ap}
 use Rattle.zone_state.specs.declared.status.Status.{Status}
 use Rattle.tcp_pdus.specs.declared.fatal_error.FatalError.{FatalError}
 use Rattle.tcp_pdus.specs.declared.fatal_error.FatalError.TheVariants.{PduSequence}
-use Rattle.tcp_pdus.specs.declared.received.HostPdu.{HostPdu}
 use Rattle.tcp_pdus.specs.declared.received.HostPdu.TheVariants.{IcReq, H2cTermReq, CapsuleCmd, H2cData}
 use Rattle.tcp_pdus.specs.Initialize.{initialize_checked, initialize_request_in}
 use Rattle.tcp_receiver.specs.declared.expected.Progress.{Progress}
@@ -16,7 +15,7 @@ use Rattle.tcp_connection.specs.declared.queue.Phase.{Phase}
 use Rattle.tcp_connection.specs.declared.queue.Phase.TheVariants.{Initializing, Open, Ended}
 use Rattle.tcp_connection.specs.declared.state.ConnectionState.{ConnectionState}
 use Rattle.tcp_connection.specs.Commands.{first_of, is_running, running_with, started, waiting_with, without}
-use Rattle.tcp_connection.specs.Connection.{Step, taken, takes, took}
+use Rattle.tcp_connection.specs.Connection.{Step, takes, took}
 use Rattle.tcp_connection.specs.Dealing.{asked, commanded_by, dealt_by, initialized_by, joined, judged, looked_at, may_come, with_next}
 use Rattle.tcp_connection.specs.Executing.{Execution, completed_in, data_sent, gone, gone_by, ready, ready_by}
 use Rattle.tcp_connection.specs.Order.{Came, Completed, Happening, Went, after, received}

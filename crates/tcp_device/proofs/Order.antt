@@ -1,22 +1,18 @@
 -- The device gets the commands of a connection in the order of their capsules.
-use Rattle.std.proofs.Common.{◌≡◌, ◌≢◌, ℕ, ◌==◌, ◌&&◌, Bool, true, false, cond, not, List, [], ◌∷◌, ◌++◌, map, set, zero, suc, Option, None, Some, refl, sym, ap, subst, ◌∙◌, append_assoc, append-nil}
-use Rattle.std.specs.List.{filter, position}
+use Rattle.std.proofs.Common.{◌≡◌, ◌≢◌, ℕ, ◌==◌, Bool, true, false, cond, not, List, [], ◌∷◌, ◌++◌, Option, None, Some, refl, sym, ap, subst, ◌∙◌, append_assoc, append-nil}
 use Rattle.std.proofs.lemmas.Bool.{and_parts, eqb-false, eqb-true}
 use Rattle.std.proofs.lemmas.List.{get_or-set_other, map-append}
 use Rattle.std.proofs.lemmas.List.Elements.{filter-append}
 use Rattle.std.proofs.lemmas.List.Quantifiers.{position-Some}
-use Rattle.device_events.specs.Replies.{ReplyWithData}
 use Rattle.device_events.specs.declared.event.Event.{Event}
 use Rattle.device_events.specs.declared.reply.Reply.{Reply}
 use Rattle.device_events.specs.declared.reply.Reply.TheVariants as reply
 use Rattle.tcp_connection.specs.Executing.{Execution}
 use Rattle.tcp_connection.specs.Order.{entry_of}
-use Rattle.tcp_connection.proofs.Proved.{Moves, both, stays}
-use Rattle.tcp_associations.specs.declared.associations.Associations.{Associations}
-use Rattle.tcp_associations.specs.declared.role.Role.{Role}
-use Rattle.tcp_associations.specs.declared.role.Role.TheVariants.{Unconnected, Admin, Io, Ended}
+use Rattle.tcp_connection.proofs.Proved.{both}
+use Rattle.tcp_associations.specs.declared.role.Role.TheVariants.{Unconnected, Io}
 use Rattle.tcp_associations.specs.Associations.{ended_with, left, role_at}
-use Rattle.tcp_places.specs.Places.{PlaceState, is_free, ready_at, vacant}
+use Rattle.tcp_places.specs.Places.{is_free, ready_at, vacant}
 use Rattle.tcp_places.specs.Order.{brought_at}
 use Rattle.tcp_queues.specs.Commands.{given_by, given_to_device, is_for_device}
 use Rattle.tcp_queues.specs.Queues.{QueuesState, free_number, opened_at, place_at}
@@ -25,9 +21,10 @@ use Rattle.tcp_target.specs.Events as target
 use Rattle.tcp_target.specs.Laws.{ConnectionsStay}
 use Rattle.tcp_target.specs.Target.{TargetState, ticked, with_queues}
 use Rattle.tcp_target.proofs.Order.{MovesAt, ends_run, executes, hands_over, left_role, receives, same_at, sends, serves, ticks}
-use Rattle.tcp_target.proofs.Used.{AreFine, begins_fine, closes_fine, ends_run_fine, executes_fine, hands_over_fine, opens_fine, receives_fine, sends_fine, serves_fine, ticks_fine}
+use Rattle.tcp_target.proofs.Fine.{AreFine, begins_fine}
+use Rattle.tcp_target.proofs.Used.{closes_fine, ends_run_fine, executes_fine, hands_over_fine, opens_fine, receives_fine, sends_fine, serves_fine, ticks_fine}
 use Rattle.tcp_device.specs.Deeds.{AreDone, Closed, Deed, Does, Opened, Received, Sent, Served, Ticked, Turned, events_in, events_of, submissions, turns}
-use Rattle.tcp_device.specs.Order.{CommandsAreInOrder, Departure, HasQueue, IsInOrder, came_by, came_on, departure, entries, given, place_of, submitted_by, submitted_to, went_by, went_on}
+use Rattle.tcp_device.specs.Order.{CommandsAreInOrder, Departure, HasQueue, came_by, came_on, departure, entries, given, place_of, submitted_by, submitted_to, went_by, went_on}
 use Rattle.tcp_device.specs.Outcome.{outcome_in}
 use Rattle.tcp_device.specs.Served.{ServesGiven, TurnsGiven, completed_by, ended_by, ended_with as ended_run, next_run}
 use Rattle.tcp_device.specs.State.{CommandOfRun, ServedState, begun}

@@ -14,7 +14,7 @@ use Rattle.tcp_places.specs.Places.{PlaceState, ready_at}
 use Rattle.tcp_places.specs.Order.{brought_at}
 use Rattle.tcp_queues.specs.Commands.{is_for_device}
 use Rattle.tcp_queues.specs.Queues.{QueuesState, place_at}
-use Rattle.tcp_device.specs.Deeds.{AreDone, Closed, Deed, Does, Opened, Received, Sent, Served, Ticked, Turned, events_of}
+use Rattle.tcp_device.specs.Deeds.{AreDone, Closed, Deed, Opened, Received, Sent, Served, Ticked, Turned, events_of}
 use Rattle.tcp_device.specs.State.{ServedState, begun}
 
 abbrev pub place_of : ℕ → ServedState → PlaceState

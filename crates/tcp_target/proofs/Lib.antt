@@ -6,4 +6,5 @@ mod Cuts
 mod Associations
 pub mod Apart
 pub mod Order
+pub mod Fine
 pub mod Used
