@@ -1,5 +1,5 @@
 //! Guards: compares in front of what a program does, that end the block run where it would trap. Each is idle in every block run that
-//! doesn't trap without it, but for those that [`Guard::may_stop`] tells.
+//! doesn't trap without it, but for that of an emit whose address and length are both ranges: it wants room for the longest.
 
 use crate::fault::LinkFault;
 use crate::folding::folded;
