@@ -1,0 +1,6 @@
+mod Batches
+mod Frames
+mod Joining
+mod Pushed
+mod Shown
+mod Stopping
