@@ -6,8 +6,7 @@ ghost use Rattle.stored_file.specs.File.{IsOnDisk};
 use command_files::{Disk, FileFault};
 use std::alloc::Global;
 use std::fs::File;
-use std::io::{self, Read, Seek};
-use std::os::fd::AsRawFd;
+use std::io::{Read, Seek};
 use std::os::unix::fs::FileExt;
 use std::rt;
 use stored_file::{FileError, StoredFile};
@@ -23,8 +22,9 @@ pub struct DiskCalls<'a, R> {
     notes: Record,
 }
 
-/// The file whose name is held, as what reads and writes it durably: it and its name are on the disk, and what is read is what is
-/// there. It is held on, and no name is held where it was.
+/// The file whose name is held, as what reads and writes it durably: it and its name are brought to the disk, and then it is read. Where
+/// an earlier program failed to bring it there, what the system keeps in memory may be other than what is on the disk, and is what is
+/// read. It is held on, and no name is held where it was.
 ///
 /// # Errors
 ///
@@ -38,19 +38,9 @@ pub fn open<'a, R: rt::Files<File = File> + AllocGlobal>(
     let disk = files.take();
     disk.settle()?;
     let mut file = disk.handle()?;
-    forget_pages(&file)?;
     let bytes = whole(alloc, &mut file)?;
     let notes = Record::opened(bytes.as_slice());
     Ok(SystemFile::new(DiskCalls { disk, file, notes }, bytes))
-}
-
-/// Has the system read a file from the disk again: where an earlier program failed to bring it there, what the system keeps in
-/// memory may be other than what is on the disk.
-fn forget_pages(file: &File) -> io::Result<()> {
-    match libc::posix_fadvise(file.as_raw_fd(), 0, 0, libc::POSIX_FADV_DONTNEED) {
-        0 => Ok(()),
-        error => Err(io::Error::from_raw_os_error(error)),
-    }
 }
 
 /// All bytes of a file.
