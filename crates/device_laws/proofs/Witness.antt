@@ -16,6 +16,7 @@ use Rattle.device_meaning.specs.Reached.{IsReached}
 use Rattle.device_meaning.specs.State.{State, new_state}
 use Rattle.device_events.specs.ToldEvents as told
 use Rattle.pushdown.specs.Pushdown.{IsAdmitted}
+use Rattle.device_meaning.proofs.Proved.{new_may_begin}
 use Rattle.device_laws.specs.Witness.{AppendsBetween, PushdownIsMet}
 
 -- ---- a namespace: four zones of 8 blocks, of which 6 can be written
@@ -131,9 +132,9 @@ state = state_after interval_judge events (new_state (all_empty four))
 
 is_reached : IsReached interval_judge state
 is_reached = record {
-  first = all_empty four;
+  first = new_state (all_empty four);
   events = events;
-  namespace = empty_is_namespace four is_shape;
+  begins = new_may_begin interval_judge (all_empty four) (empty_is_namespace four is_shape);
   bytes = (block_is, (block_is, (block_is, (no_bytes, (program_is, tt)))));
   leaves = refl;
 }

@@ -17,8 +17,7 @@ use Rattle.program_meaning.specs.TrapFree.{Exits, NeverTraps}
 use Rattle.program_meaning.proofs.Proved.{ends_in_run, start_is_in_run, start_is_state}
 use Rattle.common_definitions.proofs.Proved.{all_append, all_same}
 use Rattle.emit_append.proofs.Proved.{AllBytes, FitsByte, by_place}
-use Rattle.common_definitions.specs.Bytes.{AreBytes}
-use Rattle.device_meaning.specs.BlockRuns.{Task, block_run, block_runs_from, block_runs_of, context, frames_of, goes_on, no_scratch, scratch_after, until_ended}
+use Rattle.device_meaning.specs.BlockRuns.{AreScratch, Task, block_run, block_runs_from, block_runs_of, context, frames_of, goes_on, no_scratch, scratch_after, until_ended}
 use Rattle.device_meaning.proofs.Bytes.{AreBlocks, IsBlock, little_are}
 
 -- ---- the start of a block run
@@ -34,11 +33,7 @@ context_are task index =
     all_append FitsByte (little_bytes 8 (task.lba + index)) (words ++ zeros) (little_are 8 (task.lba + index))
     (all_append FitsByte words zeros (words_are (index ∷ task.count ∷ task.sizes.block ∷ task.argument ∷ [])) (all_same FitsByte 8 0 (lit< tt)))
 
-pub record IsScratch (scratch : List ℕ) : Type 0 where
-  pub long : length scratch ≡ 1024
-  pub are : AreBytes scratch
-
-pub no_scratch_is : IsScratch no_scratch
+pub no_scratch_is : AreScratch no_scratch
 no_scratch_is = record {
   long = length-replicate {A = ℕ} 1024 0;
   are = by_place no_scratch (all_same FitsByte 1024 0 (lit< tt));
@@ -54,15 +49,15 @@ pub record IsReady (task : Task) : Type 0 where
 pub record IsDone (task : Task) (run : BlockRun) : Type 0 where
   pub exits : Exits (instruction_count task.program) task.sizes.limit run
   pub in_run : IsInRun task.sizes.limit run.state
-  pub scratch : IsScratch (scratch_after run)
+  pub scratch : AreScratch (scratch_after run)
 
 module _ (task : Task) (ready : IsReady task) where
-  pub starts : (index : ℕ) (scratch bytes : List ℕ) → IsScratch scratch → IsBlock task.sizes.block bytes → IsState (at_start bytes (context task index) scratch)
+  pub starts : (index : ℕ) (scratch bytes : List ℕ) → AreScratch scratch → IsBlock task.sizes.block bytes → IsState (at_start bytes (context task index) scratch)
   starts index scratch bytes is block =
       start_is_state bytes (context task index) scratch (rw block.whole ready.small) refl is.long
       block.are (by_place (context task index) (context_are task index)) is.are
 
-  pub one_done : (index : ℕ) (scratch bytes : List ℕ) → IsScratch scratch → IsBlock task.sizes.block bytes → IsDone task (block_run task index scratch bytes)
+  pub one_done : (index : ℕ) (scratch bytes : List ℕ) → AreScratch scratch → IsBlock task.sizes.block bytes → IsDone task (block_run task index scratch bytes)
   one_done index scratch bytes is block =
       let limit = task.sizes.limit in
       let told = context task index in
@@ -74,7 +69,7 @@ module _ (task : Task) (ready : IsReady task) where
         scratch = record { long = last.is.memory.lengths Scratch; are = last.is.memory.bytes Scratch };
       }
 
-  all_done : (blocks : List (List ℕ)) (index : ℕ) (scratch : List ℕ) → IsScratch scratch → AreBlocks task.sizes.block blocks
+  all_done : (blocks : List (List ℕ)) (index : ℕ) (scratch : List ℕ) → AreScratch scratch → AreBlocks task.sizes.block blocks
       → AllByRecursion (IsDone task) (block_runs_from task index scratch blocks)
   all_done [] index scratch is whole = tt
   all_done (bytes ∷ blocks) index scratch is whole =
@@ -85,8 +80,13 @@ module _ (task : Task) (ready : IsReady task) where
   until [] h = tt
   until (run ∷ block_runs) h = (h.0, cond_both (goes_on run.end) (until_ended block_runs) [] (AllByRecursion (IsDone task)) (λ _. until block_runs h.1) (λ _. tt))
 
+  -- from a block of a run on
+  pub later_runs_done : (blocks : List (List ℕ)) (index : ℕ) (scratch : List ℕ) → AreScratch scratch → AreBlocks task.sizes.block blocks
+      → AllByRecursion (IsDone task) (until_ended (block_runs_from task index scratch blocks))
+  later_runs_done blocks index scratch is whole = until (block_runs_from task index scratch blocks) (all_done blocks index scratch is whole)
+
   pub block_runs_done : (blocks : List (List ℕ)) → AreBlocks task.sizes.block blocks → AllByRecursion (IsDone task) (block_runs_of task blocks)
-  block_runs_done blocks whole = until (block_runs_from task 0 no_scratch blocks) (all_done blocks 0 no_scratch no_scratch_is whole)
+  block_runs_done blocks whole = later_runs_done blocks 0 no_scratch no_scratch_is whole
 
 -- ---- how many block runs
 
@@ -111,9 +111,13 @@ few_block_runs task index scratch blocks =
     omega (arith, less, most)
 
 -- and some where there are blocks
+pub some_later_runs : (task : Task) (index : ℕ) (scratch : List ℕ) (blocks : List (List ℕ)) → 1 ≤ length blocks
+    → 1 ≤ length (until_ended (block_runs_from task index scratch blocks))
+some_later_runs task index scratch [] some = absurd (omega (arith, some))
+some_later_runs task index scratch (bytes ∷ blocks) some = omega arith
+
 pub some_block_runs : (task : Task) (blocks : List (List ℕ)) → 1 ≤ length blocks → 1 ≤ length (block_runs_of task blocks)
-some_block_runs task [] some = absurd (omega (arith, some))
-some_block_runs task (bytes ∷ blocks) some = omega arith
+some_block_runs task blocks some = some_later_runs task 0 no_scratch blocks some
 
 -- ---- how many frames
 

@@ -12,7 +12,8 @@ use Rattle.device_meaning.specs.Happenings.{place_left, turned}
 use Rattle.device_meaning.specs.Outcome.{Ending, Turn}
 use Rattle.device_meaning.specs.State.{Place, State, place_at}
 use Rattle.device_meaning.proofs.Changes.{turned_is}
-use Rattle.device_meaning.proofs.States.{AppendWhole, IsFine, PlaceIsFine, place_fine, reached_fine, turn_fine}
+use Rattle.device_meaning.proofs.SoundStates.{reached_fine}
+use Rattle.device_meaning.proofs.States.{AppendWhole, IsFine, PlaceIsFine, place_fine, turn_fine}
 
 less_left : (place : Place) (later : List Turn) (ending : Option Ending) → turns_left_at (place_left place later ending) ≤ length later
 less_left place later None = omega arith
@@ -64,8 +65,8 @@ module _ (judge : Judge) (sound : IsSoundJudge judge) (block : ℕ) where
 
 pub draining_ends : (judge : Judge) → IsSoundJudge judge → DrainingEnds judge
 draining_ends judge sound s reached =
-    drains judge sound reached.first.block (turns_left s.places) s (reached_fine judge sound s reached) (omega arith)
+    drains judge sound reached.first.namespace.block (turns_left s.places) s (reached_fine judge sound s reached) (omega arith)
 
 pub turns_leave_fewer : (judge : Judge) → IsSoundJudge judge → TurnsLeaveFewer judge
 turns_leave_fewer judge sound s run reached some =
-    found_less judge sound reached.first.block s run (place_at s run) (reached_fine judge sound s reached) refl some
+    found_less judge sound reached.first.namespace.block s run (place_at s run) (reached_fine judge sound s reached) refl some

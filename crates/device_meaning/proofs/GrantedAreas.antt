@@ -8,8 +8,8 @@ use Rattle.program_meaning.specs.BlockRun.{BlockRun, block_run_of}
 use Rattle.program_meaning.specs.Granted.{KeepsToGrantedAreas}
 use Rattle.program_meaning.specs.State.{State, at_start}
 use Rattle.program_meaning.proofs.Proved.{exits_keep_to_granted_areas}
-use Rattle.device_meaning.specs.BlockRuns.{Task, block_run, block_runs_from, block_runs_of, context, goes_on, no_scratch, scratch_after, start_of, until_ended}
-use Rattle.device_meaning.proofs.BlockRuns.{IsReady, IsScratch, no_scratch_is, one_done, starts}
+use Rattle.device_meaning.specs.BlockRuns.{AreScratch, Task, block_run, block_runs_from, block_runs_of, context, goes_on, no_scratch, scratch_after, start_of, until_ended}
+use Rattle.device_meaning.proofs.BlockRuns.{IsReady, no_scratch_is, one_done, starts}
 use Rattle.device_meaning.proofs.Bytes.{AreBlocks, IsBlock}
 
 -- a block run is the one from this start, and keeps to the granted areas
@@ -26,7 +26,7 @@ module _ (task : Task) (ready : IsReady task) where
   Granted before blocks block_runs index k =
       IsGrantedRun task (slice_get block_runs k) (at_start (get_or blocks k []) (context task index) (left before (take k block_runs)))
 
-  one_granted : (index : ℕ) (scratch bytes : List ℕ) → IsScratch scratch → IsBlock task.sizes.block bytes
+  one_granted : (index : ℕ) (scratch bytes : List ℕ) → AreScratch scratch → IsBlock task.sizes.block bytes
       → IsGrantedRun task (Some (block_run task index scratch bytes)) (at_start bytes (context task index) scratch)
   one_granted index scratch bytes is block = record {
     from_start = refl;
@@ -40,7 +40,7 @@ module _ (task : Task) (ready : IsReady task) where
   later before run bytes blocks more at k true rest below = rest (omega (arith, below))
   later before run bytes blocks more at k false rest below = absurd (omega (arith, below))
 
-  each_granted : (blocks : List (List ℕ)) (before : Option BlockRun) (index k at : ℕ) → IsScratch (left before []) → AreBlocks task.sizes.block blocks
+  each_granted : (blocks : List (List ℕ)) (before : Option BlockRun) (index k at : ℕ) → AreScratch (left before []) → AreBlocks task.sizes.block blocks
       → index + k ≡ at → k < length (until_ended (block_runs_from task index (left before []) blocks))
       → Granted before blocks (until_ended (block_runs_from task index (left before []) blocks)) at k
   each_granted [] before index k at is whole same below = absurd (omega (arith, below))

@@ -1,4 +1,5 @@
 mod Added
+mod Beginnings
 mod BlockRuns
 mod Bytes
 mod Changes
@@ -16,6 +17,7 @@ pub mod Proved
 mod Reached
 mod Rests
 mod RunsFit
+mod SoundStates
 mod Spelled
 mod States
 mod Statuses

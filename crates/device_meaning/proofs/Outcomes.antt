@@ -125,7 +125,7 @@ module _ (block : ℕ) where
   last_blocks (end.Trap slot cause) emitted run exit = absurd exit
   last_blocks end.OutOfFuel emitted run exit = absurd exit
 
-  all_blocks : (emitted : Emitted) (run : BlockRun) (block_runs : List BlockRun) → AllExit (run ∷ block_runs)
+  pub all_blocks : (emitted : Emitted) (run : BlockRun) (block_runs : List BlockRun) → AllExit (run ∷ block_runs)
       → released block emitted.groups ++ appended_by (turns_after block emitted (run ∷ block_runs)) ≡ packed block (emitted.groups ++ groups_of (run ∷ block_runs))
   all_blocks emitted run [] exit =
       let first = released block emitted.groups in

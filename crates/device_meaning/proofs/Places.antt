@@ -6,17 +6,15 @@ use Rattle.std.proofs.lemmas.Bool.{not-true}
 use Rattle.zone_state.specs.declared.status.TheConstants.Status.{ZONE_HELD}
 use Rattle.common_definitions.proofs.Proved.{demanded, passed}
 use Rattle.zone_resources.specs.Holds.{is_destination, names}
-use Rattle.zone_resources.specs.declared.holds.TheConstants.{RUNS}
 use Rattle.nvme_entry.specs.declared.command.RunCommand.{RunCommand}
 use Rattle.device_meaning.specs.Judging.{Judge}
-use Rattle.accepted_programs.proofs.Proved.{none_known, set_known}
-use Rattle.image_store.specs.Namespace.{ZonedNamespace}
+use Rattle.accepted_programs.proofs.Proved.{set_known}
 use Rattle.zone_resources.proofs.Proved.{runs_name_zones}
 use Rattle.device_meaning.specs.Admission.{admission_checks, destination_zone}
 use Rattle.device_meaning.specs.EventReplies.{Submission}
 use Rattle.device_meaning.specs.Happenings.{admitted_place, happens, place_left, turned, why_not_run}
 use Rattle.device_meaning.specs.Outcome.{Ending, Turn}
-use Rattle.device_meaning.specs.State.{Place, State, destination_of, free_place, holds_at, loaded_at, new_state}
+use Rattle.device_meaning.specs.State.{Place, State, destination_of, free_place, holds_at, loaded_at}
 use Rattle.device_events.specs.ToldEvents.{ToldEvent}
 use Rattle.device_meaning.proofs.Changes.{after_event, after_turn}
 
@@ -24,9 +22,6 @@ use Rattle.device_meaning.proofs.Changes.{after_event, after_turn}
 pub record AreApart (places : List (Option Place)) : Type 0 where
   pub apart : (j k : ℕ) (p q : Place) → get_or places j None ≡ Some p → get_or places k None ≡ Some q
       → p.destination ≡ q.destination → j ≡ k
-
-pub new_apart : (ns : ZonedNamespace) → AreApart (new_state ns).places
-new_apart ns = record { apart = λ j k p q at_j at_k same. absurd (none_known RUNS j p at_j) }
 
 -- ---- the zone that an active run appends to is held
 

@@ -2,13 +2,16 @@
 use Rattle.std.proofs.Common.{List}
 use Rattle.device_meaning.specs.Judging.{IsSoundJudge, Judge}
 use Rattle.device_events.specs.Replies.{Joins, ReplyWithData}
+use Rattle.device_meaning.specs.Beginning.{LeftIsWithinNeed}
 use Rattle.device_meaning.specs.Completions.{EachIsCompletedOnce, NoCompletionIsLost}
 use Rattle.device_meaning.specs.JoinedEvents.{EventsInParts, ServedAndDrained}
 use Rattle.device_meaning.specs.Laws.{BlocksLeaveOthers, DrainingEnds, EventsKeepForRuns, NoReplyIsTrapped, RestEnds, RestGoesOn, RestIsFew, RoomIsOpen, RoomStays, StatesAreSound, TurnsLeaveFewer}
-use Rattle.device_meaning.specs.Reached.{EventsKeepReached, NewIsReached, TurnsKeepReached}
+use Rattle.device_meaning.specs.Reached.{BeginningIsReached, EventsKeepReached, NewIsReached, TurnsKeepReached}
 use Rattle.device_meaning.specs.View.{SeenAtAdmission, SeenStays}
 use Rattle.device_meaning.proofs.Added as added
 pub use Rattle.device_meaning.proofs.Added.{added_grows, added_leaves, added_shape, is_added, open_on}
+use Rattle.device_meaning.proofs.Beginnings as beginnings
+pub use Rattle.device_meaning.proofs.Beginnings.{new_may_begin}
 pub use Rattle.device_meaning.proofs.BlockRuns.{IsDone, few_block_runs, few_frames}
 pub use Rattle.device_meaning.proofs.Changes.{HoldsOfEach, after_event, after_turn, of_entry, of_turn, turned_is}
 use Rattle.device_meaning.proofs.Completions as completions
@@ -24,8 +27,9 @@ pub use Rattle.device_meaning.proofs.Places.{AreApart, event_apart, held_at, tur
 use Rattle.device_meaning.proofs.Reached as reached
 use Rattle.device_meaning.proofs.Rests as rests
 pub use Rattle.device_meaning.proofs.Spelled.{HasBlocks, decoded_has}
-use Rattle.device_meaning.proofs.States as states
-pub use Rattle.device_meaning.proofs.States.{IsFine, admitted_room, all_exit, all_granted, block_runs_all_done, events_fine, few_source, groups_within, reached_fine, ready, some_block_run, turn_fine, turns_are, written}
+use Rattle.device_meaning.proofs.SoundStates as states
+pub use Rattle.device_meaning.proofs.SoundStates.{reached_fine}
+pub use Rattle.device_meaning.proofs.States.{IsFine, admitted_room, all_exit, all_granted, block_runs_all_done, events_fine, few_source, groups_within, ready, some_block_run, turn_fine, turns_are, written}
 use Rattle.device_meaning.proofs.TurnsFit as fitting
 use Rattle.device_meaning.proofs.Untrapped as untrapped
 pub use Rattle.device_meaning.proofs.Statuses.{success_other}
@@ -57,6 +61,9 @@ pub room_stays : RoomStays
 room_stays = fitting.room_stays
 
 module _ (judge : Judge) where
+  pub beginning_is_reached : BeginningIsReached judge
+  beginning_is_reached = reached.beginning_is_reached judge
+
   pub new_is_reached : NewIsReached judge
   new_is_reached = reached.new_is_reached judge
 
@@ -82,6 +89,9 @@ module _ (judge : Judge) where
   events_keep_for_runs = kept.events_keep_for_runs judge
 
   module _ (sound : IsSoundJudge judge) where
+    pub left_is_within_need : LeftIsWithinNeed judge
+    left_is_within_need = beginnings.left_is_within_need judge sound
+
     pub states_are_sound : StatesAreSound judge
     states_are_sound = states.states_are_sound judge sound
 

@@ -10,18 +10,16 @@ use Rattle.zone_state.specs.declared.status.Status.{Status}
 use Rattle.zone_state.specs.declared.status.TheConstants.Status.{INVALID_FIELD_IN_COMMAND, NO_SUCH_PROGRAM, SOURCE_NOT_WRITTEN, DESTINATION_NOT_OPEN, DESTINATION_LACKS_ROOM}
 use Rattle.zone_resources.specs.Holds.{is_destination}
 use Rattle.zone_resources.specs.declared.holds.Holds.{Holds}
-use Rattle.zone_resources.specs.declared.holds.TheConstants.{RUNS}
 use Rattle.common_definitions.specs.Checks.{first_failed}
 use Rattle.common_definitions.proofs.Proved.{demanded, passed}
 use Rattle.nvme_entry.specs.declared.command.LoadCommand.{LoadCommand}
 use Rattle.nvme_entry.specs.declared.command.RunCommand.{RunCommand}
-use Rattle.nvme_entry.specs.declared.program_slot.TheConstants.{PROGRAM_SLOTS}
 use Rattle.program_interface.specs.BlockSize.{IsBlockSize}
 use Rattle.program_interface.specs.RunSizes.{AreSizes, Sizes}
 use Rattle.program_meaning.specs.BlockRun.{BlockRun}
 use Rattle.program_meaning.specs.TrapFree.{IsExit, NeverTraps}
 use Rattle.instruction_set.specs.declared.instruction.Instruction.{Instruction}
-use Rattle.common_definitions.proofs.Proved.{all_at, all_drop, all_from, all_same, all_set, all_take}
+use Rattle.common_definitions.proofs.Proved.{all_at, all_drop, all_from, all_set, all_take}
 use Rattle.emit_append.specs.Need.{need}
 use Rattle.emit_append.specs.PackedLaw.{FitBlock}
 use Rattle.emit_append.proofs.Proved.{need_grows, need_is_enough}
@@ -32,17 +30,16 @@ use Rattle.image_store.proofs.Proved.{block_most}
 use Rattle.zns_commands.specs.Left as kept
 use Rattle.zns_commands.specs.Laws.{IsSpelled, NamespaceEvent, after}
 use Rattle.zns_commands.proofs.Proved.{held_destinations_are_left, events_keep_namespaces_sound, shapes_are_kept}
-use Rattle.accepted_programs.proofs.Proved.{none_known, set_known}
+use Rattle.accepted_programs.proofs.Proved.{set_known}
 use Rattle.device_meaning.specs.Admission.{Loaded, admission_checks, sizes_in, source_blocks, task_of}
 use Rattle.device_meaning.specs.EventReplies.{Submission}
 use Rattle.device_meaning.specs.BlockRuns.{Task, block_runs_of, groups_of, no_scratch, start_of}
 use Rattle.device_meaning.specs.Events.{AreEvents, CarriesBytes, Occurrence, state_after}
-use Rattle.device_meaning.specs.Laws.{IsAcceptedIn, IsAppended, RoomIn, StatesAreSound}
+use Rattle.device_meaning.specs.Laws.{IsAcceptedIn, IsAppended, RoomIn}
 use Rattle.device_meaning.specs.Happenings.{admitted_place, happens, just_loaded, keeping, load_checks, place_left, slots_left, turn_state, turned, why_not_run}
 use Rattle.device_meaning.specs.Judging.{IsSoundJudge, Judge, ProgramRefused}
 use Rattle.device_meaning.specs.Outcome.{Ending, EndsWithLast, Succeeds, Turn, appended_by, nothing_emitted, outcome}
-use Rattle.device_meaning.specs.Reached.{IsReached}
-use Rattle.device_meaning.specs.State.{Place, State, free_place, holds_at, loaded_at, new_state, place_at, with_namespace, with_place, with_slot}
+use Rattle.device_meaning.specs.State.{Place, State, free_place, holds_at, loaded_at, place_at, with_namespace, with_place, with_slot}
 use Rattle.device_events.specs.ToldEvents.{ToldEvent}
 use Rattle.device_meaning.proofs.Added.{added_block}
 use Rattle.device_meaning.proofs.BlockRuns.{IsDone, IsReady, few_block_runs, block_runs_done, some_block_runs}
@@ -52,13 +49,13 @@ use Rattle.device_meaning.proofs.FewBlocks.{HasFew, turns_few}
 use Rattle.device_meaning.proofs.GrantedAreas.{IsGrantedRun, block_runs_granted}
 use Rattle.device_meaning.proofs.Loads.{TakesSlot}
 use Rattle.device_meaning.proofs.Outcomes.{HasWhole, ends_with_last, no_groups, outcome_is_packed, turns_whole}
-use Rattle.device_meaning.proofs.Places.{AreApart, held_at, left_apart, new_apart, started_apart}
+use Rattle.device_meaning.proofs.Places.{AreApart, held_at, left_apart, started_apart}
 use Rattle.device_meaning.proofs.TurnsFit.{turn_appended, turn_sound}
 use Rattle.device_meaning.proofs.RunsFit.{Rooms, kept_rooms, now_room, turn_rooms}
 
 -- ---- the source
 
-zone_are : (ns : ZonedNamespace) (z : ℕ) → IsNamespace ns → AreBlocks ns.block (zone_at ns z).blocks
+pub zone_are : (ns : ZonedNamespace) (z : ℕ) → IsNamespace ns → AreBlocks ns.block (zone_at ns z).blocks
 zone_are ns z is = blocks_by_place ns.block (zone_at ns z).blocks (is.whole z) (is.bytes z)
 
 source_are : (ns : ZonedNamespace) (command : RunCommand) → IsNamespace ns → AreBlocks ns.block (source_blocks ns command)
@@ -75,7 +72,7 @@ few_source ns command =
 
 -- ---- groups
 
-groups_fit : (task : Task) (block_runs : List BlockRun) → AllByRecursion (IsDone task) block_runs
+pub groups_fit : (task : Task) (block_runs : List BlockRun) → AllByRecursion (IsDone task) block_runs
     → AllByRecursion (λ group. length group ≤ task.sizes.limit) (groups_of block_runs)
 groups_fit task [] h = tt
 groups_fit task (run ∷ block_runs) h = (h.0.exits.group, groups_fit task block_runs h.1)
@@ -119,16 +116,6 @@ module _ (judge : Judge) (sound : IsSoundJudge judge) (block : ℕ) where
     pub places : AllByRecursion PlaceIsFine s.places
     pub apart : AreApart s.places
     pub rooms : Rooms s
-
-  new_fine : (ns : ZonedNamespace) → IsNamespace ns → ns.block ≡ block → IsFine (new_state ns)
-  new_fine ns is size = record {
-    is = is;
-    size = size;
-    slots = all_same SlotIsFine PROGRAM_SLOTS None tt;
-    places = all_same PlaceIsFine RUNS None tt;
-    apart = new_apart ns;
-    rooms = λ j p at. absurd (none_known RUNS j p at);
-  }
 
   -- ---- commands and faults
 
@@ -178,7 +165,7 @@ module _ (judge : Judge) (sound : IsSoundJudge judge) (block : ℕ) where
 
   -- ---- Run
 
-  slot_ready : (ns : ZonedNamespace) (slot : Option Loaded) (command : RunCommand) → IsNamespace ns → ns.block ≡ block → SlotIsFine slot → is_some slot ≡ true
+  pub slot_ready : (ns : ZonedNamespace) (slot : Option Loaded) (command : RunCommand) → IsNamespace ns → ns.block ≡ block → SlotIsFine slot → is_some slot ≡ true
       → IsReady (task_of ns slot command)
   slot_ready ns None command is size h some = cc
   slot_ready ns (Some loaded) command is size h some = record {
@@ -350,7 +337,7 @@ module _ (judge : Judge) (sound : IsSoundJudge judge) (block : ℕ) where
   events_fine (o ∷ os) s h are = events_fine os (happens judge s o.starved o.event).state (event_fine s o.starved o.event h are.0) are.1
 
   -- each loaded program is accepted
-  programs : (s : State) → IsFine s → (slot : ℕ) (loaded : Loaded) → loaded_at s slot ≡ Some loaded → IsAcceptedIn judge s.namespace loaded
+  pub programs : (s : State) → IsFine s → (slot : ℕ) (loaded : Loaded) → loaded_at s slot ≡ Some loaded → IsAcceptedIn judge s.namespace loaded
   programs s h slot loaded at =
       let fine = subst SlotIsFine at (all_at SlotIsFine s.slots slot None h.slots tt) in
       let made : ℕ → Result (List (Option Instruction)) ProgramRefused = λ n. judge fine.bytes (record { block = n; limit = loaded.limit }) in
@@ -366,29 +353,9 @@ module _ (judge : Judge) (sound : IsSoundJudge judge) (block : ℕ) where
       }
 
   -- what the next turn of a run appends is appended
-  appends : (s : State) → IsFine s → (run : ℕ) (place : Place) (turn : Turn) (later : List Turn) → place_at s run ≡ Some place
+  pub appends : (s : State) → IsFine s → (run : ℕ) (place : Place) (turn : Turn) (later : List Turn) → place_at s run ≡ Some place
       → place.turns ≡ turn ∷ later → turn.blocks ≢ [] → IsAppended s.namespace place.destination turn.blocks
   appends s h run place turn later here first some =
       let are = subst AppendWhole first (subst PlaceIsFine here (place_fine s run h)) in
       turn_appended s.namespace place.destination turn.blocks turn.ending later h.is (subst (λ (n : ℕ). HasWhole n turn) (sym h.size) are.whole.0)
       are.few.0 (now_room s run place turn later h.apart h.rooms here first) some
-
--- each state that events leave is such a state
-pub reached_fine : (judge : Judge) (sound : IsSoundJudge judge) (s : State) (reached : IsReached judge s)
-    → IsFine judge sound reached.first.block s
-reached_fine judge sound s reached =
-    let ns = reached.first in
-    subst (IsFine judge sound ns.block) (sym reached.leaves)
-    (events_fine judge sound ns.block reached.events (new_state ns) (new_fine judge sound ns.block ns reached.namespace refl) reached.bytes)
-
-pub states_are_sound : (judge : Judge) → IsSoundJudge judge → StatesAreSound judge
-states_are_sound judge sound s reached =
-    let h = reached_fine judge sound s reached in
-    let block = reached.first.block in
-    record {
-      namespace = h.is;
-      programs = programs judge sound block s h;
-      rooms = h.rooms;
-      appends = appends judge sound block s h;
-      ends = λ run place here. (subst (PlaceIsFine judge sound block) here (place_fine judge sound block s run h)).ends;
-    }

@@ -17,7 +17,7 @@ use Rattle.device_events.specs.ToldEvents.{ToldEvent}
 use Rattle.device_events.specs.ToldEvents as told
 use Rattle.device_meaning.proofs.Changes.{HoldsOfEach, of_entry, of_turn}
 use Rattle.device_meaning.proofs.Statuses.{standard_other, success_other}
-use Rattle.device_meaning.proofs.States.{states_are_sound}
+use Rattle.device_meaning.proofs.SoundStates.{states_are_sound}
 
 abbrev IsOtherStatus : Status → Type 0
 IsOtherStatus status = status ≢ PROGRAM_TRAPPED

@@ -1,7 +1,8 @@
 -- The block runs of a run (profile): its program on one source block after another.
-use Rattle.std.specs.Prelude.{ℕ, Bool, false, ◌+◌, ◌==◌, List, [], ◌∷◌, get_or, map, replicate, take, Option, None, if◌then◌else◌}
+use Rattle.std.specs.Prelude.{ℕ, Bool, false, ◌≡◌, ◌+◌, ◌==◌, List, [], ◌∷◌, length, get_or, map, replicate, take, Option, None, if◌then◌else◌}
 use Rattle.std.specs.List.{last_or, sum_by}
 use Rattle.std.specs.Option.{option_map_or}
+use Rattle.common_definitions.specs.Bytes.{AreBytes}
 use Rattle.instruction_set.specs.Program.{instruction_count}
 use Rattle.instruction_set.specs.declared.instruction.Instruction.{Instruction}
 use Rattle.program_interface.specs.Context.{context_bytes}
@@ -53,6 +54,11 @@ goes_on _ = false
 abbrev pub until_ended : List BlockRun → List BlockRun
 until_ended [] = []
 until_ended (run ∷ block_runs) = run ∷ (if goes_on run.end then until_ended block_runs else [])
+
+-- as many bytes as a scratch area has
+pub record AreScratch (scratch : List ℕ) : Type 0 where
+  pub long : length scratch ≡ SCRATCH_BYTES
+  pub are : AreBytes scratch
 
 -- the scratch bytes that a run begins with
 abbrev pub no_scratch : List ℕ

@@ -5,11 +5,12 @@ pub mod Outcome
 pub mod State
 pub mod EventReplies
 pub mod Happenings
+pub mod View
+pub mod Beginning
 pub mod Draining
 pub mod Events
 pub mod Reached
 pub mod WantOfMemory
 pub mod JoinedEvents
 pub mod Completions
-pub mod View
 pub mod Laws

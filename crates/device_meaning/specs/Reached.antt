@@ -1,5 +1,6 @@
--- The states that events leave, from some namespace on.
+-- The states that events leave, from one on that a device may begin with.
 use Rattle.std.specs.Prelude.{ℕ, ◌≡◌, List}
+use Rattle.device_meaning.specs.Beginning.{MayBegin}
 use Rattle.device_meaning.specs.Judging.{Judge}
 use Rattle.image_store.specs.Namespace.{ZonedNamespace, IsNamespace}
 use Rattle.device_meaning.specs.Draining.{state_after_turns}
@@ -7,15 +8,19 @@ use Rattle.device_meaning.specs.Events.{AreEvents, Occurrence, state_after}
 use Rattle.device_meaning.specs.State.{State, new_state}
 
 module _ (judge : Judge) where
-  -- a state that events leave, whose data is bytes, of a device that began with a namespace
+  -- a state that events leave, whose data is bytes, of a device that began with what one may begin with
   pub record IsReached (s : State) : Type 0 where
-    pub first : ZonedNamespace
+    pub first : State
     pub events : List Occurrence
-    pub namespace : IsNamespace first
+    pub begins : MayBegin judge first
     pub bytes : AreEvents events
-    pub leaves : s ≡ state_after judge events (new_state first)
+    pub leaves : s ≡ state_after judge events first
 
--- a device that was just made is in such a state
+-- what a device may begin with is such a state
+abbrev pub BeginningIsReached : Judge → Type 0
+BeginningIsReached judge = (s : State) → MayBegin judge s → IsReached judge s
+
+-- and so is a device that was just made of a namespace
 abbrev pub NewIsReached : Judge → Type 0
 NewIsReached judge = (ns : ZonedNamespace) → IsNamespace ns → IsReached judge (new_state ns)
 

@@ -1,10 +1,11 @@
 //! Laws of the definitions. Each function does nothing: what it ensures is the law.
 
+ghost use Rattle.device_meaning.specs.Beginning.{LeftIsWithinNeed};
 ghost use Rattle.device_meaning.specs.Completions.{EachIsCompletedOnce, NoCompletionIsLost};
 ghost use Rattle.device_meaning.specs.JoinedEvents.{DrainedByTurns, DrainedInOneWay, EventsInParts, EventsJoin, OneReplyEach, ServedAndDrained, ServedInParts};
 ghost use Rattle.device_meaning.specs.Judging.{IsSoundJudge, JudgedIsFirst, JudgedIsUnrefused, judge_by};
 ghost use Rattle.device_meaning.specs.Laws.{BlocksLeaveOthers, DrainingEnds, EventsKeepForRuns, NoReplyIsTrapped, OutcomeIsPacked, RestAtAdmission, RestEnds, RestGoesOn, RestIsFew, RoomIsOpen, RoomStays, StatesAreSound, TurnsLeaveFewer};
-ghost use Rattle.device_meaning.specs.Reached.{EventsKeepReached, NewIsReached, TurnsKeepReached};
+ghost use Rattle.device_meaning.specs.Reached.{BeginningIsReached, EventsKeepReached, NewIsReached, TurnsKeepReached};
 ghost use Rattle.device_meaning.specs.View.{SeenAtAdmission, SeenStays};
 ghost use Rattle.device_meaning.specs.WantOfMemory.{OnlyLoadsWantMemory};
 
@@ -70,6 +71,19 @@ pub fn seen_stays()
 /// Every event keeps, for each active run, the blocks of its source, its program and the namespace's shape.
 pub fn events_keep_for_runs<D: Domain>()
     ensures { EventsKeepForRuns (judge_by D.operations) }
+{}
+
+/// What is left of a run that was begun comes to no more blocks than its source blocks still to come may need, whatever its program.
+pub fn left_is_within_need<D: Domain>()
+    ensures { LeftIsWithinNeed (judge_by D.operations) }
+{
+    domains_judge_soundly::<D>();
+}
+
+/// What a device may begin with is a state that events leave, none of them: so what holds of these holds of all that a device
+/// comes to which begins with what another kept.
+pub fn beginning_is_reached<D: Domain>()
+    ensures { BeginningIsReached (judge_by D.operations) }
 {}
 
 /// A device that was just made is in a state that events leave.

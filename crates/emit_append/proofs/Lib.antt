@@ -5,6 +5,7 @@ mod FramesRead
 mod Layouts
 mod LowestRefused
 mod Needs
+mod NeedsBehind
 mod UnpackedFrames
 mod GroupsOfBlocks
 mod Puts

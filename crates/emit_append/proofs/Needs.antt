@@ -19,11 +19,11 @@ zero_or_more a zero = inl (omega arith)
 zero_or_more a (suc l) = inr (omega (arith, mul-suc a l))
 
 -- none that may be as long as the group fits where the group doesn't
-none_fits : (fit limit room long : ℕ) → fit * limit ≤ room → room < long → long ≤ limit → fit ≡ 0
+pub none_fits : (fit limit room long : ℕ) → fit * limit ≤ room → room < long → long ≤ limit → fit ≡ 0
 none_fits zero limit room long fits longer within = refl
 none_fits (suc fit) limit room long fits longer within = absurd (omega (arith, suc-mul fit limit))
 
-one_less : (fit limit room long : ℕ) → fit * limit ≤ room → long ≤ limit → (fit - 1) * limit ≤ room - long
+pub one_less : (fit limit room long : ℕ) → fit * limit ≤ room → long ≤ limit → (fit - 1) * limit ≤ room - long
 one_less zero limit room long fits within = omega arith
 one_less (suc fit) limit room long fits within = let left : suc fit - 1 ≡ fit = omega arith in rw left (omega (arith, suc-mul fit limit))
 
@@ -35,7 +35,7 @@ one_block_more e more later few =
     (zero_or_more (suc e) later)
 
 -- Groups of at most limit bytes, `suc e` of which fit into a block and `fit` into the room that is left, begin few blocks.
-blocks-few : (block limit e room fit : ℕ) (groups : List (List ℕ)) → suc e * limit ≤ block → fit * limit ≤ room →
+pub blocks-few : (block limit e room fit : ℕ) (groups : List (List ℕ)) → suc e * limit ≤ block → fit * limit ≤ room →
     AllByRecursion (λ group. length group ≤ limit) groups →
     suc e * length (laid_out block room groups).later ≤ (length groups - fit) + e
 blocks-few block limit e room fit [] each fits all = omega arith
@@ -49,12 +49,12 @@ blocks-few block limit e room fit (g ∷ gs) each fits all =
     (cases_lt room (length g))
 
 -- where no group has a byte, no block is begun
-none_begun : (block room : ℕ) (groups : List (List ℕ)) → AllByRecursion (λ group. length group ≤ 0) groups → (laid_out block room groups).later ≡ []
+pub none_begun : (block room : ℕ) (groups : List (List ℕ)) → AllByRecursion (λ group. length group ≤ 0) groups → (laid_out block room groups).later ≡ []
 none_begun block room [] all = refl
 none_begun block room ([] ∷ gs) all = ap (λ l. l.later) (laid-empty block room gs) ∙ none_begun block room gs all.1
 none_begun block room ((x ∷ xs) ∷ gs) all = absurd (omega (arith, all.0))
 
-quotient_below : (many groups e : ℕ) → suc e * many ≤ groups + e → many ≤ div_ceil groups (suc e)
+pub quotient_below : (many groups e : ℕ) → suc e * many ≤ groups + e → many ≤ div_ceil groups (suc e)
 quotient_below many groups e few =
     let whole = div_ceil_times groups (suc e) (omega arith) in
     let turned = mul_comm (div_ceil groups (suc e)) (suc e) in
@@ -69,7 +69,7 @@ filled-few block limit (suc e) groups some fits all =
     quotient_below (length (block_fillings block groups)) (length groups) e (omega (arith, blocks-few block limit e 0 0 groups fits (omega arith) all))
 
 -- what `need` is where a group may have bytes
-need-some : (groups block limit : ℕ) → need groups (record { block = block; limit = suc limit }) ≡ div_ceil groups (block / suc limit)
+pub need-some : (groups block limit : ℕ) → need groups (record { block = block; limit = suc limit }) ≡ div_ceil groups (block / suc limit)
 need-some groups block limit = search (rules, nat_tests)
 
 enough : (block limit : ℕ) (groups : List (List ℕ)) → limit ≤ block → AllByRecursion (λ group. length group ≤ limit) groups →
@@ -110,7 +110,7 @@ blocks-many block d room fit (suc count) group most left =
     (cases_lt room (length group))
 
 -- the least that so many groups come to
-quotient_above : (many groups e : ℕ) → groups ≤ suc e * many → div_ceil groups (suc e) ≤ many
+pub quotient_above : (many groups e : ℕ) → groups ≤ suc e * many → div_ceil groups (suc e) ≤ many
 quotient_above many groups e most =
     let whole = div_ceil_times groups (suc e) (omega arith) in
     let turned = mul_comm (div_ceil groups (suc e)) (suc e) in

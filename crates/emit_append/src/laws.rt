@@ -2,7 +2,7 @@
 
 ghost use Rattle.emit_append.specs.Unpacking.{PackedFramesReadBack, RefusedIsLowest, UnpackedIsFrames};
 ghost use Rattle.emit_append.specs.GoingOn.{PackingGoesOn};
-ghost use Rattle.emit_append.specs.Need.{NeedGrows, NeedIsEnough, NeedIsMet};
+ghost use Rattle.emit_append.specs.Need.{NeedBehindFalls, NeedBehindGrows, NeedBehindIsEnough, NeedGrows, NeedIsEnough, NeedIsMet};
 ghost use Rattle.emit_append.specs.OutputBlocks.{OutputBlocksAreBytes, OutputBlocksAreWhole};
 ghost use Rattle.emit_append.specs.PackedLaw.{PackedAsDescribed};
 ghost use Rattle.emit_append.specs.Packer.{LendingIsFinishing, LendingIsPutting, PuttingIsPacking};
@@ -62,6 +62,19 @@ pub fn need_is_met()
 /// More groups need no fewer blocks.
 pub fn need_grows()
     ensures { NeedGrows }
+{}
+
+/// No packing of groups within the limit, which is at most a block, has more blocks behind bytes of a block that is begun than
+/// `blocks_needed_behind` tells.
+pub fn need_behind_is_enough()
+    ensures { NeedBehindIsEnough }
+{}
+
+/// More groups need no fewer blocks there, and what was enough stays enough: with each group that is put, so many blocks fewer are
+/// needed as it releases, at least.
+pub fn need_behind_falls()
+    ensures more { NeedBehindGrows }
+    ensures one_fewer { NeedBehindFalls }
 {}
 
 /// What is packed of groups of frames, none of a record without bytes, reads back as the records of all of them, in order,

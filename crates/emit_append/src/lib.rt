@@ -10,7 +10,7 @@ mod refusal;
 mod unpacking;
 
 pub use fault::UnpackFault;
-pub use need::blocks_needed;
+pub use need::{blocks_needed, blocks_needed_behind};
 pub use packer::Packer;
 pub use program_interface::{BlockSize, RunSizes};
 pub use refusal::FrameRefusal;

@@ -44,10 +44,10 @@ outcome_unpacks judge sound s reached sub command run admitted =
     let source = source_blocks s.namespace command in
     let block_runs = block_runs_of task source in
     let block = task.sizes.block in
-    let done = block_runs_all_done judge sound reached.first.block sub s command fine none in
+    let done = block_runs_all_done judge sound reached.first.namespace.block sub s command fine none in
     let given = emits task block_runs done in
-    let sizes = (ready judge sound reached.first.block sub s command fine none).sizes in
-    let whole = (outcome_is_packed task source (all_exit judge sound reached.first.block sub s command fine none)).blocks in
+    let sizes = (ready judge sound reached.first.namespace.block sub s command fine none).sizes in
+    let whole = (outcome_is_packed task source (all_exit judge sound reached.first.namespace.block sub s command fine none)).blocks in
     let fit = subst (FitBlock block) given.are.groups (groups_within task block_runs sizes.fits done) in
     let back = packed_frames_read_back block given.records
     (omega (arith, block_some fine.is.shape)) (omega (arith, block_most fine.is.shape)) given.some fit in (

@@ -16,6 +16,7 @@ use Rattle.pushdown.specs.Pushdown.{IsAdmitted}
 use Rattle.device_meaning.specs.Reached.{IsReached}
 use Rattle.device_meaning.specs.State.{State, new_state}
 use Rattle.device_events.specs.ToldEvents as told
+use Rattle.device_meaning.proofs.Proved.{new_may_begin}
 use Rattle.pushdown.proofs.ExampleEvents.{zone_of}
 use Rattle.pushdown.proofs.ExampleLoads.{load_entry}
 use Rattle.pushdown.proofs.Examples.{block_of, entry_of, four_zones, leave, move, run_entry}
@@ -75,9 +76,9 @@ module _ {D : Type 0} (operations : Operations D) where
 
   pub is_reached : IsReached (judge_by operations) state
   is_reached = record {
-    first = all_empty four;
+    first = new_state (all_empty four);
     events = events;
-    namespace = empty_is_namespace four is_shape;
+    begins = new_may_begin (judge_by operations) (all_empty four) (empty_is_namespace four is_shape);
     bytes = (block_is, (no_bytes, (program_is, tt)));
     leaves = refl;
   }

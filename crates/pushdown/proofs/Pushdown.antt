@@ -168,7 +168,7 @@ pub pushdown : (judge : Judge) → IsSoundJudge judge → Pushdown judge
 pushdown judge sound s reached queue entry input starved command run after admitted =
     let sub = submission_of queue entry input in
     let fine = reached_fine judge sound s reached in
-    let block = reached.first.block in
+    let block = reached.first.namespace.block in
     let task = task_of s.namespace (loaded_at s command.slot) command in
     let block_runs = block_runs_of task (source_blocks s.namespace command) in
     let none = admitted.passed in

@@ -179,7 +179,7 @@ module _ (judge : Judge) (sound : IsSoundJudge judge) (s : State) (reached : IsR
     long : length (last_scratch all_block_runs) ≡ 1024
     long =
         let fine = reached_fine judge sound s reached in
-        let block = reached.first.block in
+        let block = reached.first.namespace.block in
         let some = some_block_run judge sound block sub s command fine admitted.passed (decoded_has entry (commands.Run command) admitted.asked) in
         last_scratch_long (task judge s queue entry input starved command run events) all_block_runs
         (block_runs_all_done judge sound block sub s command fine admitted.passed) some

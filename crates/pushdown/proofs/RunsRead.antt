@@ -40,7 +40,7 @@ admitted_bytes s sub command run admitted =
 module _ (judge : Judge) (sound : IsSoundJudge judge) (s : State) (reached : IsReached judge s)
     (queue : ℕ) (entry input : List ℕ) (starved : Bool) (command : RunCommand) (run : ℕ) (events later : List Occurrence) where
   abbrev block : ℕ
-  block = reached.first.block
+  block = reached.first.namespace.block
 
   abbrev sub : Submission
   sub = submission_of queue entry input

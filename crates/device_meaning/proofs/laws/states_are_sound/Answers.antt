@@ -1,5 +1,5 @@
 use Rattle.device_meaning.specs.Judging.{judge_by}
-use Rattle.device_meaning.proofs.States.{states_are_sound}
+use Rattle.device_meaning.proofs.SoundStates.{states_are_sound}
 use Rattle.device_meaning.proofs.laws.states_are_sound.Goals as goal
 
 pub returns : goal.returns

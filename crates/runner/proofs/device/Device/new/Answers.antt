@@ -1,5 +1,8 @@
-use Rattle.std.proofs.Common.{[]}
+use Rattle.std.proofs.Common.{sym, subst}
+use Rattle.device_meaning.specs.Judging.{interval_judge}
+use Rattle.device_meaning.specs.Reached.{IsReached}
+use Rattle.device_meaning.proofs.Proved.{new_is_reached}
 use Rattle.runner.proofs.device.Device.new.Goals as goal
 
 pub invariant_of-result : goal.invariant_of-result
-invariant_of-result c = record { first = c.args.image; events = []; namespace = c.new.ensures.sound; bytes = tt; leaves = c.new.ensures.value }
+invariant_of-result c = subst (IsReached interval_judge) (sym c.new.ensures.value) (new_is_reached interval_judge c.args.image c.new.ensures.sound)
