@@ -6,3 +6,6 @@ use Rattle.runner.proofs.device.Device.new.Goals as goal
 
 pub invariant_of-result : goal.invariant_of-result
 invariant_of-result c = subst (IsReached interval_judge) (sym c.new.ensures.value) (new_is_reached interval_judge c.args.image c.new.ensures.sound)
+
+pub returns-clause-reached : goal.returns-clause-reached
+returns-clause-reached c = subst (IsReached interval_judge) (sym c.new.ensures.value) (new_is_reached interval_judge c.args.image c.new.ensures.sound)
