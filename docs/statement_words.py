@@ -33,6 +33,7 @@ MEANINGS: Dict[str, str] = {
     "tt": "the value of `Unit {0}`",
     "⊥": "what never holds",
     "¬": "`¬ A`: A doesn't hold",
+    "◌⊎◌": "`A ⊎ B`: one of the two holds, or both",
     "◌≡◌": "`a ≡ b`: they are equal",
     "◌≢◌": "`a ≢ b`: they aren't",
     "ℕ": "the whole numbers from 0 on",
