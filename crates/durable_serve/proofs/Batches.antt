@@ -1,5 +1,5 @@
 -- A batch that is done, and what ends it.
-use Rattle.std.proofs.Common.{◌≡◌, ℕ, Bool, true, false, List, Option, Some, [], ◌∷◌, ◌++◌, length, refl, sym, ap, subst, ◌∙◌, arith}
+use Rattle.std.proofs.Common.{◌≡◌, ℕ, Bool, false, List, Option, Some, [], ◌∷◌, ◌++◌, append-nil, length, refl, sym, ap, subst, ◌∙◌}
 use Rattle.std.specs.List.{flat_map}
 use Rattle.std.specs.Io.KnownBytes.{Appends}
 use Rattle.stored_file.specs.File.{FileState, LeavesOnly}
@@ -7,31 +7,30 @@ use Rattle.stored_file.proofs.Moments.{weaken}
 use Rattle.device_meaning.specs.State.{State}
 use Rattle.event_frames.specs.Frames.{drained_frame, request_frame, saved_frame}
 use Rattle.event_frames.specs.Requests as request
-use Rattle.event_frames.specs.Streams.{IsFault, behind}
+use Rattle.event_frames.specs.Streams.{IsFault}
 use Rattle.event_frames.specs.declared.fault.StreamFault.{StreamFault}
 use Rattle.event_frames.specs.declared.fault.StreamFault.TheVariants as stream
 use Rattle.durable_device.specs.Kept.{IsKept}
 use Rattle.durable_device.specs.Serving.{HasServed, IsAfterSome, IsBeforeOrAfter}
 use Rattle.durable_device.specs.declared.frame_device.Given.{Given}
-use Rattle.durable_serve.specs.Served.{Adds, AreCounted, Asked, Drained, FailsIn, IsBatch, IsStreamFault, IsUnanswered, Saved, Server, StopsAt, Turned, frames_of, laid, seen, shown, turn_frames, wanted}
+use Rattle.durable_serve.specs.Served.{Adds, AreCounted, Asked, Drained, FailsIn, HasGiven, InDrained, InTurns, IsBatch, IsStreamFault, IsUnanswered, KeepsAnswered, Saved, Server, StopsAt, StopsGiving, frames_of, laid, round_batches, seen, shown, wanted}
 use Rattle.durable_serve.specs.declared.fault.ServeFault.{ServeFault}
 use Rattle.durable_serve.specs.declared.fault.ServeFault.TheVariants as fault
 use Rattle.durable_serve.specs.declared.gathering.End.{End}
 use Rattle.durable_serve.specs.declared.gathering.End.TheVariants as end
-use Rattle.durable_serve.specs.steps.Parts.{EndsBatch, Finishes, Gathers, IsSound, StopsFinishing, end_bytes}
+use Rattle.durable_serve.specs.steps.Parts.{EndsBatch, Finishes, Gathers, GaveReplies, IsSound, StopsFinishing, end_bytes}
 use Rattle.durable_serve.proofs.Frames.{none_else}
-use Rattle.durable_serve.proofs.Joining.{join, join_stop, one_added, quiet, while_batch}
+use Rattle.durable_serve.proofs.Joining.{counted_none, join, join_stop, keeps_begun, keeps_on, one_added, quiet, rounds_lead, while_batch}
 use Rattle.durable_serve.proofs.Shown.{shown_are}
-use Rattle.durable_serve.proofs.Stopping.{stop_answer, stop_events, stop_idle, stop_turns}
+use Rattle.durable_serve.proofs.Stopping.{stop_events, stop_idle, stop_saved}
 
 -- a batch whose replies are written
 pub batch_done : (turns : Bool) (frames : List (List ℕ)) (s t : State) (before after : Option (List ℕ)) (given : List (Option Given)) (answer : List ℕ)
     → HasServed frames s t given → answer ≡ flat_map (shown turns) given → Appends before after answer
-    → IsBatch (wanted turns) frames (seen s before) (seen t after)
+    → GaveReplies turns frames (seen s before) (seen t after) given
 batch_done turns frames s t before after given answer served is wrote = record {
-  given = given;
-  served = served;
-  written = subst (Appends before after) (is ∙ shown_are turns given) wrote;
+  batch = record { given = given; served = served; written = subst (Appends before after) (is ∙ shown_are turns given) wrote };
+  replies = refl;
 }
 
 module _ (bytes : List ℕ) (p : ℕ) (frames : List (List ℕ)) (held : List ℕ) (p' : ℕ) (old mid : Server) (a b : FileState)
@@ -101,19 +100,49 @@ pub finish_fault : (f : StreamFault) (s : Server) (gate : ℕ) (file : FileState
 finish_fault f s gate file kept rest place left is = stop_idle rest place left s (fault.Stream f) gate file kept (fault_idle f rest place left is)
 
 -- a drain does
-module _ (turns : ℕ) (s mid : Server) (gate : ℕ) (a b : FileState) (adds : (held : List ℕ) (place : ℕ) → Adds held place held place s mid a b)
-    (kept : IsKept mid.state gate b) where
-  pub finish_drain : (given : ℕ) (new : Server) → new.state ≡ mid.state → Appends mid.written new.written (drained_frame given)
-      → Finishes (end.Drain turns) s new a b
-  finish_drain given new same wrote rest place place' counted =
-      let bytes : List ℕ = request_frame (request.Drained turns) ++ rest in
-      join bytes bytes rest place place place' s mid new a b b (adds bytes place)
-      (one_added (Drained turns given) rest place place' mid new b b (same, wrote) counted (quiet mid.state gate b kept))
+module _ (most : ℕ) (s mid : Server) (a b : FileState) where
+  pub finish_drain : (given : ℕ) (new : Server) → HasGiven most s mid a b given → new.state ≡ mid.state
+      → Appends mid.written new.written (drained_frame given) → Finishes (end.Drain most) s new a b
+  finish_drain given new has same wrote rest place place' counted =
+      one_added (Drained most given has.rounds) rest place place' s new a b (record { between = mid; turns = has.turns; same = same; told = wrote }) counted
+      has.moments
 
-  pub drain_stops : (new : Server) (why : ServeFault) → new.state ≡ mid.state → IsUnanswered why → StopsFinishing (end.Drain turns) s new a b why
-  drain_stops new why same unanswered rest place left is =
-      let bytes : List ℕ = request_frame (request.Drained turns) ++ rest in
-      join_stop bytes bytes place place left s mid new a b b why (adds bytes place) (stop_answer bytes place left mid why new gate b kept same unanswered)
+  -- its turns aren't all given
+  pub turns_stop : (why : ServeFault) → StopsGiving most s mid a b why → StopsFinishing (end.Drain most) s mid a b why
+  turns_stop why stops rest place left is = record {
+    steps = [];
+    held = request_frame (request.Drained most) ++ rest;
+    place' = place;
+    mid = s;
+    rounds = stops.rounds;
+    between = stops.between;
+    begun = stops.begun;
+    stream_is = refl;
+    counted = counted_none place;
+    done = refl;
+    ends = InTurns most rest refl stops.stops;
+    crash = stops.crash;
+  }
+
+  -- they are, and it can't be told
+  pub drain_untold : (given gate : ℕ) (new : Server) (why : ServeFault) → HasGiven most s mid a b given → IsKept mid.state gate b → new.state ≡ mid.state
+      → IsUnanswered why → StopsFinishing (end.Drain most) s new a b why
+  drain_untold given gate new why has kept same unanswered rest place left is = record {
+    steps = [];
+    held = request_frame (request.Drained most) ++ rest;
+    place' = place;
+    mid = s;
+    rounds = has.rounds;
+    between = mid;
+    begun = [];
+    stream_is = refl;
+    counted = counted_none place;
+    done = refl;
+    ends = InDrained most given rest refl has.turns refl same unanswered;
+    crash = subst (λ (l : List (List (List ℕ))). KeepsAnswered l [] s.state mid.state a b) (append-nil (round_batches has.rounds))
+        (keeps_on (round_batches has.rounds) [] [] s.state mid.state mid.state a b b (rounds_lead has.rounds given s mid has.turns.went.done) has.moments
+        (keeps_begun [] mid.state b b (quiet mid.state gate b kept)));
+  }
 
 -- a save does
 module _ (s new : Server) (gate : ℕ) (file : FileState) (kept : IsKept s.state gate file) (same : new.state ≡ s.state) where
@@ -123,22 +152,4 @@ module _ (s new : Server) (gate : ℕ) (file : FileState) (kept : IsKept s.state
 
   pub save_stops : (why : ServeFault) → IsUnanswered why → StopsFinishing end.Save s new file file why
   save_stops why unanswered rest place left is =
-      stop_answer (request_frame request.Saved ++ rest) place left s why new gate file kept same unanswered
-
--- ---- turns
-
-module _ (frames : List (List ℕ)) (runs : List ℕ) (are : frames ≡ turn_frames runs) (old new : Server) (a b : FileState)
-    (moments : LeavesOnly a b (IsBeforeOrAfter frames old.state)) (held : List ℕ) (place : ℕ) where
-  pub turns_done : IsBatch (wanted true) frames old new → Adds held place held place old new a b
-  turns_done is =
-      one_added (Turned runs) held place place old new a b
-      (subst (λ (f : List (List ℕ)). IsBatch (wanted true) f old new) are is)
-      (λ n at. at ∙ ap (λ (m : ℕ). behind 0 m) (omega arith))
-      (subst (λ (f : List (List ℕ)). LeavesOnly a b (IsAfterSome (f ∷ []) old.state)) are
-      (weaken a b (IsBeforeOrAfter frames old.state) (IsAfterSome (frames ∷ []) old.state) moments (while_batch frames old.state)))
-
-  pub turns_fail : (why : ServeFault) (left : Option (List ℕ)) → FailsIn why frames old new → StopsAt held place left old new a b why
-  turns_fail why left fails =
-      stop_turns runs held place left old new a b why
-      (subst (λ (f : List (List ℕ)). LeavesOnly a b (IsBeforeOrAfter f old.state)) are moments)
-      (subst (λ (f : List (List ℕ)). FailsIn why f old new) are fails)
+      stop_saved (request_frame request.Saved ++ rest) place left s why rest new gate file kept refl same unanswered

@@ -20,7 +20,7 @@ use Rattle.durable_device.specs.FrameEvents.{frame_event}
 use Rattle.durable_device.specs.Kept.{IsKept}
 use Rattle.durable_device.specs.Machine.{IsDeviceBase, next_state}
 use Rattle.durable_device.specs.Serving.{IsAfterSome, IsBeforeOrAfter, Leads}
-use Rattle.durable_serve.specs.Served.{Adds, AreCounted, AreDone, Asked, Drained, IsBatch, IsStep, Saved, Server, Step, StopsAt, Turned, batches_of, frames_of, step_batch, step_bytes, stream_of, turn_frames}
+use Rattle.durable_serve.specs.Served.{Adds, AreCounted, AreDone, AreRounds, Asked, Drained, IsBatch, IsStep, KeepsAnswered, Saved, Server, Step, StopsAt, batches_of, frames_of, round_batches, step_batches, step_bytes, stream_of, turn_frames}
 use Rattle.durable_serve.specs.declared.fault.ServeFault.{ServeFault}
 
 -- ---- what events lead to
@@ -38,24 +38,33 @@ leads_on first later old mid new a b = (
 )
 
 batch_leads : (chosen : List ReplyWithData → List ReplyWithData) (frames : List (List ℕ)) (old new : Server) → IsBatch chosen frames old new
-    → Leads (joined (frames ∷ [])) old.state new.state
-batch_leads chosen frames old new is =
-    subst (λ (l : List (List ℕ)). Leads l old.state new.state) (sym (append-nil frames)) (is.served.occurrences, is.served.told, is.served.state)
+    → Leads frames old.state new.state
+batch_leads chosen frames old new is = (is.served.occurrences, is.served.told, is.served.state)
+
+one_leads : (frames : List (List ℕ)) (old new : State) → Leads frames old new → Leads (joined (frames ∷ [])) old new
+one_leads frames old new led = subst (λ (l : List (List ℕ)). Leads l old new) (sym (append-nil frames)) led
 
 same_leads : (old new : State) → new ≡ old → Leads [] old new
 same_leads old new same = subst (λ (s : State). Leads [] old s) (sym same) (leads_none old)
 
-step_leads : (step : Step) (old new : Server) → IsStep step old new → Leads (joined (step_batch step)) old.state new.state
-step_leads (Asked events) old new is = batch_leads _ (frames_of events) old new is.1
-step_leads (Turned runs) old new is = batch_leads _ (turn_frames runs) old new is
-step_leads (Drained turns given) old new is = same_leads old.state new.state is.0
+pub rounds_lead : (rounds : List (List ℕ)) (given : ℕ) (old new : Server) → AreRounds rounds given old new
+    → Leads (joined (round_batches rounds)) old.state new.state
+rounds_lead [] given old new (none, same) = same_leads old.state new.state (ap (λ (s : Server). s.state) same)
+rounds_lead (runs ∷ rounds) given old new (were, more, mid, one, rest, sum) =
+    leads_on (turn_frames runs) (joined (round_batches rounds)) old.state mid.state new.state (batch_leads _ (turn_frames runs) old mid one.batch)
+    (rounds_lead rounds more mid new rest)
+
+step_leads : (step : Step) (old new : Server) → IsStep step old new → Leads (joined (step_batches step)) old.state new.state
+step_leads (Asked events) old new is = one_leads (frames_of events) old.state new.state (batch_leads _ (frames_of events) old new is.1)
+step_leads (Drained most given rounds) old new is =
+    subst (λ (s : State). Leads (joined (round_batches rounds)) old.state s) (sym is.same) (rounds_lead rounds given old is.between is.turns.went.done)
 step_leads Saved old new is = same_leads old.state new.state is.0
 
 done_leads : (steps : List Step) (old new : Server) → AreDone steps old new → Leads (joined (batches_of steps)) old.state new.state
 done_leads [] old new same = same_leads old.state new.state (ap (λ (s : Server). s.state) same)
 done_leads (step ∷ steps) old new (mid, one, rest) =
-    subst (λ (l : List (List ℕ)). Leads l old.state new.state) (sym (joined-append (step_batch step) (batches_of steps)))
-    (leads_on (joined (step_batch step)) (joined (batches_of steps)) old.state mid.state new.state (step_leads step old mid one) (done_leads steps mid new rest))
+    subst (λ (l : List (List ℕ)). Leads l old.state new.state) (sym (joined-append (step_batches step) (batches_of steps)))
+    (leads_on (joined (step_batches step)) (joined (batches_of steps)) old.state mid.state new.state (step_leads step old mid one) (done_leads steps mid new rest))
 
 done_on : (xs ys : List Step) (a b c : Server) → AreDone xs a b → AreDone ys b c → AreDone (xs ++ ys) a c
 done_on [] ys a b c same done = subst (λ (s : Server). AreDone ys s c) same done
@@ -100,7 +109,7 @@ after_later xs ys old mid c led (n, within, s, then, stands) =
       stands,
     )
 
-moments_on : (a b c : FileState) (xs ys : List (List (List ℕ))) (old mid : State) → Leads (joined xs) old mid → LeavesOnly a b (IsAfterSome xs old)
+pub moments_on : (a b c : FileState) (xs ys : List (List (List ℕ))) (old mid : State) → Leads (joined xs) old mid → LeavesOnly a b (IsAfterSome xs old)
     → LeavesOnly b c (IsAfterSome ys mid) → LeavesOnly a c (IsAfterSome (xs ++ ys) old)
 moments_on a b c xs ys old mid led first second =
     then_on a b c (IsAfterSome (xs ++ ys) old) (weaken a b (IsAfterSome xs old) (IsAfterSome (xs ++ ys) old) first (after_first xs ys old))
@@ -128,14 +137,14 @@ none_added s gate file held place kept = record {
 
 -- one step
 pub one_added : (step : Step) (held : List ℕ) (place place' : ℕ) (old new : Server) (a b : FileState) → IsStep step old new
-    → AreCounted place (length (step_bytes step)) place' → LeavesOnly a b (IsAfterSome (step_batch step) old.state)
+    → AreCounted place (length (step_bytes step)) place' → LeavesOnly a b (IsAfterSome (step_batches step) old.state)
     → Adds (step_bytes step ++ held) place held place' old new a b
 one_added step held place place' old new a b is counted moments = record {
   steps = step ∷ [];
   stream_is = ap (λ (l : List ℕ). l ++ held) (sym (append-nil (step_bytes step)));
   counted = subst (λ (l : List ℕ). AreCounted place (length l) place') (sym (append-nil (step_bytes step))) counted;
   done = (new, is, refl);
-  moments = subst (λ (l : List (List (List ℕ))). LeavesOnly a b (IsAfterSome l old.state)) (sym (append-nil (step_batch step))) moments;
+  moments = subst (λ (l : List (List (List ℕ))). LeavesOnly a b (IsAfterSome l old.state)) (sym (append-nil (step_batches step))) moments;
 }
 
 -- some steps, and then some more
@@ -151,23 +160,44 @@ join bytes held held' p p' p'' x y z a b c first then = record {
       first.counted then.counted
       (ap length (flat_map-append step_bytes first.steps then.steps) ∙ length-append (stream_of first.steps) (stream_of then.steps));
   done = done_on first.steps then.steps x y z first.done then.done;
-  moments = subst (λ (l : List (List (List ℕ))). LeavesOnly a c (IsAfterSome l x.state)) (sym (flat_map-append step_batch first.steps then.steps))
+  moments = subst (λ (l : List (List (List ℕ))). LeavesOnly a c (IsAfterSome l x.state)) (sym (flat_map-append step_batches first.steps then.steps))
       (moments_on a b c (batches_of first.steps) (batches_of then.steps) x.state y.state (done_leads first.steps x y first.done) first.moments then.moments);
 }
 
--- and then it stops
+-- ---- what is answered is kept
+
+-- nothing is answered yet
+pub keeps_begun : (begun : List (List (List ℕ))) (s : State) (a b : FileState) → LeavesOnly a b (IsAfterSome begun s) → KeepsAnswered [] begun s s a b
+keeps_begun begun s a b moments = record { moments = moments; since = a.moment; not_later = moments.later; kept = moments.each }
+
+-- batches were, before others
+pub keeps_on : (xs ys begun : List (List (List ℕ))) (old mid between : State) (a b c : FileState) → Leads (joined xs) old mid
+    → LeavesOnly a b (IsAfterSome xs old) → KeepsAnswered ys begun mid between b c → KeepsAnswered (xs ++ ys) begun old between a c
+keeps_on xs ys begun old mid between a b c led first then = record {
+  moments = subst (λ (l : List (List (List ℕ))). LeavesOnly a c (IsAfterSome l old)) (sym (append_assoc xs ys begun))
+      (moments_on a b c xs (ys ++ begun) old mid led first then.moments);
+  since = then.since;
+  not_later = then.not_later;
+  kept = then.kept;
+}
+
+-- ---- steps, and then it stops
+
 pub join_stop : (bytes held : List ℕ) (p p' : ℕ) (left : Option (List ℕ)) (x y z : Server) (a b c : FileState) (why : ServeFault) → Adds bytes p held p' x y a b
     → StopsAt held p' left y z b c why → StopsAt bytes p left x z a c why
 join_stop bytes held p p' left x y z a b c why first then =
-    let same : batches_of first.steps ++ (batches_of then.steps ++ then.tail) ≡ batches_of (first.steps ++ then.steps) ++ then.tail =
-    sym (append_assoc (batches_of first.steps) (batches_of then.steps) then.tail)
-    ∙ ap (λ (l : List (List (List ℕ))). l ++ then.tail) (sym (flat_map-append step_batch first.steps then.steps)) in
+    let rounds : List (List (List ℕ)) = round_batches then.rounds in
+    let same : batches_of first.steps ++ (batches_of then.steps ++ rounds) ≡ batches_of (first.steps ++ then.steps) ++ rounds =
+    sym (append_assoc (batches_of first.steps) (batches_of then.steps) rounds)
+    ∙ ap (λ (l : List (List (List ℕ))). l ++ rounds) (sym (flat_map-append step_batches first.steps then.steps)) in
     record {
       steps = first.steps ++ then.steps;
       held = then.held;
       place' = then.place';
+      mid = then.mid;
+      rounds = then.rounds;
       between = then.between;
-      tail = then.tail;
+      begun = then.begun;
       stream_is =
           first.stream_is ∙ ap (λ (l : List ℕ). stream_of first.steps ++ l) then.stream_is
           ∙ sym (append_assoc (stream_of first.steps) (stream_of then.steps) then.held)
@@ -175,12 +205,9 @@ join_stop bytes held p p' left x y z a b c why first then =
       counted = counted_on p p' then.place' (length (stream_of first.steps)) (length (stream_of then.steps)) (length (stream_of (first.steps ++ then.steps)))
           first.counted then.counted
           (ap length (flat_map-append step_bytes first.steps then.steps) ∙ length-append (stream_of first.steps) (stream_of then.steps));
-      done = done_on first.steps then.steps x y then.between first.done then.done;
+      done = done_on first.steps then.steps x y then.mid first.done then.done;
       ends = then.ends;
-      moments = subst (λ (l : List (List (List ℕ))). LeavesOnly a c (IsAfterSome l x.state)) same
-          (moments_on a b c (batches_of first.steps) (batches_of then.steps ++ then.tail) x.state y.state (done_leads first.steps x y first.done) first.moments
-          then.moments);
-      since = then.since;
-      not_later = then.not_later;
-      kept = then.kept;
+      crash = subst (λ (l : List (List (List ℕ))). KeepsAnswered l then.begun x.state then.between.state a c) same
+          (keeps_on (batches_of first.steps) (batches_of then.steps ++ rounds) then.begun x.state y.state then.between.state a b c
+          (done_leads first.steps x y first.done) first.moments then.crash);
     }

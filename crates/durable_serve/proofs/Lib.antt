@@ -2,5 +2,6 @@ mod Batches
 mod Frames
 mod Joining
 mod Pushed
+mod Rounds
 mod Shown
 mod Stopping

@@ -1,14 +1,18 @@
 -- What is written for replies.
-use Rattle.std.proofs.Common.{◌≡◌, ◌<◌, ◌+◌, ℕ, Bool, true, false, List, Option, Some, None, [], ◌∷◌, ◌++◌, append_assoc, append-nil, get_or, length, take, refl, sym, ap, ◌∙◌}
-use Rattle.std.specs.List.{flat_map}
-use Rattle.std.proofs.lemmas.List.{take_more}
+use Rattle.std.proofs.Common.{◌≡◌, ◌<◌, ◌≤◌, ◌+◌, ℕ, Bool, true, false, cond, not, List, Option, Some, None, [], ◌∷◌, ◌++◌, append_assoc, append-nil, get_or, is_some, length, map, take, refl, sym, ap, ◌∙◌, arith}
+use Rattle.std.specs.List.{count_by, flat_map}
+use Rattle.std.proofs.lemmas.List.{length-map, take_more}
 use Rattle.std.proofs.lemmas.List.Concat.{flat_map-append}
+use Rattle.std.proofs.lemmas.List.Recursion.{is_count_by}
+use Rattle.std.proofs.lemmas.List.Sums.{count_by-le-length}
 use Rattle.device_events.specs.Replies.{ReplyWithData}
 use Rattle.event_frames.specs.Frames.{reply_frame}
-use Rattle.live_serve.specs.Served.{is_idle}
+use Rattle.live_serve.specs.Served.{is_idle, of_runs}
+use Rattle.durable_device.specs.FrameEvents.{frame_event}
 use Rattle.durable_device.specs.Machine.{given_reply}
 use Rattle.durable_device.specs.declared.frame_device.Given.{Given}
 use Rattle.durable_serve.specs.Served.{replies_in, shown, shown_reply, wanted}
+use Rattle.durable_serve.specs.steps.Parts.{is_of_run}
 
 next_of_runs : (idle : Bool) (r : ReplyWithData) (given : List (Option Given)) → is_idle r.reply ≡ idle
     → shown_reply true r ++ flat_map reply_frame (wanted true (replies_in given)) ≡ flat_map reply_frame (wanted true (r ∷ replies_in given))
@@ -36,3 +40,30 @@ shown_more turns given i g first old new within is so_far adds =
     ∙ ap (λ (x : Option Given). flat_map (shown turns) (take i given) ++ shown turns x) (sym is) in
     adds ∙ ap (λ (l : List ℕ). l ++ shown turns g) so_far ∙ append_assoc first (flat_map (shown turns) (take i given)) (shown turns g)
     ∙ ap (λ (l : List ℕ). first ++ l) (sym next)
+
+-- ---- how many turns of runs there were
+
+runs_more : (idle : Bool) (r : ReplyWithData) (rs : List ReplyWithData) → length (cond (not idle) (r ∷ rs) rs) ≡ cond (not idle) (1 + length rs) (length rs)
+runs_more true r rs = refl
+runs_more false r rs = omega arith
+
+one_more : (g : Option Given) (given : List (Option Given))
+    → length (of_runs (replies_in (g ∷ given))) ≡ cond (is_of_run g) (1 + length (of_runs (replies_in given))) (length (of_runs (replies_in given)))
+one_more None given = refl
+one_more (Some g) given = runs_more (is_idle g.reply) (given_reply g) (of_runs (replies_in given))
+
+pub runs_counted : (given : List (Option Given)) → length (of_runs (replies_in given)) ≡ count_by is_of_run given
+runs_counted given = is_count_by (λ (l : List (Option Given)). length (of_runs (replies_in l))) is_of_run refl one_more given
+
+-- at most as many as turns were asked for
+pub few_counted : (given : List (Option Given)) (frames : List (List ℕ)) → map is_some given ≡ map (λ (frame : List ℕ). is_some (frame_event frame)) frames
+    → length (of_runs (replies_in given)) ≤ length frames
+few_counted given frames places =
+    omega (
+      arith,
+      runs_counted given,
+      count_by-le-length is_of_run given,
+      ap length places,
+      length-map {B = Bool} given is_some,
+      length-map frames (λ (frame : List ℕ). is_some (frame_event frame)),
+    )

@@ -6,98 +6,61 @@ use Rattle.stored_file.specs.File.{FileState, LeavesOnly}
 use Rattle.stored_file.proofs.Moments.{weaken}
 use Rattle.device_events.specs.ToldEvents.{ToldEvent}
 use Rattle.device_meaning.specs.State.{State}
+use Rattle.event_frames.specs.Frames.{request_frame}
+use Rattle.event_frames.specs.Requests as request
 use Rattle.event_frames.specs.Streams.{IsPartial, SessionState, behind}
 use Rattle.event_frames.specs.declared.fault.StreamFault.TheVariants as stream
 use Rattle.durable_device.specs.Kept.{IsKept, StandsFor}
 use Rattle.durable_device.specs.Serving.{IsAfterSome, IsBeforeOrAfter}
-use Rattle.durable_serve.specs.Served.{Adds, FailsIn, Idle, InAnswer, InEvents, InTurns, IsIdle, IsUnanswered, IsUnfolded, IsUnwritten, Server, ServesStream, StopsAt, StopsServing, frames_of, laid, seen, stream_of, turn_frames}
+use Rattle.durable_serve.specs.Served.{Adds, Ends, FailsIn, Idle, InEvents, InSaved, IsIdle, IsUnanswered, IsUnfolded, IsUnwritten, Server, ServesStream, StopsAt, StopsServing, frames_of, laid, seen, stream_of}
 use Rattle.durable_serve.specs.declared.fault.ServeFault.{ServeFault}
 use Rattle.durable_serve.specs.declared.fault.ServeFault.TheVariants as fault
 use Rattle.durable_serve.specs.steps.Parts.{ReadSoFar}
-use Rattle.durable_serve.proofs.Joining.{counted_none, join, join_stop, leads_none, none_added, quiet, while_batch}
+use Rattle.durable_serve.proofs.Joining.{counted_none, join, join_stop, keeps_begun, leads_none, none_added, quiet, while_batch}
 
--- ---- in a batch
-
-pub stop_events : (events : List ToldEvent) (more : List ℕ) (place : ℕ) (left : Option (List ℕ)) (old new : Server) (a b : FileState) (why : ServeFault)
-    → LeavesOnly a b (IsBeforeOrAfter (frames_of events) old.state) → FailsIn why (frames_of events) old new
-    → StopsAt (laid (frames_of events) ++ more) place left old new a b why
-stop_events events more place left old new a b why moments fails = record {
-  steps = [];
-  held = laid (frames_of events) ++ more;
-  place' = place;
-  between = old;
-  tail = frames_of events ∷ [];
-  stream_is = refl;
-  counted = counted_none place;
-  done = refl;
-  ends = InEvents events more refl refl fails;
-  moments = weaken a b _ _ moments (while_batch (frames_of events) old.state);
-  since = a.moment;
-  not_later = moments.later;
-  kept = λ c is. while_batch (frames_of events) old.state c (moments.each c is);
-}
-
-pub stop_turns : (runs : List ℕ) (held : List ℕ) (place : ℕ) (left : Option (List ℕ)) (old new : Server) (a b : FileState) (why : ServeFault)
-    → LeavesOnly a b (IsBeforeOrAfter (turn_frames runs) old.state) → FailsIn why (turn_frames runs) old new → StopsAt held place left old new a b why
-stop_turns runs held place left old new a b why moments fails = record {
-  steps = [];
-  held = held;
-  place' = place;
-  between = old;
-  tail = turn_frames runs ∷ [];
-  stream_is = refl;
-  counted = counted_none place;
-  done = refl;
-  ends = InTurns runs refl fails;
-  moments = weaken a b _ _ moments (while_batch (turn_frames runs) old.state);
-  since = a.moment;
-  not_later = moments.later;
-  kept = λ c is. while_batch (turn_frames runs) old.state c (moments.each c is);
-}
-
--- ---- with nothing under way
+-- ---- before a step is done
 
 module _ (held : List ℕ) (place : ℕ) (left : Option (List ℕ)) (old : Server) (why : ServeFault) where
-  stop_still : (new : Server) (a b : FileState) → LeavesOnly a b (IsAfterSome [] old.state)
-      → (unread : IsIdle why held place left) → new ≡ old → StopsAt held place left old new a b why
-  stop_still new a b moments unread same = record {
+  -- no step is done, and no drain is under way
+  stop_first : (begun : List (List (List ℕ))) (new : Server) (a b : FileState) → LeavesOnly a b (IsAfterSome begun old.state)
+      → Ends why held place left [] begun old old new → StopsAt held place left old new a b why
+  stop_first begun new a b moments ends = record {
     steps = [];
     held = held;
     place' = place;
+    mid = old;
+    rounds = [];
     between = old;
-    tail = [];
+    begun = begun;
     stream_is = refl;
     counted = counted_none place;
     done = refl;
-    ends = Idle unread refl same;
-    moments = moments;
-    since = a.moment;
-    not_later = moments.later;
-    kept = λ c is. moments.each c is;
+    ends = ends;
+    crash = keeps_begun begun old.state a b moments;
   }
+
+  -- ---- with nothing under way
+
+  stop_still : (new : Server) (a b : FileState) → LeavesOnly a b (IsAfterSome [] old.state)
+      → (unread : IsIdle why held place left) → new ≡ old → StopsAt held place left old new a b why
+  stop_still new a b moments unread same = stop_first [] new a b moments (Idle (refl, refl) unread refl same)
 
   pub stop_idle : (gate : ℕ) (file : FileState) → IsKept old.state gate file → IsIdle why held place left → StopsAt held place left old old file file why
   stop_idle gate file kept unread = stop_still old file file (quiet old.state gate file kept) unread refl
 
-  pub stop_answer : (new : Server) (gate : ℕ) (file : FileState) → IsKept old.state gate file → new.state ≡ old.state → IsUnanswered why
-      → StopsAt held place left old new file file why
-  stop_answer new gate file kept same unanswered =
-      let moments = quiet old.state gate file kept in
-      record {
-        steps = [];
-        held = held;
-        place' = place;
-        between = old;
-        tail = [];
-        stream_is = refl;
-        counted = counted_none place;
-        done = refl;
-        ends = InAnswer refl same unanswered;
-        moments = moments;
-        since = file.moment;
-        not_later = moments.later;
-        kept = λ c is. moments.each c is;
-      }
+  -- ---- in a save
+
+  pub stop_saved : (more : List ℕ) (new : Server) (gate : ℕ) (file : FileState) → IsKept old.state gate file
+      → held ≡ request_frame request.Saved ++ more → new.state ≡ old.state → IsUnanswered why → StopsAt held place left old new file file why
+  stop_saved more new gate file kept asked same unanswered =
+      stop_first [] new file file (quiet old.state gate file kept) (InSaved (refl, refl) more asked refl same unanswered)
+
+pub stop_events : (events : List ToldEvent) (more : List ℕ) (place : ℕ) (left : Option (List ℕ)) (old new : Server) (a b : FileState) (why : ServeFault)
+    → LeavesOnly a b (IsBeforeOrAfter (frames_of events) old.state) → FailsIn why (frames_of events) old new
+    → StopsAt (laid (frames_of events) ++ more) place left old new a b why
+stop_events events more place left old new a b why moments fails =
+    stop_first (laid (frames_of events) ++ more) place left old why (frames_of events ∷ []) new a b
+    (weaken a b _ _ moments (while_batch (frames_of events) old.state)) (InEvents (refl, refl) events more refl refl fails)
 
 pub unwritten_unanswered : (why : ServeFault) → IsUnwritten why → IsUnanswered why
 unwritten_unanswered fault.Read is = absurd is

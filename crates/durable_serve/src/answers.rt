@@ -1,16 +1,17 @@
 //! What answers a batch.
 
-ghost use Rattle.std.specs.Prelude.{◌≡◌, ◌++◌, IfErr, OnOk};
+ghost use Rattle.std.specs.Prelude.{◌≡◌, ◌++◌, length, IfErr, IfOk, OnOk};
 ghost use Rattle.std.specs.List.{flat_map};
 ghost use Rattle.std.specs.Io.KnownBytes.{Appends};
 ghost use Rattle.stored_file.specs.File.{LeavesOnly};
 ghost use Rattle.durable_machine.specs.Batches.{bytes_of};
 ghost use Rattle.event_frames.specs.Frames.{reply_frame};
-ghost use Rattle.live_serve.specs.Served.{is_idle};
+ghost use Rattle.live_serve.specs.Served.{is_idle, of_runs};
 ghost use Rattle.durable_device.specs.Kept.{IsKept};
 ghost use Rattle.durable_device.specs.Machine.{given_reply};
 ghost use Rattle.durable_device.specs.Serving.{IsBeforeOrAfter};
-ghost use Rattle.durable_serve.specs.Served.{FailsIn, IsBatch, IsUnwritten, seen, shown, wanted};
+ghost use Rattle.durable_serve.specs.Served.{FailsIn, IsUnwritten, replies_in, seen, shown};
+ghost use Rattle.durable_serve.specs.steps.Parts.{GaveReplies, is_of_run};
 
 use crate::fault::ServeFault;
 use device_events::Reply;
@@ -22,7 +23,7 @@ use std::io::Write;
 use stored_file::StoredFile;
 
 /// Does a batch of frames, and once it is on the disk writes the frames of the replies to it, in order; of turns only those to the turns
-/// that a run has, and gives how many they are.
+/// of runs. Gives the replies.
 ///
 /// # Errors
 ///
@@ -34,12 +35,12 @@ pub(crate) fn perform<W: Write, F: StoredFile + Drop>(
     turns: bool,
     answer: &mut Vec<u8>,
     out: &mut W,
-) -> Result<u32, ServeFault>
+) -> Result<Vec<Option<Given>>, ServeFault>
     requires kept { IsKept device.old.store.machine device.old.store.journal.gate (F.told device.old.store.journal.file) }
     ensures kept { OnOk result
         (IsKept device.new.store.machine device.new.store.journal.gate (F.told device.new.store.journal.file)) }
-    ensures done { OnOk result (IsBatch (wanted turns) (bytes_of frames.now)
-        (seen device.old.store.machine (W.contents out.old)) (seen device.new.store.machine (W.contents out.new))) }
+    ensures done { IfOk result (λ given. GaveReplies turns (bytes_of frames.now)
+        (seen device.old.store.machine (W.contents out.old)) (seen device.new.store.machine (W.contents out.new)) given.items) }
     ensures failed { IfErr result (λ why. FailsIn why (bytes_of frames.now)
         (seen device.old.store.machine (W.contents out.old)) (seen device.new.store.machine (W.contents out.new))) }
     ensures any_moment { LeavesOnly (F.told device.old.store.journal.file) (F.told device.new.store.journal.file)
@@ -47,41 +48,55 @@ pub(crate) fn perform<W: Write, F: StoredFile + Drop>(
 {
     let given = device.serve(alloc, frames)?;
     answer.clear();
-    let count = push_replies(answer, given.as_slice(), turns)?;
+    push_replies(answer, given.as_slice(), turns)?;
     write(out, answer.as_slice())?;
-    Ok(count)
+    Ok(given)
 }
 
-/// Adds the frames of replies, in order, of turns only those that a run had. Gives how many they are.
+/// Adds the frames of replies, in order, of turns only those to the turns of runs.
 fn push_replies(
     answer: &mut Vec<u8>,
     given: &[Option<Given>],
     turns: bool,
-) -> Result<u32, AllocError>
+) -> Result<(), AllocError>
     ensures { OnOk result (answer.new.items ≡ answer.old.items ++ flat_map (shown turns) given.now) }
 {
-    let mut count = 0u32;
     for reply in given {
-        if push_shown(answer, reply, turns)? {
-            count = count.saturating_add(1);
-        }
+        push_shown(answer, reply, turns)?;
     }
-    Ok(count)
+    Ok(())
 }
 
 /// Adds the frame of a reply, if there is one that is to be shown.
-fn push_shown(answer: &mut Vec<u8>, given: &Option<Given>, turns: bool) -> Result<bool, AllocError>
+fn push_shown(answer: &mut Vec<u8>, given: &Option<Given>, turns: bool) -> Result<(), AllocError>
     ensures { OnOk result (answer.new.items ≡ answer.old.items ++ shown turns given.now) }
 {
     match given {
         Some(given) => {
             if turns && is_idle(given.reply) {
-                return Ok(false);
+                return Ok(());
             }
-            push_given(answer, given)?;
-            Ok(true)
+            push_given(answer, given)
         }
-        None => Ok(false),
+        None => Ok(()),
+    }
+}
+
+/// How many of the replies are to turns of runs.
+#[tactic(auto, using(crate::proofs::Shown::runs_counted))]
+pub(crate) fn runs_in(given: &[Option<Given>]) -> usize
+    ensures { result ≡ length (of_runs (replies_in given.now)) }
+{
+    given.iter().filter(|given| is_of_run(given)).count()
+}
+
+/// Is it the reply to a turn of a run?
+fn is_of_run(given: &Option<Given>) -> bool
+    ensures { result ≡ is_of_run given.now }
+{
+    match given {
+        Some(given) => !is_idle(given.reply),
+        None => false,
     }
 }
 

@@ -24,8 +24,8 @@ const PIECE: usize = 1 << 18;
 
 /// Does the requests of a stream, in batches: the events that have come when a batch is done are the next one, up to 256 KiB of them, and
 /// up to a drain or a save. No reply to a batch is written before its events are on the disk; a drain's turns are batches too, one for
-/// each round of the runs. Where the journal has grown long it is folded between two batches. What isn't said of a drain: that it goes
-/// on while a run is left, and how many turns it tells that it gave.
+/// each round of the runs, until it has given as many as were asked for or no run is left. Where the journal has grown long it is folded
+/// between two batches.
 ///
 /// # Errors
 ///

@@ -1,17 +1,18 @@
 //! Turns, round the runs.
 
-ghost use Rattle.std.specs.Prelude.{◌≡◌, ◌≤◌, ◌<◌, List, ℕ, Option, IfErr, IfOk, OnOk};
+ghost use Rattle.std.specs.Prelude.{◌≡◌, ◌≤◌, ◌<◌, ◌+◌, ◌*◌, ◌%◌, ◌^◌, IfErr, IfOk, OnOk};
 ghost use Rattle.durable_machine.specs.Batches.{bytes_of};
 ghost use Rattle.durable_device.specs.Kept.{IsKept};
-ghost use Rattle.durable_serve.specs.Served.{Adds, StopsAt, seen, turn_frames};
+ghost use Rattle.durable_serve.specs.Served.{HasGiven, StopsGiving, seen, turn_frames};
 ghost use Rattle.durable_serve.specs.declared.gathering.End.TheVariants.{Drain, Save};
-ghost use Rattle.durable_serve.specs.steps.Parts.{Finishes, StopsFinishing};
+ghost use Rattle.durable_serve.specs.steps.Parts.{Finishes, RoundDone, RoundFails, StopsFinishing, numbers_from};
 
-use crate::answers::{perform, write};
+use crate::answers::{perform, runs_in, write};
 use crate::fault::ServeFault;
 use crate::gathering::frame_of;
 use device_events::Event;
 use durable_device::DurableDevice;
+use durable_device::laws::frames_tell_events;
 use event_frames::{Request, push_drained, push_saved};
 use std::alloc::{AllocError, Global};
 use std::io::Write;
@@ -22,8 +23,7 @@ use zone_resources::RUNS;
 const NUMBERS: u8 = RUNS as u8;
 
 /// Gives the active runs turns, round by round, so many at most, and writes the frames of the replies to the turns of each round once
-/// it is on the disk. It ends earlier where no run is left. That it goes on until then, and gives no more turns than were asked for,
-/// isn't said.
+/// it is on the disk. It ends earlier only where no run is left. Gives how many they were.
 ///
 /// # Errors
 ///
@@ -38,20 +38,17 @@ pub fn give_turns<W: Write, F: StoredFile + Drop>(
     requires kept { IsKept device.old.store.machine device.old.store.journal.gate (F.told device.old.store.journal.file) }
     ensures kept { OnOk result
         (IsKept device.new.store.machine device.new.store.journal.gate (F.told device.new.store.journal.file)) }
-    ensures given { OnOk result ((held : List ℕ) (place : ℕ) → Adds held place held place
+    ensures given { IfOk result (HasGiven turns
         (seen device.old.store.machine (W.contents out.old)) (seen device.new.store.machine (W.contents out.new))
         (F.told device.old.store.journal.file) (F.told device.new.store.journal.file)) }
-    ensures stopped { IfErr result (λ why. (held : List ℕ) (place : ℕ) (left : Option (List ℕ)) → StopsAt held place left
+    ensures stopped { IfErr result (StopsGiving turns
         (seen device.old.store.machine (W.contents out.old)) (seen device.new.store.machine (W.contents out.new))
-        (F.told device.old.store.journal.file) (F.told device.new.store.journal.file) why) }
+        (F.told device.old.store.journal.file) (F.told device.new.store.journal.file)) }
 {
-    let mut given = 0u32;
-    let mut idle = 0u8;
-    let mut run = 0u8;
-    for _ in 0..u64::MAX {
-        if given >= turns || idle >= NUMBERS {
-            return Ok(given);
-        }
+    let mut given = 0;
+    let mut idle = 0;
+    let mut run = 0;
+    while given < turns && idle < NUMBERS {
         let count = round_length(turns - given);
         let were = give_round(alloc, device, run, count, answer, out)?;
         (given, idle) = counted(were, count, given, idle);
@@ -105,29 +102,41 @@ pub(crate) fn save<W: Write, F: StoredFile + Drop>(
 
 /// How many numbers a round has, where so many turns are left to give: one for each run, or one.
 fn round_length(left: u32) -> u8
+    requires { 0 < left }
     ensures some { 0 < result }
+    ensures within { result ≤ left }
     ensures most { result ≤ 8 }
 {
     if left < NUMBERS as u32 { 1 } else { NUMBERS }
 }
 
 /// How many turns were given with those of a round, and how many numbers that no run has stand behind the last round with a turn.
-fn counted(were: u32, count: u8, given: u32, idle: u8) -> (u32, u8)
+fn counted(were: u8, count: u8, given: u32, idle: u8) -> (u32, u8)
+    requires room { given + were < 2 ^ 32 }
+    requires some { 0 < count }
     requires most { count ≤ 8 }
     requires few { idle < 8 }
+    ensures given { result.0 ≡ given + were }
+    ensures none { were ≡ 0 → result.1 ≡ idle + count }
+    ensures again { 0 < were → result.1 ≡ 0 }
+    ensures progress { 16 * given + idle < 16 * result.0 + result.1 }
+    ensures within { result.1 < 16 }
 {
+    let given = given + were as u32;
     if were > 0 {
-        (given.saturating_add(were), 0)
+        (given, 0)
     } else {
         (given, idle + count)
     }
 }
 
-/// The number that the next round begins with.
+/// The number that is so many behind another, round the runs.
 fn next_number(run: u8, count: u8) -> u8
-    ensures { result < 8 }
+    requires run { run < 8 }
+    requires most { count ≤ 8 }
+    ensures { result ≡ (run + count) % 8 }
 {
-    run.wrapping_add(count) % NUMBERS
+    (run + count) % NUMBERS
 }
 
 /// Gives a round of turns, from this number on, and once they are on the disk writes the frames of the replies to those that a run
@@ -139,24 +148,31 @@ fn give_round<W: Write, F: StoredFile + Drop>(
     count: u8,
     answer: &mut Vec<u8>,
     out: &mut W,
-) -> Result<u32, ServeFault>
+) -> Result<u8, ServeFault>
+    requires run { run < 8 }
+    requires most { count ≤ 8 }
     requires kept { IsKept device.old.store.machine device.old.store.journal.gate (F.told device.old.store.journal.file) }
     ensures kept { OnOk result
         (IsKept device.new.store.machine device.new.store.journal.gate (F.told device.new.store.journal.file)) }
-    ensures given { OnOk result ((held : List ℕ) (place : ℕ) → Adds held place held place
+    ensures given { IfOk result (RoundDone run count
         (seen device.old.store.machine (W.contents out.old)) (seen device.new.store.machine (W.contents out.new))
         (F.told device.old.store.journal.file) (F.told device.new.store.journal.file)) }
-    ensures stopped { IfErr result (λ why. (held : List ℕ) (place : ℕ) (left : Option (List ℕ)) → StopsAt held place left
+    ensures stopped { IfErr result (RoundFails run count
         (seen device.old.store.machine (W.contents out.old)) (seen device.new.store.machine (W.contents out.new))
-        (F.told device.old.store.journal.file) (F.told device.new.store.journal.file) why) }
+        (F.told device.old.store.journal.file) (F.told device.new.store.journal.file)) }
 {
+    // Brings in that the frame of a turn tells it.
+    frames_tell_events();
     let frames = turn_frames(alloc, run, count)?;
-    perform(alloc, device, frames.as_slice(), true, answer, out)
+    let given = perform(alloc, device, frames.as_slice(), true, answer, out)?;
+    Ok(runs_in(given.as_slice()) as u8)
 }
 
 /// The frames of turns of so many numbers, from one on.
 fn turn_frames(alloc: Global, run: u8, count: u8) -> Result<Vec<Vec<u8>>, AllocError>
-    ensures { IfOk result (λ frames. (runs : List ℕ) × (bytes_of frames.items ≡ turn_frames runs)) }
+    requires run { run < 8 }
+    requires most { count ≤ 8 }
+    ensures { IfOk result (λ frames. bytes_of frames.items ≡ turn_frames (numbers_from run count)) }
 {
     let mut frames = Vec::new(alloc);
     for more in 0..count {

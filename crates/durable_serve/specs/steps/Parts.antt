@@ -1,8 +1,8 @@
 -- A batch that is gathered.
-use Rattle.std.specs.Prelude.{ℕ, ◌≡◌, ◌<◌, ◌++◌, List, [], length, Option, Some, None}
+use Rattle.std.specs.Prelude.{ℕ, zero, suc, Bool, false, not, ◌≡◌, ◌<◌, ◌≤◌, ◌%◌, ◌+◌, ◌-◌, ◌++◌, List, [], ◌∷◌, length, Option, Some, None}
 use Rattle.std.specs.List.{AllByRecursion}
 use Rattle.std.specs.Io.KnownBytes.{Consumes}
-use Rattle.stored_file.specs.File.{FileState}
+use Rattle.stored_file.specs.File.{FileState, LeavesOnly}
 use Rattle.device_events.specs.ToldEvents.{ToldEvent}
 use Rattle.event_frames.specs.Frames.{request_frame}
 use Rattle.event_frames.specs.Requests.{Fits}
@@ -10,8 +10,13 @@ use Rattle.event_frames.specs.Requests as request
 use Rattle.event_frames.specs.Streams.{IsFault}
 use Rattle.event_frames.specs.declared.fault.StreamFault.{StreamFault}
 use Rattle.durable_device.specs.FrameEvents.{request_of}
-use Rattle.durable_serve.specs.Served.{Adds, AreCounted, Server, StopsAt, frames_of, laid}
+use Rattle.live_serve.specs.Served.{HasNone, is_idle}
+use Rattle.durable_device.specs.Machine.{given_reply}
+use Rattle.durable_device.specs.Serving.{IsAfterSome, IsBeforeOrAfter}
+use Rattle.durable_device.specs.declared.frame_device.Given.{Given}
+use Rattle.durable_serve.specs.Served.{Adds, AreCounted, FailsIn, IsBatch, IsRound, Server, StopsAt, WentRound, frames_of, laid, round_batches, turn_frames, wanted}
 use Rattle.durable_serve.specs.declared.fault.ServeFault.{ServeFault}
+use Rattle.durable_serve.specs.declared.fault.ServeFault.TheVariants as fault
 use Rattle.durable_serve.specs.declared.gathering.End.{End}
 use Rattle.durable_serve.specs.declared.gathering.End.TheVariants as end
 
@@ -103,3 +108,43 @@ TakesSome (end.Fault fault) count = Unit {0}
 abbrev pub EndTakesSome : Option End → ℕ → Type 0
 EndTakesSome None count = Unit {0}
 EndTakesSome (Some e) count = TakesSome e count
+
+-- ---- turns
+
+-- a batch is done and answered, to which these were the replies
+pub record GaveReplies (turns : Bool) (frames : List (List ℕ)) (old new : Server) (given : List (Option Given)) : Type 0 where
+  pub batch : IsBatch (wanted turns) frames old new
+  pub replies : batch.given ≡ given
+
+-- is a reply given to the turn of a run?
+abbrev pub is_of_run : Option Given → Bool
+is_of_run None = false
+is_of_run (Some given) = not (is_idle (given_reply given).reply)
+
+-- so many numbers of runs, from one on, and after 7 from 0 on
+abbrev pub numbers_from : ℕ → ℕ → List ℕ
+numbers_from run zero = []
+numbers_from run (suc k) = numbers_from run k ++ (run + k) % 8 ∷ []
+
+-- a round of turns is done, of so many numbers from one on; where none of them is that of a run, nothing has changed
+pub record RoundDone (run count : ℕ) (old new : Server) (at_old at_new : FileState) (were : ℕ) : Type 0 where
+  pub round : IsRound (numbers_from run count) were old new
+  pub few : were ≤ count
+  pub none : were ≡ 0 → (new.state ≡ old.state) × ((k : ℕ) → k < count → HasNone old.state ((run + k) % 8))
+  pub moments : LeavesOnly at_old at_new (IsBeforeOrAfter (turn_frames (numbers_from run count)) old.state)
+
+-- it isn't begun, or it fails
+pub data RoundFails (run count : ℕ) (old new : Server) (at_old at_new : FileState) (why : ServeFault) : Type 0 where
+  Starved : (memory : why ≡ fault.Memory) (same : new ≡ old) (moments : LeavesOnly at_old at_new (IsAfterSome [] old.state))
+      → RoundFails run count old new at_old at_new why
+  Failed : (fails : FailsIn why (turn_frames (numbers_from run count)) old new)
+      (moments : LeavesOnly at_old at_new (IsBeforeOrAfter (turn_frames (numbers_from run count)) old.state))
+      → RoundFails run count old new at_old at_new why
+
+-- turns went round the runs; the next number is this one, and so many before it are of no run
+pub record GoesRound (most given idle run : ℕ) (old new : Server) (at_old at_new : FileState) : Type 0 where
+  pub rounds : List (List ℕ)
+  pub went : WentRound most given rounds old new
+  pub run_is : run ≡ went.tries % 8
+  pub none : (n : ℕ) → n < 8 → 8 ≤ idle + (n + 8 - run) % 8 → HasNone new.state n
+  pub moments : LeavesOnly at_old at_new (IsAfterSome (round_batches rounds) old.state)

@@ -41,7 +41,7 @@ returns-in_err-finish-clause-stopped g c = λ left.
     rw (p.1, p.2) (batch_stops bytes c.args.session.now.place (bytes_of c.as_slice.result.now) held c.gather.new.session.place (seen c.args.device.now.store.machine (g.W.Write.contents c.args.out.now))
     (seen c.perform.new.device.store.machine (g.W.Write.contents c.perform.new.out)) (seen c.finish.new.device.store.machine (g.W.Write.contents c.finish.new.out))
     (g.F.StoredFile.told c.args.device.now.store.journal.file) (g.F.StoredFile.told c.perform.new.device.store.journal.file)
-    (g.F.StoredFile.told c.finish.new.device.store.journal.file) c.perform.ensures.any_moment c.in_ok-perform.ensures.done c.in_ok-count.end c.in_err-finish.field-0.0 left x
+    (g.F.StoredFile.told c.finish.new.device.store.journal.file) c.perform.ensures.any_moment c.in_ok-perform.ensures.done.batch c.in_ok-count.end c.in_err-finish.field-0.0 left x
     c.in_err-finish.ensures.stopped)
 
 pub returns-clause-served : goal.returns-clause-served
@@ -54,7 +54,7 @@ returns-clause-served g c =
     batch_ends bytes c.args.session.now.place (bytes_of c.as_slice.result.now) held c.gather.new.session.place (seen c.args.device.now.store.machine (g.W.Write.contents c.args.out.now))
     (seen c.perform.new.device.store.machine (g.W.Write.contents c.perform.new.out)) (seen c.finish.new.device.store.machine (g.W.Write.contents c.finish.new.out))
     (g.F.StoredFile.told c.args.device.now.store.journal.file) (g.F.StoredFile.told c.perform.new.device.store.journal.file)
-    (g.F.StoredFile.told c.finish.new.device.store.journal.file) c.perform.ensures.any_moment c.in_ok-perform.ensures.done c.in_ok-count.end c.in_ok-finish.ensures.sound x
+    (g.F.StoredFile.told c.finish.new.device.store.journal.file) c.perform.ensures.any_moment c.in_ok-perform.ensures.done.batch c.in_ok-count.end c.in_ok-finish.ensures.sound x
     c.in_ok-finish.ensures.served
 
 pub returns-clause-some : goal.returns-clause-some
