@@ -1,5 +1,5 @@
 -- What was done, and what was done where a reply is refused.
-use Rattle.std.proofs.Common.{◌≡◌, ℕ, List, map, Option, Result, Ok, Err, OnOk, OnErr, IfErr, IfSome, ◌∙◌, subst}
+use Rattle.std.proofs.Common.{◌≡◌, ℕ, List, map, Option, Result, Ok, Err, OnOk, OnErr, IfErr, IfSome, inl, inr, ap, ◌∙◌, subst}
 use Rattle.clap.specs.declared.parser.matches.ArgMatches.{ArgMatches}
 use Rattle.image_store.specs.Namespace.{ZonedNamespace}
 use Rattle.image_text.specs.Text.{text}
@@ -17,11 +17,13 @@ use Rattle.runner.specs.declared.device.Stopped.{Stopped}
 use Rattle.device_events.specs.ToldEvents.{told_of}
 use Rattle.event_text.specs.CommandFile.{events_in}
 use Rattle.event_text.specs.Lines.{Took, reply_line}
+use Rattle.placed_file.specs.Placing.{Attempt}
+use Rattle.command_files.specs.Crash.{AreWritten, LeavesOldOrNew}
 use Rattle.command_files.specs.Made.{Made}
 use Rattle.command_files.specs.Surroundings.{Surroundings}
-use Rattle.command_files.proofs.Proved.{read_holds}
+use Rattle.command_files.proofs.Proved.{leaves_behind, leaves_weaker, read_holds}
 use Rattle.command_images.specs.Images.{HasText, StandFor, image_of}
-use Rattle.command_exec.specs.Executed.{AreInFiles, DoesAll, Executes, ExecutesFirst, HasBegun, InEvents, InTurns, SavesAll, SavesFirst, commands_of}
+use Rattle.command_exec.specs.Executed.{AreExecuted, AreInFiles, AreLeft, DoesAll, Executes, ExecutesFirst, HasBegun, HasDone, InEvents, InTurns, SavesAll, SavesFirst, commands_of}
 
 pub on_err : {T E fact : Type 0} (result : Result T E) → fact → OnErr result fact
 on_err (Ok value) holds = tt
@@ -107,6 +109,31 @@ module _ (here : Surroundings) (events : List Event) (namespace shown : ZonedNam
     saved = meant;
   }
 
+-- what was done, whether or not its lines were printed
+done_somehow : {T E : Type 0} (result : Result T E) (events : List Event) (old new : State) (printed printed_after : Option (List ℕ))
+    → OnOk result (DoesAll events old new printed printed_after) → OnErr result (HasBegun events old new) → HasDone events old new
+done_somehow (Ok done) events old new printed printed_after did begun = inl (record {
+  occurrences = did.occurrences;
+  are = did.are;
+  runs = did.runs;
+  drains = did.drains;
+  state = did.state;
+  replies = tt;
+  none_left = did.none_left;
+})
+done_somehow (Err error) events old new printed printed_after did begun = inr begun
+
+-- an image that a device shows behind them
+pub shown_is_left : {T E : Type 0} (result : Result T E) (writes : Type 0) (events : List Event) (namespace shown : ZonedNamespace) (old left : State)
+    (printed printed_after : Option (List ℕ)) → old ≡ new_state namespace → shown ≡ left.namespace
+    → OnOk result (DoesAll events old left printed printed_after) → OnErr result (HasBegun events old left)
+    → (bytes : List ℕ) → AreWritten writes (text shown) bytes → AreLeft writes events namespace bytes
+shown_is_left result writes events namespace shown old left printed printed_after begins shows did begun bytes written = record {
+  left = left;
+  done = subst (λ (s : State). HasDone events s left) begins (done_somehow result events old left printed printed_after did begun);
+  written = λ writes. written writes ∙ ap (λ (ns : ZonedNamespace). text ns) shows;
+}
+
 -- an image was loaded, and then a command file was read, of the files that the command line names; the contents of files
 -- stayed the same, and no file was made
 module _ (reads writes : Type 0) (contents then : List ℕ → Option (List ℕ)) (path commands : List ℕ) (matches : ArgMatches) (file slice : List ℕ)
@@ -117,7 +144,7 @@ module _ (reads writes : Type 0) (contents then : List ℕ → Option (List ℕ)
   abbrev pub from_there : (List ℕ → Option (List ℕ)) → Option (List Made) → Surroundings
   from_there held made = record { reads = reads; writes = writes; contents = held; before = made; after = after }
 
-  in_both : (reads → StandFor (contents path) namespace) → AreInFiles (from_there contents before) matches namespace events
+  pub in_both : (reads → StandFor (contents path) namespace) → AreInFiles (from_there contents before) matches namespace events
   in_both namespace_is = record {
     namespace_is = λ read. subst (λ (p : List ℕ). StandFor (contents p) namespace) is_named (namespace_is read);
     events_are = read_holds contents commands (commands_of matches) file slice (λ bytes. events_in bytes ≡ Ok (map told_of events)) are_named slice_is
@@ -151,3 +178,16 @@ module _ (reads writes : Type 0) (contents then : List ℕ → Option (List ℕ)
         (subst (λ (made : Option (List Made)). SavesFirst (from_there held made) events namespace path) kept
         (subst (λ (list : List Event). SavesFirst (from_there held loaded) list namespace path) are saves)));
   }
+
+  -- what `run` may leave in the file is what the command may
+  pub executed_leaves : (given : List Event) (tried loaded_tried after_tried : List Attempt) → (reads → StandFor (contents path) namespace) → given ≡ events
+      → loaded_tried ≡ tried → LeavesOldOrNew path (AreLeft writes given namespace) loaded_tried after_tried
+      → LeavesOldOrNew (image_of matches) (AreExecuted (from_there contents before) matches) tried after_tried
+  executed_leaves given tried loaded_tried after_tried namespace_is are same leaves =
+      leaves_behind path (AreExecuted (from_there contents before) matches) (image_of matches) tried loaded_tried after_tried is_named same
+      (leaves_weaker path (AreLeft writes given namespace) (AreExecuted (from_there contents before) matches) (λ bytes left. record {
+        namespace = namespace;
+        events = events;
+        in_files = in_both namespace_is;
+        left = subst (λ (list : List Event). AreLeft writes list namespace bytes) are left;
+      }) loaded_tried after_tried leaves)

@@ -1,5 +1,5 @@
 -- What `exec` does, prints and saves.
-use Rattle.std.specs.Prelude.{◌≡◌, ℕ, List, map, flat_map, Option, Ok, IfSome}
+use Rattle.std.specs.Prelude.{◌≡◌, ◌⊎◌, ℕ, List, map, flat_map, Option, Ok, IfSome}
 use Rattle.std.specs.Io.KnownBytes.{Appends}
 use Rattle.image_store.specs.Namespace.{ZonedNamespace}
 use Rattle.image_text.specs.Text.{text}
@@ -15,6 +15,7 @@ use Rattle.event_text.specs.CommandFile.{events_in}
 use Rattle.event_text.specs.Lines.{reply_line}
 use Rattle.clap.specs.declared.parser.matches.ArgMatches.{ArgMatches}
 use Rattle.command_files.specs.Arguments.{value_of}
+use Rattle.command_files.specs.Crash.{AreWritten}
 use Rattle.command_files.specs.Surroundings.{Surroundings}
 use Rattle.command_images.specs.Images.{HasText, StandFor, image_of}
 use Rattle.command_exec.specs.declared.exec.TheConstants.{COMMANDS}
@@ -41,6 +42,16 @@ pub data HasBegun (events : List Event) (old new : State) : Type 0 where
   InEvents : (done : ℕ) (stopped : HasStopped interval_judge events old new Untold done) → HasBegun events old new
   InTurns : (between : State) (done : ℕ) (served : HasServed interval_judge events old between Untold)
       (stopped : HasStoppedDraining between new Untold done) → HasBegun events old new
+
+-- all were done, with the turns behind them; or the first of these, one or more
+abbrev pub HasDone : List Event → State → State → Type 0
+HasDone events old new = HasServedAndDrained interval_judge events old new Untold ⊎ HasBegun events old new
+
+-- these bytes are an image of the namespace that they leave, where what is written of it is told
+pub record AreLeft (writes : Type 0) (events : List Event) (namespace : ZonedNamespace) (bytes : List ℕ) : Type 0 where
+  pub left : State
+  pub done : HasDone events (new_state namespace) left
+  pub written : AreWritten writes (text left.namespace) bytes
 
 -- all is done on a namespace, and the file has the text of the namespace that is left
 pub record SavesAll (here : Surroundings) (events : List Event) (namespace : ZonedNamespace) (path : List ℕ)
@@ -75,3 +86,10 @@ pub record ExecutesFirst (here : Surroundings) (matches : ArgMatches) : Type 0 w
   pub events : List Event
   pub in_files : AreInFiles here matches namespace events
   pub saves : SavesFirst here events namespace (image_of matches)
+
+-- these bytes are an image of what all of them, or the first of them, leave
+pub record AreExecuted (here : Surroundings) (matches : ArgMatches) (bytes : List ℕ) : Type 0 where
+  pub namespace : ZonedNamespace
+  pub events : List Event
+  pub in_files : AreInFiles here matches namespace events
+  pub left : AreLeft here.writes events namespace bytes

@@ -1,10 +1,11 @@
 //! The command `exec`: the events of a command file, run on an image.
 
 ghost use Rattle.std.specs.Prelude.{◌≡◌, ◌≢◌, ◌≤◌, ◌<◌, ◌+◌, ◌^◌, length, OnOk, OnErr, IfErr, Some};
+ghost use Rattle.command_files.specs.Crash.{LeavesOldOrNew};
 ghost use Rattle.command_files.specs.Made.{KeepsModes, KeepsOthers, MakesAtMost};
 ghost use Rattle.command_files.specs.Surroundings.{around};
 ghost use Rattle.command_images.specs.Images.{image_of};
-ghost use Rattle.command_exec.specs.Executed.{DoesAll, Executes, ExecutesFirst, HasBegun, SavesAll, SavesFirst, commands_of};
+ghost use Rattle.command_exec.specs.Executed.{AreExecuted, AreLeft, DoesAll, Executes, ExecutesFirst, HasBegun, SavesAll, SavesFirst, commands_of};
 ghost use Rattle.command_exec.specs.UserTold.{ExecFails, PrintsNothing};
 ghost use Rattle.command_exec.specs.steps.Told.{SavingFails};
 
@@ -89,6 +90,7 @@ pub fn subcommand<'a>(alloc: Global) -> Result<Command<'a>, AllocError> {
 /// them leave. On each other failure no file is made, but for what [`Files::finish`] says, and what is told is the
 /// first fault of the image, the lowest line that is refused, or by its name which file can't be read or written; nothing was
 /// printed where a line or the image is refused, or the command file can't be read. Every other file has the bytes that it had.
+/// A crash at any moment leaves the image file as it might have been left before, or all of the one that this makes.
 /// What it gives are the commands that were refused, where some were.
 ///
 /// # Errors
@@ -113,6 +115,8 @@ pub fn exec<'a, F: Files, O: Write>(
         → KeepsOthers (image_of matches.now) (F.contents files.old) (F.contents files.new) }
     ensures kept { IfErr result (λ failure. failure ≢ Failure.CannotPrint → F.made files.new ≡ F.made files.old) }
     ensures contents { IfErr result (λ failure. failure ≢ Failure.CannotPrint → F.contents files.new ≡ F.contents files.old) }
+    ensures crash { let here = around F.Files F.Reader.tells F.Writer.tells files.old files.new in
+        LeavesOldOrNew (image_of matches.now) (AreExecuted here matches.now) (F.tried files.old) (F.tried files.new) }
     ensures modes { OnOk result (KeepsModes (F.modes files.old) (F.modes files.new)) }
 {
     let path = required(matches, IMAGE);
@@ -161,6 +165,7 @@ fn run<'a, F: Files, O: Write>(
     ensures others_stopped { result ≡ Err Failure.CannotPrint → KeepsOthers path.now (F.contents files.old) (F.contents files.new) }
     ensures kept { IfErr result (λ failure. failure ≢ Failure.CannotPrint → F.made files.new ≡ F.made files.old) }
     ensures contents { IfErr result (λ failure. failure ≢ Failure.CannotPrint → F.contents files.new ≡ F.contents files.old) }
+    ensures crash { LeavesOldOrNew path.now (AreLeft F.Writer.tells events.now image) (F.tried files.old) (F.tried files.new) }
     ensures modes { OnOk result (KeepsModes (F.modes files.old) (F.modes files.new)) }
 {
     let lines = Lines::new(alloc, out)?;

@@ -1,10 +1,12 @@
 -- What the proofs of other crates cite of this one.
-use Rattle.std.proofs.Common.{◌≡◌, ℕ, List, [], ◌∷◌, ◌++◌, inl, inr, Option, Some, None, IfSome, ◌∙◌, ap, refl, subst, sym}
+use Rattle.std.proofs.Common.{◌≡◌, ⊎_elim, ℕ, List, [], ◌∷◌, ◌++◌, inl, inr, Option, Some, None, IfSome, ◌∙◌, ap, refl, subst, sym}
 use Rattle.std.specs.Borrow.{Bor}
 use Rattle.std.proofs.lemmas.Option.{IfSome_then}
 use Rattle.command_files.specs.declared.failure.Failure.{Failure}
 use Rattle.command_files.specs.declared.failure.Failure.TheVariants.{CannotRead, CannotWrite, NoMemory}
 use Rattle.command_files.specs.declared.file_cause.FileCause.{FileCause}
+use Rattle.placed_file.specs.Placing.{Attempt, LeftSoFar}
+use Rattle.command_files.specs.Crash.{AreAnImage, LeavesOldOrNew}
 use Rattle.command_files.specs.Made.{KeepsModes, KeepsOthers, Made, MakesAtMost, MakesOnly, then_all, then_made}
 use Rattle.command_files.specs.Surroundings.{ChangesOnly}
 use Rattle.command_files.specs.declared.files.Files.{Ghosts}
@@ -59,6 +61,32 @@ modes_joined : (a b c : Option ℕ) → IfSome a (λ mode. b ≡ Some mode) → 
 modes_joined None b c first then = tt
 modes_joined (Some mode) b c first then = subst (λ (o : Option ℕ). IfSome o (λ m. c ≡ Some m)) first then
 
+module _ (path : List ℕ) (New : List ℕ → Type 0) where
+  -- nothing is given a name
+  pub leaves_as_before : (a b : List Attempt) → b ≡ a → LeavesOldOrNew path New a b
+  leaves_as_before a b same = record { any_moment = λ name c left. inl (subst (λ (tried : List Attempt). LeftSoFar tried name c) same left) }
+
+  -- in two parts
+  pub leaves_joined : (a b c : List Attempt) → LeavesOldOrNew path New a b → LeavesOldOrNew path New b c → LeavesOldOrNew path New a c
+  leaves_joined a b c first then = record {
+    any_moment = λ name left is. ⊎_elim (λ (was : LeftSoFar b name left). first.any_moment name left was)
+        (λ (new : (name ≡ path) × ((bytes : List ℕ) × New bytes × (left ≡ Some bytes))). inr new) (then.any_moment name left is);
+  }
+
+  -- of more files
+  pub leaves_weaker : (More : List ℕ → Type 0) → ((bytes : List ℕ) → New bytes → More bytes) → (a b : List Attempt)
+      → LeavesOldOrNew path New a b → LeavesOldOrNew path More a b
+  leaves_weaker More more a b leaves = record {
+    any_moment = λ name c left. ⊎_elim (λ (was : LeftSoFar a name c). inl was)
+        (λ (new : (name ≡ path) × ((bytes : List ℕ) × New bytes × (c ≡ Some bytes))). inr (new.0, (new.1.0, more new.1.0 new.1.1, new.1.2)))
+        (leaves.any_moment name c left);
+  }
+
+  -- behind what gave no name, under the name that was wanted
+  pub leaves_behind : (wanted : List ℕ) (a b c : List Attempt) → path ≡ wanted → b ≡ a → LeavesOldOrNew path New b c → LeavesOldOrNew wanted New a c
+  leaves_behind wanted a b c same kept leaves =
+      subst (λ (name : List ℕ). LeavesOldOrNew name New a c) same (subst (λ (tried : List Attempt). LeavesOldOrNew path New tried c) kept leaves)
+
 module _ (path : List ℕ) where
   all_joined : (before : Option (List Made)) (earlier later : List (List ℕ)) → then_all (then_all before path earlier) path later ≡ then_all before path (later ++ earlier)
   all_joined before earlier [] = refl
@@ -75,19 +103,21 @@ module _ (path : List ℕ) where
     made = then.made ∙ ap (λ (made : Option (List Made)). then_all made path then.texts) first.made ∙ all_joined a first.texts then.texts;
   }
 
-module _ {F R W : Type 0} (files : Ghosts F R W) (path : List ℕ) where
+module _ {F R W : Type 0} (files : Ghosts F R W) (writes : Type 0) (path : List ℕ) where
   -- files that stay what they were
-  pub changes_none : (f : F) → ChangesOnly files path f f
+  pub changes_none : (f : F) → ChangesOnly files writes path f f
   changes_none f = record {
     made = record { texts = []; made = refl };
+    crash = leaves_as_before path (AreAnImage writes) (files.tried f) (files.tried f) refl;
     others = λ name differs. refl;
     modes = modes_stay (files.modes f) (files.modes f) refl;
   }
 
   -- files of which those with one name are made, in two parts
-  pub changes_join : (a b c : F) → ChangesOnly files path a b → ChangesOnly files path b c → ChangesOnly files path a c
+  pub changes_join : (a b c : F) → ChangesOnly files writes path a b → ChangesOnly files writes path b c → ChangesOnly files writes path a c
   changes_join a b c first then = record {
     made = makes_more path (files.made a) (files.made b) (files.made c) first.made then.made;
+    crash = leaves_joined path (AreAnImage writes) (files.tried a) (files.tried b) (files.tried c) first.crash then.crash;
     others = λ name differs. then.others name differs ∙ first.others name differs;
     modes = λ name. modes_joined (files.modes a name) (files.modes b name) (files.modes c name) (first.modes name) (then.modes name);
   }

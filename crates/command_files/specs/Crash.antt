@@ -1,21 +1,23 @@
--- What a crash leaves of files, each of which is made as a whole.
-use Rattle.std.specs.Prelude.{◌≡◌, ◌⊎◌, ◌≤◌, ℕ, List, length, take, reverse, find, bytes_eq, Option, Some, None, option_map, Contains}
-use Rattle.command_files.specs.Made.{Made, MakesOnly}
+-- What a crash leaves under the names of files.
+use Rattle.std.specs.Prelude.{◌≡◌, ◌≢◌, ◌⊎◌, ℕ, List, Option, Some}
+use Rattle.image_store.specs.Namespace.{ZonedNamespace}
+use Rattle.image_text.specs.Text.{text}
+use Rattle.placed_file.specs.Placing.{Attempt, LeftSoFar}
 
--- the bytes of the last of these files that has this name
-abbrev pub last_bytes : List Made → List ℕ → Option (List ℕ)
-last_bytes files path = option_map (λ file. file.bytes) (find (λ file. bytes_eq file.path path) (reverse files))
+-- a crash at any moment from the one to the other leaves under each name what it might have left before, and under this one also a whole
+-- file of such bytes
+pub record LeavesOldOrNew (path : List ℕ) (New : List ℕ → Type 0) (before after : List Attempt) : Type 0 where
+  pub any_moment : (name : List ℕ) (c : Option (List ℕ)) → LeftSoFar after name c
+      → LeftSoFar before name c ⊎ ((name ≡ path) × ((bytes : List ℕ) × New bytes × (c ≡ Some bytes)))
 
--- what a crash might have left under a name by the time that these files were made, where they are told: what the name had when the
--- first so many were made, and before any of that name what stood there at first (None). That a file is made as a whole is a
--- premise, which `placed_file` says of each call of the system
-abbrev pub MightHaveLeft : Option (List Made) → List ℕ → Option (List ℕ) → Type 0
-MightHaveLeft None path c = ⊥
-MightHaveLeft (Some files) path c = (k : ℕ) × (k ≤ length files) × (c ≡ last_bytes (take k files) path)
+-- it leaves under each other name what it might have left before
+pub record LeavesOthers (path : List ℕ) (before after : List Attempt) : Type 0 where
+  pub any_moment : (name : List ℕ) (c : Option (List ℕ)) → name ≢ path → LeftSoFar after name c → LeftSoFar before name c
 
--- where none is made, or some with this name alone, a crash at any moment leaves under the name what it might have left before, or all
--- of one of these
-abbrev pub AnImageIsOldOrNew : Type 0
-AnImageIsOldOrNew =
-    (path : List ℕ) (before after : Option (List Made)) (made : MakesOnly path before after) (c : Option (List ℕ))
-    → MightHaveLeft after path c → MightHaveLeft before path c ⊎ ((bytes : List ℕ) × Contains made.texts bytes × (c ≡ Some bytes))
+-- these bytes are those, where what is written is told
+abbrev pub AreWritten : Type 0 → List ℕ → List ℕ → Type 0
+AreWritten writes written bytes = writes → bytes ≡ written
+
+-- they are a whole image, where that is told
+abbrev pub AreAnImage : Type 0 → List ℕ → Type 0
+AreAnImage writes bytes = (namespace : ZonedNamespace) × AreWritten writes (text namespace) bytes

@@ -1,11 +1,18 @@
 -- The files that a command makes.
-use Rattle.std.specs.Prelude.{◌≡◌, ◌≢◌, ℕ, List, [], ◌∷◌, ◌++◌, ◌⊎◌, Option, Some, IfSome}
+use Rattle.std.specs.Prelude.{◌≡◌, ◌≢◌, ℕ, List, [], ◌∷◌, ◌++◌, ◌⊎◌, Option, Some, IfSome, if◌then◌else◌}
 use Rattle.std.specs.Option.{option_map}
+use Rattle.placed_file.specs.Placing.{Attempt}
 
 -- a file with its name
 pub record Made : Type 0 where
   pub path : List ℕ
   pub bytes : List ℕ
+
+-- the files that were told as made, in order, of those that were to be given names, of which the last stands first
+abbrev pub told_made : List Attempt → List Made
+told_made [] = []
+told_made (attempt ∷ before) =
+    if attempt.done then told_made before ++ record { path = attempt.path; bytes = attempt.bytes } ∷ [] else told_made before
 
 -- bytes are those of a file, where these are told
 abbrev pub AreAsTold : Option (List ℕ) → List ℕ → Type 0

@@ -1,11 +1,21 @@
 -- Files in memory.
-use Rattle.std.specs.Prelude.{◌≡◌, ℕ, List, [], ◌∷◌, ◌++◌, map, reverse, find, Option, option_map, string_bytes, bytes_eq, unwrap_or}
+use Rattle.std.specs.Prelude.{◌≡◌, ℕ, List, [], ◌∷◌, ◌++◌, map, reverse, find, true, false, Option, option_map, string_bytes, bytes_eq, unwrap_or}
+use Rattle.placed_file.specs.Placing.{Attempt}
+use Rattle.placed_file.specs.declared.progress.Progress.{Progress}
 use Rattle.command_files.specs.Made.{HasReplaced, Made}
 use Rattle.command_files.specs.declared.memory_files.NamedFile.{NamedFile}
 
 -- the files that were made, in order
 abbrev pub made_of : List NamedFile → List Made
 made_of files = map (λ file. record { path = string_bytes file.path; bytes = file.bytes.items }) files
+
+-- a file in memory has its name with all of its bytes
+abbrev pub whole : Progress
+whole = record { synced = true; tried = true; named = true; early = false; settled = true }
+
+-- each of these files was given its name, of which the last stands first here
+abbrev pub tried_of : List Made → List Attempt
+tried_of files = map (λ file. record { path = file.path; bytes = file.bytes; progress = whole; done = true }) (reverse files)
 
 -- the last of these files that has this name
 abbrev pub last_named : List NamedFile → List ℕ → Option NamedFile

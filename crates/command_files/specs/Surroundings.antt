@@ -1,5 +1,6 @@
 -- What stands around a command.
 use Rattle.std.specs.Prelude.{ℕ, List, Option}
+use Rattle.command_files.specs.Crash.{AreAnImage, LeavesOldOrNew}
 use Rattle.command_files.specs.Made.{KeepsModes, KeepsOthers, Made, MakesOnly}
 use Rattle.command_files.specs.declared.files.Files.{Ghosts}
 
@@ -25,8 +26,10 @@ around files reads writes old new = record {
   after = files.made new;
 }
 
--- files with this name alone are made, every other has the bytes that it had, and each has the permissions that it had
-pub record ChangesOnly {F R W : Type 0} (files : Ghosts F R W) (path : List ℕ) (old new : F) : Type 0 where
+-- files with this name alone are made, a crash at any moment leaves under it what it might have left before or a whole image, every
+-- other has the bytes that it had, and each has the permissions that it had
+pub record ChangesOnly {F R W : Type 0} (files : Ghosts F R W) (writes : Type 0) (path : List ℕ) (old new : F) : Type 0 where
   pub made : MakesOnly path (files.made old) (files.made new)
+  pub crash : LeavesOldOrNew path (AreAnImage writes) (files.tried old) (files.tried new)
   pub others : KeepsOthers path (files.contents old) (files.contents new)
   pub modes : KeepsModes (files.modes old) (files.modes new)

@@ -1,6 +1,9 @@
 //! The files of the system.
 
-ghost use Rattle.std.specs.Prelude.{◌≡◌, [], IfOk, IsSome, None, OnErr, OnOk, option_map, string_bytes};
+ghost use Rattle.std.specs.Prelude.{◌≡◌, ℕ, List, [], ◌∷◌, ◌++◌, IfOk, IsSome, None, Some, OnErr, OnOk, option_map, string_bytes};
+ghost use Rattle.placed_file.specs.Placing.{after_rename, begun};
+ghost use Rattle.command_files.specs.Crash.{LeavesOldOrNew};
+ghost use Rattle.command_files.specs.Made.{told_made};
 
 use crate::file_cause::FileCause;
 use crate::files::{FileFault, Files};
@@ -9,16 +12,19 @@ use crate::unfinished::{
     FileWriter, HeldName, begin_beside, hold_finished, place_under, settle_name,
 };
 use image_text::{Sink, Source, StreamFault};
+use placed_file::{Attempts, Progress, Written};
 use std::alloc::Global;
 use std::fs::File;
 use std::io::{BufReader, Read};
 use std::{fs, io, mem, rt};
 
-/// The files of the system. They don't tell what passes through them.
+/// The files of the system. They tell which were to be given names, with what was written to them and what was done for them; not
+/// what bytes a name leads to. No clause says that what is noted is what the system does: this is to be read.
 #[derive(Drop)]
 pub struct Disk<'a, R> {
     rt: &'a R,
     held: Option<HeldName>,
+    tried: Attempts,
 }
 
 impl<'a, R> Disk<'a, R> {
@@ -26,7 +32,11 @@ impl<'a, R> Disk<'a, R> {
     pub fn new(rt: &'a R) -> Disk<'a, R>
         ensures { result.held ≡ None }
     {
-        Disk { rt, held: None }
+        Disk {
+            rt,
+            held: None,
+            tried: Attempts::new(),
+        }
     }
 
     /// Files that hold the name which these held, with its file: these hold none then.
@@ -37,6 +47,7 @@ impl<'a, R> Disk<'a, R> {
         Disk {
             rt: self.rt,
             held: mem::replace(&mut self.held, None),
+            tried: Attempts::new(),
         }
     }
 }
@@ -98,8 +109,13 @@ impl<R: rt::Files<File = File> + AllocGlobal> Disk<'_, R> {
         requires { IsSome self.old.held }
         ensures held { let name = option_map (λ held. string_bytes held.name) in OnOk result (name self.new.held ≡ name self.old.held) }
         ensures released { OnErr result (self.new.held ≡ None) }
+        ensures made { (name : List ℕ) → option_map (λ held. string_bytes held.name) self.old.held ≡ Some name → OnOk result
+            (told_made self.new.tried.attempts ≡ told_made self.old.tried.attempts ++ record { path = name; bytes = file.written.bytes } ∷ []) }
+        ensures kept { OnErr result (told_made self.new.tried.attempts ≡ told_made self.old.tried.attempts) }
+        ensures crash { (name : List ℕ) → option_map (λ held. string_bytes held.name) self.old.held ≡ Some name →
+            LeavesOldOrNew name (λ bytes. bytes ≡ file.written.bytes) self.old.tried.attempts self.new.tried.attempts }
     {
-        match place_under(self.rt, self.held.as_ref().unwrap(), &mut file) {
+        match self.put_in_place(&mut file) {
             Ok(()) => {
                 // The new file was held from the first on, so that none comes between.
                 hold_finished(&mut self.held, file.created);
@@ -112,6 +128,27 @@ impl<R: rt::Files<File = File> + AllocGlobal> Disk<'_, R> {
             }
         }
     }
+
+    /// Gives a file that is written the name that is held.
+    ///
+    /// # Errors
+    ///
+    /// Those of the system, also where a write to it failed.
+    fn put_in_place(&mut self, file: &mut FileWriter) -> Result<(), FileFault>
+        requires { IsSome self.old.held }
+        ensures held { self.new.held ≡ self.old.held }
+        ensures made { (name : List ℕ) → option_map (λ held. string_bytes held.name) self.old.held ≡ Some name → OnOk result
+            (told_made self.new.tried.attempts ≡ told_made self.old.tried.attempts ++ record { path = name; bytes = file.old.written.bytes } ∷ []) }
+        ensures kept { OnErr result (told_made self.new.tried.attempts ≡ told_made self.old.tried.attempts) }
+        ensures crash { (name : List ℕ) → option_map (λ held. string_bytes held.name) self.old.held ≡ Some name →
+            LeavesOldOrNew name (λ bytes. bytes ≡ file.old.written.bytes) self.old.tried.attempts self.new.tried.attempts }
+    {
+        file.complete()?;
+        let held = self.held.as_ref().unwrap();
+        let (done, progress) = place_under(self.rt, held, file);
+        self.tried.add(held.name.as_bytes(), &file.written, &progress, done.is_ok());
+        done
+    }
 }
 
 impl<R: rt::Files<File = File> + AllocGlobal> Files for Disk<'_, R> {
@@ -119,7 +156,9 @@ impl<R: rt::Files<File = File> + AllocGlobal> Files for Disk<'_, R> {
 
     type Writer = FileWriter;
 
-    ghost made = { λ _. None };
+    ghost made = { λ disk. Some (told_made disk.tried.attempts) };
+
+    ghost tried = { λ disk. disk.tried.attempts };
 
     ghost held = { λ disk. option_map (λ held. string_bytes held.name) disk.held };
 
@@ -128,7 +167,16 @@ impl<R: rt::Files<File = File> + AllocGlobal> Files for Disk<'_, R> {
     }
 
     fn write(&mut self, path: &str, bytes: &[u8]) -> Result<(), FileFault> {
-        Ok(fs::write(self.rt, path, bytes)?)
+        let mut written = Written::new();
+        written.add(bytes);
+        let done = fs::write(self.rt, path, bytes);
+        self.tried.add(
+            path.as_bytes(),
+            &written,
+            &in_its_place(done.is_ok()),
+            done.is_ok(),
+        );
+        Ok(done?)
     }
 
     fn open(&mut self, path: &str) -> Result<FileReader<File>, FileFault> {
@@ -174,6 +222,15 @@ impl<R: rt::Files<File = File> + AllocGlobal> Files for Disk<'_, R> {
         // The failure that led here is told; one more would hide it.
         let _ = fs::remove_file(self.rt, file.name.as_str());
     }
+}
+
+/// What was done for a file that is written where it stands: a crash may leave anything of it.
+fn in_its_place(done: bool) -> Progress
+    ensures { result ≡ after_rename done begun }
+{
+    let mut progress = Progress::begun();
+    progress.note_rename(done);
+    progress
 }
 
 /// A file of the system that is read in pieces.

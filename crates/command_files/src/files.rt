@@ -2,6 +2,8 @@
 
 ghost use Rattle.std.specs.Prelude.{◌≡◌, ℕ, List, [], IfOk, IfSome, OnOk, OnErr, Option, None, Some, take};
 ghost use Rattle.std.specs.IoError.{error_kind};
+ghost use Rattle.placed_file.specs.Placing.{Attempt};
+ghost use Rattle.command_files.specs.Crash.{AreWritten, LeavesOldOrNew, LeavesOthers};
 ghost use Rattle.command_files.specs.Made.{AreAsTold, HasReplaced, KeepsModes, Made, then_made};
 ghost use Rattle.command_files.specs.UserTold.{told_of_file};
 ghost use Rattle.command_files.specs.declared.files.FileFault.TheVariants.{Memory};
@@ -34,6 +36,9 @@ pub trait Files {
     /// The files that were made, in order, or `None` where it doesn't tell.
     ghost made: { Self → Option (List Made) };
 
+    /// Each file that was to be given a name, of which the last stands first, with what was done for it.
+    ghost tried: { Self → List Attempt };
+
     /// The bytes of the file of each name, or `None` where it doesn't tell them.
     ghost contents: { Self → List ℕ → Option (List ℕ) } = { λ _ _. None };
 
@@ -50,6 +55,7 @@ pub trait Files {
     /// It can't be read, or there is no memory for its bytes.
     fn read(&mut self, path: &str) -> Result<Vec<u8>, FileFault>
         ensures made { made self.new ≡ made self.old }
+        ensures tried { tried self.new ≡ tried self.old }
         ensures contents { contents self.new ≡ contents self.old }
         ensures modes { modes self.new ≡ modes self.old }
         ensures held { held self.new ≡ held self.old }
@@ -65,6 +71,7 @@ pub trait Files {
     fn write(&mut self, path: &str, bytes: &[u8]) -> Result<(), FileFault>
         ensures made { OnOk result (made self.new ≡ then_made (made self.old) path.now bytes.now) }
         ensures kept { OnErr result (made self.new ≡ made self.old) }
+        ensures crash { LeavesOthers path.now (tried self.old) (tried self.new) }
         ensures replaced { OnOk result (HasReplaced path.now bytes.now (contents self.old) (contents self.new)) }
         ensures contents { OnErr result (contents self.new ≡ contents self.old) }
         ensures modes { OnOk result (KeepsModes (modes self.old) (modes self.new)) }
@@ -78,6 +85,7 @@ pub trait Files {
     /// It can't be opened, or memory is wanting.
     fn open(&mut self, path: &str) -> Result<Self::Reader, FileFault>
         ensures made { made self.new ≡ made self.old }
+        ensures tried { tried self.new ≡ tried self.old }
         ensures contents { contents self.new ≡ contents self.old }
         ensures modes { modes self.new ≡ modes self.old }
         ensures held { held self.new ≡ held self.old }
@@ -93,6 +101,7 @@ pub trait Files {
     /// opened.
     fn hold(&mut self, path: &str) -> Result<(), FileFault>
         ensures made { made self.new ≡ made self.old }
+        ensures tried { tried self.new ≡ tried self.old }
         ensures contents { contents self.new ≡ contents self.old }
         ensures modes { modes self.new ≡ modes self.old }
         ensures held { OnOk result (held self.new ≡ Some path.now) };
@@ -105,6 +114,7 @@ pub trait Files {
     fn first_bytes(&mut self, path: &str, most: usize) -> Result<Vec<u8>, FileFault>
         requires { held self.old ≡ Some path.now }
         ensures made { made self.new ≡ made self.old }
+        ensures tried { tried self.new ≡ tried self.old }
         ensures contents { contents self.new ≡ contents self.old }
         ensures modes { modes self.new ≡ modes self.old }
         ensures held { held self.new ≡ held self.old }
@@ -118,6 +128,7 @@ pub trait Files {
     fn open_held(&mut self, path: &str) -> Result<Self::Reader, FileFault>
         requires { held self.old ≡ Some path.now }
         ensures made { made self.new ≡ made self.old }
+        ensures tried { tried self.new ≡ tried self.old }
         ensures contents { contents self.new ≡ contents self.old }
         ensures modes { modes self.new ≡ modes self.old }
         ensures held { held self.new ≡ held self.old }
@@ -133,6 +144,7 @@ pub trait Files {
     fn begin(&mut self, path: &str) -> Result<Self::Writer, FileFault>
         requires { held self.old ≡ Some path.now }
         ensures made { made self.new ≡ made self.old }
+        ensures tried { tried self.new ≡ tried self.old }
         ensures contents { contents self.new ≡ contents self.old }
         ensures modes { modes self.new ≡ modes self.old }
         ensures held { held self.new ≡ held self.old }
@@ -151,6 +163,7 @@ pub trait Files {
         requires { held self.old ≡ Some path.now }
         ensures made { OnOk result (made self.new ≡ then_made (made self.old) path.now (Self.Writer.taken file)) }
         ensures kept { OnErr result (made self.new ≡ made self.old) }
+        ensures crash { LeavesOldOrNew path.now (AreWritten Self.Writer.tells (Self.Writer.taken file)) (tried self.old) (tried self.new) }
         ensures replaced { OnOk result (HasReplaced path.now (Self.Writer.taken file) (contents self.old) (contents self.new)) }
         ensures contents { OnErr result (contents self.new ≡ contents self.old) }
         ensures modes { OnOk result (KeepsModes (modes self.old) (modes self.new)) }
@@ -161,6 +174,7 @@ pub trait Files {
     /// Forgets a file that was begun.
     fn discard(&mut self, file: Self::Writer)
         ensures made { made self.new ≡ made self.old }
+        ensures tried { tried self.new ≡ tried self.old }
         ensures contents { contents self.new ≡ contents self.old }
         ensures modes { modes self.new ≡ modes self.old }
         ensures held { held self.new ≡ held self.old };

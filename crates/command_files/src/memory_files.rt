@@ -2,7 +2,7 @@
 
 ghost use Rattle.std.specs.Prelude.{◌≡◌, [], drop, false, Some, None, OnOk, OnErr, option_copied, option_map, string_bytes, unwrap_or};
 ghost use Rattle.command_files.specs.Made.{KeepsModes};
-ghost use Rattle.command_files.specs.MemoryFiles.{HasAdded, HasPut, HasReplacedIn, bytes_named, last_named, made_of, mode_named};
+ghost use Rattle.command_files.specs.MemoryFiles.{HasAdded, HasPut, HasReplacedIn, bytes_named, last_named, made_of, mode_named, tried_of};
 
 use crate::file_cause::FileCause;
 use crate::files::{FileFault, Files};
@@ -129,6 +129,8 @@ impl Files for MemoryFiles {
     type Writer = MemoryWriter;
 
     ghost made = { λ memory. Some (made_of memory.files.items) };
+
+    ghost tried = { λ memory. tried_of (made_of memory.files.items) };
 
     ghost contents = { λ memory path. bytes_named memory.files.items path };
 

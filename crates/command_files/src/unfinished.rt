@@ -1,12 +1,13 @@
 //! Files of the system that aren't finished: written beside the one whose name is held, which they get at the end.
 
 ghost use Rattle.std.specs.Prelude.{◌≡◌, [], IfOk, option_map, string_bytes};
+ghost use Rattle.placed_file.specs.Placing.{IsWhole};
 
 use crate::file_cause::FileCause;
 use crate::files::FileFault;
 use crate::held_file::{HeldFile, folder_of};
 use image_text::{Sink, StreamFault};
-use placed_file::{Placing, Progress, put_in_place};
+use placed_file::{Placing, Progress, Written, put_in_place};
 use std::alloc::{AllocError, Global};
 use std::fs::File;
 use std::io::{BufWriter, ErrorKind, Write};
@@ -36,7 +37,8 @@ pub(crate) fn begin_beside<R: rt::Files<File = File> + AllocGlobal>(
     rt: &R,
     held: &HeldName,
 ) -> Result<FileWriter, FileFault>
-    ensures { IfOk result (λ file. file.failures ≡ 0) }
+    ensures healthy { IfOk result (λ file. file.failures ≡ 0) }
+    ensures empty { IfOk result (λ file. file.written.bytes ≡ []) }
 {
     let (name, created) = create_beside(rt, held)?;
     match writer_of(rt, held, &created) {
@@ -45,6 +47,7 @@ pub(crate) fn begin_beside<R: rt::Files<File = File> + AllocGlobal>(
             created,
             name,
             failures: 0,
+            written: Written::new(),
         }),
         Err(fault) => {
             // What failed is told; a failure to remove the file would hide it.
@@ -94,13 +97,14 @@ fn writer_of<R: rt::Files<File = File> + AllocGlobal>(
     Ok(BufWriter::new(rt.alloc(), created.handle()?)?)
 }
 
-/// A file that is written, on its way to the name that is held. Each method makes one call of the system, or one after a flush, and notes
-/// it with its answer.
+/// A file that is written, on its way to the name that is held. Each method makes one call of the system, and notes it with its answer.
 #[derive(Drop)]
 struct Unplaced<'w, 'a, R> {
     rt: &'a R,
     held: &'w HeldName,
-    file: &'w mut FileWriter,
+    file: &'w File,
+    /// Its name until it has that one.
+    name: &'w str,
     progress: Progress,
 }
 
@@ -110,13 +114,13 @@ impl<R: rt::Files<File = File>> Placing for Unplaced<'_, '_, R> {
     ghost progress = { λ new. new.progress };
 
     fn sync(&mut self) -> Result<(), FileFault> {
-        let done = sync_written(self.file);
+        let done = synced(self.file);
         self.progress.note_sync(done.is_ok());
         done
     }
 
     fn rename(&mut self) -> Result<(), FileFault> {
-        let done = give_name(self.rt, self.held, self.file.name.as_str());
+        let done = give_name(self.rt, self.held, self.name);
         self.progress.note_rename(done.is_ok());
         done
     }
@@ -129,24 +133,28 @@ impl<R: rt::Files<File = File>> Placing for Unplaced<'_, '_, R> {
 }
 
 /// Gives a file that is written the name that is held: where the power fails, the name leads to all of the old bytes or to all of the
-/// new ([`put_in_place`]).
+/// new ([`put_in_place`]). Beside how that ends it says what was done.
 pub(crate) fn place_under<R: rt::Files<File = File>>(
     rt: &R,
     held: &HeldName,
-    file: &mut FileWriter,
-) -> Result<(), FileFault> {
-    put_in_place(&mut Unplaced {
+    file: &FileWriter,
+) -> (Result<(), FileFault>, Progress)
+    ensures { IsWhole result.1 }
+{
+    let mut unplaced = Unplaced {
         rt,
         held,
-        file,
+        file: file.file.get_ref(),
+        name: file.name.as_str(),
         progress: Progress::begun(),
-    })
+    };
+    let done = put_in_place(&mut unplaced);
+    (done, unplaced.progress)
 }
 
-/// Brings the bytes of a file that is written to the disk.
-fn sync_written(file: &mut FileWriter) -> Result<(), FileFault> {
-    file.file.flush()?;
-    Ok(file.file.get_ref().sync_all()?)
+/// Brings the bytes of a file to the disk.
+fn synced(file: &File) -> Result<(), FileFault> {
+    Ok(file.sync_all()?)
 }
 
 /// Brings a name to the disk.
@@ -199,19 +207,40 @@ pub struct FileWriter {
     pub(crate) created: HeldFile,
     /// Its name until it is finished.
     pub(crate) name: String,
-    failures: u64,
+    pub(crate) failures: u64,
+    /// What was written.
+    pub(crate) written: Written,
+}
+
+impl FileWriter {
+    /// Hands the system all that was written and is still held back.
+    ///
+    /// # Errors
+    ///
+    /// Those of the system, also where one of an earlier write was told.
+    pub(crate) fn complete(&mut self) -> Result<(), FileFault>
+        ensures { self.new.written ≡ self.old.written }
+    {
+        if self.failures > 0 {
+            return Err(FileFault::Failed(FileCause::Other));
+        }
+        Ok(self.file.flush()?)
+    }
 }
 
 impl Sink for FileWriter {
-    ghost tells = { ⊥ };
+    ghost tells = { Unit {0} };
 
-    ghost taken = { λ _. [] };
+    ghost taken = { λ writer. writer.written.bytes };
 
     ghost failures = { λ writer. writer.failures };
 
     fn write(&mut self, from: &[u8]) -> Result<usize, StreamFault> {
         match self.file.write_all(from) {
-            Ok(()) => Ok(from.len()),
+            Ok(()) => {
+                self.written.add(from);
+                Ok(from.len())
+            }
             Err(_) => {
                 self.failures += 1;
                 Err(StreamFault)

@@ -2,6 +2,7 @@
 
 ghost use Rattle.std.specs.Prelude.{◌≡◌, ◌≢◌, ◌≤◌, IfErr, IfOk, None, OnOk, OnErr};
 ghost use Rattle.program_interface.specs.BlockSize.{block_size as size_of_bytes};
+ghost use Rattle.command_files.specs.Crash.{LeavesOthers};
 ghost use Rattle.command_files.specs.Made.{AreAsTold, HasReplaced, then_made};
 ghost use Rattle.command_files.specs.UserTold.{IsUnread, IsUnwritten, told_unread, told_unwritten};
 
@@ -16,6 +17,7 @@ use program_interface::{BlockSize, LARGEST_BLOCK};
 /// [`Failure::CannotRead`] with its name, or [`Failure::NoMemory`].
 pub fn read<'a, F: Files>(path: &'a str, files: &mut F) -> Result<Vec<u8>, Failure<'a>>
     ensures made { F.made files.new ≡ F.made files.old }
+    ensures tried { F.tried files.new ≡ F.tried files.old }
     ensures contents { F.contents files.new ≡ F.contents files.old }
     ensures modes { F.modes files.new ≡ F.modes files.old }
     ensures held { F.held files.new ≡ F.held files.old }
@@ -38,6 +40,7 @@ pub fn read<'a, F: Files>(path: &'a str, files: &mut F) -> Result<Vec<u8>, Failu
 pub fn write<'a, F: Files>(path: &'a str, bytes: &[u8], files: &mut F) -> Result<(), Failure<'a>>
     ensures made { OnOk result (F.made files.new ≡ then_made (F.made files.old) path.now bytes.now) }
     ensures kept { OnErr result (F.made files.new ≡ F.made files.old) }
+    ensures crash { LeavesOthers path.now (F.tried files.old) (F.tried files.new) }
     ensures replaced { OnOk result (HasReplaced path.now bytes.now (F.contents files.old) (F.contents files.new)) }
     ensures contents { OnErr result (F.contents files.new ≡ F.contents files.old) }
     ensures unwritten { IfErr result (IsUnwritten path.entry) }

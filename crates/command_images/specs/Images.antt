@@ -8,6 +8,7 @@ use Rattle.image_text.specs.Text.{text}
 use Rattle.image_text.specs.Version.{numbers_of_version}
 use Rattle.image_text.specs.declared.version.Version.TheVariants.{One, Two}
 use Rattle.command_files.specs.Arguments.{number_of, value_of}
+use Rattle.command_files.specs.Crash.{AreWritten}
 use Rattle.command_files.specs.Made.{Made, then_made}
 use Rattle.command_files.specs.Surroundings.{Surroundings}
 use Rattle.command_images.specs.declared.image_file.TheConstants.{IMAGE}
@@ -42,6 +43,13 @@ pub record MakesEmpty (writes : Type 0) (matches : ArgMatches) (path : List ℕ)
   pub passes : tested shape ≡ Ok shape
   pub made : writes → after ≡ then_made before path (text (all_empty shape))
 
+-- these bytes are an image of such a namespace, where what is written of it is told
+pub record AreEmpty (writes : Type 0) (matches : ArgMatches) (bytes : List ℕ) : Type 0 where
+  pub shape : Shape
+  pub asked : IsAskedFor matches shape
+  pub passes : tested shape ≡ Ok shape
+  pub written : AreWritten writes (text (all_empty shape)) bytes
+
 -- the bytes of a file, where they are told, stand for this namespace
 abbrev pub StandFor : Option (List ℕ) → ZonedNamespace → Type 0
 StandFor bytes namespace = IfSome bytes (λ bytes. namespace_in bytes ≡ Ok namespace)
@@ -52,6 +60,12 @@ pub record MakesAnew (here : Surroundings) (path : List ℕ) : Type 0 where
   pub namespace : ZonedNamespace
   pub held : here.reads → StandFor (here.contents path) namespace
   pub made : here.writes → here.after ≡ then_made here.before path (text namespace)
+
+-- these bytes are an image of the namespace that a file's bytes stand for, where these, what is read of them and what is written are told
+pub record AreAnew (reads writes : Type 0) (held : Option (List ℕ)) (bytes : List ℕ) : Type 0 where
+  pub namespace : ZonedNamespace
+  pub held_is : reads → StandFor held namespace
+  pub written : AreWritten writes (text namespace) bytes
 
 -- a file has a text afterwards, where its bytes, what is read of them and what is written are told: none is made, since it had
 -- this text; or it is made anew, since it had another

@@ -1,9 +1,10 @@
 //! The command `format`: a new image.
 
 ghost use Rattle.std.specs.Prelude.{◌≡◌, ◌↔◌, ◌⊎◌, IfErr, IfOk, IsTrue, OnOk, OnErr, Some};
+ghost use Rattle.command_files.specs.Crash.{LeavesOldOrNew};
 ghost use Rattle.command_files.specs.Made.{KeepsModes, KeepsOthers, MakesOne};
 ghost use Rattle.image_store.specs.Geometry.{tested};
-ghost use Rattle.command_images.specs.Images.{IsAskedFor, IsForced, IsReplaceable, MakesEmpty, image_of};
+ghost use Rattle.command_images.specs.Images.{AreEmpty, IsAskedFor, IsForced, IsReplaceable, MakesEmpty, image_of};
 ghost use Rattle.command_images.specs.UserTold.{FormatFails, IsUnreplaced, RefusesShape};
 ghost use Rattle.command_images.specs.steps.Beginnings.{may_begin};
 
@@ -100,7 +101,8 @@ fn count<'a>(alloc: Global, name: &'a str, letter: &'a str, help: &'a str) -> Ar
 /// Makes one file, in the image file's place: the text of a namespace of which nothing is written, of the shape whose
 /// numbers the options spell, which passes the tests. Bytes that are no image are replaced by force alone. Where it
 /// fails, no file is made, and what is told is the option whose word spells no number, the first test that the numbers
-/// fail, or the file's name. Every other file has the bytes that it had.
+/// fail, or the file's name. Every other file has the bytes that it had. A crash at any moment leaves the image file as it might have
+/// been left before, or all of the new one.
 ///
 /// # Errors
 ///
@@ -117,6 +119,7 @@ pub fn format<'a, F: Files>(
     ensures made { OnOk result (MakesOne (image_of matches.now) (F.made files.old) (F.made files.new)) }
     ensures others { OnOk result (KeepsOthers (image_of matches.now) (F.contents files.old) (F.contents files.new)) }
     ensures kept { OnErr result (F.made files.new ≡ F.made files.old) }
+    ensures crash { LeavesOldOrNew (image_of matches.now) (AreEmpty F.Writer.tells matches.now) (F.tried files.old) (F.tried files.new) }
     ensures contents { OnErr result (F.contents files.new ≡ F.contents files.old) }
     ensures modes { OnOk result (KeepsModes (F.modes files.old) (F.modes files.new)) }
 {
@@ -136,6 +139,7 @@ fn hold_to_format<'a, F: Files>(
     ensures made { F.made files.new ≡ F.made files.old }
     ensures contents { F.contents files.new ≡ F.contents files.old }
     ensures modes { F.modes files.new ≡ F.modes files.old }
+    ensures tried { F.tried files.new ≡ F.tried files.old }
     ensures held { OnOk result (F.held files.new ≡ Some path.now) }
     ensures replaceable { OnOk result (IsTrue by_force ⊎ IsReplaceable (F.contents files.old path.now)) }
     ensures failed { IfErr result (IsUnreplaced (IsTrue by_force) (F.contents files.old path.now) path.entry) }

@@ -3,6 +3,7 @@
 ghost use Rattle.std.specs.Prelude.{◌≡◌, ◌≢◌, IfOk, IfErr, OnOk, OnErr, Some};
 ghost use Rattle.image_text.specs.Reading.{namespace_in};
 ghost use Rattle.image_text.specs.Text.{text};
+ghost use Rattle.command_files.specs.Crash.{AreWritten, LeavesOldOrNew};
 ghost use Rattle.command_files.specs.Made.{KeepsModes, KeepsOthers, MakesAtMost, MakesOne, then_made};
 ghost use Rattle.command_files.specs.Surroundings.{around};
 ghost use Rattle.command_files.specs.UserTold.{IsUnread, IsUnwritten};
@@ -24,6 +25,7 @@ fn hold<'a, F: Files>(path: &'a str, files: &mut F) -> Result<(), Failure<'a>>
     ensures made { F.made files.new ≡ F.made files.old }
     ensures contents { F.contents files.new ≡ F.contents files.old }
     ensures modes { F.modes files.new ≡ F.modes files.old }
+    ensures tried { F.tried files.new ≡ F.tried files.old }
     ensures held { OnOk result (F.held files.new ≡ Some path.now) }
     ensures failed { IfErr result (IsUnheld path.entry) }
     ensures not_printing { result ≢ Err Failure.CannotPrint }
@@ -77,6 +79,7 @@ pub fn load_to_replace<'a, F: Files>(
     ensures made { F.made files.new ≡ F.made files.old }
     ensures contents { F.contents files.new ≡ F.contents files.old }
     ensures modes { F.modes files.new ≡ F.modes files.old }
+    ensures tried { F.tried files.new ≡ F.tried files.old }
     ensures held { OnOk result (F.held files.new ≡ Some path.now) }
     ensures image { F.Reader.tells → IfOk result (StandFor (F.contents files.old path.now)) }
     ensures failed { IfErr result (UpgradeFails F.Reader.tells (F.contents files.old path.now) path.now) }
@@ -96,6 +99,7 @@ fn load_held<'a, F: Files>(
     ensures made { F.made files.new ≡ F.made files.old }
     ensures contents { F.contents files.new ≡ F.contents files.old }
     ensures modes { F.modes files.new ≡ F.modes files.old }
+    ensures tried { F.tried files.new ≡ F.tried files.old }
     ensures held { F.held files.new ≡ F.held files.old }
     ensures image { F.Reader.tells → IfOk result (StandFor (F.contents files.old path.now)) }
     ensures failed { IfErr result (LoadingFails F.Reader.tells (F.contents files.old path.now) path.now) }
@@ -136,7 +140,8 @@ fn refused<'a>(path: &'a str, fault: LoadFault) -> Failure<'a>
 }
 
 /// Makes a file of an image, which is the image's text, in place of the one whose name is held, whose permissions it
-/// has then. Every other file has the bytes that it had, and where this fails, each has.
+/// has then. Every other file has the bytes that it had, and where this fails, each has. A crash at any moment leaves under the name
+/// what it might have left before, or all of the new file.
 ///
 /// # Errors
 ///
@@ -147,6 +152,7 @@ pub fn save<'a, F: Files>(image: &Image, path: &'a str, files: &mut F) -> Result
     ensures made { OnOk result (MakesOne path.now (F.made files.old) (F.made files.new)) }
     ensures others { OnOk result (KeepsOthers path.now (F.contents files.old) (F.contents files.new)) }
     ensures kept { OnErr result (F.made files.new ≡ F.made files.old) }
+    ensures crash { LeavesOldOrNew path.now (AreWritten F.Writer.tells (text image.now)) (F.tried files.old) (F.tried files.new) }
     ensures contents { OnErr result (F.contents files.new ≡ F.contents files.old) }
     ensures modes { OnOk result (KeepsModes (F.modes files.old) (F.modes files.new)) }
     ensures modes_left { OnErr result (F.modes files.new ≡ F.modes files.old) }
@@ -183,6 +189,7 @@ pub fn save_changes<'a, F: Files>(
     ensures made { OnOk result (MakesAtMost path.now (F.made files.old) (F.made files.new)) }
     ensures others { OnOk result (KeepsOthers path.now (F.contents files.old) (F.contents files.new)) }
     ensures kept { OnErr result (F.made files.new ≡ F.made files.old) }
+    ensures crash { LeavesOldOrNew path.now (AreWritten F.Writer.tells (text image.now)) (F.tried files.old) (F.tried files.new) }
     ensures contents { OnErr result (F.contents files.new ≡ F.contents files.old) }
     ensures modes { OnOk result (KeepsModes (F.modes files.old) (F.modes files.new)) }
     ensures modes_left { OnErr result (F.modes files.new ≡ F.modes files.old) }
@@ -207,6 +214,7 @@ fn has_text<'a, F: Files>(image: &Image, path: &'a str, files: &mut F) -> Result
     ensures made { F.made files.new ≡ F.made files.old }
     ensures contents { F.contents files.new ≡ F.contents files.old }
     ensures modes { F.modes files.new ≡ F.modes files.old }
+    ensures tried { F.tried files.new ≡ F.tried files.old }
     ensures held { F.held files.new ≡ F.held files.old }
     ensures unread { IfErr result (IsUnread path.entry) }
     ensures not_printing { result ≢ Err Failure.CannotPrint }

@@ -1,9 +1,10 @@
 //! The command `upgrade`: an image in the last version.
 
 ghost use Rattle.std.specs.Prelude.{◌≡◌, IfErr, OnOk, OnErr};
+ghost use Rattle.command_files.specs.Crash.{LeavesOldOrNew};
 ghost use Rattle.command_files.specs.Made.{KeepsModes, KeepsOthers, MakesOne};
 ghost use Rattle.command_files.specs.Surroundings.{around};
-ghost use Rattle.command_images.specs.Images.{MakesAnew, image_of};
+ghost use Rattle.command_images.specs.Images.{AreAnew, MakesAnew, image_of};
 ghost use Rattle.command_images.specs.UserTold.{UpgradeFails};
 
 use crate::image_file::{self, IMAGE};
@@ -46,7 +47,8 @@ pub fn subcommand<'a>(alloc: Global) -> Result<Command<'a>, AllocError> {
 
 /// Makes one file, in the image file's place: the text of version 2 of the namespace that the image file's bytes stand
 /// for. Where it fails, no file is made, and what is told is the first fault of these bytes, or by the file's name that
-/// it can't be read or written. Every other file has the bytes that it had.
+/// it can't be read or written. Every other file has the bytes that it had. A crash at any moment leaves the image file as it might have
+/// been left before, or all of the new one.
 ///
 /// # Errors
 ///
@@ -62,6 +64,8 @@ pub fn upgrade<'a, F: Files>(
     ensures made { OnOk result (MakesOne (image_of matches.now) (F.made files.old) (F.made files.new)) }
     ensures others { OnOk result (KeepsOthers (image_of matches.now) (F.contents files.old) (F.contents files.new)) }
     ensures kept { OnErr result (F.made files.new ≡ F.made files.old) }
+    ensures crash { let held = F.contents files.old (image_of matches.now) in
+        LeavesOldOrNew (image_of matches.now) (AreAnew F.Reader.tells F.Writer.tells held) (F.tried files.old) (F.tried files.new) }
     ensures contents { OnErr result (F.contents files.new ≡ F.contents files.old) }
     ensures modes { OnOk result (KeepsModes (F.modes files.old) (F.modes files.new)) }
 {

@@ -24,21 +24,21 @@ pub(crate) struct ImageKeeper<'f, 'a, F> {
 impl<F: Files> Keep for ImageKeeper<'_, '_, F> {
     ghost is_ready = { λ keeper. HoldsName F.Files keeper };
 
-    ghost becomes = { λ old new. KeepsIn F.Files old new };
+    ghost becomes = { λ old new. KeepsIn F.Files F.Writer.tells old new };
 
     ghost has_kept = { λ old new namespace. HasKept F.Files F.Reader.tells F.Writer.tells old new namespace };
 
     ghost stays = { λ keeper. record {
       same_files = refl;
       same_path = refl;
-      changes = changes_none F.Files keeper.path.now keeper.files.now;
+      changes = changes_none F.Files F.Writer.tells keeper.path.now keeper.files.now;
     } };
 
     ghost joins = { λ a b c first then. record {
       same_files = then.same_files ∙ first.same_files;
       same_path = then.same_path ∙ first.same_path;
-      changes = changes_join F.Files a.path.now a.files.now b.files.now c.files.now first.changes
-          (subst (λ (path : Bor (List ℕ)). ChangesOnly F.Files path.now b.files.now c.files.now) first.same_path then.changes);
+      changes = changes_join F.Files F.Writer.tells a.path.now a.files.now b.files.now c.files.now first.changes
+          (subst (λ (path : Bor (List ℕ)). ChangesOnly F.Files F.Writer.tells path.now b.files.now c.files.now) first.same_path then.changes);
     } };
 
     fn keep(&mut self, image: &Image) -> Result<(), NotKept> {

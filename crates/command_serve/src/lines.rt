@@ -36,7 +36,7 @@ pub(crate) fn serve_from<'a, F: Files, I: Read, O: Write>(
         OnOk result (ServesByLine here matches.now drains (I.remaining input.old) (O.contents out.old) (O.contents out.new)) }
     ensures stopped { let here = around F.Files F.Reader.tells F.Writer.tells files.old files.new in
         IfErr result (LinesStoppedBy (StopsByLine here matches.now drains (I.remaining input.old) (O.contents out.old))) }
-    ensures changes { ChangesOnly F.Files (image_of matches.now) files.old files.new }
+    ensures changes { ChangesOnly F.Files F.Writer.tells (image_of matches.now) files.old files.new }
 {
     let path = required(matches, IMAGE);
     let image = image_file::load_to_replace(alloc, path, files)?;
@@ -61,7 +61,7 @@ fn run<'a, F: Files, I: Read, O: Write>(
         OnOk result (ServesImageLines here image path.now drains (I.remaining input.old) (O.contents out.old) (O.contents out.new)) }
     ensures stopped { let here = around F.Files F.Reader.tells F.Writer.tells files.old files.new in
         IfErr result (LinesStoppedBy (ServesFirstLines here image path.now drains (I.remaining input.old) (O.contents out.old))) }
-    ensures changes { ChangesOnly F.Files path.now files.old files.new }
+    ensures changes { ChangesOnly F.Files F.Writer.tells path.now files.old files.new }
 {
     let mut output = vec![in alloc; 0; MOST_TRANSFER]?;
     let mut lines = Lines::new(alloc, out)?;

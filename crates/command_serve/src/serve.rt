@@ -137,7 +137,7 @@ pub fn serve<'a, F: Files, I: Read + Drop, O: Write>(
         asks_frames matches.now ≡ false
         → IfErr result (LinesStoppedBy (StopsByLine here matches.now (asks_drain matches.now)
         (option_map_or I.remaining input.old None) (O.contents out.old))) }
-    ensures changes { ChangesOnly F.Files (image_of matches.now) files.old files.new }
+    ensures changes { ChangesOnly F.Files F.Writer.tells (image_of matches.now) files.old files.new }
     ensures taken { input.new ≡ None }
     ensures untaken { input.old ≡ None → files.new ≡ files.old }
 {
@@ -169,7 +169,7 @@ fn serve_asked<'a, F: Files, I: Read, O: Write>(
         asks_frames matches.now ≡ false
         → IfErr result (LinesStoppedBy (StopsByLine here matches.now (asks_drain matches.now)
         (I.remaining input.old) (O.contents out.old))) }
-    ensures changes { ChangesOnly F.Files (image_of matches.now) files.old files.new }
+    ensures changes { ChangesOnly F.Files F.Writer.tells (image_of matches.now) files.old files.new }
 {
     if asks_for(matches, FRAMES) {
         serve_from(alloc, matches, files, input, out)
@@ -199,7 +199,7 @@ fn serve_from<'a, F: Files, I: Read, O: Write>(
         OnOk result (Serves here matches.now (I.remaining input.old) (O.contents out.old) (O.contents out.new)) }
     ensures stopped { let here = around F.Files F.Reader.tells F.Writer.tells files.old files.new in
         IfErr result (StoppedBy (StopsEarly here matches.now (I.remaining input.old) (O.contents out.old))) }
-    ensures changes { ChangesOnly F.Files (image_of matches.now) files.old files.new }
+    ensures changes { ChangesOnly F.Files F.Writer.tells (image_of matches.now) files.old files.new }
 {
     let path = required(matches, IMAGE);
     let image = image_file::load_to_replace(alloc, path, files)?;
@@ -236,7 +236,7 @@ fn run<'a, F: Files, I: Read, O: Write>(
         OnOk result (ServesImage here image path.now turns (I.remaining input.old) (O.contents out.old) (O.contents out.new)) }
     ensures stopped { let here = around F.Files F.Reader.tells F.Writer.tells files.old files.new in
         IfErr result (StoppedBy (ServesFirst here image path.now turns (I.remaining input.old) (O.contents out.old))) }
-    ensures changes { ChangesOnly F.Files path.now files.old files.new }
+    ensures changes { ChangesOnly F.Files F.Writer.tells path.now files.old files.new }
 {
     let mut device = Device::new(alloc, image);
     let (done, failure) = serve_in(alloc, &mut device, turns, path, files, input, out);
@@ -264,7 +264,7 @@ fn serve_in<'a, F: Files, I: Read, O: Write>(
         IfErr result.0 (StopsBefore (IsSaved here path.now) turns (I.remaining input.old)
         (seen device.old (O.contents out.old) (standing F.Files files.old))
         (seen device.new (O.contents out.new) (standing F.Files files.new))) }
-    ensures changes { ChangesOnly F.Files path.now files.old files.new }
+    ensures changes { ChangesOnly F.Files F.Writer.tells path.now files.old files.new }
     ensures held { result.1 ≡ None → F.held files.new ≡ Some path.now }
     ensures failed { IfSome result.1 (IsUnheld path.entry) }
 {
@@ -291,7 +291,7 @@ fn save_at_last<'a, F: Files>(
     requires failed { IfSome failure (IsUnheld path) }
     ensures saved { OnOk result (HasText (around F.Files F.Reader.tells F.Writer.tells files.old files.new) path.now (text image.now)) }
     ensures failed { IfErr result (IsUnheld path.entry) }
-    ensures changes { ChangesOnly F.Files path.now files.old files.new }
+    ensures changes { ChangesOnly F.Files F.Writer.tells path.now files.old files.new }
 {
     match failure {
         Some(failure) => Err(failure),
@@ -310,7 +310,7 @@ fn serve_and_drain<'a, F: Files, I: Read, O: Write>(
 ) -> Result<(), ServeFault>
     requires { HoldsName F.Files keeper.old }
     ensures holds { HoldsName F.Files keeper.new }
-    ensures keeps { KeepsIn F.Files keeper.old keeper.new }
+    ensures keeps { KeepsIn F.Files F.Writer.tells keeper.old keeper.new }
     ensures done { OnOk result (ServesAndDrains (HasKept F.Files F.Reader.tells F.Writer.tells) turns (I.remaining input.old)
         (seen device.old (O.contents out.old) keeper.old) (seen device.new (O.contents out.new) keeper.new)) }
     ensures stopped { IfErr result (StopsBefore (HasKept F.Files F.Reader.tells F.Writer.tells) turns (I.remaining input.old)

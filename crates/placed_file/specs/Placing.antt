@@ -1,5 +1,5 @@
 -- A new file on its way to a name, and what a crash leaves under the name.
-use Rattle.std.specs.Prelude.{◌≡◌, ◌⊎◌, ◌&&◌, ◌||◌, not, ℕ, Bool, true, false, List, Option, Some}
+use Rattle.std.specs.Prelude.{◌≡◌, ◌⊎◌, ◌&&◌, ◌||◌, not, ℕ, Bool, true, false, List, [], ◌∷◌, Option, Some, None}
 use Rattle.placed_file.specs.declared.progress.Progress.{Progress}
 
 -- it is written, and nothing more was done
@@ -39,3 +39,17 @@ IsWhole p = (old : Option (List ℕ)) (new : List ℕ) (c : Option (List ℕ)) �
 -- from now on a crash leaves the new
 abbrev pub IsPlaced : Progress → Type 0
 IsPlaced p = (old : Option (List ℕ)) (new : List ℕ) (c : Option (List ℕ)) → LeavesUnder p old new c → c ≡ Some new
+
+-- a file that was to be given a name, what was done for it, and whether it was told as done
+pub record Attempt : Type 0 where
+  pub path : List ℕ
+  pub bytes : List ℕ
+  pub progress : Progress
+  pub done : Bool
+
+-- what a crash might have left under a name at some moment so far, where these were to be given names, of which the last stands first:
+-- a file of these bytes, or what stood there at first (None)
+abbrev pub LeftSoFar : List Attempt → List ℕ → Option (List ℕ) → Type 0
+LeftSoFar [] name c = c ≡ None
+LeftSoFar (attempt ∷ before) name c =
+    LeftSoFar before name c ⊎ ((name ≡ attempt.path) × (d : Option (List ℕ)) × LeftSoFar before name d × MightHaveLeft attempt.progress d attempt.bytes c)

@@ -6,8 +6,10 @@
 //! what the system does is the premise.
 #![tactic(auto)]
 
+mod notes;
 mod placing;
 mod progress;
 
+pub use notes::{Attempts, Written};
 pub use placing::{Placing, put_in_place};
 pub use progress::Progress;

@@ -14,10 +14,10 @@ pub record HoldsName {F R W : Type 0} (files : Ghosts F R W) (keeper : ImageKeep
   pub failed : IfSome keeper.failure (IsUnheld keeper.path)
 
 -- the same files, of which those with the name were saved
-pub record KeepsIn {F R W : Type 0} (files : Ghosts F R W) (old new : ImageKeeper F) : Type 0 where
+pub record KeepsIn {F R W : Type 0} (files : Ghosts F R W) (writes : Type 0) (old new : ImageKeeper F) : Type 0 where
   pub same_files : new.files.ghost_name ≡ old.files.ghost_name
   pub same_path : new.path ≡ old.path
-  pub changes : ChangesOnly files old.path.now old.files.now new.files.now
+  pub changes : ChangesOnly files writes old.path.now old.files.now new.files.now
 
 -- the file has the text of a namespace
 pub record HasKept {F R W : Type 0} (files : Ghosts F R W) (reads writes : Type 0) (old new : ImageKeeper F) (namespace : ZonedNamespace) : Type 0 where

@@ -1,10 +1,10 @@
 use Rattle.std.proofs.Common.{◌∙◌, rules}
 use Rattle.std.proofs.lemmas.Result.{err_from_is_err_and, IfErr-weaker, on_ok_weaker}
-use Rattle.command_files.proofs.Proved.{others_kept}
+use Rattle.command_files.proofs.Proved.{leaves_as_before, others_kept}
 use Rattle.command_images.specs.Images.{image_of}
 use Rattle.command_exec.specs.Executed.{commands_of}
 use Rattle.command_exec.proofs.Failing.{quiet, quiet_of_saving, exec_of_commands, exec_of_loading, exec_of_reading, exec_of_saving}
-use Rattle.command_exec.proofs.Saving.{executes, executes_first}
+use Rattle.command_exec.proofs.Saving.{executed_leaves, executes, executes_first}
 use Rattle.command_exec.proofs.exec.exec.Goals as goal
 
 pub returns-in-Ok-clause-executed : goal.returns-in-Ok-clause-executed
@@ -75,3 +75,24 @@ returns-clause-quiet g c = quiet (image_of c.args.matches.now) _ _ (search rules
 pub returns-in-Ok-clause-quiet : goal.returns-in-Ok-clause-quiet
 returns-in-Ok-clause-quiet g c =
     IfErr-weaker c.run.result _ _ (quiet_of_saving c.required-path.result (image_of c.args.matches.now) _ _ c.required-path.ensures) c.run.ensures.failed
+
+pub returns-in_err-image-clause-crash : goal.returns-in_err-image-clause-crash
+returns-in_err-image-clause-crash g c = leaves_as_before (image_of c.args.matches.now) _ _ _ c.load_to_replace.ensures.tried
+
+pub returns-in_err-file-clause-crash : goal.returns-in_err-file-clause-crash
+returns-in_err-file-clause-crash g c = leaves_as_before (image_of c.args.matches.now) _ _ _ (c.read.ensures.tried ∙ c.load_to_replace.ensures.tried)
+
+pub returns-clause-crash : goal.returns-clause-crash
+returns-clause-crash g c = leaves_as_before (image_of c.args.matches.now) _ _ _ (c.read.ensures.tried ∙ c.load_to_replace.ensures.tried)
+
+pub returns-in_err-numbers-in-Ok-clause-crash : goal.returns-in_err-numbers-in-Ok-clause-crash
+returns-in_err-numbers-in-Ok-clause-crash g c = leaves_as_before (image_of c.args.matches.now) _ _ _ (c.read.ensures.tried ∙ c.load_to_replace.ensures.tried)
+
+pub returns-in-Ok-clause-crash : goal.returns-in-Ok-clause-crash
+returns-in-Ok-clause-crash g c =
+    executed_leaves g.F.Reader.Source.tells g.F.Writer.Sink.tells (g.F.Files.contents c.args.files.now) (g.F.Files.contents c.load_to_replace.new.files)
+    c.required-path.result.now c.required-commands.result.now c.args.matches.now
+    c.in_ok-file.file.items c.as_slice.result.now c.in_ok-image.image c.in-Ok.events.items
+    (g.F.Files.made c.args.files.now) (g.F.Files.made c.read.new.files) (g.F.Files.made c.run.new.files)
+    c.load_to_replace.ensures.contents c.required-path.ensures c.required-commands.ensures (search rules) c.in_ok-file.ensures.bytes c.as_slice.ensures.value c.in-Ok.ensures
+    _ _ _ _ c.in_ok-image.ensures.image (search rules) (c.read.ensures.tried ∙ c.load_to_replace.ensures.tried) c.run.ensures.crash

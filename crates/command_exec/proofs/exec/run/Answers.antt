@@ -1,9 +1,13 @@
 use Rattle.std.proofs.Common.{ap, sym, ◌∙◌, rules}
 use Rattle.std.proofs.lemmas.Result.{err_from_is_err_and}
 use Rattle.event_text.specs.declared.lines.Lines.{Lines}
+use Rattle.image_text.specs.Text.{text}
+use Rattle.command_files.specs.Crash.{AreWritten}
 use Rattle.command_files.specs.Surroundings.{around}
+use Rattle.command_files.proofs.Proved.{leaves_weaker}
+use Rattle.command_exec.specs.Executed.{AreLeft}
 use Rattle.command_exec.proofs.Failing.{saving_of_changes}
-use Rattle.command_exec.proofs.Saving.{prints_all, saves_all, saves_first}
+use Rattle.command_exec.proofs.Saving.{prints_all, saves_all, saves_first, shown_is_left}
 use Rattle.command_exec.proofs.exec.run.Goals as goal
 
 pub returns-in-Ok-clause-saved : goal.returns-in-Ok-clause-saved
@@ -34,3 +38,30 @@ returns-in-Ok-clause-others g c = c.in_ok-save_changes.ensures.others
 
 pub returns-clause-others_stopped : goal.returns-clause-others_stopped
 returns-clause-others_stopped g c = λ _. c.in_ok-save_changes.ensures.others
+
+pub returns-in-Ok-clause-crash : goal.returns-in-Ok-clause-crash
+returns-in-Ok-clause-crash g c =
+    let writes = g.F.Writer.Sink.tells in
+    leaves_weaker c.args.path.now (AreWritten writes (text c.image-2.result.now)) (AreLeft writes c.args.events.now c.args.image)
+    (shown_is_left c.serve_and_drain-done.result writes c.args.events.now c.args.image c.image-2.result.now c.new-device.result c.serve_and_drain-done.new.device
+    (g.O.Write.contents c.new-watched.result.out.out.now) (g.O.Write.contents c.serve_and_drain-done.new.lines.out.out.now) c.new-device.ensures.value c.image-2.ensures.value
+    c.serve_and_drain-done.ensures.done c.serve_and_drain-done.ensures.stopped)
+    _ _ c.save_changes.ensures.crash
+
+pub returns-clause-crash : goal.returns-clause-crash
+returns-clause-crash g c =
+    let writes = g.F.Writer.Sink.tells in
+    leaves_weaker c.args.path.now (AreWritten writes (text c.image-2.result.now)) (AreLeft writes c.args.events.now c.args.image)
+    (shown_is_left c.serve_and_drain-done.result writes c.args.events.now c.args.image c.image-2.result.now c.new-device.result c.serve_and_drain-done.new.device
+    (g.O.Write.contents c.new-watched.result.out.out.now) (g.O.Write.contents c.serve_and_drain-done.new.lines.out.out.now) c.new-device.ensures.value c.image-2.ensures.value
+    c.serve_and_drain-done.ensures.done c.serve_and_drain-done.ensures.stopped)
+    _ _ c.save_changes.ensures.crash
+
+pub returns-in_err-save_changes-clause-crash : goal.returns-in_err-save_changes-clause-crash
+returns-in_err-save_changes-clause-crash g c =
+    let writes = g.F.Writer.Sink.tells in
+    leaves_weaker c.args.path.now (AreWritten writes (text c.image-2.result.now)) (AreLeft writes c.args.events.now c.args.image)
+    (shown_is_left c.serve_and_drain-done.result writes c.args.events.now c.args.image c.image-2.result.now c.new-device.result c.serve_and_drain-done.new.device
+    (g.O.Write.contents c.new-watched.result.out.out.now) (g.O.Write.contents c.serve_and_drain-done.new.lines.out.out.now) c.new-device.ensures.value c.image-2.ensures.value
+    c.serve_and_drain-done.ensures.done c.serve_and_drain-done.ensures.stopped)
+    _ _ c.save_changes.ensures.crash

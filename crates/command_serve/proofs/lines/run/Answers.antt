@@ -3,7 +3,7 @@ use Rattle.std.proofs.lemmas.Result.{err_from_is_err_and}
 use Rattle.command_files.specs.Surroundings.{around}
 use Rattle.command_serve.specs.ByLine.{ServesFirstLines}
 use Rattle.command_serve.proofs.ByLineServing.{lines_stopped_by, saves_first_lines, saves_lines, unheld_by_line}
-use Rattle.command_serve.proofs.Keeping.{changed, unchanged}
+use Rattle.command_serve.proofs.Keeping.{changed, unsaved}
 use Rattle.command_serve.proofs.lines.run.Goals as goal
 
 pub returns-in_err-save_changes-clause-stopped : goal.returns-in_err-save_changes-clause-stopped
@@ -16,7 +16,7 @@ returns-in_err-save_changes-clause-stopped g c =
 pub returns-in_err-save_changes-clause-changes : goal.returns-in_err-save_changes-clause-changes
 returns-in_err-save_changes-clause-changes g c =
     let e = c.in_err-save_changes.ensures in
-    unchanged g.F.Files c.args.path.now c.args.files.now c.save_changes.new.files e.kept e.contents e.modes_left
+    unsaved g.F.Files g.F.Writer.Sink.tells c.args.path.now c.args.files.now c.save_changes.new.files c.image-2.result.now e.kept c.save_changes.ensures.crash e.contents e.modes_left
 
 pub returns-in-Ok-clause-served : goal.returns-in-Ok-clause-served
 returns-in-Ok-clause-served g c =
@@ -31,7 +31,7 @@ returns-in-Ok-clause-served g c =
 pub returns-in-Ok-clause-changes : goal.returns-in-Ok-clause-changes
 returns-in-Ok-clause-changes g c =
     let e = c.in_ok-save_changes.ensures in
-    changed g.F.Files c.args.path.now c.args.files.now c.save_changes.new.files e.made e.others e.modes
+    changed g.F.Files g.F.Writer.Sink.tells c.args.path.now c.args.files.now c.save_changes.new.files c.image-2.result.now e.made c.save_changes.ensures.crash e.others e.modes
 
 pub returns-clause-stopped : goal.returns-clause-stopped
 returns-clause-stopped g c =
@@ -48,4 +48,4 @@ returns-clause-stopped g c =
 pub returns-clause-changes : goal.returns-clause-changes
 returns-clause-changes g c =
     let e = c.in_ok-save_changes.ensures in
-    changed g.F.Files c.args.path.now c.args.files.now c.save_changes.new.files e.made e.others e.modes
+    changed g.F.Files g.F.Writer.Sink.tells c.args.path.now c.args.files.now c.save_changes.new.files c.image-2.result.now e.made c.save_changes.ensures.crash e.others e.modes

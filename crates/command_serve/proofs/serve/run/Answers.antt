@@ -27,11 +27,11 @@ returns-clause-stopped g c =
 
 pub returns-clause-changes : goal.returns-clause-changes
 returns-clause-changes g c =
-    changes_join g.F.Files c.args.path.now c.args.files.now c.serve_in-done.new.files c.save_at_last.new.files c.serve_in-done.ensures.changes c.save_at_last.ensures.changes
+    changes_join g.F.Files g.F.Writer.Sink.tells c.args.path.now c.args.files.now c.serve_in-done.new.files c.save_at_last.new.files c.serve_in-done.ensures.changes c.save_at_last.ensures.changes
 
 pub returns-in_err-save_at_last-clause-changes : goal.returns-in_err-save_at_last-clause-changes
 returns-in_err-save_at_last-clause-changes g c =
-    changes_join g.F.Files c.args.path.now c.args.files.now c.serve_in-done.new.files c.save_at_last.new.files c.serve_in-done.ensures.changes c.save_at_last.ensures.changes
+    changes_join g.F.Files g.F.Writer.Sink.tells c.args.path.now c.args.files.now c.serve_in-done.new.files c.save_at_last.new.files c.serve_in-done.ensures.changes c.save_at_last.ensures.changes
 
 pub returns-in_err-save_at_last-clause-stopped : goal.returns-in_err-save_at_last-clause-stopped
 returns-in_err-save_at_last-clause-stopped g c =

@@ -9,8 +9,8 @@ use Rattle.command_serve.proofs.serve.serve_from.Goals as goal
 
 pub returns-in_err-image-clause-changes : goal.returns-in_err-image-clause-changes
 returns-in_err-image-clause-changes g c =
-    unchanged g.F.Files (image_of c.args.matches.now) c.args.files.now c.load_to_replace.new.files
-    c.load_to_replace.ensures.made c.load_to_replace.ensures.contents c.load_to_replace.ensures.modes
+    unchanged g.F.Files g.F.Writer.Sink.tells (image_of c.args.matches.now) c.args.files.now c.load_to_replace.new.files
+    c.load_to_replace.ensures.made c.load_to_replace.ensures.tried c.load_to_replace.ensures.contents c.load_to_replace.ensures.modes
 
 pub returns-in_err-image-clause-stopped : goal.returns-in_err-image-clause-stopped
 returns-in_err-image-clause-stopped g c =
@@ -23,10 +23,10 @@ returns-in_err-image-clause-stopped g c =
 pub returns-clause-changes : goal.returns-clause-changes
 returns-clause-changes g c =
     let path = image_of c.args.matches.now in
-    changes_join g.F.Files path c.args.files.now c.load_to_replace.new.files c.run.new.files
-    (unchanged g.F.Files path c.args.files.now c.load_to_replace.new.files
-    c.load_to_replace.ensures.made c.load_to_replace.ensures.contents c.load_to_replace.ensures.modes)
-    (named g.F.Files c.required-path.result.now path c.load_to_replace.new.files c.run.new.files c.required-path.ensures c.run.ensures.changes)
+    changes_join g.F.Files g.F.Writer.Sink.tells path c.args.files.now c.load_to_replace.new.files c.run.new.files
+    (unchanged g.F.Files g.F.Writer.Sink.tells path c.args.files.now c.load_to_replace.new.files
+    c.load_to_replace.ensures.made c.load_to_replace.ensures.tried c.load_to_replace.ensures.contents c.load_to_replace.ensures.modes)
+    (named g.F.Files g.F.Writer.Sink.tells c.required-path.result.now path c.load_to_replace.new.files c.run.new.files c.required-path.ensures c.run.ensures.changes)
 
 pub returns-clause-served : goal.returns-clause-served
 returns-clause-served g c =

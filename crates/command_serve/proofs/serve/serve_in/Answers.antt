@@ -23,7 +23,7 @@ pub returns-clause-changes : goal.returns-clause-changes
 returns-clause-changes g c =
     let same = c.serve_and_drain-done.ensures.keeps.same_files in
     let files : c.files-1.given.0 ≡ c.serve_and_drain-done.new.keeper.files.now = search rules in
-    subst (λ (last : g.row.F.Denot). ChangesOnly g.F.Files c.args.path.now c.args.files.now last) (sym files) c.serve_and_drain-done.ensures.keeps.changes
+    subst (λ (last : g.row.F.Denot). ChangesOnly g.F.Files g.F.Writer.Sink.tells c.args.path.now c.args.files.now last) (sym files) c.serve_and_drain-done.ensures.keeps.changes
 
 pub returns-clause-held : goal.returns-clause-held
 returns-clause-held g c = λ none.
