@@ -84,6 +84,15 @@ pub enum Failure<'a> {
         path: &'a str,
         fault: LoadFault,
     },
+    /// A journal that is damaged: from this byte of its file on it has what no crash leaves there.
+    JournalRefused {
+        path: &'a str,
+        place: usize,
+    },
+    /// A journal that isn't folded: its device has a program or a run, which no image keeps.
+    FoldRefused {
+        path: &'a str,
+    },
     /// A file that is no assembly text.
     AssemblyRefused {
         path: &'a str,
@@ -162,6 +171,8 @@ impl<'a> Failure<'a> {
             | Failure::GeometryRefused(_)
             | Failure::NotABlock { .. }
             | Failure::ImageRefused { .. }
+            | Failure::JournalRefused { .. }
+            | Failure::FoldRefused { .. }
             | Failure::AssemblyRefused { .. }
             | Failure::ProgramRefused { .. }
             | Failure::FrameRefused { .. }
