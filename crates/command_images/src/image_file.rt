@@ -21,7 +21,11 @@ use std::alloc::Global;
 pub const IMAGE: &str = "IMAGE";
 
 /// Holds the name of a file that is to be read and replaced.
-fn hold<'a, F: Files>(path: &'a str, files: &mut F) -> Result<(), Failure<'a>>
+///
+/// # Errors
+///
+/// Another command holds the file, it is no ordinary one, it can't be opened, or memory is wanting.
+pub fn hold<'a, F: Files>(path: &'a str, files: &mut F) -> Result<(), Failure<'a>>
     ensures made { F.made files.new ≡ F.made files.old }
     ensures contents { F.contents files.new ≡ F.contents files.old }
     ensures modes { F.modes files.new ≡ F.modes files.old }
@@ -56,6 +60,7 @@ fn cannot_hold<'a>(path: &'a str, fault: FileFault) -> Failure<'a>
 pub fn load<'a, F: Files>(alloc: Global, path: &'a str, files: &mut F) -> Result<Image, Failure<'a>>
     ensures made { F.made files.new ≡ F.made files.old }
     ensures contents { F.contents files.new ≡ F.contents files.old }
+    ensures modes { F.modes files.new ≡ F.modes files.old }
     ensures image { F.Reader.tells → IfOk result (StandFor (F.contents files.old path.now)) }
     ensures failed { IfErr result (LoadingFails F.Reader.tells (F.contents files.old path.now) path.now) }
     ensures not_printing { result ≢ Err Failure.CannotPrint }
@@ -90,7 +95,11 @@ pub fn load_to_replace<'a, F: Files>(
 }
 
 /// The image of the file whose name is held.
-fn load_held<'a, F: Files>(
+///
+/// # Errors
+///
+/// The file can't be read, its first fault as an image, or want of memory.
+pub fn load_held<'a, F: Files>(
     alloc: Global,
     path: &'a str,
     files: &mut F,
@@ -112,7 +121,11 @@ fn load_held<'a, F: Files>(
 }
 
 /// The image whose text comes from a file that was opened.
-fn load_from<'a, S: Source>(
+///
+/// # Errors
+///
+/// The file can't be read, its first fault as an image, or want of memory.
+pub fn load_from<'a, S: Source>(
     alloc: Global,
     path: &'a str,
     file: &mut S,
