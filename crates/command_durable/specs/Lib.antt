@@ -1,0 +1,4 @@
+pub mod Opening
+pub mod Durably
+pub mod Folding
+pub mod steps
