@@ -9,7 +9,7 @@ ghost use Rattle.command_files.specs.Surroundings.{ChangesOnly, around};
 ghost use Rattle.command_images.specs.Images.{HasText, image_of};
 ghost use Rattle.command_images.specs.UserTold.{IsUnheld};
 ghost use Rattle.image_text.specs.Text.{text};
-ghost use Rattle.command_serve.specs.Asked.{asks_drain, asks_for, asks_frames};
+ghost use Rattle.command_serve.specs.Asked.{asks_drain, asks_durable, asks_for, asks_frames};
 ghost use Rattle.command_serve.specs.ByLine.{LinesStoppedBy, ServesByLine, StopsByLine};
 ghost use Rattle.command_serve.specs.Served.{EndsRuns, IsSaved, Serves, ServesAndDrains, ServesFirst, ServesImage, StoppedBy, StopsBefore};
 ghost use Rattle.command_serve.specs.Served.{StopsEarly, StopsEnding, Untold, standing, turns_between};
@@ -37,6 +37,8 @@ pub const NAME: &str = "serve";
 const FRAMES: &str = "frames";
 
 const DRAIN: &str = "drain";
+
+const DURABLE: &str = "durable";
 
 const LONG_ABOUT: &str = "\
 Does what standard input asks of an image, as it comes: each request is done whole, and what answers it is written to standard \
@@ -70,7 +72,9 @@ What answers them:
 
 Where an answer cannot be written, no later request is done. Where a byte is none of a request, or the input ends within a frame or \
 cannot be read further, what was asked for before is done. In each case, and where memory is wanting for a request, the image is \
-written as that left it. Where it cannot be written, it is as it was when it was last saved.";
+written as that left it. Where it cannot be written, it is as it was when it was last saved.
+
+With --durable what is answered is on the disk: IMAGE becomes a journal, a base and the events behind it, which is written as they come. What has come when the last answers are written is one batch, and nothing of a batch is answered before it is on the disk. After a crash at any moment the next command finds the device after all that was answered, with its programs, results and runs. A save answers at once. Of a journal that grows long and whose device has neither a program nor a run a new base is written.";
 
 const EXAMPLE: &str = "\
 Example, in the folder of the sources, of the lines of a command file, and of a turn of run 0, which no run has then:
@@ -94,13 +98,18 @@ pub fn subcommand<'a>(alloc: Global) -> Result<Command<'a>, AllocError> {
     let drain = flag(alloc, DRAIN).help(
         "Gives the runs all of their turns behind each line, or with --frames before more is read, and writes the answers to these too",
     );
+    let durable = flag(alloc, DURABLE)
+        .help("Answers nothing before it is on the disk, by a journal in the image's file")
+        .requires_arg(FRAMES)?
+        .conflicts_with(DRAIN)?;
     let command = Command::new(alloc, NAME)
         .about("Does what standard input asks of an image, as it comes")
         .long_about(LONG_ABOUT)
         .after_help(EXAMPLE);
     let command = and_argument(Ok(command), image);
     let command = and_argument(command, frames);
-    and_argument(command, drain)
+    let command = and_argument(command, drain);
+    and_argument(command, durable)
 }
 
 fn flag<'a>(alloc: Global, name: &'a str) -> Arg<'a> {
@@ -177,6 +186,13 @@ fn serve_asked<'a, F: Files, I: Read, O: Write>(
         let drains = asks_for(matches, DRAIN);
         lines::serve_from(alloc, matches, drains, files, input, out)
     }
+}
+
+/// Is the image to be written durably?
+pub fn asks_durable<'a>(matches: &ArgMatches<'a>) -> bool
+    ensures { result ≡ asks_durable matches.now }
+{
+    asks_for(matches, DURABLE)
 }
 
 /// Is a flag with this name given?

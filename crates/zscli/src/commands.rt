@@ -6,6 +6,7 @@ ghost use Rattle.zscli.specs.Ended.{end_of};
 
 use clap::error::ErrorKind;
 use clap::{ArgMatches, Command};
+use command_durable::{DurableFiles, fold};
 use command_entry::{entries, entry};
 use command_exec::{exec, fail};
 use command_explain::explain;
@@ -29,7 +30,7 @@ const VERSION: &str = "0.1.0";
 /// # Errors
 ///
 /// Why the words are no command's, or why the command ended before its work was done.
-pub fn command<'a, F: Files, I: Read + Drop, O: Write>(
+pub fn command<'a, F: DurableFiles, I: Read + Drop, O: Write>(
     alloc: Global,
     words: &'a [String],
     files: &mut F,
@@ -101,7 +102,7 @@ fn shown_words(alloc: Global, words: &[String]) -> Result<Vec<String>, AllocErro
 }
 
 /// Does the command that a command line has.
-fn perform<'a, F: Files, I: Read + Drop, O: Write>(
+fn perform<'a, F: DurableFiles, I: Read + Drop, O: Write>(
     alloc: Global,
     line: &mut Command<'a>,
     matches: &ArgMatches<'a>,
@@ -121,8 +122,8 @@ fn perform<'a, F: Files, I: Read + Drop, O: Write>(
     }
 }
 
-/// Does `serve`.
-fn perform_serve<'a, F: Files, I: Read + Drop, O: Write>(
+/// Does `serve`, durably where that is asked for.
+fn perform_serve<'a, F: DurableFiles, I: Read + Drop, O: Write>(
     alloc: Global,
     matches: &ArgMatches<'a>,
     files: &mut F,
@@ -133,14 +134,35 @@ fn perform_serve<'a, F: Files, I: Read + Drop, O: Write>(
     ensures made { input.new ≡ input.old → F.made files.new ≡ F.made files.old }
     ensures contents { input.new ≡ input.old → F.contents files.new ≡ F.contents files.old }
 {
+    if serve::asks_durable(matches) {
+        return perform_durably(alloc, matches, files, input, out);
+    }
     match serve::serve(alloc, matches, files, input, out) {
         Ok(()) => Ok(None),
         Err(failure) => Err(failure),
     }
 }
 
+/// Does `serve --durable`.
+fn perform_durably<'a, F: DurableFiles, I: Read + Drop, O: Write>(
+    alloc: Global,
+    matches: &ArgMatches<'a>,
+    files: &mut F,
+    input: &mut Option<I>,
+    out: &mut O,
+) -> Result<Option<Failure<'a>>, Failure<'a>>
+    ensures name { MakesOneName (F.made files.old) (F.made files.new) }
+    ensures made { input.new ≡ input.old → F.made files.new ≡ F.made files.old }
+    ensures contents { input.new ≡ input.old → F.contents files.new ≡ F.contents files.old }
+{
+    match command_durable::serve::serve(alloc, matches, files, input, out) {
+        Ok(()) => Ok(None),
+        Err(failure) => Err(failure),
+    }
+}
+
 /// Does the command that a command line has, where it is another than `serve`.
-fn perform_at_once<'a, F: Files, O: Write>(
+fn perform_at_once<'a, F: DurableFiles, O: Write>(
     alloc: Global,
     line: &mut Command<'a>,
     matches: &ArgMatches<'a>,
@@ -179,7 +201,7 @@ fn perform_exec<'a, F: Files, O: Write>(
 }
 
 /// Does the command with this name, of those but `exec`.
-fn perform_other<'a, F: Files, O: Write>(
+fn perform_other<'a, F: DurableFiles, O: Write>(
     alloc: Global,
     line: &mut Command<'a>,
     name: &str,
@@ -196,6 +218,7 @@ fn perform_other<'a, F: Files, O: Write>(
         zones::NAME => zones::zones(alloc, matches, files, out),
         report::NAME => report::report(alloc, matches, files, out),
         upgrade::NAME => upgrade::upgrade(alloc, matches, files),
+        fold::NAME => fold::fold(alloc, matches, files),
         _ => perform_without_image(alloc, line, name, matches, files, out),
     }
 }
@@ -240,6 +263,7 @@ fn command_line<'a>(alloc: Global) -> Result<Command<'a>, AllocError> {
     let line = and_command(line, upgrade::subcommand(alloc));
     let line = and_command(line, fail::subcommand(alloc));
     let line = and_command(line, serve::subcommand(alloc));
+    let line = and_command(line, fold::subcommand(alloc));
     let line = and_command(line, asm::subcommand(alloc));
     let line = and_command(line, disasm::subcommand(alloc));
     let line = and_command(line, link::subcommand(alloc));

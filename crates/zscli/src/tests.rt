@@ -15,6 +15,7 @@ mod refusals;
 mod reports;
 mod scenes;
 mod serving;
+mod serving_durably;
 mod serving_lines;
 mod stage;
 mod stopping;

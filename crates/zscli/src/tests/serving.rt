@@ -6,17 +6,17 @@ use std::test::Fail;
 
 const SERVE: &str = "zscli serve image --frames";
 
-const ZEROS: &[u8] = b"\0\0\0\0\0\0\0\0";
+pub(super) const ZEROS: &[u8] = b"\0\0\0\0\0\0\0\0";
 
 /// The header of a submission to queue 1 with a block of data, and of one with 16 bytes and without.
-const WITH_BLOCK: &[u8] = b"\x01\0\x01\0\0\0\0\0\0\x02\0\0\0\0\0\0";
+pub(super) const WITH_BLOCK: &[u8] = b"\x01\0\x01\0\0\0\0\0\0\x02\0\0\0\0\0\0";
 
 const WITH_PROGRAM: &[u8] = b"\x01\0\x01\0\0\0\0\0\x10\0\0\0\0\0\0\0";
 
-const WITHOUT: &[u8] = b"\x01\0\x01\0\0\0\0\0\0\0\0\0\0\0\0\0";
+pub(super) const WITHOUT: &[u8] = b"\x01\0\x01\0\0\0\0\0\0\0\0\0\0\0\0\0";
 
 /// Zone Append of a block to zone 0.
-const APPEND: &[u8] = b"\x7d\0\x01\0\x01\0\0\0";
+pub(super) const APPEND: &[u8] = b"\x7d\0\x01\0\x01\0\0\0";
 
 /// Zone Management Send: zone 1 is opened.
 const OPEN: &[u8] = b"\x79\0\x02\0\x01\0\0\0";
@@ -34,11 +34,11 @@ const TURN: &[u8] = b"\x02\0\0\0\0\0\0\0\0\0\0\0\0\0\0\0";
 
 const DRAIN: &[u8] = b"\x04\0\0\0\xff\xff\xff\xff\0\0\0\0\0\0\0\0";
 
-const SAVE: &[u8] = b"\x05\0\0\0\0\0\0\0\0\0\0\0\0\0\0\0";
+pub(super) const SAVE: &[u8] = b"\x05\0\0\0\0\0\0\0\0\0\0\0\0\0\0\0";
 
 /// What answers them: a completion of queue 1 and its first 10 bytes, where nothing is told there; that a run is pending, that there
 /// is none; the turns of a drain, one or none; that the image is saved.
-const COMPLETED: &[u8] = b"\x01\0\x01\0\0\0\0\0\0\0\0\0\0\0\0\0\0\0\0\0\0\0\0\0\0\0";
+pub(super) const COMPLETED: &[u8] = b"\x01\0\x01\0\0\0\0\0\0\0\0\0\0\0\0\0\0\0\0\0\0\0\0\0\0\0";
 
 const PENDING: &[u8] = b"\x02\0\0\0\0\0\0\0\0\0\0\0\0\0\0\0";
 
@@ -48,7 +48,7 @@ const DRAINED: &[u8] = b"\x06\0\0\0\x01\0\0\0\0\0\0\0\0\0\0\0";
 
 const DRAINED_NONE: &[u8] = b"\x06\0\0\0\0\0\0\0\0\0\0\0\0\0\0\0";
 
-const SAVED: &[u8] = b"\x07\0\0\0\0\0\0\0\0\0\0\0\0\0\0\0";
+pub(super) const SAVED: &[u8] = b"\x07\0\0\0\0\0\0\0\0\0\0\0\0\0\0\0";
 
 /// The image with one block in zone 0.
 const ONE_BLOCK: Parts = &[
@@ -75,7 +75,7 @@ macro_rules! append_and {
     };
 }
 
-const APPENDED: Parts = &[(COMPLETED, 1), (b"\x01\0\x01\0\0\0", 1)];
+pub(super) const APPENDED: Parts = &[(COMPLETED, 1), (b"\x01\0\x01\0\0\0", 1)];
 
 /// Each request is answered, and the image is saved when that is asked for and at the end.
 const ANSWERED: &[Act] = &[
