@@ -1,0 +1,80 @@
+#!/bin/sh
+# Times Appends of 4 KiB in batches of 32 by `zscli serve --frames`, with --durable and without, beside a program that appends the
+# same blocks to a file with an fdatasync behind each batch. Prints the least nanoseconds of an Append of several rounds. The files
+# are in memory (/dev/shm) unless FOLDER names another folder: in memory no disk is waited for, so what is seen is what the journal
+# costs beside it.
+set -eu
+here=$(cd "$(dirname "$0")" && pwd)
+work=$(mktemp -d "${FOLDER:-/dev/shm}/durable.XXXXXX")
+trap 'rm -r "$work"' EXIT
+"$here/../zscli" --help > /dev/null
+zscli=$here/../crates/zscli/out/zscli
+"$zscli" format "$work/empty.img" --block 4096 --zones 2 --size 16384 --capacity 16384 --open 2 --active 2
+python3 - "$zscli" "$work" "${ROUNDS:-5}" << 'END'
+import fcntl
+import os
+import pathlib
+import shutil
+import struct
+import subprocess
+import sys
+import time
+
+zscli, work, rounds = sys.argv[1], pathlib.Path(sys.argv[2]), int(sys.argv[3])
+BLOCK, BATCH, BATCHES = 4096, 32, 128
+# of a pipe's room, so that a batch comes whole (Linux)
+F_SETPIPE_SZ, ROOM = 1031, 1 << 20
+entry = bytearray(64)
+entry[0] = 0x7D
+struct.pack_into("<HI", entry, 2, 1, 1)
+data = bytes(range(256)) * (BLOCK // 256)
+frames = (struct.pack("<BBHII4x", 1, 0, 1, 0, BLOCK) + entry + data) * BATCH
+blocks = data * BATCH
+
+
+def served(*words: str) -> float:
+    """The seconds that all batches take by the program."""
+    shutil.copy(work / "empty.img", work / "zoned.img")
+    program = subprocess.Popen([zscli, "serve", work / "zoned.img", *words], stdin=subprocess.PIPE, stdout=subprocess.PIPE, bufsize=0)
+    fcntl.fcntl(program.stdin, F_SETPIPE_SZ, ROOM)
+    spent = 0.0
+    for batch in range(BATCHES + 1):
+        begun = time.perf_counter()
+        left = memoryview(frames)
+        while left:
+            left = left[program.stdin.write(left) :]
+        answers = b""
+        while len(answers) < 32 * BATCH:
+            more = program.stdout.read(65536)
+            if not more:
+                sys.exit("the program ended")
+            answers += more
+        if any(answers[at + 30] or answers[at + 31] for at in range(0, len(answers), 32)):
+            sys.exit("an Append was refused")
+        # the first batch finds the program starting
+        spent += time.perf_counter() - begun if batch else 0
+    program.stdin.close()
+    if program.wait():
+        sys.exit("the program failed")
+    return spent
+
+
+def plain() -> float:
+    """The seconds that they take in a file that is synced behind each."""
+    with open(work / "plain", "wb", buffering=0) as out:
+        out.write(blocks)
+        begun = time.perf_counter()
+        for _ in range(BATCHES):
+            out.write(blocks)
+            os.fdatasync(out.fileno())
+        return time.perf_counter() - begun
+
+
+def least(what) -> int:
+    """The least nanoseconds of an Append."""
+    return round(min(what() for _ in range(rounds)) / (BATCH * BATCHES) * 1e9)
+
+
+durable, held, file = least(lambda: served("--durable", "--frames")), least(lambda: served("--frames")), least(plain)
+print(f"an Append of 4 KiB in batches of {BATCH}: durable {durable} ns, not durable {held} ns, a file that is synced {file} ns")
+END
