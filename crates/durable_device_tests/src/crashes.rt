@@ -1,7 +1,5 @@
 //! What crashes leave of a file.
 
-ghost use Rattle.std.specs.Prelude.{◌≤◌};
-
 use std::alloc::{AllocError, Global};
 use std::test::Fail;
 use stored_file::{SECTOR, TearingFile};

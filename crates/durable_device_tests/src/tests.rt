@@ -108,6 +108,7 @@ fn a_batch_is_cut_off_at_each_byte(rt: HostRuntime) -> Result<(), Fail> {
     let alloc = rt.alloc();
     let batches = session(alloc, SEED, 1)?;
     let (before, behind) = (seen_after(alloc, &[])?, seen_after(alloc, &batches)?);
+    assert!(rt; before != behind);
     let mut device = created(alloc, empty(alloc)?)?;
     let old = device.store.journal.file.bytes().to_vec(alloc)?;
     let gate = device.store.journal.gate;
