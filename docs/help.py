@@ -14,7 +14,7 @@ from typing import Dict, Iterator, List, Optional, Tuple, Union
 
 ROOT = Path(__file__).resolve().parent.parent
 CRATES = (
-    *("zscli", "command_files", "command_images", "command_exec", "command_serve"),
+    *("zscli", "command_files", "command_images", "command_durable", "command_exec", "command_serve"),
     *("command_programs", "command_link", "command_entry", "command_explain"),
 )
 TOKEN = re.compile(r'"(?:[^"\\]|\\.)*"|\'\w\'|\w+(?:::\w+)*|[^\w\s]', re.S)

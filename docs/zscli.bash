@@ -11,13 +11,14 @@ _zscli() {
         "entry") [ "$COMP_CWORD" -gt 2 ] && words+=" ${COMP_WORDS[2]}" ;;
     esac
     case "$words" in
-        "zscli") commands="format zones report upgrade exec serve asm disasm link trace verify unpack entry entries explain" options="--help --version" ;;
+        "zscli") commands="format zones report upgrade exec serve fold asm disasm link trace verify unpack entry entries explain" options="--help --version" ;;
         "zscli format") commands="" options="--block --zones --size --capacity --open --active --force --help" ;;
         "zscli zones") commands="" options="--help" ;;
         "zscli report") commands="" options="--json --help" ;;
         "zscli upgrade") commands="" options="--help" ;;
         "zscli exec") commands="" options="--fail --help" ;;
-        "zscli serve") commands="" options="--frames --drain --help" ;;
+        "zscli serve") commands="" options="--frames --drain --durable --help" ;;
+        "zscli fold") commands="" options="--help" ;;
         "zscli asm") commands="" options="--help" ;;
         "zscli disasm") commands="" options="--slots --help" ;;
         "zscli link") commands="" options="--block --output --function --verbose --help" ;;
