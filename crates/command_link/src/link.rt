@@ -32,7 +32,8 @@ Makes a program of an object, a file of C as `clang -target bpf -c` makes it, fo
 The program starts with the object's only global function, or the one that --function names. Functions that it calls are put \
 where they are called, constant data onto the stack, and memcpy, memset and memcmp of a constant length are written out. Loops \
 are unrolled as often as they can go round, as far as is known of registers. In front of an access or an emit that isn't known \
-to lie within an area stands a compare, that ends the block run where it does not.
+to lie within an area stands a compare, that ends the block run where it does not. So ends a block run that needs more rounds of \
+a loop than there is room for.
 
 `verify` judges the program like any other. Of an object that no program is made of, `link refused` and a sentence tell \
 why, and no file is written.";
@@ -97,6 +98,9 @@ pub fn link<'a, F: Files, O: Write>(
     let object = read(required(matches, OBJECT), files)?;
     let name = required(matches, FUNCTION);
     let linked = linked(alloc, object.as_slice(), name, block, out)?;
+    if let Some(rounds) = linked.rounds {
+        tell_rounds(rounds, out)?;
+    }
     if required(matches, VERBOSE) == "true" {
         tell(&linked, out)?;
     }
@@ -122,10 +126,18 @@ fn linked<'a, O: Write>(
     }
 }
 
+/// Tells that a loop isn't laid out to its end.
+fn tell_rounds<'a, O: Write>(rounds: usize, out: &mut O) -> Result<(), Failure<'a>> {
+    printed(writeln!(
+        out,
+        "there is room for {rounds} rounds of a loop: a block that needs more ends its run with R0 = 7004h"
+    ))
+}
+
 /// Tells how many slots a program has, and how many guards of each kind.
 fn tell<'a, O: Write>(linked: &Linked, out: &mut O) -> Result<(), Failure<'a>> {
     let slots = linked.slots.len();
-    let [memory, emit, size] = linked.guards;
+    let [memory, emit, size, _] = linked.guards;
     printed(writeln!(
         out,
         "{slots} slots; compares put in: {memory} of accesses, {emit} of emits, {size} of the block's size"

@@ -1,10 +1,13 @@
 //! Functions of C's library, written out for so many bytes.
 
 ghost use Rattle.std.specs.Prelude.{◌≤◌};
+ghost use Rattle.program_interface.specs.declared.area.TheConstants.{STACK_BYTES};
 
 use crate::wanted::{LibraryCall, LibraryFunction};
 use ebpf_units::FunctionSlot;
-use instruction_set::{Instruction, Operation, Register, Relation, Size, Source, Width};
+use instruction_set::{
+    Instruction, Operation, Register, Relation, Size, Source, Swap, SwapSize, Width,
+};
 use program_interface::STACK_BYTES;
 use std::alloc::{AllocError, Global};
 
@@ -129,31 +132,56 @@ fn push_fill(slots: &mut Vec<FunctionSlot>, bytes: usize) -> Result<(), AllocErr
     push_end(slots)
 }
 
-/// R0 is the difference of the first two bytes that differ at R1 and R2, or 0.
+/// How many accesses so many bytes take.
+fn steps(bytes: usize) -> usize {
+    bytes / 8 + (bytes / 4) % 2 + (bytes / 2) % 2 + bytes % 2
+}
+
+/// Where words at R1 and R2 differ, R0 is what is told of the first two bytes that do: 1 or -1. The words in R4 and R5 are swapped, so that
+/// their first bytes count most.
+fn push_order(slots: &mut Vec<FunctionSlot>) -> Result<(), AllocError> {
+    for number in 4..6u8 {
+        push(
+            slots,
+            Instruction::SwapBytes {
+                swap: Swap::ToBig,
+                size: SwapSize::Bits64,
+                dst: register(number),
+            },
+        )?;
+    }
+    push(
+        slots,
+        compute(Operation::Move, Register::R0, Source::Immediate(1)),
+    )?;
+    push(
+        slots,
+        Instruction::Branch {
+            width: Width::Bits64,
+            relation: Relation::Greater,
+            dst: register(4),
+            source: Source::Register(register(5)),
+            distance: 1,
+        },
+    )?;
+    push(
+        slots,
+        compute(Operation::Move, Register::R0, Source::Immediate(-1)),
+    )?;
+    push(slots, Instruction::Exit)
+}
+
+/// R0 is 0 where the bytes at R1 and R2 are the same; else 1 or -1, as the first two that differ are in order.
 fn push_compare(slots: &mut Vec<FunctionSlot>, bytes: usize) -> Result<(), AllocError> {
-    for at in 0..bytes {
-        if at > STACK_BYTES {
+    let mut at = 0;
+    for _ in 0..bytes {
+        if at >= bytes || at > STACK_BYTES {
             break;
         }
-        push(
-            slots,
-            Instruction::Load {
-                size: Size::Byte,
-                dst: register(4),
-                src: Register::R1,
-                offset: at as i16,
-            },
-        )?;
-        push(
-            slots,
-            Instruction::Load {
-                size: Size::Byte,
-                dst: register(5),
-                src: Register::R2,
-                offset: at as i16,
-            },
-        )?;
-        // over the rest of the compares, and the two slots behind them
+        let (size, step) = largest(bytes - at);
+        push_load(slots, size, register(4), Register::R1, at)?;
+        push_load(slots, size, register(5), Register::R2, at)?;
+        at += step;
         push(
             slots,
             Instruction::Branch {
@@ -161,7 +189,7 @@ fn push_compare(slots: &mut Vec<FunctionSlot>, bytes: usize) -> Result<(), Alloc
                 relation: Relation::NotEqual,
                 dst: register(4),
                 source: Source::Register(register(5)),
-                distance: behind_compares(bytes, at),
+                distance: over_compares(bytes.saturating_sub(at)),
             },
         )?;
     }
@@ -170,25 +198,33 @@ fn push_compare(slots: &mut Vec<FunctionSlot>, bytes: usize) -> Result<(), Alloc
         compute(Operation::Move, Register::R0, Source::Immediate(0)),
     )?;
     push(slots, Instruction::Exit)?;
-    push(
-        slots,
-        compute(Operation::Move, Register::R0, Source::Register(register(4))),
-    )?;
-    push(
-        slots,
-        compute(
-            Operation::Subtract,
-            Register::R0,
-            Source::Register(register(5)),
-        ),
-    )?;
-    push(slots, Instruction::Exit)
+    push_order(slots)
 }
 
-/// From the compare of a byte over those behind it and two slots more.
-fn behind_compares(bytes: usize, at: usize) -> i16 {
-    let left = bytes.saturating_sub(at).saturating_sub(1).min(STACK_BYTES);
-    (3 * left + 2) as i16
+/// A load of bytes behind an address.
+fn push_load(
+    slots: &mut Vec<FunctionSlot>,
+    size: Size,
+    dst: Register,
+    src: Register,
+    at: usize,
+) -> Result<(), AllocError>
+    requires { at ≤ STACK_BYTES }
+{
+    push(
+        slots,
+        Instruction::Load {
+            size,
+            dst,
+            src,
+            offset: at as i16,
+        },
+    )
+}
+
+/// Over the compares of so many bytes, and the two slots behind them.
+fn over_compares(bytes: usize) -> i16 {
+    (3 * steps(bytes.min(STACK_BYTES)) + 2) as i16
 }
 
 /// The slots of a function of C's library for so many bytes.

@@ -2,12 +2,24 @@
 
 use crate::fault::LinkFault;
 use crate::guards::Guard;
-use crate::layout::{Layout, Linked};
+use crate::layout::Layout;
+use crate::lists::{number_at, set_number, zeros};
 use crate::liveness::{Registers, at, before, bit, reads, writes};
 use crate::pieces::Piece;
 use instruction_set::{Instruction, Register};
 use program_interface::MOST_SLOTS;
 use std::alloc::{AllocError, Global};
+
+/// A program without loops.
+#[derive(Drop)]
+pub struct Linked {
+    /// Its slots.
+    pub slots: Vec<Option<Instruction>>,
+    /// How many guards of each kind were put in, also such as other instructions were then left out with.
+    pub guards: [usize; Guard::COUNT],
+    /// So many rounds of each loop were laid out at least, if one wasn't laid out to its end.
+    pub rounds: Option<usize>,
+}
 
 /// Does an instruction nothing else than to write its destination?
 fn only_writes(instruction: &Instruction) -> bool {
@@ -21,22 +33,6 @@ fn only_writes(instruction: &Instruction) -> bool {
         | Instruction::SwapBytes { .. } => true,
         _ => false,
     }
-}
-
-/// Sets what a list has at a place.
-fn set(list: &mut [usize], place: usize, number: usize) {
-    if let Some(found) = list.get_mut(place) {
-        *found = number;
-    }
-}
-
-/// So many zeros.
-fn zeros(alloc: Global, count: usize) -> Result<Vec<usize>, AllocError> {
-    let mut list = Vec::new(alloc);
-    for _ in 0..count {
-        list.push(0)?;
-    }
-    Ok(list)
 }
 
 /// So many empty sets.
@@ -92,18 +88,10 @@ fn sizes(alloc: Global, pieces: &[Piece], slots: usize) -> Result<Vec<usize>, Al
         let (read, stays) = piece_before(&pieces[place], behind, &mut live);
         behind = read;
         if stays {
-            set(&mut sizes, place, slots_taken(&pieces[place]));
+            set_number(&mut sizes, place, slots_taken(&pieces[place]));
         }
     }
     Ok(sizes)
-}
-
-/// The number at a place of a list, or 0.
-fn number_at(list: &[usize], place: usize) -> usize {
-    match list.get(place) {
-        Some(found) => *found,
-        None => 0,
-    }
 }
 
 /// The distance from a slot to another one.
@@ -151,7 +139,7 @@ fn distances(
         let place = pieces.len() - 1 - back;
         let here = behind.saturating_sub(number_at(sizes, place));
         match &pieces[place] {
-            Piece::Begins(slot) => set(&mut begins, *slot, here),
+            Piece::Begins(slot) => set_number(&mut begins, *slot, here),
             Piece::Jump(_, to) => {
                 if let Some(found) = all.get_mut(place) {
                     *found = distance(here, number_at(&begins, *to));
@@ -212,10 +200,10 @@ fn without_idle_stores(layout: &Layout<'_>, sizes: &mut [usize]) {
         return;
     }
     if !layout.uses_block {
-        set(sizes, 0, 0);
+        set_number(sizes, 0, 0);
     }
     if !layout.uses_scratch {
-        set(sizes, 1, 0);
+        set_number(sizes, 1, 0);
     }
 }
 
@@ -242,5 +230,9 @@ pub(crate) fn assembled(alloc: Global, layout: &Layout<'_>) -> Result<Linked, Li
             push_piece(&mut slots, piece, distance)?;
         }
     }
-    Ok(Linked { slots, guards })
+    Ok(Linked {
+        slots,
+        guards,
+        rounds: layout.fewest_rounds(),
+    })
 }

@@ -1,11 +1,15 @@
 //! Guards: compares in front of what a program does, that end the block run where it would trap. Each is idle in every block run that
 //! doesn't trap without it, but for that of an emit whose address and length are both ranges: it wants room for the longest.
 
+ghost use Rattle.std.specs.Prelude.{◌≡◌};
+ghost use Rattle.ebpf_link.specs.Guards.{guard_index, guard_word};
+
 use crate::fault::LinkFault;
 use crate::folding::folded;
 use crate::known::{Known, narrow, step};
 use crate::layout::Layout;
 use crate::liveness::{ALL, at, bit, reads, writes};
+use crate::origins::area_in;
 use crate::pieces::{compare, compute};
 use instruction_set::{
     Access, AccessKind, Instruction, Operation, Register, Relation, Size, Source,
@@ -22,6 +26,9 @@ pub const EMIT_GUARD: i32 = 0x7002;
 /// What R0 has where blocks have another size than the program was made for.
 pub const BLOCK_GUARD: i32 = 0x7003;
 
+/// What R0 has where a loop would go round once more than it was laid out.
+pub const ROUNDS_GUARD: i32 = 0x7004;
+
 /// The kinds of guards.
 #[derive(Clone, Copy, Debug, PartialEq, Eq)]
 pub enum Guard {
@@ -31,18 +38,35 @@ pub enum Guard {
     Emit,
     /// A block has the size that the program is made for.
     Block,
+    /// A loop is over behind the rounds that are laid out.
+    Rounds,
 }
 
 impl Guard {
     /// How many kinds there are.
-    pub const COUNT: usize = 3;
+    pub const COUNT: usize = 4;
 
     /// Its number among them.
-    pub fn index(self) -> usize {
+    pub fn index(self) -> usize
+        ensures { result ≡ guard_index self }
+    {
         match self {
             Guard::Memory => 0,
             Guard::Emit => 1,
             Guard::Block => 2,
+            Guard::Rounds => 3,
+        }
+    }
+
+    /// What R0 has where a guard of this kind ends the block run.
+    pub fn word(self) -> i32
+        ensures { result ≡ guard_word self }
+    {
+        match self {
+            Guard::Memory => MEMORY_GUARD,
+            Guard::Emit => EMIT_GUARD,
+            Guard::Block => BLOCK_GUARD,
+            Guard::Rounds => ROUNDS_GUARD,
         }
     }
 }
@@ -56,9 +80,9 @@ pub(crate) struct Within {
 }
 
 /// The area that an access goes to, as far as can be told.
-pub(crate) fn area_of(told: Option<Offsets>, kind: AccessKind) -> Area {
+pub(crate) fn area_of(told: Option<Area>, kind: AccessKind) -> Area {
     match (told, kind) {
-        (Some(told), _) => told.area,
+        (Some(area), _) => area,
         (None, AccessKind::Load) => Area::Block,
         (None, AccessKind::Store) => Area::Scratch,
     }
@@ -317,7 +341,7 @@ impl Layout<'_> {
         } else {
             access.kind
         };
-        let area = area_of(fact.offsets(), kind);
+        let area = area_of(area_in(known, access.base), kind);
         let within = self.accessed_from(slot, access.base, area);
         self.put_within(known, Guard::Memory, slot, instruction, access.base, within)
     }

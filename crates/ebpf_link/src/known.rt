@@ -1,6 +1,14 @@
 //! What is known where a slot is come to: the facts of a verifier, by the same domain. Nothing rests on these being true: the program
 //! that is made is judged like any other.
 
+ghost use Rattle.std.specs.Prelude.{◌≡◌, if◌then◌else◌};
+ghost use Rattle.accepted_programs.specs.Facts.{compared_fact, fact, source_fact, with_fact};
+ghost use Rattle.ebpf_link.specs.Deciding.{edge};
+ghost use Rattle.interval_domain.specs.Intervals.{intervals};
+
+use crate::constants::{WORDS, Words, join_words, store_words};
+use crate::fields::{Fields, NO_FIELDS, fields_behind, join_fields};
+use crate::origins::{Areas, CellAreas, Twins, join_origins, step_origins};
 use crate::stack::{join_cells, load, store};
 use accepted_programs::Facts;
 use instruction_set::{Instruction, Register, Size, Source, Width};
@@ -10,42 +18,88 @@ use program_meaning::Arithmetic;
 use word_domain::Domain;
 
 /// What is known.
-pub(crate) type Known = Facts<Intervals>;
+#[derive(Clone, Copy)]
+pub(crate) struct Known {
+    /// What a verifier knows.
+    pub facts: Facts<Intervals>,
+    /// The fields of the block that registers have.
+    pub fields: Fields,
+    /// The numbers that the stack has.
+    pub words: Words,
+    /// The areas of addresses.
+    pub areas: Areas,
+    /// And of those in cells of the stack.
+    pub cell_areas: CellAreas,
+    /// Copies.
+    pub twins: Twins,
+    /// Was the block's size compared with the one that the program is made for?
+    pub is_sized: bool,
+}
+
+impl Known {
+    /// The fact about a register.
+    pub fn get(&self, register: Register) -> Intervals
+        ensures { result ≡ fact intervals self.now.facts register }
+    {
+        self.facts.get(register)
+    }
+
+    /// Replaces the fact about a register.
+    pub fn set(&mut self, register: Register, fact: Intervals)
+        ensures { self.new.facts ≡ with_fact intervals self.old.facts register fact }
+    {
+        self.facts.set(register, fact);
+    }
+}
 
 /// What is known at the start of a block run.
 pub(crate) fn at_start() -> Known {
     let zero = Intervals::constant(0);
-    Facts {
-        registers: [
-            zero,
-            Intervals::pointer(Area::Context, 0),
-            Intervals::pointer(Area::Block, 0),
-            Intervals::pointer(Area::Scratch, 0),
-            zero,
-            zero,
-            zero,
-            zero,
-            zero,
-            zero,
-            Intervals::pointer(Area::Stack, STACK_BYTES as u32),
-        ],
-        cells: [None; accepted_programs::CELLS],
-        emitted: 0,
+    Known {
+        facts: Facts {
+            registers: [
+                zero,
+                Intervals::pointer(Area::Context, 0),
+                Intervals::pointer(Area::Block, 0),
+                Intervals::pointer(Area::Scratch, 0),
+                zero,
+                zero,
+                zero,
+                zero,
+                zero,
+                zero,
+                Intervals::pointer(Area::Stack, STACK_BYTES as u32),
+            ],
+            cells: [None; accepted_programs::CELLS],
+            emitted: 0,
+        },
+        fields: NO_FIELDS,
+        words: [None; WORDS],
+        areas: [None; REGISTERS],
+        cell_areas: [None; accepted_programs::CELLS],
+        twins: [None; REGISTERS],
+        is_sized: false,
     }
 }
 
 /// Joins what is known on another way.
 pub(crate) fn join(known: &mut Known, other: &Known) {
     for j in 0..REGISTERS {
-        let joined = known.registers[j].join(other.registers[j]);
-        known.registers[j] = joined;
+        let joined = known.facts.registers[j].join(other.facts.registers[j]);
+        known.facts.registers[j] = joined;
     }
-    join_cells(&mut known.cells, &other.cells);
-    known.emitted = known.emitted.max(other.emitted);
+    join_cells(&mut known.facts.cells, &other.facts.cells);
+    known.facts.emitted = known.facts.emitted.max(other.facts.emitted);
+    join_fields(&mut known.fields, &other.fields);
+    join_words(&mut known.words, &other.words);
+    join_origins(known, other);
+    known.is_sized = known.is_sized && other.is_sized;
 }
 
 /// The fact of a second operand.
-pub(crate) fn source_fact(known: &Known, source: Source) -> Intervals {
+pub(crate) fn source_fact(known: &Known, source: Source) -> Intervals
+    ensures { result ≡ source_fact intervals known.now.facts source }
+{
     match source {
         Source::Register(register) => known.get(register),
         Source::Immediate(value) => Intervals::constant(Instruction::immediate_word(value)),
@@ -53,7 +107,9 @@ pub(crate) fn source_fact(known: &Known, source: Source) -> Intervals {
 }
 
 /// The fact of a second operand of a compare.
-fn compared(width: Width, known: &Known, source: Source) -> Intervals {
+fn compared(width: Width, known: &Known, source: Source) -> Intervals
+    ensures { result ≡ compared_fact intervals width known.now.facts source }
+{
     match (source, width) {
         (Source::Immediate(value), Width::Bits32) => {
             Intervals::constant(Instruction::immediate_word(value) % 0x1_0000_0000)
@@ -63,7 +119,9 @@ fn compared(width: Width, known: &Known, source: Source) -> Intervals {
 }
 
 /// Narrows what is known to what it is along an edge of a compare. False where there is no such edge.
-pub(crate) fn narrow(known: &mut Known, branch: &Instruction, taken: bool) -> bool {
+pub(crate) fn narrow(known: &mut Known, branch: &Instruction, taken: bool) -> bool
+    ensures { edge known.old.facts branch.now taken ≡ (if result then Some known.new.facts else None) }
+{
     let Instruction::Branch {
         width,
         relation,
@@ -93,9 +151,10 @@ fn emit(known: &mut Known) {
     let most = known.get(Register::R2).bounds().high;
     let most = most.min(0x1_0000_0000) as usize;
     for j in 0..CLEARED_REGISTERS {
-        known.registers[j] = Intervals::constant(0);
+        known.facts.registers[j] = Intervals::constant(0);
     }
-    known.emitted = known
+    known.facts.emitted = known
+        .facts
         .emitted
         .saturating_add(FRAME_LENGTH_BYTES)
         .saturating_add(most);
@@ -147,15 +206,37 @@ fn written(known: &Known, instruction: &Instruction) -> Option<(Register, Interv
     Some((dst, Intervals::alu(arithmetic, first, second)))
 }
 
+/// The number that a register is known to have.
+fn number_of(known: &Known, register: Register) -> Option<u64> {
+    let bounds = known.get(register).bounds();
+    if bounds.low == bounds.high {
+        Some(bounds.low)
+    } else {
+        None
+    }
+}
+
 /// Changes what is known to what is behind an instruction that isn't a jump.
 pub(crate) fn step(known: &mut Known, instruction: &Instruction) {
+    let fields = fields_behind(known, instruction);
+    known.fields = fields;
+    step_origins(known, instruction);
     match *instruction {
         Instruction::StoreImmediate {
             size,
             dst,
             offset,
-            ..
-        } => store(known, size, dst, offset, None),
+            value,
+        } => {
+            store_words(
+                known,
+                size,
+                dst,
+                offset,
+                Some(Instruction::immediate_word(value)),
+            );
+            store(known, size, dst, offset, None);
+        }
         Instruction::StoreRegister {
             size,
             dst,
@@ -167,6 +248,7 @@ pub(crate) fn step(known: &mut Known, instruction: &Instruction) {
             } else {
                 None
             };
+            store_words(known, size, dst, offset, number_of(known, src));
             store(known, size, dst, offset, word);
         }
         Instruction::Call { .. } => emit(known),

@@ -1,13 +1,17 @@
 //! The slots of a program without loops.
 
-use crate::assembling::assembled;
+ghost use Rattle.std.specs.Prelude.{◌≡◌, ◌+◌, ◌++◌, ◌∷◌, [], IfOk, length};
+ghost use Rattle.ebpf_link.specs.Guards.{cut_pieces, guard_end, guard_index, guard_piece};
+ghost use Rattle.ebpf_link.specs.declared.pieces.Piece.TheVariants.{Begins, Plain};
+
 use crate::fault::LinkFault;
-use crate::guards::{BLOCK_GUARD, EMIT_GUARD, Guard, MEMORY_GUARD, stored};
+use crate::guards::{Guard, stored};
 use crate::known::{Known, at_start, join};
-use crate::liveness::{Registers, live_registers};
+use crate::lists::{number_at, set_answer};
+use crate::liveness::Registers;
 use crate::loops::Loops;
-use crate::ordering::ordered;
 use crate::pieces::{Piece, compute};
+use crate::planning::Plan;
 use instruction_set::{Instruction, Operation, Register, Source};
 use program_interface::{BlockSize, MOST_SLOTS};
 use std::alloc::{AllocError, Global};
@@ -26,13 +30,25 @@ pub(crate) struct Layout<'a> {
     /// The size of a block.
     pub block: BlockSize,
     /// Their loops.
-    pub loops: Loops,
+    pub loops: &'a Loops,
     /// The registers that are read from each slot on.
-    pub live: Vec<Registers>,
+    pub live: &'a [Registers],
+    /// How far it is laid out.
+    pub plan: Plan,
     /// What is known where each slot is to be come to next.
     pub rows: Vec<Row>,
-    /// How often each loop was begun.
+    /// How many rounds of each loop were laid out since it was come to.
     pub rounds: Vec<usize>,
+    /// How many rounds of each loop are laid out at most that can be left before.
+    pub caps: &'a [usize],
+    /// Was each loop laid out no further?
+    pub is_cut: Vec<bool>,
+    /// Can each loop be left before its last round?
+    pub leaves: Vec<bool>,
+    /// The slot that was laid out before.
+    pub before: usize,
+    /// The most bytes that are emitted, frame lengths counted.
+    pub emitted: usize,
     /// What was laid out.
     pub pieces: Vec<Piece>,
     /// The bytes of the stack above those that guards use.
@@ -43,15 +59,6 @@ pub(crate) struct Layout<'a> {
     pub uses_scratch: bool,
     /// Is there a guard of each kind?
     pub guarded: [bool; Guard::COUNT],
-}
-
-/// A program without loops.
-#[derive(Drop)]
-pub struct Linked {
-    /// Its slots.
-    pub slots: Vec<Option<Instruction>>,
-    /// How many guards of each kind were put in, also such as other instructions were then left out with.
-    pub guards: [usize; Guard::COUNT],
 }
 
 /// Joins what is known into a row.
@@ -69,27 +76,40 @@ impl Layout<'_> {
         -(below as i16)
     }
 
-    fn push(&mut self, piece: Piece) -> Result<(), LinkFault> {
+    fn push(&mut self, piece: Piece) -> Result<(), LinkFault>
+        ensures pushed { IfOk result (λ _. self.new.pieces.items ≡ self.old.pieces.items ++ (piece ∷ [])) }
+        ensures slots { self.new.slots ≡ self.old.slots }
+        ensures guarded { self.new.guarded ≡ self.old.guarded }
+    {
         self.pieces.extend_from_slice(&[piece])?;
         Ok(())
     }
 
     /// Puts an instruction that is no jump.
-    pub(crate) fn push_plain(&mut self, instruction: Instruction) -> Result<(), LinkFault> {
+    pub(crate) fn push_plain(&mut self, instruction: Instruction) -> Result<(), LinkFault>
+        ensures pushed { IfOk result (λ _. self.new.pieces.items ≡ self.old.pieces.items ++ (Plain instruction ∷ [])) }
+        ensures slots { self.new.slots ≡ self.old.slots }
+        ensures guarded { self.new.guarded ≡ self.old.guarded }
+    {
         self.push(Piece::Plain(instruction))
     }
 
-    /// Puts a compare that leads to a guard's end.
-    pub(crate) fn push_guard(
-        &mut self,
-        branch: Instruction,
-        guard: Guard,
-    ) -> Result<(), LinkFault> {
+    /// The number of the end to which guards of a kind lead: behind those of the slots.
+    fn end_of(&self, guard: Guard) -> usize
+        ensures { result ≡ length self.now.slots.now + guard_index guard }
+    {
+        self.slots.len() + guard.index()
+    }
+
+    /// Puts a compare, or a jump, that leads to a guard's end.
+    pub(crate) fn push_guard(&mut self, jump: Instruction, guard: Guard) -> Result<(), LinkFault>
+        ensures { let piece = guard_piece (length self.old.slots.now) guard jump in
+            IfOk result (λ _. self.new.pieces.items ≡ self.old.pieces.items ++ (piece ∷ [])) }
+    {
         if let Some(guarded) = self.guarded.get_mut(guard.index()) {
             *guarded = true;
         }
-        let end = self.slots.len().saturating_add(guard.index());
-        self.push(Piece::Jump(branch, end))
+        self.push(Piece::Jump(jump, self.end_of(guard)))
     }
 
     /// Puts a jump to where a slot begins next.
@@ -98,12 +118,22 @@ impl Layout<'_> {
     }
 
     /// What stands at a slot begins here.
-    pub(crate) fn push_begin(&mut self, slot: usize) -> Result<(), LinkFault> {
+    pub(crate) fn push_begin(&mut self, slot: usize) -> Result<(), LinkFault>
+        ensures pushed { IfOk result (λ _. self.new.pieces.items ≡ self.old.pieces.items ++ (Begins slot ∷ [])) }
+        ensures slots { self.new.slots ≡ self.old.slots }
+        ensures guarded { self.new.guarded ≡ self.old.guarded }
+    {
         self.push(Piece::Begins(slot))
     }
 
     /// Lets a slot be come to, where this is known.
-    pub(crate) fn give(&mut self, to: i64, known: Box<Known>) -> Result<(), LinkFault> {
+    pub(crate) fn give(
+        &mut self,
+        from: usize,
+        to: i64,
+        known: Box<Known>,
+    ) -> Result<(), LinkFault> {
+        self.note_way(from, to);
         if to < 0 {
             return Err(LinkFault::Leaves(0));
         }
@@ -178,22 +208,33 @@ impl Layout<'_> {
         self.put(known, stored(Register::R3, scratch))
     }
 
+    /// The end to which guards of a kind lead.
+    fn push_end(&mut self, guard: Guard) -> Result<(), LinkFault>
+        ensures pushed { IfOk result (λ _. self.new.pieces.items
+            ≡ self.old.pieces.items ++ guard_end (length self.old.slots.now) guard) }
+        ensures guarded { self.new.guarded ≡ self.old.guarded }
+        ensures slots { self.new.slots ≡ self.old.slots }
+    {
+        self.push_begin(self.end_of(guard))?;
+        let source = Source::Immediate(guard.word());
+        self.push_plain(compute(Operation::Move, Register::R0, source))?;
+        self.push_plain(Instruction::Exit)
+    }
+
     /// The end to which guards of a kind lead, if there are any.
-    fn put_end(&mut self, guard: Guard, number: i32) -> Result<(), LinkFault> {
-        if let Some(true) = self.guarded.get(guard.index()) {
-            self.push_begin(self.slots.len().saturating_add(guard.index()))?;
-            let source = Source::Immediate(number);
-            self.push_plain(compute(Operation::Move, Register::R0, source))?;
-            return self.push_plain(Instruction::Exit);
+    fn put_end(&mut self, guard: Guard) -> Result<(), LinkFault> {
+        match self.guarded.get(guard.index()) {
+            Some(true) => self.push_end(guard),
+            _ => Ok(()),
         }
-        Ok(())
     }
 
     /// The ends to which guards lead.
     fn put_ends(&mut self) -> Result<(), LinkFault> {
-        self.put_end(Guard::Memory, MEMORY_GUARD)?;
-        self.put_end(Guard::Emit, EMIT_GUARD)?;
-        self.put_end(Guard::Block, BLOCK_GUARD)
+        self.put_end(Guard::Memory)?;
+        self.put_end(Guard::Emit)?;
+        self.put_end(Guard::Block)?;
+        self.put_end(Guard::Rounds)
     }
 
     /// What is told of a program that has more pieces than are looked at.
@@ -204,33 +245,97 @@ impl Layout<'_> {
         LinkFault::Loop {
             first,
             last: self.loops.end(first),
-            rounds: match self.rounds.get(first) {
-                Some(rounds) => *rounds,
-                None => 0,
-            },
+            rounds: number_at(&self.rounds, first),
         }
     }
 
+    /// Counts a round of the loop that begins at a slot: the first, where it is come to from outside.
     fn count_round(&mut self, slot: usize) {
+        let is_inside = slot <= self.before && self.before <= self.loops.end(slot);
         if let Some(rounds) = self.rounds.get_mut(slot) {
-            *rounds = rounds.saturating_add(1);
+            *rounds = if is_inside {
+                rounds.saturating_add(1)
+            } else {
+                1
+            };
         }
+        if !is_inside {
+            self.forget_ways(slot);
+        }
+        self.before = slot;
+    }
+
+    /// Is the loop that begins at a slot laid out as far as planned? One that can't be left before is laid out to its end.
+    fn is_over(&self, slot: usize) -> bool {
+        let leaves = matches!(self.leaves.get(slot), Some(true));
+        leaves
+            && self.loops.begins(slot)
+            && number_at(&self.rounds, slot) > number_at(self.caps, slot)
+    }
+
+    /// Ends the block run where a loop would go round once more.
+    fn cut(&mut self, slot: usize) -> Result<(), LinkFault>
+        ensures { IfOk result (λ _. self.new.pieces.items
+            ≡ self.old.pieces.items ++ cut_pieces (length self.old.slots.now) slot) }
+    {
+        set_answer(&mut self.is_cut, slot, true);
+        self.push_begin(slot)?;
+        self.push_guard(Instruction::Jump { distance: 0 }, Guard::Rounds)
+    }
+
+    /// Forgets whether the loop that begins at a slot was left.
+    fn forget_ways(&mut self, slot: usize) {
+        set_answer(&mut self.leaves, slot, false);
+    }
+
+    /// Notes which loops are left from a slot to another one.
+    fn note_way(&mut self, slot: usize, to: i64) {
+        let mut head = self.loops.innermost(slot);
+        for _ in 0..self.rows.len() {
+            let Some(first) = head else {
+                break;
+            };
+            if self.loops.has(first, to) {
+                break;
+            }
+            set_answer(&mut self.leaves, first, true);
+            head = self.loops.around(first);
+        }
+    }
+
+    /// The fewest rounds of a loop that isn't laid out to its end.
+    pub(crate) fn fewest_rounds(&self) -> Option<usize> {
+        let mut fewest = None;
+        for (slot, is_cut) in self.is_cut.iter().enumerate() {
+            if *is_cut {
+                let rounds = number_at(self.caps, slot);
+                fewest = match fewest {
+                    Some(fewest) if fewest <= rounds => Some(fewest),
+                    _ => Some(rounds),
+                };
+            }
+        }
+        fewest
     }
 
     /// Lays all slots out.
-    fn run(&mut self, alloc: Global) -> Result<(), LinkFault> {
+    pub(crate) fn run(&mut self, alloc: Global) -> Result<(), LinkFault> {
         let mut known = at_start();
         if self.own <= 488 {
             self.keep_addresses(&mut known)?;
         }
-        self.give(0, boxed(alloc, known)?)?;
+        self.give(0, 0, boxed(alloc, known)?)?;
         let mut slot = 0;
         for _ in 0..MOST_PIECES {
             let Some(known) = self.take(slot) else {
                 return Err(LinkFault::Leaves(slot));
             };
             self.count_round(slot);
-            self.visit(alloc, slot, known)?;
+            if self.is_over(slot) {
+                self.cut(slot)?;
+            } else {
+                self.visit(alloc, slot, known)?;
+            }
             match self.next(slot) {
                 Some(next) => slot = next,
                 None => return self.put_ends(),
@@ -252,59 +357,10 @@ pub(crate) fn boxed(alloc: Global, known: Known) -> Result<Box<Known>, AllocErro
 }
 
 /// So many rows with nothing.
-fn empty_rows(alloc: Global, count: usize) -> Result<Vec<Row>, AllocError> {
+pub(crate) fn empty_rows(alloc: Global, count: usize) -> Result<Vec<Row>, AllocError> {
     let mut rows = Vec::new(alloc);
     for _ in 0..count {
         rows.push(None).map_err(AllocError::from)?;
     }
     Ok(rows)
-}
-
-/// So many zeros.
-fn zeros(alloc: Global, count: usize) -> Result<Vec<usize>, AllocError> {
-    let mut list = Vec::new(alloc);
-    for _ in 0..count {
-        list.push(0)?;
-    }
-    Ok(list)
-}
-
-/// A program that does on blocks of one size what these slots do, without a jump back, as far as that can be told. Below so many bytes
-/// of the stack there are 24 that the slots don't use.
-///
-/// # Errors
-///
-/// An instruction leads to no other; a loop isn't known to end; there are more slots than a program can have.
-pub fn link(
-    alloc: Global,
-    slots: &[Option<Instruction>],
-    own: usize,
-    block: BlockSize,
-) -> Result<Linked, LinkFault> {
-    let slots = ordered(alloc, slots)?;
-    link_ordered(alloc, &slots, own, block)
-}
-
-/// The same of slots in order.
-fn link_ordered(
-    alloc: Global,
-    slots: &[Option<Instruction>],
-    own: usize,
-    block: BlockSize,
-) -> Result<Linked, LinkFault> {
-    let mut layout = Layout {
-        slots,
-        block,
-        loops: Loops::of(alloc, slots)?,
-        live: live_registers(alloc, slots)?,
-        rows: empty_rows(alloc, slots.len())?,
-        rounds: zeros(alloc, slots.len())?,
-        pieces: Vec::new(alloc),
-        own,
-        uses_block: false,
-        uses_scratch: false,
-        guarded: [false; Guard::COUNT],
-    };
-    layout.run(alloc)?;
-    assembled(alloc, &layout)
 }

@@ -3,20 +3,28 @@
 #![tactic(auto)]
 
 mod assembling;
+mod constants;
+mod deciding;
 mod emits;
 mod fault;
+mod fields;
 mod flow;
 mod folding;
 mod guards;
 mod known;
 mod layout;
+mod lists;
 mod liveness;
 mod loops;
 mod ordering;
+mod origins;
 mod pieces;
+mod planning;
+mod remainders;
 mod stack;
 mod visiting;
 
+pub use assembling::Linked;
 pub use fault::LinkFault;
-pub use guards::{BLOCK_GUARD, EMIT_GUARD, Guard, MEMORY_GUARD};
-pub use layout::{Linked, link};
+pub use guards::{BLOCK_GUARD, EMIT_GUARD, Guard, MEMORY_GUARD, ROUNDS_GUARD};
+pub use planning::link;

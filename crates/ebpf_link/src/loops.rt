@@ -1,6 +1,7 @@
 //! Loops, by slots: from where a jump leads back to, up to the last jump that leads there. Two loops have no slot in common, or one is
 //! within the other.
 
+use crate::lists::number_at;
 use crate::pieces::target;
 use instruction_set::Instruction;
 use std::alloc::{AllocError, Global};
@@ -37,14 +38,6 @@ fn raise(list: &mut [usize], at: usize, number: usize) {
     }
 }
 
-/// The number at a place of a list, or 0.
-fn at(list: &[usize], place: usize) -> usize {
-    match list.get(place) {
-        Some(found) => *found,
-        None => 0,
-    }
-}
-
 /// The last slots of loops, each as if there were no other.
 fn first_ends(
     alloc: Global,
@@ -69,10 +62,10 @@ fn first_ends(
 
 /// The last slot of the loop that begins at a slot, with the loops that begin within it.
 fn whole_end(ends: &[usize], head: usize) -> usize {
-    let mut end = at(ends, head);
+    let mut end = number_at(ends, head);
     for slot in 0..ends.len() {
         if slot > head && slot <= end {
-            end = at(ends, slot).max(end);
+            end = number_at(ends, slot).max(end);
         }
     }
     end
@@ -102,7 +95,17 @@ impl Loops {
 
     /// The last slot of the loop that begins at a slot.
     pub fn end(&self, head: usize) -> usize {
-        at(&self.ends, head)
+        number_at(&self.ends, head)
+    }
+
+    /// Does a loop begin at a slot?
+    pub fn begins(&self, slot: usize) -> bool {
+        matches!(self.heads.get(slot), Some(true))
+    }
+
+    /// Does the loop that begins at a slot have another one?
+    pub fn has(&self, head: usize, slot: i64) -> bool {
+        slot >= 0 && head as u64 <= slot as u64 && slot as u64 <= self.end(head) as u64
     }
 
     /// The first slot of the innermost loop that a slot is in.
@@ -137,7 +140,7 @@ fn innermost_before(
         let Some(found) = head else {
             return None;
         };
-        if at(ends, found) >= slot {
+        if number_at(ends, found) >= slot {
             return head;
         }
         head = *around.get(found)?;

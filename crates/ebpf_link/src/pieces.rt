@@ -1,5 +1,8 @@
 //! The pieces of a program that is laid out.
 
+ghost use Rattle.std.specs.Prelude.{◌≡◌, pos};
+ghost use Rattle.instruction_set.specs.declared.operation.Width.TheVariants.{Bits64};
+
 use instruction_set::{Instruction, Operation, Register, Relation, Source, Width};
 
 /// A piece of a program that is laid out.
@@ -14,7 +17,9 @@ pub(crate) enum Piece {
 }
 
 /// 64-bit arithmetic.
-pub(crate) fn compute(operation: Operation, dst: Register, source: Source) -> Instruction {
+pub(crate) fn compute(operation: Operation, dst: Register, source: Source) -> Instruction
+    ensures { result ≡ Instruction.Arithmetic Bits64 operation dst source }
+{
     Instruction::Arithmetic {
         width: Width::Bits64,
         operation,
@@ -24,7 +29,9 @@ pub(crate) fn compute(operation: Operation, dst: Register, source: Source) -> In
 }
 
 /// A 64-bit compare with a number.
-pub(crate) fn compare(relation: Relation, dst: Register, number: i32) -> Instruction {
+pub(crate) fn compare(relation: Relation, dst: Register, number: i32) -> Instruction
+    ensures { result ≡ Instruction.Branch Bits64 relation dst (Source.Immediate number) (pos 0) }
+{
     Instruction::Branch {
         width: Width::Bits64,
         relation,

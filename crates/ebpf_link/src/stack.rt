@@ -26,7 +26,7 @@ fn moved(distance: i64, offset: i16) -> i128 {
 }
 
 /// The cell at an offset from an address that is known alone.
-fn cell_of(told: Option<Offsets>, offset: i16) -> Option<usize> {
+pub(crate) fn cell_of(told: Option<Offsets>, offset: i16) -> Option<usize> {
     let told = told?;
     if matches!(told.area, Area::Stack) && told.low == told.high {
         cell_from(moved(told.low, offset))
@@ -72,10 +72,10 @@ pub(crate) fn store(
         ),
         None => (0, STACK_BYTES as i128),
     };
-    forget(&mut known.cells, first, last);
+    forget(&mut known.facts.cells, first, last);
     if let Some(cell) = cell_of(told, offset) {
         if size == Size::DoubleWord && cell < CELLS {
-            known.cells[cell] = word;
+            known.facts.cells[cell] = word;
         }
     }
 }
@@ -83,7 +83,7 @@ pub(crate) fn store(
 /// What a load of eight bytes gives.
 pub(crate) fn load(known: &Known, src: Register, offset: i16) -> Intervals {
     match cell_of(known.get(src).offsets(), offset) {
-        Some(cell) if cell < CELLS => match known.cells[cell] {
+        Some(cell) if cell < CELLS => match known.facts.cells[cell] {
             Some(fact) => fact,
             None => Intervals::any(),
         },

@@ -1,11 +1,19 @@
 //! What is laid out of a slot.
 
+ghost use Rattle.std.specs.Prelude.{IfSome};
+ghost use Rattle.ebpf_link.specs.Deciding.{IsOpposite};
+
+use crate::constants::{number_in_place, with_number};
+use crate::deciding::decided;
 use crate::fault::LinkFault;
+use crate::fields::loaded_at_once;
 use crate::folding::rebased;
 use crate::guards::Guard;
 use crate::known::{Known, narrow, source_fact};
 use crate::layout::{Layout, boxed};
-use crate::pieces::target;
+use crate::liveness::{Registers, at, bit, reads};
+use crate::origins::better_copy;
+use crate::pieces::{compute, target};
 use instruction_set::{Instruction, Operation, Register, Relation, Size, Source, Width};
 use program_interface::Area;
 use std::alloc::Global;
@@ -37,7 +45,9 @@ fn unsigned(relation: Relation) -> Relation {
 }
 
 /// The relation that holds where one doesn't, if there is one.
-fn opposite(relation: Relation) -> Option<Relation> {
+fn opposite(relation: Relation) -> Option<Relation>
+    ensures { IfSome result (λ other. IsOpposite relation other) }
+{
     match relation {
         Relation::Equal => Some(Relation::NotEqual),
         Relation::NotEqual => Some(Relation::Equal),
@@ -129,7 +139,37 @@ fn mask_over(most: u64) -> i32 {
     mask.min(ONES) as i32
 }
 
+/// An instruction in place of another one that does the same, by which more is known or that reads less.
+fn better(known: &Known, instruction: &Instruction, others: Registers) -> Instruction {
+    if let Some(load) = loaded_at_once(known, instruction) {
+        return load;
+    }
+    match number_in_place(known, instruction) {
+        Some(number) => number,
+        None => with_number(known, &rebased(known, instruction, others)),
+    }
+}
+
 impl Layout<'_> {
+    /// Puts copies in place of registers that an instruction reads, of which more is known.
+    fn put_copies(
+        &mut self,
+        known: &mut Known,
+        instruction: &Instruction,
+    ) -> Result<(), LinkFault> {
+        let read = reads(instruction);
+        for number in 0..10u8 {
+            let register = Register::from_number(number);
+            if (read & bit(register)) != 0 {
+                if let Some(copy) = better_copy(known, register) {
+                    let source = Source::Register(copy);
+                    self.put(known, compute(Operation::Move, register, source))?;
+                }
+            }
+        }
+        Ok(())
+    }
+
     /// Is it a load of the block's size from the context?
     fn loads_block_size(&self, known: &Known, instruction: &Instruction) -> Option<Register> {
         let Instruction::Load {
@@ -170,11 +210,21 @@ impl Layout<'_> {
     fn put_straight(
         &mut self,
         known: &mut Known,
+        slot: usize,
         instruction: Instruction,
     ) -> Result<bool, LinkFault> {
         let mask = idle_mask(known, &instruction);
         let size = self.loads_block_size(known, &instruction);
-        self.put(known, rebased(known, &instruction))?;
+        let bytes = self.block.bytes() as i32;
+        if let (Some(dst), true) = (size, known.is_sized) {
+            self.put(
+                known,
+                compute(Operation::Move, dst, Source::Immediate(bytes)),
+            )?;
+            return Ok(true);
+        }
+        let others = at(self.live, slot.saturating_add(instruction.slots()));
+        self.put(known, better(known, &instruction, others))?;
         if let Some((width, dst, mask)) = mask {
             self.put(
                 known,
@@ -187,7 +237,7 @@ impl Layout<'_> {
             )?;
         }
         if let Some(dst) = size {
-            let bytes = self.block.bytes() as i32;
+            known.is_sized = true;
             return self.put_guard(known, Guard::Block, Relation::NotEqual, dst, bytes);
         }
         Ok(true)
@@ -242,15 +292,22 @@ impl Layout<'_> {
         to: i64,
     ) -> Result<(), LinkFault> {
         let behind = target(slot, 0);
+        self.put_copies(&mut known, &branch)?;
+        let branch = with_number(&known, &branch);
+        if let Some(is_taken) = decided(&known, &branch) {
+            let to = if is_taken { to } else { behind };
+            self.give(slot, to, known)?;
+            return self.lead(slot, to);
+        }
         let branch = as_unsigned(&known, &branch);
         let mut taken = boxed(alloc, *known)?;
         let is_taken = narrow(&mut taken, &branch, true);
         let is_passed = narrow(&mut known, &branch, false);
         if is_taken {
-            self.give(to, taken)?;
+            self.give(slot, to, taken)?;
         }
         if is_passed {
-            self.give(behind, known)?;
+            self.give(slot, behind, known)?;
         }
         match (is_taken, is_passed) {
             (true, true) => self.fork(slot, branch, behind, to),
@@ -267,14 +324,15 @@ impl Layout<'_> {
         instruction: Instruction,
         mut known: Box<Known>,
     ) -> Result<(), LinkFault> {
+        self.put_copies(&mut known, &instruction)?;
         if !self.guard(&mut known, slot, &instruction)? {
             return Ok(());
         }
-        if !self.put_straight(&mut known, instruction)? {
+        if !self.put_straight(&mut known, slot, instruction)? {
             return Ok(());
         }
         let behind = target(slot, instruction.slots() as i32 - 1);
-        self.give(behind, known)?;
+        self.give(slot, behind, known)?;
         self.lead(slot, behind)
     }
 
@@ -300,7 +358,7 @@ impl Layout<'_> {
         if let Instruction::Branch { .. } = instruction {
             return self.visit_branch(alloc, slot, instruction, known, to);
         }
-        self.give(to, known)?;
+        self.give(slot, to, known)?;
         self.lead(slot, to)
     }
 }

@@ -1,0 +1,38 @@
+-- The ends of block runs to which guards lead.
+use Rattle.std.specs.Prelude.{ℕ, ℤ, List, [], ◌∷◌, ◌+◌, pos, length}
+use Rattle.instruction_set.specs.declared.instruction.Instruction.{Instruction}
+use Rattle.instruction_set.specs.declared.instruction.Instruction.TheVariants.{Arithmetic, Exit, Jump}
+use Rattle.instruction_set.specs.declared.instruction.Source.TheVariants.{Immediate}
+use Rattle.instruction_set.specs.declared.operation.Operation.TheVariants.{Move}
+use Rattle.instruction_set.specs.declared.operation.Width.TheVariants.{Bits64}
+use Rattle.ebpf_link.specs.declared.guards.Guard.{Guard}
+use Rattle.ebpf_link.specs.declared.guards.Guard.TheVariants as kind
+use Rattle.ebpf_link.specs.declared.pieces.Piece.{Piece}
+use Rattle.ebpf_link.specs.declared.pieces.Piece.TheVariants as piece
+
+-- the number of a kind of guards
+abbrev pub guard_index : Guard → ℕ
+guard_index kind.Memory = 0
+guard_index kind.Emit = 1
+guard_index kind.Block = 2
+guard_index kind.Rounds = 3
+
+-- what R0 has where a guard ends the block run
+abbrev pub guard_word : Guard → ℤ
+guard_word kind.Memory = pos 0x7001
+guard_word kind.Emit = pos 0x7002
+guard_word kind.Block = pos 0x7003
+guard_word kind.Rounds = pos 0x7004
+
+-- the end to which guards of a kind lead, of a program of so many slots: R0 gets its word, and the block run is over
+abbrev pub guard_end : ℕ → Guard → List Piece
+guard_end slots guard =
+    piece.Begins (slots + guard_index guard) ∷ piece.Plain (Arithmetic Bits64 Move 0 (Immediate (guard_word guard))) ∷ piece.Plain Exit ∷ []
+
+-- a compare, or a jump, that leads there
+abbrev pub guard_piece : ℕ → Guard → Instruction → Piece
+guard_piece slots guard jump = piece.Jump jump (slots + guard_index guard)
+
+-- where a loop is laid out no further: each way to its first slot ends the block run
+abbrev pub cut_pieces : ℕ → ℕ → List Piece
+cut_pieces slots head = piece.Begins head ∷ guard_piece slots kind.Rounds (Jump (pos 0)) ∷ []

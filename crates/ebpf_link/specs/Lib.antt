@@ -1,0 +1,5 @@
+pub mod Deciding
+pub mod Folding
+pub mod Guards
+pub mod Remainders
+pub mod Spelling

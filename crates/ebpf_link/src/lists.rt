@@ -1,0 +1,43 @@
+//! Lists of numbers and answers, by place.
+
+use std::alloc::{AllocError, Global};
+
+/// So many zeros.
+pub(crate) fn zeros(alloc: Global, count: usize) -> Result<Vec<usize>, AllocError> {
+    let mut list = Vec::new(alloc);
+    for _ in 0..count {
+        list.push(0)?;
+    }
+    Ok(list)
+}
+
+/// So many times false.
+pub(crate) fn no_answers(alloc: Global, count: usize) -> Result<Vec<bool>, AllocError> {
+    let mut list = Vec::new(alloc);
+    for _ in 0..count {
+        list.push(false)?;
+    }
+    Ok(list)
+}
+
+/// The number at a place of a list, or 0.
+pub(crate) fn number_at(list: &[usize], place: usize) -> usize {
+    match list.get(place) {
+        Some(found) => *found,
+        None => 0,
+    }
+}
+
+/// Sets the number at a place of a list, if there is one.
+pub(crate) fn set_number(list: &mut [usize], place: usize, number: usize) {
+    if let Some(found) = list.get_mut(place) {
+        *found = number;
+    }
+}
+
+/// Sets the answer at a place of a list, if there is one.
+pub(crate) fn set_answer(list: &mut [bool], place: usize, answer: bool) {
+    if let Some(found) = list.get_mut(place) {
+        *found = answer;
+    }
+}

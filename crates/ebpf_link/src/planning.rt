@@ -1,0 +1,286 @@
+//! How far a program is laid out: all rounds of its loops, as far as they are known, or as many as there are slots for.
+
+use crate::assembling::{Linked, assembled};
+use crate::fault::LinkFault;
+use crate::guards::Guard;
+use crate::layout::{Layout, empty_rows};
+use crate::lists::{no_answers, number_at, set_number, zeros};
+use crate::liveness::{Registers, live_registers};
+use crate::loops::Loops;
+use crate::ordering::ordered;
+use crate::remainders::with_remainders;
+use instruction_set::Instruction;
+use program_interface::{BlockSize, MOST_SLOTS};
+use std::alloc::{AllocError, Global};
+
+/// How much records may have.
+#[derive(Clone, Copy)]
+pub(crate) struct Plan {
+    /// So many bytes has a record at most that can be of several lengths.
+    pub longest: u64,
+    /// Is it left out of sight how much can be emitted in all?
+    pub is_counted: bool,
+}
+
+/// What is laid out.
+#[derive(Drop)]
+struct Parts {
+    slots: Vec<Option<Instruction>>,
+    loops: Loops,
+    live: Vec<Registers>,
+    own: usize,
+    block: BlockSize,
+}
+
+/// Lays a program out, with so many rounds of each loop.
+fn laid_out<'a>(
+    alloc: Global,
+    parts: &'a Parts,
+    caps: &'a [usize],
+    plan: Plan,
+) -> Result<Layout<'a>, LinkFault> {
+    let count = parts.slots.len();
+    let mut layout = Layout {
+        slots: &parts.slots,
+        block: parts.block,
+        loops: &parts.loops,
+        live: &parts.live,
+        plan,
+        rows: empty_rows(alloc, count)?,
+        rounds: zeros(alloc, count)?,
+        caps,
+        is_cut: no_answers(alloc, count)?,
+        leaves: no_answers(alloc, count)?,
+        before: 0,
+        emitted: 0,
+        pieces: Vec::new(alloc),
+        own: parts.own,
+        uses_block: false,
+        uses_scratch: false,
+        guarded: [false; Guard::COUNT],
+    };
+    layout.run(alloc)?;
+    Ok(layout)
+}
+
+/// The number in the middle of two.
+fn middle(low: usize, high: usize) -> usize {
+    (low & high) + ((low ^ high) >> 1)
+}
+
+/// The longest record, of those that can be of several lengths, with which all fit the block.
+fn longest(alloc: Global, parts: &Parts, caps: &[usize]) -> Result<u64, LinkFault> {
+    let limit = parts.block.bytes() as usize;
+    let (mut low, mut high) = (0, limit);
+    for _ in 0..13 {
+        let middle = middle(low, high);
+        if middle == low {
+            break;
+        }
+        let plan = Plan {
+            longest: middle as u64,
+            is_counted: true,
+        };
+        if laid_out(alloc, parts, caps, plan)?.emitted <= limit {
+            low = middle;
+        } else {
+            high = middle;
+        }
+    }
+    Ok(if low == 0 { limit as u64 } else { low as u64 })
+}
+
+/// A program that is made, and which loops it has no further than so many rounds.
+#[derive(Drop)]
+struct Made {
+    linked: Linked,
+    is_cut: Vec<bool>,
+}
+
+/// A program with so many rounds of each loop.
+fn made_with(alloc: Global, parts: &Parts, caps: &[usize]) -> Result<Made, LinkFault> {
+    let plan = Plan {
+        longest: u64::MAX,
+        is_counted: true,
+    };
+    let layout = laid_out(alloc, parts, caps, plan)?;
+    let linked = assembled(alloc, &layout)?;
+    if layout.emitted <= parts.block.bytes() as usize {
+        return Ok(Made {
+            linked,
+            is_cut: layout.is_cut,
+        });
+    }
+    let plan = Plan {
+        longest: longest(alloc, parts, caps)?,
+        is_counted: false,
+    };
+    let layout = laid_out(alloc, parts, caps, plan)?;
+    Ok(Made {
+        linked: assembled(alloc, &layout)?,
+        is_cut: layout.is_cut,
+    })
+}
+
+/// A program with so many rounds of each loop; none, where it has more slots than can be.
+fn attempt_within(alloc: Global, parts: &Parts, caps: &[usize]) -> Result<Option<Made>, LinkFault> {
+    match made_with(alloc, parts, caps) {
+        Ok(found) => Ok(Some(found)),
+        Err(LinkFault::Loop { .. } | LinkFault::TooLong(_)) => Ok(None),
+        Err(fault) => Err(fault),
+    }
+}
+
+/// Sets all numbers of a list.
+fn fill(list: &mut [usize], number: usize) {
+    for found in list.iter_mut() {
+        *found = number;
+    }
+}
+
+/// A program, and between how many rounds, for which there are slots, and how many, for which there are none, the most are.
+#[derive(Drop)]
+struct Between {
+    best: Made,
+    low: usize,
+    high: usize,
+}
+
+/// A program with 1, 2, 4 and so on rounds of each loop, the last for which there are slots.
+fn doubled(alloc: Global, parts: &Parts, caps: &mut [usize]) -> Result<Option<Between>, LinkFault> {
+    let mut found = None;
+    for cut in 0..11u32 {
+        let low = 1usize << cut;
+        fill(caps, low);
+        let Some(best) = attempt_within(alloc, parts, caps)? else {
+            break;
+        };
+        let high = 2 * low;
+        found = Some(Between { best, low, high });
+    }
+    Ok(found)
+}
+
+/// A program with as many rounds as there are slots for, about, the same for each loop, if there is one. Leaves the rounds in the list.
+fn shortened(alloc: Global, parts: &Parts, caps: &mut [usize]) -> Result<Option<Made>, LinkFault> {
+    let Some(mut found) = doubled(alloc, parts, caps)? else {
+        return Ok(None);
+    };
+    for _ in 0..6 {
+        let middle = middle(found.low, found.high);
+        if middle.saturating_sub(found.low) <= found.low / 32 {
+            break;
+        }
+        fill(caps, middle);
+        match attempt_within(alloc, parts, caps)? {
+            Some(best) => {
+                found = Between {
+                    best,
+                    low: middle,
+                    high: found.high,
+                };
+            }
+            None => found.high = middle,
+        }
+    }
+    fill(caps, found.low);
+    Ok(Some(found.best))
+}
+
+/// The most rounds of one loop for which there are slots beside those of the others, about, if these are more.
+fn raised(
+    alloc: Global,
+    parts: &Parts,
+    caps: &mut [usize],
+    head: usize,
+) -> Result<Option<Made>, LinkFault> {
+    let mut best = None;
+    let mut low = number_at(caps, head);
+    let mut high = low.saturating_mul(2).saturating_add(8);
+    for _ in 0..3 {
+        let middle = middle(low, high);
+        if middle == low {
+            break;
+        }
+        set_number(caps, head, middle);
+        match attempt_within(alloc, parts, caps)? {
+            Some(found) => {
+                best = Some(found);
+                low = middle;
+            }
+            None => high = middle,
+        }
+    }
+    set_number(caps, head, low);
+    Ok(best)
+}
+
+/// How many loops get rounds of their own.
+const MOST_RAISED: usize = 3;
+
+/// The first loops that are cut, if there are several.
+fn to_raise(alloc: Global, is_cut: &[bool]) -> Result<Vec<usize>, AllocError> {
+    let mut heads = Vec::new(alloc);
+    for (head, is_cut) in is_cut.iter().enumerate() {
+        if *is_cut && heads.len() < MOST_RAISED {
+            heads.push(head)?;
+        }
+    }
+    if heads.len() < 2 {
+        return Ok(Vec::new(alloc));
+    }
+    Ok(heads)
+}
+
+/// A program with as many rounds as there are slots for: first the same for each loop, then more for one after the other.
+fn cut(alloc: Global, parts: &Parts) -> Result<Option<Linked>, LinkFault> {
+    let mut caps = zeros(alloc, parts.slots.len())?;
+    let Some(mut best) = shortened(alloc, parts, &mut caps)? else {
+        return Ok(None);
+    };
+    for head in to_raise(alloc, &best.is_cut)? {
+        if let Some(found) = raised(alloc, parts, &mut caps, head)? {
+            best = found;
+        }
+    }
+    Ok(Some(best.linked))
+}
+
+/// A program with all rounds; where it has more slots than can be, with as many rounds as there are slots for.
+fn planned(alloc: Global, parts: &Parts) -> Result<Linked, LinkFault> {
+    let mut caps = zeros(alloc, parts.slots.len())?;
+    fill(&mut caps, usize::MAX);
+    match made_with(alloc, parts, &caps) {
+        Ok(found) => Ok(found.linked),
+        Err(LinkFault::Memory(error)) => Err(LinkFault::Memory(error)),
+        Err(LinkFault::Leaves(slot)) => Err(LinkFault::Leaves(slot)),
+        Err(fault) => match cut(alloc, parts)? {
+            Some(linked) => Ok(linked),
+            None => Err(fault),
+        },
+    }
+}
+
+/// A program that does on blocks of one size what these slots do, without a jump back, as far as that can be told: where a loop would go
+/// round more often than there are slots for, and where an access or an emit would trap, a guard ends the block run. Below so many
+/// bytes of the stack there are 24 that the slots don't use.
+///
+/// # Errors
+///
+/// An instruction leads to no other; a loop isn't known to end and can't be left before; there are more slots than a program can have.
+pub fn link(
+    alloc: Global,
+    slots: &[Option<Instruction>],
+    own: usize,
+    block: BlockSize,
+) -> Result<Linked, LinkFault> {
+    let slots = ordered(alloc, &with_remainders(alloc, slots)?)?;
+    let parts = Parts {
+        loops: Loops::of(alloc, &slots)?,
+        live: live_registers(alloc, &slots)?,
+        slots,
+        own,
+        block,
+    };
+    planned(alloc, &parts)
+}
