@@ -1,6 +1,6 @@
 //! Functions of C's library, written out for so many bytes.
 
-ghost use Rattle.std.specs.Prelude.{◌≤◌};
+ghost use Rattle.std.specs.Prelude.{◌+◌, ◌/◌, ◌≤◌};
 ghost use Rattle.program_interface.specs.declared.area.TheConstants.{STACK_BYTES};
 
 use crate::wanted::{LibraryCall, LibraryFunction};
@@ -133,7 +133,9 @@ fn push_fill(slots: &mut Vec<FunctionSlot>, bytes: usize) -> Result<(), AllocErr
 }
 
 /// How many accesses so many bytes take.
-fn steps(bytes: usize) -> usize {
+fn steps(bytes: usize) -> usize
+    ensures { result ≤ bytes / 8 + 3 }
+{
     bytes / 8 + (bytes / 4) % 2 + (bytes / 2) % 2 + bytes % 2
 }
 

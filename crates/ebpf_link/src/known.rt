@@ -107,7 +107,7 @@ pub(crate) fn source_fact(known: &Known, source: Source) -> Intervals
 }
 
 /// The fact of a second operand of a compare.
-fn compared(width: Width, known: &Known, source: Source) -> Intervals
+pub(crate) fn compared(width: Width, known: &Known, source: Source) -> Intervals
     ensures { result ≡ compared_fact intervals width known.now.facts source }
 {
     match (source, width) {

@@ -22,6 +22,7 @@ mod pieces;
 mod planning;
 mod remainders;
 mod stack;
+mod threading;
 mod visiting;
 
 pub use assembling::Linked;

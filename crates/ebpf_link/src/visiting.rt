@@ -262,6 +262,13 @@ impl Layout<'_> {
         self.push_jump(jump, to as usize)
     }
 
+    /// Goes on at a slot alone, where this is known.
+    fn go_on(&mut self, slot: usize, to: i64, mut known: Box<Known>) -> Result<(), LinkFault> {
+        let to = self.through(slot, to, &mut known);
+        self.give(slot, to, known)?;
+        self.lead(slot, to)
+    }
+
     /// Lays a compare out whose both edges can be taken.
     fn fork(
         &mut self,
@@ -295,24 +302,22 @@ impl Layout<'_> {
         self.put_copies(&mut known, &branch)?;
         let branch = with_number(&known, &branch);
         if let Some(is_taken) = decided(&known, &branch) {
-            let to = if is_taken { to } else { behind };
-            self.give(slot, to, known)?;
-            return self.lead(slot, to);
+            return self.go_on(slot, if is_taken { to } else { behind }, known);
         }
         let branch = as_unsigned(&known, &branch);
         let mut taken = boxed(alloc, *known)?;
         let is_taken = narrow(&mut taken, &branch, true);
         let is_passed = narrow(&mut known, &branch, false);
-        if is_taken {
-            self.give(slot, to, taken)?;
-        }
-        if is_passed {
-            self.give(slot, behind, known)?;
-        }
         match (is_taken, is_passed) {
-            (true, true) => self.fork(slot, branch, behind, to),
-            (true, false) => self.lead(slot, to),
-            (false, true) => self.lead(slot, behind),
+            (true, true) => {
+                let to = self.through(slot, to, &mut taken);
+                let behind = self.through(slot, behind, &mut known);
+                self.give(slot, to, taken)?;
+                self.give(slot, behind, known)?;
+                self.fork(slot, branch, behind, to)
+            }
+            (true, false) => self.go_on(slot, to, taken),
+            (false, true) => self.go_on(slot, behind, known),
             (false, false) => Ok(()),
         }
     }
@@ -331,9 +336,7 @@ impl Layout<'_> {
         if !self.put_straight(&mut known, slot, instruction)? {
             return Ok(());
         }
-        let behind = target(slot, instruction.slots() as i32 - 1);
-        self.give(slot, behind, known)?;
-        self.lead(slot, behind)
+        self.go_on(slot, target(slot, instruction.slots() as i32 - 1), known)
     }
 
     /// Lays out what stands at a slot, where this is known.
@@ -358,7 +361,6 @@ impl Layout<'_> {
         if let Instruction::Branch { .. } = instruction {
             return self.visit_branch(alloc, slot, instruction, known, to);
         }
-        self.give(slot, to, known)?;
-        self.lead(slot, to)
+        self.go_on(slot, to, known)
     }
 }
