@@ -8,8 +8,10 @@ mod tests;
 use command_files::{Disk, Failure, conclude};
 use commands::{command, ended};
 use std::env::{self, Env};
-use std::io;
+use std::fs::File;
+use std::io::{self, Read, Write};
 use std::process::ExitCode;
+use std::rt;
 
 fn main(rt: HostRuntime) -> ExitCode {
     let mut err = rt.stderr();
@@ -19,16 +21,21 @@ fn main(rt: HostRuntime) -> ExitCode {
     };
     let mut out = io::writer(&rt);
     let mut input = Some(rt.stdin());
-    let mut files = Disk::new(&rt);
-    let done = command(
-        rt.alloc(),
-        words.as_slice(),
-        &mut files,
-        &mut input,
-        &mut out,
-    );
+    let done = on_disk(&rt, words.as_slice(), &mut input, &mut out);
     // Where standard error fails, nobody can be told.
     ExitCode::from(conclude(ended(done), &mut err).status)
+}
+
+/// Does what the words of a command line ask for on the files of the system. The runtime is any here: of the one that `main` is given,
+/// the prover finds no proof for files that are written durably.
+fn on_disk<'a, R: rt::Files<File = File> + AllocGlobal, I: Read + Drop, O: Write>(
+    rt: &R,
+    words: &'a [String],
+    input: &mut Option<I>,
+    out: &mut O,
+) -> Result<Option<Failure<'a>>, Failure<'a>> {
+    let mut files = Disk::new(rt);
+    command(rt.alloc(), words, &mut files, input, out)
 }
 
 /// The words of the command line, the program's name first.
