@@ -4,10 +4,10 @@
     failing/durable.py [ROUNDS]        500 rounds where none is given
 
 In each round the program serves an image, and is sent Appends of one block, each with a number of its own, in batches of one to 64.
-At a random moment it is killed (SIGKILL). Then it serves the image again and reads the blocks of the zone: those of the rounds
-before, each that was acknowledged, and behind them at most those that were sent, in their order and whole. Each 25 rounds begin with
-an image of version 2, which the first of them makes durable. Prints how many rounds ended how, and ends with status 1 at the first
-that shows something else.
+At a random moment it is killed (SIGKILL): behind its first reply, and in each fifth round behind its start, so while it opens.
+Then it serves the image again and reads the blocks of the zone: those of the rounds before, each that was acknowledged, and behind
+them at most those that were sent, in their order and whole. Each 25 rounds begin with an image of version 2, which the first of them
+makes durable. Prints how many rounds ended how, and ends with status 1 at the first that shows something else.
 """
 
 import pathlib
@@ -22,9 +22,9 @@ import time
 TOP = pathlib.Path(__file__).resolve().parent.parent
 PROGRAM = TOP / "crates/zscli/out/zscli"
 HEADER = struct.Struct("<BBHII4x")
-BLOCK, ZONE = 512, 65536
+BLOCK, ZONE = 512, 16384
 APPEND, READ = 0x7D, 0x02
-SECONDS = 0.06
+SECONDS = 0.03
 
 
 class Lost(Exception):
@@ -72,16 +72,18 @@ def numbers(image: pathlib.Path, most: int) -> list[int]:
     told, said = served.communicate(asked)
     if served.returncode != 0:
         raise Lost(f"it isn't served again: {said.decode()}")
-    found, ended = [], False
-    for status, data in replies(told):
-        ended = ended or status != 0
-        if not ended:
-            number = int.from_bytes(data[:8], "little")
-            if data != block(number):
-                raise Lost("a block is there in part")
-            found.append(number)
-        elif status == 0:
-            raise Lost("a block stands behind the last")
+    read = list(replies(told))
+    if len(read) != most + 1 or any(status != 0 for status, _ in read):
+        raise Lost("not each Read is answered")
+    found = []
+    for _, data in read:
+        number = int.from_bytes(data[:8], "little")
+        if data != block(number):
+            raise Lost("a block is there in part")
+        found.append(number)
+    # numbers begin at 1, and behind the write pointer zeros are read
+    while found and found[-1] == 0:
+        found.pop()
     return found
 
 
@@ -105,17 +107,27 @@ class Sender(threading.Thread):
             pass
 
 
-def play(image: pathlib.Path, before: list[int], ends: dict[str, int]) -> list[int]:
+def hear(served: subprocess.Popen, opening: bool) -> bytes:
+    """What the program says until it is killed, at a random moment behind its start or behind its first reply."""
+    killer = threading.Timer(random.random() * SECONDS, served.kill)
+    if opening:
+        killer.start()
+    told = served.stdout.read(1)
+    if not opening:
+        killer.start()
+    told += served.stdout.read()
+    served.wait()
+    killer.cancel()
+    return told
+
+
+def play(image: pathlib.Path, opening: bool, before: list[int], ends: dict[str, int]) -> list[int]:
     """Plays one round, and gives the numbers of the blocks behind it."""
     served = serve(image)
     first = 1 + (before[-1] if before else 0)
     sender = Sender(served.stdin, first)
-    killer = threading.Timer(random.random() * SECONDS, served.kill)
     sender.start()
-    killer.start()
-    told = served.stdout.read()
-    served.wait()
-    killer.cancel()
+    told = hear(served, opening)
     sender.join()
     acknowledged = sum(1 for status, _ in replies(told) if status == 0)
     after = numbers(image, len(before) + sender.sent)
@@ -152,7 +164,7 @@ def main() -> None:
                 subprocess.run([PROGRAM, "format", image, *shape.split()], check=True)
                 found = []
             try:
-                found = play(image, found, ends)
+                found = play(image, at % 5 == 0, found, ends)
             except Lost as error:
                 print(f"round {at}: {error}")
                 sys.exit(1)
