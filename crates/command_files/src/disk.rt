@@ -39,10 +39,11 @@ impl<'a, R> Disk<'a, R> {
         }
     }
 
-    /// Files that hold the name which these held, with its file: these hold none then.
+    /// Files that hold the name which these held, with its file: these hold none then, and have their notes.
     pub fn take(&mut self) -> Disk<'a, R>
         ensures same { result.held ≡ self.old.held }
         ensures none { self.new.held ≡ None }
+        ensures tried { self.new.tried ≡ self.old.tried }
     {
         Disk {
             rt: self.rt,

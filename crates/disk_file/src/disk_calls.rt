@@ -3,7 +3,7 @@
 ghost use Rattle.std.specs.Prelude.{◌≡◌, is_ok, IfOk};
 ghost use Rattle.stored_file.specs.File.{IsOnDisk};
 
-use command_files::{Disk, FileFault};
+use command_files::{Disk, FileFault, Files};
 use std::alloc::Global;
 use std::fs::File;
 use std::io::{Read, Seek};
@@ -24,7 +24,7 @@ pub struct DiskCalls<'a, R> {
 
 /// The file whose name is held, as what reads and writes it durably: it and its name are brought to the disk, and then it is read. Where
 /// an earlier program failed to bring it there, what the system keeps in memory may be other than what is on the disk, and is what is
-/// read. It is held on, and no name is held where it was.
+/// read. It is held on, and no name is held where it was; no file is told as made.
 ///
 /// # Errors
 ///
@@ -33,7 +33,8 @@ pub fn open<'a, R: rt::Files<File = File> + AllocGlobal>(
     alloc: Global,
     files: &mut Disk<'a, R>,
 ) -> Result<SystemFile<DiskCalls<'a, R>>, FileFault>
-    ensures { IfOk result (λ opened. IsOnDisk (⟦<SystemFile<DiskCalls<'a, R>> as StoredFile>⟧.told opened)) }
+    ensures on_disk { IfOk result (λ opened. IsOnDisk (⟦<SystemFile<DiskCalls<'a, R>> as StoredFile>⟧.told opened)) }
+    ensures made { ⟦<Disk<'a, R> as Files>⟧.made files.new ≡ ⟦<Disk<'a, R> as Files>⟧.made files.old }
 {
     let disk = files.take();
     disk.settle()?;
