@@ -22,11 +22,12 @@ try() {
     fi
 }
 
-# a program of this folder, linked with the library
+# a program of this folder, linked with a library
 compile() {
     program=$1
-    shift
-    ${CC:-gcc} $strict "$here/$program.c" "$work/libpifnjarl.a" "$@" -o "$work/$program"
+    library=$2
+    shift 2
+    ${CC:-gcc} $strict "$here/$program.c" "$work/$library.a" "$@" -o "$work/$program"
 }
 
 # a program prints what PROGRAM.out has
@@ -45,15 +46,18 @@ numbers_agree() {
 }
 
 cp "$here/../../examples/empty.img" "$work/zoned.img"
-try 'the library is made' "$here/library.sh" "$work" -fsanitize=address,undefined -fno-sanitize-recover=all
+try 'the libraries are made' "$here/library.sh" "$work" -fsanitize=address,undefined -fno-sanitize-recover=all
 try 'numbers agree' numbers_agree
-try 'append_and_read compiles' compile append_and_read
+try 'append_and_read compiles' compile append_and_read libpifnjarl
 try 'append_and_read prints' prints append_and_read "$work/zoned.img" "$work/saved.img"
 try 'what it saved has one block more' test "$(wc -c < "$work/saved.img")" = $(($(wc -c < "$work/zoned.img") + 512))
-try 'run_a_filter compiles' compile run_a_filter
+try 'run_a_filter compiles' compile run_a_filter libpifnjarl
 try 'run_a_filter prints' prints run_a_filter "$work/zoned.img"
-try 'calls compiles' compile calls -Wl,--wrap=malloc
+try 'calls compiles' compile calls libpifnjarl -Wl,--wrap=malloc
 try 'calls' "$work/calls" "$work/zoned.img"
+tail -n 1 "$work/out"
+try 'crashes compiles' compile crashes libpifnjarl_durable -Wl,--wrap=pwrite,--wrap=fsync,--wrap=rename,--wrap=ftruncate
+try 'crashes' "$work/crashes" "$work/zoned.img"
 tail -n 1 "$work/out"
 echo "$passed passed, $failed failed"
 [ "$failed" = 0 ]

@@ -1,0 +1,132 @@
+//! A durable device that C serves.
+
+ghost use Rattle.std.specs.Prelude.{◌≡◌, ◌⊎◌, false, true, [], None, Some, IfSome, IsNone, IsTrue};
+ghost use Rattle.system_file.specs.Calls.{told_of};
+ghost use Rattle.handed_file.specs.Handed.{noted, waiting};
+ghost use Rattle.durable_device.specs.Kept.{IsKept};
+
+use durable_device::{DurableDevice, FoldFault};
+use durable_serve::serve;
+use handed_file::{FileCall, HandedFile};
+use std::alloc::Global;
+
+/// A device, and its journal in a file for which C makes the calls.
+#[derive(Drop)]
+pub struct Session {
+    /// The device and its journal.
+    pub device: DurableDevice<HandedFile>,
+    /// The frames of the replies to what was served last.
+    pub answer: Vec<u8>,
+    /// Whether the file has to be opened again.
+    pub failed: bool,
+}
+
+/// What folding came to.
+#[derive(Clone, Copy)]
+pub enum Folded {
+    /// It is done, once C has made the calls.
+    Done,
+    /// The device has a program or a run.
+    InUse,
+    /// The file has to be opened again.
+    Failed,
+}
+
+impl Session {
+    ghost use Rattle.durable_library.specs.Answers.{TakesDone, next_of};
+    ghost use Rattle.durable_library.specs.Sessions.{HasFolded, HasServed, IsOnTheDisk, WillBeKept, file_of, state_of};
+
+    /// A device that was opened.
+    pub fn new(alloc: Global, device: DurableDevice<HandedFile>) -> Session
+        requires { IsKept device.store.machine device.store.journal.gate (told_of (noted device.store.journal.file)) }
+        ensures device { result.device ≡ device }
+        ensures kept { WillBeKept result }
+    {
+        Session {
+            device,
+            answer: Vec::new(alloc),
+            failed: false,
+        }
+    }
+
+    /// Does what frames ask for, and keeps the frames of the replies. Says whether it is done; where it isn't, the file has to be opened
+    /// again.
+    pub fn serve(&mut self, alloc: Global, mut frames: &[u8]) -> bool
+        requires usable { self.old.failed ≡ false }
+        requires kept { WillBeKept self.old }
+        ensures served { IsTrue result → HasServed frames.now self.old self.new }
+        ensures failed { result ≡ false → self.new.failed ≡ true }
+        ensures kept { WillBeKept self.new }
+    {
+        self.answer.clear();
+        let done = serve(alloc, &mut self.device, &mut frames, &mut self.answer);
+        self.failed = done.is_err();
+        !self.failed
+    }
+
+    /// Has C told that each call for the file is done? Then all that was served is on the disk.
+    pub fn is_on_disk(&self) -> bool
+        requires { WillBeKept self.now }
+        ensures { IsTrue result → IsOnTheDisk self.now }
+    {
+        !self.failed && self.device.store.journal.file.is_settled()
+    }
+
+    /// The frames of the replies, once what they answer is on the disk; none before.
+    pub fn replies(&self) -> &[u8]
+        requires { WillBeKept self.now }
+        ensures { (IsOnTheDisk self.now × (result.now ≡ self.now.answer.items)) ⊎ (result.now ≡ []) }
+    {
+        if self.is_on_disk() {
+            self.answer.as_slice()
+        } else {
+            &[]
+        }
+    }
+
+    /// The call that C is to make next for the file.
+    pub fn next(&self) -> Option<&FileCall>
+        ensures none { IsNone result → next_of self.now.failed (waiting (file_of self.now)) ≡ None }
+        ensures first { IfSome result (λ call. next_of self.now.failed (waiting (file_of self.now)) ≡ Some call.now) }
+    {
+        if self.failed {
+            return None;
+        }
+        self.device.store.journal.file.next()
+    }
+
+    /// Takes the next call for done.
+    pub fn tell_done(&mut self)
+        requires { WillBeKept self.old }
+        ensures done { TakesDone self.old self.new 0 }
+        ensures kept { WillBeKept self.new }
+    {
+        self.device.store.journal.file.tell_done();
+    }
+
+    /// Takes it for failed: the file has to be opened again.
+    pub fn tell_failed(&mut self)
+        ensures { self.new.failed ≡ true }
+    {
+        self.failed = true;
+    }
+
+    /// Folds the journal.
+    pub fn fold(&mut self, alloc: Global) -> Folded
+        requires usable { self.old.failed ≡ false }
+        requires kept { WillBeKept self.old }
+        ensures done { result ≡ Folded.Done → HasFolded self.old self.new }
+        ensures in_use { result ≡ Folded.InUse → self.new ≡ self.old }
+        ensures failed { result ≡ Folded.Failed → self.new.failed ≡ true }
+        ensures kept { WillBeKept self.new }
+    {
+        match self.device.fold(alloc) {
+            Ok(()) => Folded::Done,
+            Err(FoldFault::InUse) => Folded::InUse,
+            Err(FoldFault::OfFile(_)) => {
+                self.failed = true;
+                Folded::Failed
+            }
+        }
+    }
+}

@@ -1,0 +1,2 @@
+mod Ordered
+mod Covered

@@ -1,0 +1,14 @@
+use Rattle.std.proofs.Common.{◌≡◌, false, [], List, ap, sym, ◌∙◌, rules}
+use Rattle.system_file.specs.Calls.{Call}
+use Rattle.handed_file.specs.Handing.{all_done, has_refused}
+use Rattle.handed_file.specs.Handed.{made_calls, noted, waiting}
+use Rattle.handed_file.specs.declared.handed_file.FileCall.{FileCall}
+use Rattle.handed_file.proofs.Ordered.{all_made}
+use Rattle.handed_file.proofs.handed_file.HandedFile.is_settled.Goals as goal
+
+pub returns-then-is_none : goal.returns-then-is_none
+returns-then-is_none c = λ usable.
+    let file = c.args.self.now in
+    let none : waiting file ≡ [] = search rules in
+    let kept : has_refused (noted file) ≡ false = search rules in
+    all_made (waiting file) (noted file) (made_calls file) none kept file.in_order

@@ -1,0 +1,17 @@
+-- A file for which a host makes the calls, as others see it.
+use Rattle.std.specs.Prelude.{List}
+use Rattle.system_file.specs.Calls.{Call}
+use Rattle.handed_file.specs.declared.handed_file.FileCall.{FileCall}
+use Rattle.handed_file.specs.declared.handed_file.HandedFile.{HandedFile}
+
+-- each call, as it was answered, of which the last stands first
+abbrev pub noted : HandedFile → List Call
+noted file = file.notes.calls
+
+-- each call that the host told as done, of which the last stands first
+abbrev pub made_calls : HandedFile → List Call
+made_calls file = file.made.calls
+
+-- those that it is to make, in order
+abbrev pub waiting : HandedFile → List FileCall
+waiting file = file.calls.items

@@ -1,0 +1,202 @@
+//! The file.
+
+ghost use Rattle.std.specs.Prelude.{◌≡◌, ◌∷◌, ◌++◌, ◌<◌, ◌^◌, ◌↔◌, List, [], length, IfOk, IfSome, IsNone, IsTrue, OnOk, OnErr};
+ghost use Rattle.std.specs.Option.{ForSome};
+ghost use Rattle.stored_file.specs.File.{IsOnDisk};
+ghost use Rattle.system_file.specs.Calls.{Opened, Refused, told_of};
+ghost use Rattle.handed_file.specs.Handing.{all_done, done_call, handed, has_refused};
+ghost use Rattle.handed_file.specs.declared.handed_file.FileCall.{FileCall};
+
+use std::alloc::{AllocError, Global};
+use std::collections::VecDeque;
+use stored_file::{FileError, StoredFile};
+use system_file::Record;
+
+/// The largest length of a file, in bytes (POSIX, `off_t`).
+const MOST_BYTES: usize = (1 << 63) - 1;
+
+/// A call that a host is to make for a file.
+#[derive(Drop)]
+pub enum FileCall {
+    /// Bytes are written at an offset, over what is there and past the end.
+    Write { at: usize, bytes: Vec<u8> },
+    /// The length is set.
+    Shorten { len: usize },
+    /// All that was written is brought to the disk.
+    Sync,
+    /// A new file of these bytes, which is on the disk before it has the name, takes the place of this one, and its name is brought to
+    /// the disk.
+    Replace { bytes: Vec<u8> },
+}
+
+/// A file for which a host makes the calls, in order. Each is answered as done once it is handed over.
+#[derive(Drop)]
+pub struct HandedFile {
+    alloc: Global,
+    /// What was read as it was opened, until that is handed out or the file changes.
+    unread: Option<Vec<u8>>,
+    /// The calls that the host hasn't told as done.
+    calls: VecDeque<FileCall>,
+    /// Whether a call was refused.
+    failed: bool,
+    /// Each call, as it was answered.
+    notes: Record,
+    /// Each call that the host told as done.
+    made: Record,
+    ghost known: { ForSome unread (λ bytes. bytes.items ≡ (told_of notes.calls).seen) },
+    ghost has_length: { length (told_of notes.calls).seen < 2 ^ 63 },
+    ghost told_failed: { failed ≡ has_refused notes.calls },
+    /// What was handed over is what was told as done, and behind it what wasn't yet.
+    pub ghost in_order: { handed notes.calls ≡ all_done calls.items ++ made.calls },
+}
+
+impl HandedFile {
+    ghost use Rattle.handed_file.specs.Handed.{made_calls, noted, waiting};
+
+    /// A file that the host has opened, all of which it has brought to the disk, with the bytes that it has read.
+    ///
+    /// # Errors
+    ///
+    /// No memory.
+    pub fn new(alloc: Global, bytes: &[u8]) -> Result<HandedFile, AllocError>
+        ensures opened { IfOk result (λ file. noted file ≡ Opened bytes.now ∷ []) }
+        ensures on_disk { IfOk result (λ file. IsOnDisk (told_of (noted file))) }
+        ensures settled { IfOk result (λ file. made_calls file ≡ noted file) }
+    {
+        if bytes.len() > MOST_BYTES {
+            return Err(AllocError);
+        }
+        let unread = Vec::from_slice(alloc, bytes)?;
+        Ok(HandedFile {
+            alloc,
+            unread: Some(unread),
+            calls: VecDeque::new(alloc),
+            failed: false,
+            notes: Record::opened(bytes),
+            made: Record::opened(bytes),
+        })
+    }
+
+    /// The call that the host is to make next; `None` where it told all as done.
+    pub fn next(&self) -> Option<&FileCall>
+        ensures none { IsNone result ↔ (waiting self.now ≡ []) }
+        ensures first { IfSome result (λ call. (rest : List FileCall) × (waiting self.now ≡ call.now ∷ rest)) }
+    {
+        self.calls.front()
+    }
+
+    /// Has the host told each call as done, and was none refused?
+    pub fn is_settled(&self) -> bool
+        ensures { IsTrue result → (made_calls self.now ≡ noted self.now) }
+    {
+        self.next().is_none() && !self.failed
+    }
+
+    /// The host tells that it has made the next call, and that it is done.
+    pub fn tell_done(&mut self)
+        ensures same { noted self.new ≡ noted self.old }
+        ensures told { (call : FileCall) (rest : List FileCall) → waiting self.old ≡ call ∷ rest
+            → (waiting self.new ≡ rest) × (made_calls self.new ≡ done_call call ∷ made_calls self.old) }
+    {
+        match self.calls.pop_front() {
+            Some(FileCall::Write { at, bytes }) => self.made.written(at, &bytes, true),
+            Some(FileCall::Shorten { len }) => self.made.shortened(len, true),
+            Some(FileCall::Sync) => self.made.synced(true),
+            Some(FileCall::Replace { bytes }) => self.made.replaced(&bytes, true),
+            None => {}
+        }
+    }
+
+    /// Hands a call over, and answers it as done.
+    ///
+    /// # Errors
+    ///
+    /// No memory: it isn't handed over.
+    fn hand(&mut self, call: FileCall) -> Result<(), FileError>
+        requires { length (told_of (done_call call ∷ self.old.notes.calls)).seen < 2 ^ 63 }
+        ensures handed { OnOk result (self.new.notes.calls ≡ done_call call ∷ self.old.notes.calls) }
+        ensures refused { OnErr result (self.new.notes.calls ≡ Refused ∷ self.old.notes.calls) }
+        ensures memory { OnErr result (result ≡ Err FileError.Memory) }
+    {
+        if self.calls.push_back(call).is_err() {
+            return self.refuse(FileError::Memory);
+        }
+        self.unread = None;
+        note(&mut self.notes, self.calls.back().unwrap());
+        Ok(())
+    }
+
+    /// Answers a call without handing it over.
+    fn refuse<T>(&mut self, error: FileError) -> Result<T, FileError>
+        ensures refused { result ≡ Err error }
+        ensures noted { self.new.notes.calls ≡ Refused ∷ self.old.notes.calls }
+    {
+        self.notes.refused();
+        self.failed = true;
+        Err(error)
+    }
+}
+
+/// Notes a call as done.
+fn note(notes: &mut Record, call: &FileCall)
+    ensures { notes.new.calls ≡ done_call call.now ∷ notes.old.calls }
+{
+    match call {
+        FileCall::Write { at, bytes } => notes.written(*at, bytes, true),
+        FileCall::Shorten { len } => notes.shortened(*len, true),
+        FileCall::Sync => notes.synced(true),
+        FileCall::Replace { bytes } => notes.replaced(bytes, true),
+    }
+}
+
+impl StoredFile for HandedFile {
+    ghost use Rattle.system_file.specs.Calls.{counts_behind};
+
+    ghost told = { λ file. told_of file.notes.calls };
+
+    ghost counts_now = { λ file t c early now. counts_behind file.notes.calls t c early now };
+
+    ghost has_length = { λ file. file.has_length };
+
+    /// Hands out what was read as the file was opened, once and before the file changes.
+    fn read(&mut self, _alloc: Global) -> Result<Vec<u8>, FileError> {
+        match self.unread.take() {
+            Some(bytes) => Ok(bytes),
+            None => self.refuse(FileError::Failed),
+        }
+    }
+
+    fn write_at(&mut self, at: usize, bytes: &[u8]) -> Result<(), FileError> {
+        if self.failed || bytes.len() > MOST_BYTES - at {
+            return self.refuse(FileError::Failed);
+        }
+        match Vec::from_slice(self.alloc, bytes) {
+            Ok(bytes) => self.hand(FileCall::Write { at, bytes }),
+            Err(_) => self.refuse(FileError::Memory),
+        }
+    }
+
+    fn set_len(&mut self, len: usize) -> Result<(), FileError> {
+        if self.failed {
+            return self.refuse(FileError::Failed);
+        }
+        self.hand(FileCall::Shorten { len })
+    }
+
+    fn replace(&mut self, bytes: &[u8]) -> Result<(), FileError> {
+        if self.failed || bytes.len() > MOST_BYTES {
+            return self.refuse(FileError::Failed);
+        }
+        match Vec::from_slice(self.alloc, bytes) {
+            Ok(bytes) => self.hand(FileCall::Replace { bytes }),
+            Err(_) => self.refuse(FileError::Memory),
+        }
+    }
+
+    fn sync(&mut self) -> Result<(), FileError> {
+        if self.failed {
+            return self.refuse(FileError::Failed);
+        }
+        self.hand(FileCall::Sync)
+    }
+}
