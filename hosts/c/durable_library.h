@@ -22,7 +22,7 @@ enum durable_kind {
     DURABLE_FAILED = 7,      /* it failed: the file has to be opened again */
     DURABLE_REPLIES = 8,     /* puts the frames of the replies from a number on, as many bytes as there is room for, and how many; none
                                 before the calls are done */
-    DURABLE_FOLD = 9         /* folds the journal: 1 where it is done, once the calls are made; 2 where a program or a run is there; else 0 */
+    DURABLE_FOLD = 9         /* folds the journal: 1 where it is done, once the calls are made; else 0 */
 };
 
 enum durable_call {

@@ -221,10 +221,7 @@ size_t pifnjarl_durable_replies(struct pifnjarl_durable *device, size_t from, vo
 
 enum pifnjarl_durable_result pifnjarl_durable_fold(struct pifnjarl_durable *device)
 {
-    size_t folded = tell(device, DURABLE_FOLD);
-    if (folded == 2)
-        return PIFNJARL_DURABLE_IN_USE;
-    return folded == 1 ? make_calls(device) : PIFNJARL_DURABLE_FAILED;
+    return tell(device, DURABLE_FOLD) == 1 ? make_calls(device) : PIFNJARL_DURABLE_FAILED;
 }
 
 void pifnjarl_durable_close(struct pifnjarl_durable *device)

@@ -11,7 +11,7 @@ enum pifnjarl_durable_result {
     PIFNJARL_DURABLE_DONE = 0,
     PIFNJARL_DURABLE_NO_IMAGE = 1,    /* the file is neither a journal nor an image, or has what no crash leaves */
     PIFNJARL_DURABLE_NO_MEMORY = 2,
-    PIFNJARL_DURABLE_IN_USE = 3,      /* another program holds the file; or the device has a program or a run, so that it isn't folded */
+    PIFNJARL_DURABLE_IN_USE = 3,      /* another program holds the file */
     PIFNJARL_DURABLE_CANNOT_READ = 4, /* errno tells why */
     PIFNJARL_DURABLE_FAILED = 5       /* the file can't be written, memory is wanting, or bytes are no frames: close it, and open it again */
 };
@@ -30,7 +30,7 @@ enum pifnjarl_durable_result pifnjarl_durable_serve(struct pifnjarl_durable *dev
    many. */
 size_t pifnjarl_durable_replies(struct pifnjarl_durable *device, size_t from, void *out, size_t room);
 
-/* Puts an image of the device in the place of its journal, which gets shorter by that. */
+/* Puts the device as it is, with its programs, results and runs, in the place of its journal, which gets shorter by that. */
 enum pifnjarl_durable_result pifnjarl_durable_fold(struct pifnjarl_durable *device);
 
 /* Closes a device. Nothing is lost by it, but for what frames asked for that weren't served. Null is no device. */

@@ -15,9 +15,8 @@ use Rattle.durable_device.specs.Kept.{AlwaysStandsForIt, IsOldOrStandsFor, Refus
 use Rattle.durable_device.specs.Machine.{IsDeviceBase, next_state}
 use Rattle.command_files.specs.UserTold.{IsUnread}
 use Rattle.command_files.specs.declared.failure.Failure.{Failure}
-use Rattle.command_files.specs.declared.failure.Failure.TheVariants.{CannotRead, CannotWrite, FoldRefused, ImageRefused, JournalRefused, NoMemory}
+use Rattle.command_files.specs.declared.failure.Failure.TheVariants.{CannotRead, CannotWrite, ImageRefused, JournalRefused, NoMemory}
 use Rattle.command_images.specs.UserTold.{IsUnheld, LoadingFails, UpgradeFails}
-use Rattle.command_durable.specs.Folding.{FoldFails, FoldingFails}
 use Rattle.command_durable.specs.Opening.{AreImage, FailsToOpen, IsFound, IsNotFound, Leaves, OfDevice, OfJournal, OnlyRead, Opens, OpeningFails}
 use Rattle.command_durable.specs.steps.Told.{TellsError, TellsFault, TellsUnread}
 
@@ -144,23 +143,9 @@ module _ {S : Type 0} (told : S → FileState) (contents : Option (List ℕ)) wh
       OfDevice opens.file left opens.found s opens.means
       (then_on (told opens.file) (told opened) (told left) P opens.moments (weaken (told opened) (told left) (λ c. StandsFor c s) P moments (λ c stands. inr stands)))
 
-  pub in_use : (opened : S) (s : State) (path : List ℕ) (name : Bor (List ℕ)) → Opens told contents (told opened) s
-      → s ≢ new_state s.namespace → name.now ≡ path → FoldFails told path contents (FoldRefused name)
-  in_use opened s path name opens other same = record {
-    left = OfDevice opens.file opened opens.found s opens.means opens.moments;
-    why = (same, record { opened = opened; device = s; opens = opens; other = other });
-  }
-
-  pub folding_fails : (path : List ℕ) (failure : Failure) → OpeningFails told contents path failure → FoldingFails told path contents failure
-  folding_fails path (FoldRefused name) none = absurd none
-  folding_fails path _ why = why
-
   pub unfolded : (opened left : S) (s : State) (error : FileError) (path : List ℕ) (failure : Failure) → Opens told contents (told opened) s
-      → LeavesOnly (told opened) (told left) (λ c. StandsFor c s) → TellsError error path failure → FoldFails told path contents failure
+      → LeavesOnly (told opened) (told left) (λ c. StandsFor c s) → TellsError error path failure → FailsToOpen told contents path failure
   unfolded opened left s error path failure opens moments tells = record {
     left = stands_on opened left s opens moments;
-    why = folding_fails path failure (error_fails error path failure tells);
+    why = error_fails error path failure tells;
   }
-
-  pub unopened : (path : List ℕ) (failure : Failure) → FailsToOpen told contents path failure → FoldFails told path contents failure
-  unopened path failure fails = record { left = fails.left; why = folding_fails path failure fails.why }

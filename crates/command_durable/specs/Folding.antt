@@ -1,15 +1,14 @@
 -- What `fold` leaves of a file (profile).
-use Rattle.std.specs.Prelude.{◌≡◌, ◌≢◌, ◌⊎◌, ℕ, List, Option}
+use Rattle.std.specs.Prelude.{◌≡◌, ◌⊎◌, ℕ, List, Option}
 use Rattle.stored_file.specs.File.{FileState, LeavesOnly}
 use Rattle.image_store.specs.Namespace.{ZonedNamespace}
-use Rattle.device_meaning.specs.State.{State, new_state}
+use Rattle.device_meaning.specs.State.{State}
 use Rattle.durable_device.specs.Kept.{IsKept, StandsFor}
 use Rattle.command_files.specs.Made.{AreAsTold}
 use Rattle.command_files.specs.declared.failure.Failure.{Failure}
-use Rattle.command_files.specs.declared.failure.Failure.TheVariants.{FoldRefused}
 use Rattle.command_images.specs.Images.{StandFor}
 use Rattle.command_images.specs.UserTold.{UpgradeFails}
-use Rattle.command_durable.specs.Opening.{Leaves, Opens, OpeningFails}
+use Rattle.command_durable.specs.Opening.{FailsToOpen, Opens}
 
 -- a journal is folded: a crash at any moment leaves a file that stands for the device that is opened of it, and so does the new file
 pub record FoldsJournal {S : Type 0} (told : S → FileState) (contents now : Option (List ℕ)) : Type 0 where
@@ -31,23 +30,6 @@ pub record LeavesImage (reads : Type 0) (contents now : Option (List ℕ)) : Typ
 abbrev pub Folds : {S : Type 0} → (S → FileState) → Type 0 → Option (List ℕ) → Option (List ℕ) → Type 0
 Folds told reads contents now = FoldsJournal told contents now ⊎ LeavesImage reads contents now
 
--- the device that is opened of a file has a program or a run
-pub record IsInUse {S : Type 0} (told : S → FileState) (contents : Option (List ℕ)) : Type 0 where
-  pub opened : S
-  pub device : State
-  pub opens : Opens told contents (told opened) device
-  pub other : device ≢ new_state device.namespace
-
--- why nothing is folded: the device is in use; or no device is opened, the file can't be written, or want of memory
-abbrev pub FoldingFails : {S : Type 0} → (S → FileState) → List ℕ → Option (List ℕ) → Failure → Type 0
-FoldingFails told path contents (FoldRefused name) = (name.now ≡ path) × IsInUse told contents
-FoldingFails told path contents failure = OpeningFails told contents path failure
-
--- and what is left then
-pub record FoldFails {S : Type 0} (told : S → FileState) (path : List ℕ) (contents : Option (List ℕ)) (failure : Failure) : Type 0 where
-  pub left : Leaves told contents
-  pub why : FoldingFails told path contents failure
-
--- the image isn't held or loaded, or the journal isn't folded
+-- the image isn't held or loaded; or the journal isn't opened, or the file can't be written, and this is left then
 abbrev pub IsntFolded : {S : Type 0} → (S → FileState) → Type 0 → List ℕ → Option (List ℕ) → Failure → Type 0
-IsntFolded told reads path contents failure = UpgradeFails reads contents path failure ⊎ FoldFails told path contents failure
+IsntFolded told reads path contents failure = UpgradeFails reads contents path failure ⊎ FailsToOpen told contents path failure

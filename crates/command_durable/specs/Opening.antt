@@ -50,7 +50,7 @@ pub record IsFoundDamaged {S : Type 0} (told : S → FileState) (contents : Opti
   pub found : IsFound (told file) contents
   pub damaged : IsDamaged IsDeviceBase next_state place (told file).seen
 
--- why no device is opened: the journal is damaged, the file is no image, it can't be read or written, or want of memory
+-- why no device is opened or folded: the journal is damaged, the file is no image, it can't be read or written, or want of memory
 abbrev pub OpeningFails : {S : Type 0} → (S → FileState) → Option (List ℕ) → List ℕ → Failure → Type 0
 OpeningFails told contents path (JournalRefused name place) = (name.now ≡ path) × IsFoundDamaged told contents place
 OpeningFails told contents path (ImageRefused name fault) = name.now ≡ path

@@ -5,8 +5,8 @@ ghost use Rattle.stored_file.specs.File.{LeavesOnly};
 ghost use Rattle.durable_device.specs.Kept.{IsKept, StandsFor};
 ghost use Rattle.command_files.specs.Made.{KeepsModes, KeepsOthers, MakesAtMost};
 ghost use Rattle.command_images.specs.Images.{image_of};
-ghost use Rattle.command_durable.specs.Folding.{FoldFails, Folds, FoldsJournal, IsntFolded};
-ghost use Rattle.command_durable.specs.Opening.{Opens};
+ghost use Rattle.command_durable.specs.Folding.{Folds, FoldsJournal, IsntFolded};
+ghost use Rattle.command_durable.specs.Opening.{FailsToOpen, Opens};
 
 use crate::DurableFiles;
 use crate::opening::{failed, into_file, is_journal, reopen, stored};
@@ -14,7 +14,7 @@ use clap::{Arg, ArgMatches, Command};
 use command_files::arguments::{and_argument, required};
 use command_files::{Failure, Files};
 use command_images::image_file::{self, IMAGE};
-use durable_device::{DurableDevice, FoldFault};
+use durable_device::DurableDevice;
 use std::alloc::{AllocError, Global};
 use stored_file::StoredFile;
 
@@ -22,12 +22,9 @@ use stored_file::StoredFile;
 pub const NAME: &str = "fold";
 
 const LONG_ABOUT: &str = "\
-Makes of a journal, as `serve --durable` writes it, a new base, which has the image as the events behind the old one left it, and \
-an empty journal. The new file is written beside the old one, as IMAGE.unfinished, and takes its place when it is whole. So the file \
-is no longer than its image wants, and is opened as fast as that is read.
-
-Of a device that has a program, a result or a run no image tells all: its journal is refused, and stays as it is. An image that is no \
-journal stays as it is, too.
+Makes of a journal, as `serve --durable` writes it, a new base, which has the device as the events behind the old one left it, with \
+its programs, results and runs, and an empty journal. The new file is written beside the old one, as IMAGE.unfinished, and takes its place when it is whole. So the file \
+is no longer than its device wants, and is opened as fast as that is read. An image that is no journal stays as it is.
 
 No other command works on the image meanwhile: one that tries to is told that it is in use.";
 
@@ -57,8 +54,7 @@ pub fn subcommand<'a>(alloc: Global) -> Result<Command<'a>, AllocError> {
 ///
 /// # Errors
 ///
-/// The device has a program or a run: the file stands for it as before. The file is in use, can't be read or written, or is refused;
-/// or memory is wanting.
+/// The file is in use, can't be read or written, or is refused; or memory is wanting.
 pub fn fold<'a, F: DurableFiles>(
     alloc: Global,
     matches: &ArgMatches<'a>,
@@ -118,11 +114,10 @@ fn folded<'a, S: StoredFile + Drop>(
     ensures any_moment { IfOk result (λ file.
         LeavesOnly (S.told device.store.journal.file) (S.told file) (λ c. StandsFor c device.store.machine)) }
     ensures failed { (contents : Option (List ℕ)) → Opens S.told contents (S.told device.store.journal.file) device.store.machine
-        → IfErr result (FoldFails S.told path.now contents) }
+        → IfErr result (FailsToOpen S.told contents path.now) }
 {
     match device.fold(alloc) {
         Ok(()) => Ok(into_file(device)),
-        Err(FoldFault::InUse) => Err(Failure::FoldRefused { path }),
-        Err(FoldFault::OfFile(error)) => Err(failed(path, error)),
+        Err(error) => Err(failed(path, error)),
     }
 }

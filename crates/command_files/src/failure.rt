@@ -89,10 +89,6 @@ pub enum Failure<'a> {
         path: &'a str,
         place: usize,
     },
-    /// A journal that isn't folded: its device has a program or a run, which no image keeps.
-    FoldRefused {
-        path: &'a str,
-    },
     /// A file that is no assembly text.
     AssemblyRefused {
         path: &'a str,
@@ -172,7 +168,6 @@ impl<'a> Failure<'a> {
             | Failure::NotABlock { .. }
             | Failure::ImageRefused { .. }
             | Failure::JournalRefused { .. }
-            | Failure::FoldRefused { .. }
             | Failure::AssemblyRefused { .. }
             | Failure::ProgramRefused { .. }
             | Failure::FrameRefused { .. }

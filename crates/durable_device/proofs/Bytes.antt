@@ -1,18 +1,23 @@
--- The frames in a file of bytes carry bytes.
-use Rattle.std.proofs.Common.{◌==◌, ◌&&◌, ℕ, Bool, true, false, not, cond, List, [], ◌∷◌, ◌++◌, length, take, drop, Option, Some, None, subst}
+-- The frames in a file of bytes carry bytes, and so do the sections of its base.
+use Rattle.std.proofs.Common.{◌≡◌, ◌<◌, ◌+◌, ◌==◌, ◌&&◌, ℕ, zero, suc, Bool, true, false, not, cond, List, [], ◌∷◌, ◌++◌, length, map, take, drop, get_or, Option, Some, None, refl, subst, arith, length-drop, length-take}
 use Rattle.std.specs.Prelude.{nat_le}
 use Rattle.std.specs.List.{AllByRecursion, cons_option}
-use Rattle.common_definitions.specs.Bytes.{AreBytes}
-use Rattle.common_definitions.proofs.Proved.{all_append, bytes_from, front_fit, rest_fit}
+use Rattle.std.proofs.lemmas.Bool.{leb-true}
+use Rattle.common_definitions.specs.Bytes.{AreBytes, field}
+use Rattle.common_definitions.proofs.Proved.{all_append, bytes_from, bytes_to, front_fit, rest_fit}
 use Rattle.event_journal.specs.Events.{number_bytes, spelled}
 use Rattle.event_journal.specs.Journal.{AreFrames}
 use Rattle.durable_machine.specs.Files.{joined}
-use Rattle.image_base.specs.Base.{IsBaseOf, magic}
-use Rattle.image_store.specs.Namespace.{ZonedNamespace}
+use Rattle.image_base.specs.Base.{IsBaseOf, Told, magic}
 use Rattle.zone_state.specs.declared.state.FaultState.TheVariants.{ReadOnly, Offline}
+use Rattle.program_interface.specs.declared.area.TheConstants.{SCRATCH_BYTES}
 use Rattle.nvme_entry.specs.declared.command.TheConstants.{MOST_TRANSFER}
 use Rattle.device_events.specs.ToldEvents.{ToldEvent, Submitted, Turned, Faulted}
+use Rattle.device_meaning.specs.BlockRuns.{AreScratch}
 use Rattle.device_meaning.specs.Events.{AreEvents, CarriesBytes, Occurrence}
+use Rattle.kept_device.specs.Kept.{SavedProgram}
+use Rattle.kept_device.specs.Sections.{slot_in}
+use Rattle.runner.specs.Restored.{IsOfBytes}
 use Rattle.durable_device.specs.FrameEvents.{event_by, fault_in, frame_event, header_in, submission_in, turn_in}
 use Rattle.durable_device.specs.declared.frame_event.Header.{Header}
 use Rattle.durable_device.proofs.Told.{file_occurrences, occurrence_by}
@@ -35,10 +40,54 @@ batches_are_bytes (batch ∷ batches) frames (frame, behind, is, later, parts) a
     let events : AreBytes (spelled batch) = front_fit (spelled batch) (0 ∷ is.padding) (rest_fit is.sector (spelled batch ++ 0 ∷ is.padding) payload) in
     all_append AreBytes batch (joined batches) (events_are_bytes batch events) (batches_are_bytes batches behind later (rest_fit frame behind both))
 
--- the text of a base of bytes is bytes
-pub text_is_bytes : (base : List ℕ) (ns : ZonedNamespace) (is : IsBaseOf base ns) → AreBytes base → AreBytes is.text
-text_is_bytes base ns is are =
-    (events_are_bytes (is.text ∷ []) (rest_fit magic (spelled (is.text ∷ [])) (subst AreBytes is.parts are))).0
+-- ---- bases
+
+-- the parts of a base of bytes are bytes
+pub record AreBytesOf (text : List ℕ) (sections : List (List ℕ)) : Type 0 where
+  pub text_is : AreBytes text
+  pub sections_are : AllByRecursion AreBytes sections
+
+pub base_parts : (base : List ℕ) (told : Told) (is : IsBaseOf base told) → AreBytes base → AreBytesOf is.text told.sections
+base_parts base told is are =
+    let all = events_are_bytes (is.text ∷ told.sections) (rest_fit magic (spelled (is.text ∷ told.sections)) (subst AreBytes is.parts are)) in
+    record { text_is = all.0; sections_are = all.1 }
+
+-- a section of bytes that spells something
+pub record IsSection {X : Type 0} (read : List ℕ → Option X) (x : X) : Type 0 where
+  pub section : List ℕ
+  pub bytes : AreBytes section
+  pub spells : read section ≡ Some x
+
+-- there is one for each thing that is spelled
+pub section_there : {X : Type 0} (read : List ℕ → Option (Option X)) (sections : List (List ℕ)) (xs : List (Option X)) (k : ℕ) (x : Option X)
+    → map read sections ≡ map Some xs → AllByRecursion AreBytes sections → k < length xs → get_or xs k None ≡ x → IsSection read x
+section_there read [] [] k x same all less at = absurd (omega (arith, less))
+section_there read [] (y ∷ ys) k x same all less at = absurd cc
+section_there read (s ∷ ss) [] k x same all less at = absurd cc
+section_there read (s ∷ ss) (y ∷ ys) zero x same all less at = record { section = s; bytes = all.0; spells = cc (same, at) }
+section_there read (s ∷ ss) (y ∷ ys) (suc k) x same all less at =
+    let rest : map read ss ≡ map Some ys = cc in section_there read ss ys k x rest all.1 (omega (arith, less)) at
+
+-- what a section of bytes spells of a program is bytes
+program_by : (empty long : Bool) (section : List ℕ) (p : SavedProgram) → AreBytes section → nat_le (4 + SCRATCH_BYTES) (length section) ≡ long
+    → cond empty (Some None) (cond long (Some (Some (record { bytes = drop (4 + SCRATCH_BYTES) section; limit = field section 0 4; result = take SCRATCH_BYTES (drop 4 section) }))) None) ≡ Some (Some p)
+    → IsOfBytes p
+program_by true long section p are fits is = absurd cc
+program_by false false section p are fits is = absurd cc
+program_by false true section p are fits is =
+    let enough = leb-true (4 + SCRATCH_BYTES) (length section) fits in
+    let bytes : drop (4 + SCRATCH_BYTES) section ≡ p.bytes = cc in
+    let result : take SCRATCH_BYTES (drop 4 section) ≡ p.result = cc in
+    record {
+      bytes = subst AreBytes bytes (bytes_from (4 + SCRATCH_BYTES) section are);
+      result = subst AreScratch result (record {
+        long = omega (arith, enough, length-take SCRATCH_BYTES (drop 4 section), length-drop 4 section);
+        are = bytes_to SCRATCH_BYTES (drop 4 section) (bytes_from 4 section are);
+      });
+    }
+
+pub program_is_bytes : (section : List ℕ) (p : SavedProgram) → AreBytes section → slot_in section ≡ Some (Some p) → IsOfBytes p
+program_is_bytes section p are is = program_by (length section == 0) (nat_le (4 + SCRATCH_BYTES) (length section)) section p are refl is
 
 -- ---- what they tell
 

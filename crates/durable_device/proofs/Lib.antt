@@ -3,3 +3,4 @@ mod Bytes
 mod Frames
 mod Kept
 mod Told
+mod SectionLists

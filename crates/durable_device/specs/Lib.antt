@@ -4,3 +4,4 @@ pub mod Machine
 pub mod Kept
 pub mod Serving
 pub mod Laws
+pub mod Spelled

@@ -1,6 +1,6 @@
 //! A device, and the journal of what happened to it.
 
-ghost use Rattle.std.specs.Prelude.{◌≡◌, ◌≢◌, ◌<◌, IfOk, IfErr, IsErrOf, OnOk};
+ghost use Rattle.std.specs.Prelude.{◌≡◌, ◌<◌, IfOk, IfErr, OnOk};
 ghost use Rattle.stored_file.specs.File.{IsOnDisk, LeavesOnly};
 ghost use Rattle.stored_file.specs.Cause.{HasCause};
 ghost use Rattle.stored_file.specs.declared.stored_file.FileError.TheVariants.{Failed};
@@ -13,9 +13,8 @@ ghost use Rattle.durable_device.specs.Kept.{AlwaysStandsForIt, IsKept, IsOldOrSt
 ghost use Rattle.durable_device.specs.Machine.{IsDeviceBase};
 ghost use Rattle.durable_device.specs.Serving.{HasServed, HaveServed, IsAfterSome, IsBeforeOrAfter, Leads};
 
-use crate::{FoldFault, FrameDevice, Given};
+use crate::{FrameDevice, Given};
 use durable_machine::{Durable, Fault};
-use image_base::save_base;
 use image_store::Image;
 use runner::Device;
 use std::alloc::{AllocError, Global};
@@ -153,28 +152,25 @@ impl<F: StoredFile + Drop> DurableDevice<F> {
         self.store.serve_all(alloc, batches)
     }
 
-    /// Puts a new file in the place of the old one, with an image of the device as its base and an empty journal. A crash at any
-    /// moment leaves a file that stands for the same device. At an `Err` of the file or for memory, the file has to be opened again.
+    /// Puts a new file in the place of the old one, with a base that tells the device as it is, and an empty journal. A crash at any
+    /// moment leaves a file that stands for the same device. At an `Err` the file has to be opened again.
     ///
     /// # Errors
     ///
-    /// The device has a program or a run: nothing has changed then. No memory, or the disk's.
-    pub fn fold(&mut self, alloc: Global) -> Result<(), FoldFault>
+    /// No memory, or the disk's.
+    pub fn fold(&mut self, alloc: Global) -> Result<(), FileError>
         requires { IsKept self.old.store.machine self.old.store.journal.gate (F.told self.old.store.journal.file) }
         ensures same { self.new.store.machine ≡ self.old.store.machine }
         ensures kept { OnOk result
             (IsKept self.new.store.machine self.new.store.journal.gate (F.told self.new.store.journal.file)) }
-        ensures in_use { IsErrOf result FoldFault.InUse
-            → self.old.store.machine ≢ new_state self.old.store.machine.namespace × (self.new ≡ self.old) }
         ensures any_moment { LeavesOnly (F.told self.old.store.journal.file) (F.told self.new.store.journal.file)
             (λ c. StandsFor c self.old.store.machine) }
-        ensures cause { IsErrOf result (FoldFault.OfFile FileError.Failed)
-            → (F.told self.old.store.journal.file).faults < (F.told self.new.store.journal.file).faults }
+
+        // It doesn't give up by itself.
+        ensures cause { HasCause (F.told self.old.store.journal.file) (F.told self.new.store.journal.file) result }
     {
-        match self.store.machine.base(alloc)? {
-            Some(base) => Ok(self.store.fold(base)?),
-            None => Err(FoldFault::InUse),
-        }
+        let base = self.store.machine.base(alloc)?;
+        self.store.fold(base)
     }
 
     /// The device.
@@ -206,6 +202,7 @@ fn first(alloc: Global, image: Image) -> Result<(FrameDevice, Vec<u8>), AllocErr
     ensures new { IfOk result (λ made. made.0 ≡ new_state image) }
     ensures stands { IfOk result (λ made. IsDeviceBase made.1.items made.0) }
 {
-    let base = save_base(alloc, &image)?;
-    Ok((FrameDevice::new(alloc, image)?, base))
+    let machine = FrameDevice::new(alloc, image)?;
+    let base = machine.base(alloc)?;
+    Ok((machine, base))
 }

@@ -1,6 +1,6 @@
 //! The device as a machine whose events are frames.
 
-ghost use Rattle.std.specs.Prelude.{◌≡◌, ◌≢◌, ◌≤◌, length, take, IfOk, MatchOption};
+ghost use Rattle.std.specs.Prelude.{◌≡◌, ◌≤◌, length, take, IfOk};
 ghost use Rattle.nvme_entry.specs.declared.command.TheConstants.{MOST_TRANSFER};
 ghost use Rattle.device_events.specs.Replies.{data_length};
 ghost use Rattle.device_meaning.specs.Judging.{interval_judge};
@@ -11,10 +11,12 @@ ghost use Rattle.durable_device.specs.Machine.{HasDone, HasReplied, IsDeviceBase
 
 use crate::changes::may_change;
 use crate::frame_event::{FrameEvent, event_in};
+use crate::sections::{kept_in, sections_of};
 use device_events::{Event, Reply};
 use durable_machine::{Applied, Machine};
 use image_base::{load_base, save_base};
 use image_store::Image;
+use kept_device::SectionFault;
 use nvme_entry::MOST_TRANSFER;
 use runner::Device;
 use std::alloc::{AllocError, Global};
@@ -80,21 +82,17 @@ impl FrameDevice {
         self.device.image()
     }
 
-    /// A base that stands for the device; `None` where it has a program or a run.
+    /// A base that stands for the device.
     ///
     /// # Errors
     ///
     /// No memory.
-    #[tactic(auto, using(crate::proofs::Kept::base_for))]
-    pub fn base(&self, alloc: Global) -> Result<Option<Vec<u8>>, AllocError>
-        ensures { IfOk result (λ base. MatchOption base
-            (self.now ≢ new_state self.now.namespace) (λ base. IsDeviceBase base.items self.now)) }
+    pub fn base(&self, alloc: Global) -> Result<Vec<u8>, AllocError>
+        ensures { IfOk result (λ base. IsDeviceBase base.items self.now) }
     {
-        if self.device.is_new() {
-            Ok(Some(save_base(alloc, self.device.image())?))
-        } else {
-            Ok(None)
-        }
+        let kept = self.device.kept(alloc)?;
+        let sections = sections_of(alloc, &kept)?;
+        save_base(alloc, self.device.image(), &sections)
     }
 }
 
@@ -109,12 +107,23 @@ impl Machine for FrameDevice {
 
     ghost one_base = { one_device };
 
-    #[tactic(auto, using(crate::proofs::Kept::begins_device))]
     fn load(alloc: Global, file: &[u8]) -> Result<Option<(Self, usize)>, AllocError> {
-        match load_base(alloc, file)? {
-            Some((image, base)) => Ok(Some((FrameDevice::new(alloc, image)?, base))),
-            None => Ok(None),
-        }
+        let Some((base, length)) = load_base(alloc, file)? else {
+            return Ok(None);
+        };
+        let kept = match kept_in(alloc, &base.sections) {
+            Ok(kept) => kept,
+            Err(SectionFault::Damaged) => return Ok(None),
+            Err(SectionFault::Memory) => return Err(AllocError),
+        };
+        let Some(device) = Device::restored(alloc, base.image, &kept.programs, &kept.runs)? else {
+            return Ok(None);
+        };
+        let device = FrameDevice {
+            device: Box::new(alloc, device)?,
+            output: vec![in alloc; 0; MOST_TRANSFER]?,
+        };
+        Ok(Some((device, length)))
     }
 
     fn apply(&mut self, alloc: Global, frame: &[u8]) -> Result<Applied<Option<Given>>, AllocError> {

@@ -11,8 +11,8 @@ pub fn frames_tell_events()
     ensures { FramesTellEvents }
 {}
 
-/// What a file stands for is the device after the events in it, from the image on that is its base; and it is in a state that events
-/// leave, of which all laws of the device hold.
+/// What a file stands for is the device after the events in it, from that on for which its base stands; and it is in a state that
+/// events leave, of which all laws of the device hold.
 pub fn files_are_reached()
     ensures { FilesAreReached }
 {}

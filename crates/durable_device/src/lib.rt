@@ -1,14 +1,13 @@
 //! A zoned device that comes back after a crash: its events are frames, which are on the disk before their replies are handed out, and
-//! its base is the image that it began with.
+//! its base tells the device that it began with.
 #![tactic(auto)]
 
 mod changes;
 mod durable_device;
-mod fold_fault;
 mod frame_device;
 mod frame_event;
 pub mod laws;
+mod sections;
 
 pub use durable_device::DurableDevice;
-pub use fold_fault::FoldFault;
 pub use frame_device::{FrameDevice, Given};

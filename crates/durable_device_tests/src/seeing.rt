@@ -5,14 +5,13 @@ use crate::session::probes;
 use durable_device::FrameDevice;
 use durable_machine::Machine;
 use event_frames::push_reply;
-use image_base::save_base;
 use nvme_entry::MOST_TRANSFER;
 use std::alloc::Global;
 use std::test::Fail;
 
-/// What is seen of a device: its image, its results, what turns give of its runs until none is left, and its image behind them.
+/// What is seen of a device: its base, its results, what turns give of its runs until none is left, and its base behind them.
 pub(crate) fn seen(alloc: Global, device: &mut FrameDevice) -> Result<Vec<u8>, Fail> {
-    let mut seen = save_base(alloc, device.image())?;
+    let mut seen = device.base(alloc)?;
     for frame in &probes(alloc)? {
         if let Some(given) = device.apply(alloc, frame)?.reply {
             if given.data.len() > MOST_TRANSFER {
@@ -21,7 +20,7 @@ pub(crate) fn seen(alloc: Global, device: &mut FrameDevice) -> Result<Vec<u8>, F
             push_reply(&mut seen, given.reply, &given.data)?;
         }
     }
-    seen.extend_from_slice(&save_base(alloc, device.image())?)?;
+    seen.extend_from_slice(&device.base(alloc)?)?;
     Ok(seen)
 }
 

@@ -6,8 +6,8 @@
 //! each byte the old one, the new one or another. A batch's write ends with the sector of a closed gate; a gate's is one sector.
 //!
 //! Each such file is opened, and what is seen of the device is compared with what is seen of one in memory that was given the batches up
-//! to this one, or this one too; of the file behind the last sync the latter alone. That is the image, the results of the slots, what
-//! turns give of each run until none is left, and the image then. The four calls of each such opening, a cut, a write and a sync behind
+//! to this one, or this one too; of the file behind the last sync the latter alone. That is the base, the results of the slots, what
+//! turns give of each run until none is left, and the base then. The four calls of each such opening, a cut, a write and a sync behind
 //! each, are cut off in the same ways, and what is left has to open as the same device.
 
 use crate::crashes::{cut_off_at, left_of_batch, left_of_opening, with_byte};
@@ -126,5 +126,35 @@ fn a_batch_is_cut_off_at_each_byte(rt: HostRuntime) -> Result<(), Fail> {
         let wanted = if value == 1 { &behind } else { &before };
         assert!(rt; opens_as(alloc, &left, wanted)?, "gate {value}");
     }
+    Ok(())
+}
+
+#[test]
+fn a_journal_is_folded_behind_each_batch(rt: HostRuntime) -> Result<(), Fail> {
+    let alloc = rt.alloc();
+    let batches = session(alloc, SEED, BATCHES)?;
+    let mut tally = Tally::default();
+    let mut bytes = created(alloc, empty(alloc)?)?
+        .store
+        .journal
+        .file
+        .bytes()
+        .to_vec(alloc)?;
+    for (index, batch) in batches.iter().enumerate() {
+        let mut device = opened(alloc, &bytes)?;
+        let given = device.serve(alloc, batch)?;
+        for (frame, given) in batch.iter().zip(&given) {
+            tally.count(frame, given);
+        }
+        device.fold(alloc)?;
+        let journal = &device.store.journal;
+        bytes = journal.file.crashed(alloc, journal.file.moment(), 0)?;
+        let behind = seen_after(alloc, &batches[..=index])?;
+        assert!(rt; opens_as(alloc, &bytes, &behind)?, "batch {index}");
+    }
+    assert!(rt;
+        tally.loads > 0 && tally.runs > 0 && tally.turns > 0 && tally.ends > 0,
+        "{tally:?}"
+    );
     Ok(())
 }

@@ -50,13 +50,8 @@ pub record IsFolded (old new : Session) (answer : ℕ) : Type 0 where
   pub folded : HasFolded old new
   pub told_is : answer ≡ 1
 
--- it isn't, as the device has a program or a run, and nothing happens
-pub record IsInUse (old new : Session) (answer : ℕ) : Type 0 where
-  pub same : new ≡ old
-  pub told_is : answer ≡ 2
-
 abbrev pub Folds : Session → Session → ℕ → Type 0
-Folds old new answer = IsFolded old new answer ⊎ IsInUse old new answer ⊎ Fails old new answer
+Folds old new answer = IsFolded old new answer ⊎ Fails old new answer
 
 -- C's memory stays
 pub record Keeps (Does : Session → Session → ℕ → Type 0) (old new : Lent) (answer : ℕ) : Type 0 where

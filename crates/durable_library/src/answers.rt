@@ -6,7 +6,7 @@ ghost use Rattle.durable_library.specs.Sessions.{WillBeKept, file_of};
 ghost use Rattle.handed_file.specs.Handed.{waiting};
 
 use crate::kind::Kind;
-use crate::session::{Folded, Session};
+use crate::session::Session;
 use handed_file::FileCall;
 use std::alloc::Global;
 
@@ -56,7 +56,7 @@ fn serve(session: &mut Session, alloc: Global, frames: &[u8]) -> usize
     if session.serve(alloc, frames) { 1 } else { 0 }
 }
 
-/// Folds the journal: 1 where it is done, once C has made the calls for it; 2 where the device has a program or a run.
+/// Folds the journal: 1 where it is done, once C has made the calls for it.
 fn fold(session: &mut Session, alloc: Global) -> usize
     requires { WillBeKept session.old }
     ensures folded { Folds session.old session.new result }
@@ -65,11 +65,7 @@ fn fold(session: &mut Session, alloc: Global) -> usize
     if session.failed {
         return 0;
     }
-    match session.fold(alloc) {
-        Folded::Done => 1,
-        Folded::InUse => 2,
-        Folded::Failed => 0,
-    }
+    if session.fold(alloc) { 1 } else { 0 }
 }
 
 /// Which call C is to make next; 0 for none.

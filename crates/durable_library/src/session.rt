@@ -5,7 +5,7 @@ ghost use Rattle.system_file.specs.Calls.{told_of};
 ghost use Rattle.handed_file.specs.Handed.{noted, waiting};
 ghost use Rattle.durable_device.specs.Kept.{IsKept};
 
-use durable_device::{DurableDevice, FoldFault};
+use durable_device::DurableDevice;
 use durable_serve::serve;
 use handed_file::{FileCall, HandedFile};
 use std::alloc::Global;
@@ -19,17 +19,6 @@ pub struct Session {
     pub answer: Vec<u8>,
     /// Whether the file has to be opened again.
     pub failed: bool,
-}
-
-/// What folding came to.
-#[derive(Clone, Copy)]
-pub enum Folded {
-    /// It is done, once C has made the calls.
-    Done,
-    /// The device has a program or a run.
-    InUse,
-    /// The file has to be opened again.
-    Failed,
 }
 
 impl Session {
@@ -111,22 +100,16 @@ impl Session {
         self.failed = true;
     }
 
-    /// Folds the journal.
-    pub fn fold(&mut self, alloc: Global) -> Folded
+    /// Folds the journal. Says whether it is done, once C has made the calls; where it isn't, the file has to be opened again.
+    pub fn fold(&mut self, alloc: Global) -> bool
         requires usable { self.old.failed ≡ false }
         requires kept { WillBeKept self.old }
-        ensures done { result ≡ Folded.Done → HasFolded self.old self.new }
-        ensures in_use { result ≡ Folded.InUse → self.new ≡ self.old }
-        ensures failed { result ≡ Folded.Failed → self.new.failed ≡ true }
+        ensures folded { IsTrue result → HasFolded self.old self.new }
+        ensures failed { result ≡ false → self.new.failed ≡ true }
         ensures kept { WillBeKept self.new }
     {
-        match self.device.fold(alloc) {
-            Ok(()) => Folded::Done,
-            Err(FoldFault::InUse) => Folded::InUse,
-            Err(FoldFault::OfFile(_)) => {
-                self.failed = true;
-                Folded::Failed
-            }
-        }
+        let done = self.device.fold(alloc);
+        self.failed = done.is_err();
+        !self.failed
     }
 }

@@ -6,15 +6,15 @@ ghost use Rattle.durable_device.specs.Kept.{IsKept, StandsFor};
 ghost use Rattle.durable_serve.specs.Served.{IsUnfolded};
 
 use crate::fault::ServeFault;
-use durable_device::{DurableDevice, FoldFault};
+use durable_device::DurableDevice;
 use std::alloc::Global;
 use stored_file::StoredFile;
 
 /// By how many bytes the file grows before its journal is folded (profile).
 pub const MOST_JOURNAL: usize = 1 << 26;
 
-/// Folds the journal where the file has grown by more than [`MOST_JOURNAL`] since it had so many bytes, unless the device has a
-/// program or a run. Gives how many bytes it had when it was folded last.
+/// Folds the journal where the file has grown by more than [`MOST_JOURNAL`] since it had so many bytes. Gives how many bytes it had when
+/// it was folded last.
 ///
 /// # Errors
 ///
@@ -37,7 +37,6 @@ pub(crate) fn fold_when_due<F: StoredFile + Drop>(
     }
     match device.fold(alloc) {
         Ok(()) => Ok(device.length()),
-        Err(FoldFault::InUse) => Ok(folded),
-        Err(FoldFault::OfFile(error)) => Err(ServeFault::from(error)),
+        Err(error) => Err(ServeFault::from(error)),
     }
 }

@@ -52,6 +52,24 @@ impl Packer {
         }
     }
 
+    /// A packer for blocks of this size, with these bytes pending.
+    pub fn begun(block: BlockSize, pending: &[u8]) -> Packer
+        requires { length pending.now ≤ block }
+        ensures { result ≡ record { block = block; pending = pending.now } }
+    {
+        let mut packer = Packer::new(block);
+        packer.add(pending);
+        packer
+    }
+
+    /// The bytes that are pending.
+    pub fn pending(&self) -> &[u8]
+        ensures value { result.now ≡ self.now.pending }
+        ensures fits { length result.now ≤ self.now.block }
+    {
+        &self.bytes[..self.pending]
+    }
+
     /// Is there room for a group of so many bytes behind what is pending?
     #[inline]
     pub fn has_room(&self, bytes: usize) -> bool

@@ -1,2 +1,3 @@
+pub mod SectionLemmas
 pub mod Fronts
 pub mod Proved

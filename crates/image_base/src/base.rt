@@ -1,11 +1,14 @@
-//! A base, and the image that it stands for.
+//! A base, and what it tells.
 
-ghost use Rattle.std.specs.Prelude.{◌≡◌, List, ℕ, IfOk, MatchOption, Ok};
+ghost use Rattle.std.specs.Prelude.{◌≡◌, List, ℕ, IfOk, MatchOption, Ok, length};
+ghost use Rattle.durable_machine.specs.Batches.{bytes_of};
 ghost use Rattle.durable_machine.specs.Bases.{BeginsBase, BeginsNoBase};
 ghost use Rattle.image_base.specs.Base.{IsBaseOf, IsBehindMagic, IsNoText};
+ghost use Rattle.image_base.specs.Loaded.{told_by};
 ghost use Rattle.image_text.specs.Reading.{namespace_in};
 ghost use Rattle.image_text.specs.Text.{text};
 
+use crate::sections::{SECTIONS, add_sections, sections_in};
 use event_journal::{add_event, first_event};
 use image_store::Image;
 use image_text::{Buffer, ImageText, LoadFault};
@@ -14,14 +17,23 @@ use std::alloc::{AllocError, Global};
 /// The first bytes of a base (profile).
 pub const MAGIC: [u8; 8] = *b"ZNSJRN01";
 
-/// The image for which a base stands at the front of a file, and the base's length in bytes; `None` where no base stands there.
+/// What a base tells.
+#[derive(Drop)]
+pub struct Base {
+    /// The image.
+    pub image: Image,
+    /// The sections, in order.
+    pub sections: Vec<Vec<u8>>,
+}
+
+/// What a base at the front of a file tells, and the base's length in bytes; `None` where no base stands there.
 ///
 /// # Errors
 ///
 /// No memory.
-pub fn load_base(alloc: Global, file: &[u8]) -> Result<Option<(Image, usize)>, AllocError>
+pub fn load_base(alloc: Global, file: &[u8]) -> Result<Option<(Base, usize)>, AllocError>
     ensures { IfOk result (λ found. MatchOption found
-        (BeginsNoBase IsBaseOf file.now) (λ base. BeginsBase IsBaseOf base.0 base.1 file.now)) }
+        (BeginsNoBase IsBaseOf file.now) (λ base. BeginsBase IsBaseOf (told_by base.0) base.1 file.now)) }
 {
     let Some(behind) = behind_magic(file) else {
         return Ok(None);
@@ -29,19 +41,23 @@ pub fn load_base(alloc: Global, file: &[u8]) -> Result<Option<(Image, usize)>, A
     let Some((text, rest)) = first_event(behind) else {
         return Ok(None);
     };
-    match image_of(alloc, text)? {
-        Some(image) => Ok(Some((image, file.len() - rest.len()))),
-        None => Ok(None),
-    }
+    let Some(image) = image_of(alloc, text)? else {
+        return Ok(None);
+    };
+    let Some((sections, after)) = sections_in(alloc, rest)? else {
+        return Ok(None);
+    };
+    Ok(Some((Base { image, sections }, file.len() - after)))
 }
 
-/// A base that stands for an image.
+/// A base that tells an image and sections.
 ///
 /// # Errors
 ///
 /// No memory.
-pub fn save_base(alloc: Global, image: &Image) -> Result<Vec<u8>, AllocError>
-    ensures { IfOk result (λ base. IsBaseOf base.items image.now) }
+pub fn save_base(alloc: Global, image: &Image, sections: &[Vec<u8>]) -> Result<Vec<u8>, AllocError>
+    requires { length sections.now ≡ SECTIONS }
+    ensures { IfOk result (λ base. IsBaseOf base.items (record { namespace = image.now; sections = bytes_of sections.now })) }
 {
     // Brings in what holds of each image.
     let _ = image.geometry();
@@ -49,6 +65,7 @@ pub fn save_base(alloc: Global, image: &Image) -> Result<Vec<u8>, AllocError>
     let mut base = Vec::new(alloc);
     base.extend_from_slice(&MAGIC)?;
     add_event(&mut base, &text)?;
+    add_sections(&mut base, sections)?;
     Ok(base)
 }
 

@@ -1,6 +1,9 @@
-//! The base of a device's journal: the image that the device began with, at the front of a file, which tells its own length.
+//! The base of a device's journal: the image that the device began with and sections for what it had beside it, at the front of a file.
+//! It tells its own length.
 #![tactic(auto)]
 
 mod base;
+mod sections;
 
-pub use base::{MAGIC, load_base, save_base};
+pub use base::{Base, MAGIC, load_base, save_base};
+pub use sections::SECTIONS;

@@ -1,6 +1,7 @@
 -- A turn, over all that a device has.
-use Rattle.std.proofs.Common.{◌≡◌, ℕ, ◌<◌, ◌≤◌, false, List, [], ◌∷◌, length, map, set, get_or, Option, Some, None, IfSome, refl, ap, sym, subst, ◌∙◌, arith, inl, inr}
+use Rattle.std.proofs.Common.{◌≡◌, ◌≢◌, ℕ, ◌<◌, ◌≤◌, ◌/◌, false, List, [], ◌∷◌, length, map, set, get_or, Option, Some, None, IfSome, refl, ap, sym, subst, ◌∙◌, arith, inl, inr}
 use Rattle.std.specs.Prelude.{is_some}
+use Rattle.std.specs.Option.{option_map_or}
 use Rattle.std.proofs.Math.ListN.{get_or-map}
 use Rattle.std.proofs.Math.Seq.{map-set_same}
 use Rattle.std.proofs.lemmas.List.{get_or_past, map-set, set-get_or}
@@ -26,17 +27,17 @@ use Rattle.device_meaning.specs.View.{place_of, seen, to_come, turns_of}
 use Rattle.device_events.specs.ToldEvents as told
 use Rattle.device_events.specs.declared.reply.Reply.{Reply}
 use Rattle.device_events.specs.declared.reply.Reply.TheVariants as reply
-use Rattle.device_meaning.proofs.Proved.{events_keep_for_runs, turned_is}
+use Rattle.device_meaning.proofs.Proved.{blocks_leave_others, events_keep_for_runs, turned_is}
 use Rattle.runner.specs.steps.Answered.{complete_reply}
 use Rattle.runner.specs.DeviceState.{active_of, loaded_slot, loaded_of, running, device_state}
-use Rattle.runner.specs.steps.Ready.{FitsNamespace, IsForBlocks, IsReady, IsRunning}
+use Rattle.runner.specs.steps.Ready.{FitsNamespace, HasRoomLeft, IsForBlocks, IsReady, IsRunning}
 use Rattle.device_meaning.specs.Reached.{IsReached}
 use Rattle.runner.specs.steps.Turning.{FitsAt, FitsIn, FitsOn, TurnGoesOn, HasEnded, IsTurned, Keeps, SlotTurned}
 use Rattle.runner.specs.declared.active_run.ActiveRun.{ActiveRun}
 use Rattle.runner.specs.declared.loaded_program.LoadedProgram.{LoadedProgram}
 use Rattle.runner.proofs.MayBeThere.{found}
 use Rattle.runner.proofs.Reached.{reached_is_sound}
-use Rattle.runner.proofs.Staying.{Stays, grows_there, keeps_source, others_stay, place_is, placed_at, still_fits}
+use Rattle.runner.proofs.Staying.{Stays, grows_there, keeps_source, others_stay, place_is, placed_at, still_fits, still_left}
 
 module _ (ns : ZonedNamespace) (slots : List (Option LoadedProgram)) (runs : List (Option ActiveRun)) (ready : IsReady ns slots runs)
     (k : ℕ) (a : ActiveRun) (at : get_or runs k None ≡ Some a) (p : LoadedProgram) (loaded : get_or slots a.command.slot None ≡ Some p) where
@@ -70,6 +71,11 @@ module _ (ns : ZonedNamespace) (slots : List (Option LoadedProgram)) (runs : Lis
   turns_are : place.turns ≡ turns_of ns code limit (active_of a)
   turns_are = ap (λ (o : Option Loaded). rest (task_of ns o a.command) (active_of a).so_far (to_come ns (active_of a))) slot_is
 
+  left : HasRoomLeft ns limit a
+  left =
+      let own = ready.running k a at in
+      subst (λ (o : Option LoadedProgram). IfSome o (λ q. HasRoomLeft ns (sizes_of q.prepared).limit a)) (sym own.loaded ∙ loaded) own.left
+
   fits_on : IsReached interval_judge s → FitsOn ns code limit a
   fits_on reached =
       let sound = reached_is_sound s reached in
@@ -80,6 +86,7 @@ module _ (ns : ZonedNamespace) (slots : List (Option LoadedProgram)) (runs : Lis
         room =
             subst (λ (z : ℕ). RoomIn ns.capacity (zone_at ns z) (turns_of ns code limit (active_of a))) (sym fits.destination)
             (subst (RoomIn ns.capacity (zone_at ns (zone_number ns a.command.destination))) turns_are (sound.rooms k place here));
+        left = left;
       }
 
   fits_in : IsReached interval_judge s → FitsIn ns (get_or slots a.command.slot None) a
@@ -135,14 +142,58 @@ module _ (ns : ZonedNamespace) (slots : List (Option LoadedProgram)) (runs : Lis
       | inr was ↦ ready.programs i x was.1 ∙ same_block
     ]
 
+    -- the limit of what is in a slot
+    abbrev limit_at : Option LoadedProgram → ℕ
+    limit_at o = option_map_or (λ x. (sizes_of x.prepared).limit) o 0
+
+    same_limit : (i : ℕ) (x z : LoadedProgram) → get_or slots i None ≡ Some x → get_or slots' i None ≡ Some z
+        → (sizes_of x.prepared).limit ≡ (sizes_of z.prepared).limit
+    same_limit i x z was there = elim (set_known slots a.command.slot i (Some q) z there) [
+      | inl is ↦
+          ap limit_at (sym was ∙ ap (λ (n : ℕ). get_or slots n None) is.0 ∙ loaded) ∙ ap (λ v. (sizes_of v).limit) (sym same) ∙ ap limit_at is.1
+      | inr other ↦ ap limit_at (sym was ∙ other.1)
+    ]
+
     -- a run whose program was in its slot, and is
-    is_running : (b : ActiveRun) (x : LoadedProgram) → get_or slots b.command.slot None ≡ Some x → FitsNamespace new b → IsRunning new slots' b
-    is_running b x was fit =
+    is_running : (b : ActiveRun) (x : LoadedProgram) → get_or slots b.command.slot None ≡ Some x → FitsNamespace new b
+        → HasRoomLeft new (sizes_of x.prepared).limit b → IsRunning new slots' b
+    is_running b x was fit room =
         let z = the_value _ (set_some slots a.command.slot b.command.slot q (ap is_some was)) in
-        record { program = z.0; loaded = z.1; accepted = still_for b.command.slot z.0 z.1; fits = fit }
+        record {
+          program = z.0;
+          loaded = z.1;
+          accepted = still_for b.command.slot z.0 z.1;
+          fits = fit;
+          left = subst (λ (n : ℕ). HasRoomLeft new n b) (same_limit b.command.slot x z.0 was z.1) room;
+        }
 
     abbrev OwnFits : ActiveRun → Type 0
-    OwnFits b = (b.command ≡ a.command) × FitsNamespace new b
+    OwnFits b = (b.command ≡ a.command) × FitsNamespace new b × HasRoomLeft new limit b
+
+    -- it appends to the zone of before
+    same_destination : (b : ActiveRun) → OwnFits b → a.destination ≡ b.destination
+    same_destination b own =
+        let size : ns.size ≡ new.size = ap (λ (x : Shape). x.size) (sym same_shape) in
+        fits.destination
+        ∙ ap (λ (n : ℕ). a.command.destination / n) size
+        ∙ ap (λ (command : RunCommand). command.destination / new.size) (sym own.0)
+        ∙ sym own.1.destination
+
+    -- each run was at its place, and appended to the same zone
+    was_there : IfSome r OwnFits → (j : ℕ) (b : ActiveRun) → get_or (set runs k r) j None ≡ Some b
+        → (o : ActiveRun) × (get_or runs j None ≡ Some o) × (o.destination ≡ b.destination)
+    was_there own j b there = elim (set_known runs k j r b there) [
+      | inl is ↦
+          let mine : OwnFits b = subst (λ o. IfSome o OwnFits) is.1 own in
+          (a, ap (λ (n : ℕ). get_or runs n None) is.0 ∙ at, same_destination b mine)
+      | inr was ↦ (b, was.1, refl)
+    ]
+
+    -- the zones that others append to stay
+    other_zone : (j : ℕ) (b : ActiveRun) → j ≢ k → get_or runs j None ≡ Some b → zone_at new b.destination ≡ zone_at ns b.destination
+    other_zone j b other there =
+        ap (λ (m : ZonedNamespace). zone_at m b.destination) written
+        ∙ (blocks_leave_others ns a.destination turn.blocks).others b.destination (λ same. other (ready.apart j k b a there at same))
 
     all_ready : IfSome r OwnFits → IsReady new slots' (set runs k r)
     all_ready own = record {
@@ -150,11 +201,16 @@ module _ (ns : ZonedNamespace) (slots : List (Option LoadedProgram)) (runs : Lis
       running = λ j b there. elim (set_known runs k j r b there) [
         | inl is ↦
             let mine : OwnFits b = subst (λ o. IfSome o OwnFits) is.1 own in
-            is_running b p (ap (λ (command : RunCommand). get_or slots command.slot None) mine.0 ∙ loaded) mine.1
+            is_running b p (ap (λ (command : RunCommand). get_or slots command.slot None) mine.0 ∙ loaded) mine.1 mine.2
         | inr was ↦
             let is = ready.running j b was.1 in
             is_running b is.program is.loaded (still_fits ns new b is.fits same_shape (grows j b was.1))
+            (still_left ns new (sizes_of is.program.prepared).limit b is.left same_shape (other_zone j b was.0 was.1))
       ];
+      apart = λ i j b c at_i at_j same.
+          let first = was_there own i b at_i in
+          let second = was_there own j c at_j in
+          ready.apart i j first.0 second.0 first.1 second.1 (first.2 ∙ same ∙ sym second.2);
     }
 
     is_turned : (given : Reply) → given ≡ (turn_reply k place turn.ending).reply
@@ -216,7 +272,7 @@ module _ (ns : ZonedNamespace) (slots : List (Option LoadedProgram)) (runs : Lis
 
     goes_turned : FitsNamespace new b → IsTurned s k new (set slots a.command.slot (Some q)) (set runs k (Some b)) (reply.Pending k)
     goes_turned fit =
-        is_turned new q (Some b) turn later g.turns g.namespace prepared_same (sym programs_same) (reply.Pending k) refl (ap Some own_place) (kept.command, fit)
+        is_turned new q (Some b) turn later g.turns g.namespace prepared_same (sym programs_same) (reply.Pending k) refl (ap Some own_place) (kept.command, fit, g.left)
 
   -- ---- a turn that ends it
 

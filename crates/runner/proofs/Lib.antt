@@ -16,3 +16,10 @@ mod Served
 mod Starting
 mod Staying
 mod Turns
+mod KeptPrograms
+mod RestoredDevices
+mod KeptRuns
+mod KeptRunLists
+mod DevicesAgain
+mod KeptDevices
+pub mod Proved

@@ -102,7 +102,9 @@ module _ (ns : ZonedNamespace) (slots : List (Option LoadedProgram)) (runs : Lis
           loaded = get_or-set_other slots load.slot a.command.slot (Some new) None (uses_other k a at) ∙ was.loaded;
           accepted = was.accepted;
           fits = was.fits;
+          left = was.left;
         };
+    apart = ready.apart;
   }
 
 -- ---- or it is refused

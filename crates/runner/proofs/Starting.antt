@@ -1,12 +1,19 @@
 -- The state in which a run has begun.
-use Rattle.std.proofs.Common.{◌≡◌, ℕ, List, map, set, get_or, Option, Some, None, ap, sym, ◌∙◌, inl, inr, subst, arith}
+use Rattle.std.proofs.Common.{◌≡◌, ◌≢◌, ◌+◌, ◌-◌, ◌≤◌, ℕ, true, false, List, length, map, set, get_or, Option, Some, None, ap, sym, ◌∙◌, inl, inr, subst, arith}
 use Rattle.std.specs.Prelude.{is_some}
+use Rattle.std.specs.List.{list_any}
 use Rattle.std.proofs.lemmas.List.{map-set}
 use Rattle.zone_state.specs.declared.status.Status.{Status}
 use Rattle.nvme_entry.specs.declared.command.RunCommand.{RunCommand}
 use Rattle.program_meaning.proofs.Proved.{the_value}
 use Rattle.accepted_programs.proofs.Proved.{set_known}
-use Rattle.image_store.specs.Namespace.{ZonedNamespace}
+use Rattle.zone_resources.specs.Holds.{is_destination, names}
+use Rattle.zone_resources.specs.declared.holds.Holds.{Holds}
+use Rattle.zone_resources.proofs.Proved.{runs_name_zones}
+use Rattle.emit_append.specs.Need.{need}
+use Rattle.verifier.specs.Verified.{sizes_of}
+use Rattle.image_store.specs.Namespace.{ZonedNamespace, zone_at}
+use Rattle.device_meaning.specs.Admission.{Loaded, granted_sizes, sizes_in}
 use Rattle.image_store.specs.declared.geometry.ZoneBlock.{ZoneBlock}
 use Rattle.device_meaning.specs.EventReplies.{submission_of}
 use Rattle.device_events.specs.Replies.{without_data}
@@ -19,12 +26,13 @@ use Rattle.device_meaning.proofs.Proved.{seen_at_admission}
 use Rattle.runner.specs.steps.Admitting.{IsAdmission, refusal_by}
 use Rattle.runner.specs.steps.Answered.{Refuses, Starts}
 use Rattle.runner.specs.DeviceState.{active_of, loaded_of, loaded_slot, running, device_state}
-use Rattle.runner.specs.steps.ActiveRuns.{new_active}
+use Rattle.runner.specs.steps.ActiveRuns.{destination_held, new_active}
 use Rattle.runner.specs.steps.Ready.{IsReady, IsRunning}
 use Rattle.runner.specs.declared.active_run.ActiveRun.{ActiveRun}
 use Rattle.runner.specs.declared.admission.Admitted.{Admitted}
 use Rattle.runner.specs.declared.loaded_program.LoadedProgram.{LoadedProgram}
 use Rattle.runner.proofs.Admissions.{program_is}
+use Rattle.runner.proofs.Holding.{holds_are}
 use Rattle.runner.proofs.Numbers.{mapped_some}
 
 -- a check of a run has failed
@@ -64,6 +72,11 @@ module _ (ns : ZonedNamespace) (slots : List (Option LoadedProgram)) (runs : Lis
   is_running command queue cid block admitted ready is same =
       let there = ap is_some (program_is ns slots runs command.slot) ∙ mapped_some loaded_of (get_or slots command.slot None) in
       let at = the_value (get_or slots command.slot None) (sym there ∙ is.loaded) in
+      let limit = (sizes_of at.0.prepared).limit in
+      let appended = length (zone_at ns admitted.destination).blocks in
+      let count : command.blocks ≡ command.blocks - 0 = omega arith in
+      let room : appended + need command.blocks (granted_sizes ns limit) ≤ ns.capacity =
+      subst (λ (o : Option Loaded). appended + need command.blocks (sizes_in ns o) ≤ ns.capacity) (program_is ns slots runs command.slot ∙ ap loaded_slot at.1) is.room in
       record {
         program = at.0;
         loaded = at.1;
@@ -81,16 +94,42 @@ module _ (ns : ZonedNamespace) (slots : List (Option LoadedProgram)) (runs : Lis
           frames = omega arith;
           appended = omega arith;
         };
+        left = subst (λ (n : ℕ). appended + need n (granted_sizes ns limit) ≤ ns.capacity) count room;
       }
 
+  -- it appends to a zone of its own
+  pub is_alone : (command : RunCommand) (admitted : Admitted) → IsReady ns slots runs → IsAdmission (device_state ns slots runs) command admitted
+      → (j : ℕ) (b : ActiveRun) → get_or runs j None ≡ Some b → b.destination ≢ admitted.destination
+  is_alone command admitted ready is j b at same =
+      let free : list_any (names admitted.destination) (map destination_held runs) ≡ false =
+      ap (λ (h : Holds). is_destination h admitted.destination) (holds_are ns slots runs ready) ∙ is.alone in
+      let held : list_any (names admitted.destination) (map destination_held runs) ≡ true =
+      runs_name_zones destination_held admitted.destination runs j b at (ap (λ (z : ℕ). Some z) same) in
+      cc
+
   -- and all is ready with it
-  pub still_ready : (run : ℕ) (a : ActiveRun) → IsReady ns slots runs → IsRunning ns slots a → IsReady ns slots (set runs run (Some a))
-  still_ready run a ready is = record {
+  pub still_ready : (run : ℕ) (a : ActiveRun) → IsReady ns slots runs → IsRunning ns slots a
+      → ((j : ℕ) (b : ActiveRun) → get_or runs j None ≡ Some b → b.destination ≢ a.destination) → IsReady ns slots (set runs run (Some a))
+  still_ready run a ready is alone = record {
     programs = ready.programs;
     running = λ k b at. elim (set_known runs run k (Some a) b at) [
       | inl same ↦
           let this : a ≡ b = cc same.1 in
           subst (IsRunning ns slots) this is
       | inr other ↦ ready.running k b other.1
+    ];
+    apart = λ j k b c at_j at_k same. elim (set_known runs run j (Some a) b at_j) [
+      | inl first ↦ elim (set_known runs run k (Some a) c at_k) [
+        | inl second ↦ first.0 ∙ sym second.0
+        | inr second ↦
+            let this : a ≡ b = cc first.1 in
+            absurd (alone k c second.1 (sym same ∙ sym (ap (λ (x : ActiveRun). x.destination) this)))
+      ]
+      | inr first ↦ elim (set_known runs run k (Some a) c at_k) [
+        | inl second ↦
+            let this : a ≡ c = cc second.1 in
+            absurd (alone j b first.1 (same ∙ sym (ap (λ (x : ActiveRun). x.destination) this)))
+        | inr second ↦ ready.apart j k b c first.1 second.1 same
+      ]
     ];
   }

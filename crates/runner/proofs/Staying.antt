@@ -1,9 +1,10 @@
 -- What is seen of active runs stays, whatever is written behind their source blocks.
-use Rattle.std.proofs.Common.{◌≡◌, ◌≢◌, ℕ, zero, suc, ◌+◌, ◌/◌, ◌%◌, ◌≤◌, List, [], ◌∷◌, length, map, set, get_or, Option, Some, None, refl, ap, sym, subst, ◌∙◌, arith, length-append}
+use Rattle.std.proofs.Common.{◌≡◌, ◌≢◌, ℕ, zero, suc, ◌+◌, ◌-◌, ◌/◌, ◌%◌, ◌≤◌, List, [], ◌∷◌, length, map, set, get_or, Option, Some, None, refl, ap, sym, subst, ◌∙◌, arith, length-append}
 use Rattle.std.proofs.Math.ListN.{get_or-map}
 use Rattle.image_store.specs.Geometry.{Shape}
-use Rattle.image_store.specs.Namespace.{ZonedNamespace, shape, zone_at}
+use Rattle.image_store.specs.Namespace.{ZoneWithBlocks, ZonedNamespace, shape, zone_at}
 use Rattle.image_store.specs.declared.geometry.ZoneBlock.{ZoneBlock}
+use Rattle.emit_append.specs.Need.{need_behind}
 use Rattle.zns_commands.specs.Address.{zone_number}
 use Rattle.zns_commands.specs.Left.{Grows}
 use Rattle.device_meaning.specs.Admission.{SameProgram}
@@ -11,7 +12,7 @@ use Rattle.device_meaning.specs.State.{Place, place_at}
 use Rattle.device_meaning.specs.View.{KeepsSource, place_of, seen}
 use Rattle.device_meaning.proofs.Proved.{seen_stays}
 use Rattle.runner.specs.DeviceState.{active_of, loaded_slot, running, device_state}
-use Rattle.runner.specs.steps.Ready.{FitsNamespace}
+use Rattle.runner.specs.steps.Ready.{FitsNamespace, HasRoomLeft}
 use Rattle.runner.specs.declared.active_run.ActiveRun.{ActiveRun}
 use Rattle.runner.specs.declared.loaded_program.LoadedProgram.{LoadedProgram}
 
@@ -42,6 +43,15 @@ still_fits ns later a fits same grows =
       frames = fits.frames;
       appended = fits.appended;
     }
+
+-- and what is left of it has room in its destination, where that is as before
+pub still_left : (ns later : ZonedNamespace) (limit : ℕ) (a : ActiveRun) → HasRoomLeft ns limit a → shape later ≡ shape ns
+    → zone_at later a.destination ≡ zone_at ns a.destination → HasRoomLeft later limit a
+still_left ns later limit a left same zone =
+    let begun = length a.packer.pending in
+    let count = a.command.blocks - a.index in
+    let room : Shape → ZoneWithBlocks → Type 0 = λ s z. length z.blocks + need_behind begun count (record { block = s.block; limit = limit }) ≤ s.capacity in
+    subst (λ (z : ZoneWithBlocks). room (shape later) z) (sym zone) (subst (λ (s : Shape). room s (zone_at ns a.destination)) (sym same) left)
 
 -- the source blocks of a run that fits are kept where they grow
 pub keeps_source : (ns later : ZonedNamespace) (a : ActiveRun) → FitsNamespace ns a → shape later ≡ shape ns

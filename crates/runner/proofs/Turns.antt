@@ -1,5 +1,5 @@
 -- A turn of a run, as the code takes it.
-use Rattle.std.proofs.Common.{◌≡◌, ◌≢◌, ℕ, suc, ◌+◌, ◌-◌, ◌<◌, ◌≤◌, ◌%◌, Bool, true, false, List, [], ◌∷◌, ◌++◌, length, take, drop, Option, Some, None, refl, sym, ap, subst, ◌∙◌, arith, inl, inr, append-nil, length-append, append_assoc}
+use Rattle.std.proofs.Common.{◌≡◌, ◌≢◌, ℕ, suc, ◌+◌, ◌-◌, ◌<◌, ◌≤◌, ◌%◌, Bool, true, false, List, [], ◌∷◌, ◌++◌, length, take, drop, Option, Some, None, refl, sym, ap, subst, ◌∙◌, arith, inl, inr, append-nil, length-append, length-take, append_assoc}
 use Rattle.std.specs.Prelude.{◌⊎◌, ◌==◌}
 use Rattle.std.proofs.lemmas.Bool.{cases_lt, ne_eqb}
 use Rattle.std.proofs.lemmas.List.{at_drop_more, length-take-le, length-drop}
@@ -10,20 +10,23 @@ use Rattle.program_meaning.specs.declared.end.End.{End}
 use Rattle.program_meaning.specs.declared.end.End.TheVariants as end
 use Rattle.emit_append.specs.Packer.{after_put, given_by_finish, given_by_put, new_packer}
 use Rattle.emit_append.specs.Packing.{packed, pending_of, released}
-use Rattle.emit_append.proofs.Proved.{one_group_releases_none, packing_goes_on}
+use Rattle.emit_append.specs.Need.{need_behind}
+use Rattle.emit_append.proofs.Proved.{need_behind_falls, one_group_releases_none, packing_goes_on}
+use Rattle.program_interface.specs.RunSizes.{Sizes}
 use Rattle.image_store.specs.Geometry.{Shape}
 use Rattle.image_store.specs.Namespace.{ZoneWithBlocks, ZonedNamespace, zone_at}
 use Rattle.image_store.specs.declared.geometry.ZoneBlock.{ZoneBlock}
 use Rattle.zns_commands.specs.Address.{zone_number}
 use Rattle.zns_commands.proofs.Proved.{open_is_there}
-use Rattle.device_meaning.specs.Admission.{task_by}
+use Rattle.device_meaning.specs.Admission.{granted_sizes, task_by}
 use Rattle.device_meaning.specs.BlockRuns.{Task, goes_on, scratch_after}
 use Rattle.device_meaning.specs.Laws.{Ends, RoomIn, further, next_turn}
 use Rattle.device_meaning.specs.Happenings.{added}
 use Rattle.device_meaning.specs.Outcome.{Ending, Progress, Turn, appended_by, coming_to, last_turn, last_turn_by, emitted_by, rest, success}
 use Rattle.device_meaning.specs.View.{Active, to_come, turns_of}
-use Rattle.device_meaning.proofs.Proved.{blocks_leave_others, rest_ends, rest_goes_on, room_is_open, room_stays}
+use Rattle.device_meaning.proofs.Proved.{blocks_leave_others, is_added, open_on, rest_ends, rest_goes_on, room_is_open, room_stays}
 use Rattle.runner.specs.DeviceState.{active_of}
+use Rattle.runner.specs.steps.Ready.{HasRoomLeft}
 use Rattle.runner.specs.steps.Turning.{FitsOn, TurnGoesOn, HasEnded, HasRoom, HasRunNext, next_block, next_block_run, with_packer}
 use Rattle.verified_run.specs.declared.exit.Exit.{Exit}
 use Rattle.runner.specs.declared.active_run.ActiveRun.{ActiveRun}
@@ -143,6 +146,12 @@ module _ (ns : ZonedNamespace) (z : ℕ) (ending : Option Ending) (turns : List 
       let capacity : (added ns z bs).capacity ≡ ns.capacity = ap (λ (s : Shape). s.capacity) same in
       room_first (added ns z bs) z None turns (rw block some) more [] (rw (capacity, append-nil more) rest)
 
+-- a zone has so many blocks more
+longer : (ns : ZonedNamespace) (z : ℕ) (bs : List (List ℕ)) → HasRoom ns z bs → length (zone_at (added ns z bs) z).blocks ≡ length (zone_at ns z).blocks + length bs
+longer ns z [] room = omega arith
+longer ns z (b ∷ bs) room =
+    ap length (is_added ns z (b ∷ bs) (open_on (zone_at ns z).state room.opened)).blocks_is ∙ length-append (zone_at ns z).blocks (b ∷ bs)
+
 -- ---- a turn
 
 module _ (ns : ZonedNamespace) (program : List (Option Instruction)) (limit : ℕ) (a : ActiveRun) (h : FitsOn ns program limit a) where
@@ -190,12 +199,42 @@ module _ (ns : ZonedNamespace) (program : List (Option Instruction)) (limit : �
         so_far = record { index = a.index + 1; scratch = scratch_after ran; pending = pending_of block groups; frames = a.frames + ran.state.frames; appended = a.appended + length (released block groups) };
       })) (sym h.run.packer)
 
-  goes_is : goes_on ran.end ≡ true → a.index + 1 < a.command.blocks → TurnGoesOn ns (added ns a.destination sent) program limit a stepped
-  goes_is on more = record {
+  -- ---- what is left of it
+
+  -- the namespace behind it
+  abbrev behind : ZonedNamespace
+  behind = added ns a.destination sent
+
+  module _ (begun : length a.packer.pending ≤ a.packer.block) (within : length ran.state.group ≤ limit) where
+    abbrev counts : ℕ → ℕ → Sizes → Type 0
+    counts appended pending sizes = appended + need_behind pending (a.command.blocks - (a.index + 1)) sizes
+        ≤ need_behind (length a.packer.pending) (a.command.blocks - (a.index + 1) + 1) (granted_sizes ns limit)
+
+    falls : counts (length sent) (length (pending_of a.packer.block groups)) (granted_sizes ns limit)
+    falls =
+        subst (λ (block : ℕ). counts (length (released block groups)) (length (pending_of block groups)) (granted_sizes ns limit)) (sym h.run.packer)
+        (need_behind_falls (granted_sizes ns limit) a.packer.pending ran.state.group (a.command.blocks - (a.index + 1)) h.limits
+        (omega (arith, begun, h.run.packer)) within)
+
+    left_is : HasRoom ns a.destination sent → a.index + 1 < a.command.blocks → HasRoomLeft behind limit stepped
+    left_is room more =
+        let count : a.command.blocks - a.index ≡ a.command.blocks - (a.index + 1) + 1 = omega (arith, more) in
+        let had = subst (λ (n : ℕ). length (zone_at ns a.destination).blocks + need_behind (length a.packer.pending) n (granted_sizes ns limit) ≤ ns.capacity) count h.left in
+        let long = longer ns a.destination sent room in
+        let pending = length (pending_of a.packer.block groups) in
+        let has : length (zone_at behind a.destination).blocks + need_behind pending (a.command.blocks - (a.index + 1)) (granted_sizes ns limit) ≤ ns.capacity =
+        omega (arith, falls, had, long) in
+        subst (λ (s : Shape). length (zone_at behind a.destination).blocks
+        + need_behind pending (a.command.blocks - (a.index + 1)) (record { block = s.block; limit = limit }) ≤ s.capacity)
+        (sym (blocks_leave_others ns a.destination sent).same_shape) has
+
+  goes_is : goes_on ran.end ≡ true → a.index + 1 < a.command.blocks → HasRoomLeft behind limit stepped → TurnGoesOn ns behind program limit a stepped
+  goes_is on more left = record {
     blocks = sent;
     turns = going on more ∙ ap (λ (turns : List Turn). record { blocks = sent; ending = None } ∷ turns)
         (sym (added_leaves_turns ns a.destination sent program limit (active_of stepped) other_zone));
     namespace = refl;
+    left = left;
   }
 
   -- the last turn, which appends these blocks
@@ -289,10 +328,13 @@ module _ (ns : ZonedNamespace) (program : List (Option Instruction)) (limit : �
       blocks_are : put.command.blocks ≡ a.command.blocks
       blocks_are = ap (λ (x : ActiveRun). x.command.blocks) put_is ∙ ap (λ (x : ActiveRun). x.command.blocks) next.same
 
-      pub goes : told.r0 ≡ 0 → counted.index < counted.command.blocks → TurnGoesOn ns then program limit a counted
-      goes none more =
+      pub goes : length ran_on.packer.pending ≤ ran_on.packer.block → told.r0 ≡ 0 → counted.index < counted.command.blocks → TurnGoesOn ns then program limit a counted
+      goes begun none more =
           let on : goes_on ran.end ≡ true = ap goes_on next.run.exit ∙ ap (λ (n : ℕ). n == 0) none in
-          rw (written, put_is, next.same, sym next.run.group, sym next.run.frames) (goes_is on (omega (arith, index_is, blocks_are, more)))
+          let later : a.index + 1 < a.command.blocks = omega (arith, index_is, blocks_are, more) in
+          let had = subst (λ (x : ActiveRun). length x.packer.pending ≤ x.packer.block) next.same begun in
+          let within : length ran.state.group ≤ limit = omega (arith, ap length next.run.group, length-take told.group_length bytes, next.within) in
+          rw (written, put_is, next.same, sym next.run.group, sym next.run.frames) (goes_is on later (left_is had within (go_room on later) later))
 
       is_over : (told.r0 ≢ 0) ⊎ (counted.command.blocks ≤ counted.index) → Over
       is_over (inl other) = inl (ap goes_on next.run.exit ∙ ne_eqb told.r0 0 other)

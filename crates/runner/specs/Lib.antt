@@ -1,3 +1,5 @@
 pub mod DeviceState
+pub mod Keeping
+pub mod Restored
 pub mod Taken
 pub mod steps

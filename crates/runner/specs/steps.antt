@@ -3,6 +3,10 @@ pub mod Ready
 pub mod Admitting
 pub mod Answered
 pub mod Loading
+pub mod LoadingAgain
+pub mod RunningAgain
+pub mod RunsAgain
+pub mod RunsKept
 pub mod Turning
 pub mod ActiveRuns
 pub mod ServedOne

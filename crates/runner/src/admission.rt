@@ -1,8 +1,10 @@
 //! Whether a run is admitted.
 
-ghost use Rattle.std.specs.Prelude.{◌≡◌, ◌<◌, ◌+◌, ◌^◌, length, IfOk, IfErr, OnOk, OnErr};
+ghost use Rattle.std.specs.Prelude.{false, ◌≡◌, ◌<◌, ◌≤◌, ◌+◌, ◌^◌, length, IfOk, IfErr, OnOk, OnErr};
 ghost use Rattle.std.specs.Result.{result_err};
 ghost use Rattle.common_definitions.specs.Checks.{first_failed};
+ghost use Rattle.zone_resources.specs.Holds.{is_destination};
+ghost use Rattle.image_store.specs.Namespace.{zone_at};
 ghost use Rattle.device_meaning.specs.Admission.{address_checks, destination_checks, source_checks};
 ghost use Rattle.runner.specs.steps.Admitting.{AreZonesOf, IsAdmission, refusal_by};
 ghost use Rattle.runner.specs.steps.Answered.{Refuses, Starts};
@@ -122,7 +124,9 @@ fn check_destination(
     blocks: u32,
 ) -> Result<(), Status>
     requires { zone < length namespace.now.zones }
-    ensures { result_err result ≡ first_failed (destination_checks namespace.now holds.now zone blocks) }
+    ensures why { result_err result ≡ first_failed (destination_checks namespace.now holds.now zone blocks) }
+    ensures alone { OnOk result (is_destination holds.now zone ≡ false) }
+    ensures room { OnOk result (length (zone_at namespace.now zone).blocks + blocks ≤ namespace.now.capacity) }
 {
     if holds.is_destination(zone) {
         return Err(Status::ZONE_HELD);

@@ -1,6 +1,6 @@
 //! The device, to which events happen.
 
-ghost use Rattle.std.specs.Prelude.{◌≡◌, ◌≢◌, true, false, ◌≤◌, ◌<◌, ◌+◌, ◌*◌, ◌^◌, length, take, drop, OnOk, IfErr};
+ghost use Rattle.std.specs.Prelude.{◌≡◌, ◌≢◌, true, false, ◌≤◌, ◌<◌, ◌+◌, ◌*◌, ◌^◌, length, map, take, drop, OnOk, IfErr, IfOk, IfSome, MatchOption};
 ghost use Rattle.device_meaning.specs.Judging.{interval_judge};
 ghost use Rattle.nvme_entry.specs.declared.command.TheConstants.{MOST_BLOCKS};
 ghost use Rattle.device_events.specs.Replies.{data_length};
@@ -9,16 +9,22 @@ ghost use Rattle.device_meaning.specs.Events.{HasHappened, HasServed, HasStopped
 ghost use Rattle.device_meaning.specs.State.{new_state};
 ghost use Rattle.device_meaning.specs.Reached.{IsReached};
 ghost use Rattle.common_definitions.specs.Failures.{CountsFailure};
+ghost use Rattle.nvme_entry.specs.declared.program_slot.TheConstants.{PROGRAM_SLOTS};
+ghost use Rattle.zone_resources.specs.declared.holds.TheConstants.{RUNS};
+ghost use Rattle.kept_device.specs.Kept.{place_told, slot_told};
+ghost use Rattle.runner.specs.Restored.{IsRestored, TellNone};
 ghost use Rattle.runner.specs.Taken.{HasTaken};
 ghost use Rattle.runner.specs.steps.ServedOne.{HasServedOne};
 
 use crate::device_state::DeviceState;
+use crate::restoring::{KeptDevice, kept_of, state_again};
 use crate::submission::{Submission, submit};
 use crate::turn::turn;
 use device_events::{Event, NotTaken, Out, Reply};
+use kept_device::{KeptProgram, KeptRun};
 use nvme_entry::MOST_TRANSFER;
 use program_interface::LARGEST_BLOCK;
-use std::alloc::Global;
+use std::alloc::{AllocError, Global};
 use std::marker::Model;
 use verified_run::{Stack, StepCount};
 use zns_commands::Image;
@@ -70,6 +76,48 @@ impl Device {
             group: [0; LARGEST_BLOCK],
             count: StepCount::new(),
         }
+    }
+
+    /// The device that is told by a namespace and what was kept beside it: its programs are accepted again, and its runs go on. `None`
+    /// where they tell none. It is in a state that events leave.
+    ///
+    /// # Errors
+    ///
+    /// No memory.
+    pub fn restored(
+        alloc: Global,
+        image: Image,
+        programs: &[Option<KeptProgram>],
+        runs: &[Option<KeptRun>],
+    ) -> Result<Option<Device>, AllocError>
+        requires programs { length programs.now ≡ PROGRAM_SLOTS }
+        requires runs { length runs.now ≡ RUNS }
+        ensures restored { IfOk result (λ found. MatchOption found
+            (TellNone image (map slot_told programs.now) (map place_told runs.now)) (IsRestored image (map slot_told programs.now) (map place_told runs.now))) }
+        ensures reached { IfOk result (λ found. IfSome found (IsReached interval_judge)) }
+    {
+        let Some(state) = state_again(alloc, image, programs, runs)? else {
+            return Ok(None);
+        };
+        Ok(Some(Device {
+            alloc,
+            state,
+            stack: Stack::new(),
+            group: [0; LARGEST_BLOCK],
+            count: StepCount::new(),
+        }))
+    }
+
+    /// What is kept of the device beside its namespace. With that it tells the same device.
+    ///
+    /// # Errors
+    ///
+    /// No memory.
+    pub fn kept(&self, alloc: Global) -> Result<KeptDevice, AllocError>
+        ensures { IfOk result (λ kept.
+            IsRestored self.now.namespace (map slot_told kept.programs.items) (map place_told kept.runs.items) self.now) }
+    {
+        kept_of(alloc, &self.state)
     }
 
     /// The namespace as an image. The device is in a state that events leave.

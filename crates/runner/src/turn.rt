@@ -95,6 +95,7 @@ fn put(namespace: &mut Namespace, active: &mut ActiveRun, group: &[u8])
     ensures namespace { namespace.new ≡ added namespace.old active.old.destination (given_by_put active.old.packer group.now) }
     ensures active { active.new ≡ with_packer active.old (after_put active.old.packer group.now) (length (given_by_put active.old.packer group.now)) }
     ensures one { length (given_by_put active.old.packer group.now) ≤ 1 }
+    ensures begun { length active.old.packer.pending ≤ active.old.packer.block }
 {
     if !active.packer.has_room(group.len()) {
         release(namespace, active);

@@ -1,13 +1,15 @@
 -- What the checks of a run have found.
-use Rattle.std.specs.Prelude.{ℕ, ◌≡◌, ◌≢◌, ◌<◌, ◌≤◌, ◌+◌, ◌^◌, List, is_some, option_map, true, Option, Some}
+use Rattle.std.specs.Prelude.{ℕ, ◌≡◌, ◌≢◌, ◌<◌, ◌≤◌, ◌+◌, ◌^◌, List, length, is_some, option_map, true, false, Option, Some}
 use Rattle.zone_state.specs.declared.status.Status.{Status}
 use Rattle.nvme_entry.specs.declared.command.RunCommand.{RunCommand}
 use Rattle.nvme_entry.specs.declared.command.TheConstants.{MOST_BLOCKS}
 use Rattle.program_interface.specs.RunSizes.{Sizes}
-use Rattle.image_store.specs.Namespace.{ZonedNamespace}
+use Rattle.zone_resources.specs.Holds.{is_destination}
+use Rattle.emit_append.specs.Need.{need}
+use Rattle.image_store.specs.Namespace.{ZonedNamespace, zone_at}
 use Rattle.image_store.specs.declared.geometry.ZoneBlock.{ZoneBlock}
 use Rattle.zns_commands.specs.Address.{IsZoneBlock}
-use Rattle.device_meaning.specs.Admission.{Loaded, granted_sizes, run_refusal}
+use Rattle.device_meaning.specs.Admission.{Loaded, granted_sizes, run_refusal, sizes_in}
 use Rattle.device_meaning.specs.State.{State, free_place, holds_at, loaded_at}
 use Rattle.runner.specs.steps.Ready.{AreWritten}
 use Rattle.runner.specs.declared.admission.Admitted.{Admitted}
@@ -35,3 +37,5 @@ pub record IsAdmission (s : State) (command : RunCommand) (admitted : Admitted) 
   pub zones : AreZonesOf s.namespace command admitted.source admitted.destination
   pub written : AreWritten s.namespace admitted.source command.blocks
   pub small : admitted.source.offset + command.blocks < 2 ^ 32
+  pub alone : is_destination (holds_at s) admitted.destination ≡ false
+  pub room : length (zone_at s.namespace admitted.destination).blocks + need command.blocks (sizes_in s.namespace (loaded_at s command.slot)) ≤ s.namespace.capacity

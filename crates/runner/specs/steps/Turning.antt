@@ -16,7 +16,7 @@ use Rattle.device_meaning.specs.State.{State}
 use Rattle.device_meaning.specs.View.{Active, turns_of}
 use Rattle.device_events.specs.declared.reply.Reply.{Reply}
 use Rattle.runner.specs.DeviceState.{active_of, device_state}
-use Rattle.runner.specs.steps.Ready.{FitsNamespace, IsForBlocks, IsReady}
+use Rattle.runner.specs.steps.Ready.{FitsNamespace, HasRoomLeft, IsForBlocks, IsReady}
 use Rattle.verified_run.specs.Ran.{HasRun}
 use Rattle.verified_run.specs.declared.exit.Exit.{Exit}
 use Rattle.runner.specs.declared.active_run.ActiveRun.{ActiveRun}
@@ -53,6 +53,7 @@ pub record HasRunNext (ns : ZonedNamespace) (program : List (Option Instruction)
     (told : Exit) (bytes : List ℕ) : Type 0 where
   pub run : HasRun (next_block_run ns program limit (active_of old)) told bytes new.scratch
   pub same : new ≡ with_scratch old (scratch_after (next_block_run ns program limit (active_of old)))
+  pub within : told.group_length ≤ limit
 
 -- a zone that takes so many blocks more
 pub record IsTaking (ns : ZonedNamespace) (z n : ℕ) : Type 0 where
@@ -72,12 +73,14 @@ pub record FitsOn (ns : ZonedNamespace) (program : List (Option Instruction)) (l
   pub some : 1 ≤ ns.block
   pub limits : limit ≤ ns.block
   pub room : RoomIn ns.capacity (zone_at ns a.destination) (turns_of ns program limit (active_of a))
+  pub left : HasRoomLeft ns limit a
 
 -- a turn after which the run goes on
 pub record TurnGoesOn (old new : ZonedNamespace) (program : List (Option Instruction)) (limit : ℕ) (a b : ActiveRun) : Type 0 where
   pub blocks : List (List ℕ)
   pub turns : turns_of old program limit (active_of a) ≡ record { blocks = blocks; ending = None } ∷ turns_of new program limit (active_of b)
   pub namespace : new ≡ added old a.destination blocks
+  pub left : HasRoomLeft new limit b
 
 -- a turn that ends the run
 pub record HasEnded (old new : ZonedNamespace) (program : List (Option Instruction)) (limit : ℕ) (a b : ActiveRun) (answer : Answer) : Type 0 where

@@ -3,7 +3,7 @@ use Rattle.std.proofs.lemmas.Result.{err_from_is_err_and}
 use Rattle.image_store.specs.Geometry.{Shape}
 use Rattle.device_meaning.specs.State.{State}
 use Rattle.runner.specs.steps.Admitting.{IsAdmission}
-use Rattle.runner.proofs.Starting.{is_running, refuses, starts, still_ready}
+use Rattle.runner.proofs.Starting.{is_alone, is_running, refuses, starts, still_ready}
 use Rattle.runner.proofs.admission.start.Goals as goal
 
 pub returns-in_err-admitted-clause-err : goal.returns-in_err-admitted-clause-err
@@ -26,4 +26,5 @@ invariant_of-state c =
     let admission = subst (λ (s : State). IsAdmission s c.args.command.now c.in_ok-admitted.admitted) (sym c.state.view_is) c.in_ok-admitted.ensures.admission in
     rw (c.from.ensures, c.new.ensures)
     (still_ready d.namespace d.slots d.runs c.in_ok-admitted.admitted.run _ c.state.invariant
-    (is_running d.namespace d.slots d.runs c.args.command.now c.args.queue c.args.cid c.block-block.result c.in_ok-admitted.admitted c.state.invariant admission block))
+    (is_running d.namespace d.slots d.runs c.args.command.now c.args.queue c.args.cid c.block-block.result c.in_ok-admitted.admitted c.state.invariant admission block)
+    (is_alone d.namespace d.slots d.runs c.args.command.now c.in_ok-admitted.admitted c.state.invariant admission))

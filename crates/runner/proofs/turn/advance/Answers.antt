@@ -14,7 +14,7 @@ returns-then-active-get-clause-turn g c =
     goes c.args.namespace.now (g.V.TrapFree.code c.args.prepared.now) (g.V.TrapFree.limit c.args.prepared.now) c.args.active.now c.requires.fits
     c.run_next-exit.new.active c.run_next-exit.result _ c.run_next-exit.ensures.next
     c.put.new.namespace c.put.new.active c.put.ensures.namespace c.put.ensures.active
-    c.if-exit-eq0.true (omega (arith, c.get.ensures.value, c.if-active-get.true))
+    c.put.ensures.begun c.if-exit-eq0.true (omega (arith, c.get.ensures.value, c.if-active-get.true))
 
 pub finish-requires-clause-room : goal.finish-requires-clause-room
 finish-requires-clause-room g c =

@@ -20,4 +20,5 @@ returns-clause-next g c =
     record {
       run = run;
       same = ap (with_scratch c.args.active.now) (sym run.scratch);
+      within = c.run_over.ensures.limit;
     }

@@ -5,7 +5,3 @@ use Rattle.durable_device.proofs.durable_device.DurableDevice.fold.Goals as goal
 pub returns-in_err-base-clause-any_moment : goal.returns-in_err-base-clause-any_moment
 returns-in_err-base-clause-any_moment g c =
     nothing_done IsDeviceBase next_state c.args.self.now.store.machine c.args.self.now.store.journal.gate _ c.requires _ (λ file is. is)
-
-pub returns-in-None-clause-any_moment : goal.returns-in-None-clause-any_moment
-returns-in-None-clause-any_moment g c =
-    nothing_done IsDeviceBase next_state c.args.self.now.store.machine c.args.self.now.store.journal.gate _ c.requires _ (λ file is. is)

@@ -1,0 +1,8 @@
+use Rattle.std.proofs.Common.{◌≡◌, Some, map, take}
+use Rattle.durable_machine.specs.Batches.{bytes_of}
+use Rattle.kept_device.specs.Kept.{slot_told}
+use Rattle.kept_device.specs.Sections.{slot_in}
+use Rattle.durable_device.proofs.sections.programs_in.Given as goal
+
+abbrev pub invariant-loop-section : goal.invariant-loop-section
+invariant-loop-section l = map slot_in (bytes_of (take l.section-index l.sections)) ≡ map Some (map slot_told l.programs.items)

@@ -1,0 +1,8 @@
+use Rattle.std.proofs.Common.{◌≡◌, Some, map, take}
+use Rattle.durable_machine.specs.Batches.{bytes_of}
+use Rattle.kept_device.specs.Kept.{place_told}
+use Rattle.kept_device.specs.Sections.{place_in}
+use Rattle.durable_device.proofs.sections.run_sections.Given as goal
+
+abbrev pub invariant-loop-kept : goal.invariant-loop-kept
+invariant-loop-kept l = map place_in (bytes_of l.sections.items) ≡ map Some (map place_told (take l.kept-index l.runs))

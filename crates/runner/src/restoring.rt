@@ -1,0 +1,76 @@
+//! What is restored of what was kept.
+
+ghost use Rattle.std.specs.Prelude.{◌≡◌, ◌<◌, ℕ, Some, None, IfOk, MatchOption, OnSome, get_or, length, map};
+ghost use Rattle.nvme_entry.specs.declared.program_slot.TheConstants.{PROGRAM_SLOTS};
+ghost use Rattle.zone_resources.specs.declared.holds.TheConstants.{RUNS};
+ghost use Rattle.image_store.specs.Namespace.{IsNamespace};
+ghost use Rattle.device_meaning.specs.Judging.{interval_judge};
+ghost use Rattle.device_meaning.specs.Reached.{IsReached};
+ghost use Rattle.kept_device.specs.Kept.{SavedProgram, place_told, slot_told};
+ghost use Rattle.runner.specs.Restored.{IsOfBytes, IsRestored, TellNone};
+
+use crate::device_state::DeviceState;
+use crate::kept_runs::kept_runs;
+use crate::kept_slots::{kept_slots, slots_again};
+use crate::runs_again::runs_again;
+use kept_device::{KeptProgram, KeptRun};
+use std::alloc::{AllocError, Global};
+use zns_commands::{Image, Namespace};
+
+/// What is kept of a device beside its namespace.
+#[derive(Drop)]
+pub struct KeptDevice {
+    /// The programs in its slots.
+    pub programs: Vec<Option<KeptProgram>>,
+    /// The runs at its places.
+    pub runs: Vec<Option<KeptRun>>,
+}
+
+/// What is kept beside the namespace of what a device has. It tells the same device.
+///
+/// # Errors
+///
+/// No memory.
+pub fn kept_of(alloc: Global, state: &DeviceState) -> Result<KeptDevice, AllocError>
+    requires reached { IsReached interval_judge state.now }
+    ensures { IfOk result (λ kept.
+        IsRestored state.now.namespace (map slot_told kept.programs.items) (map place_told kept.runs.items) state.now) }
+{
+    let programs = kept_slots(alloc, &state.slots)?;
+    let runs = kept_runs(alloc, &state.runs)?;
+    Ok(KeptDevice { programs, runs })
+}
+
+/// What a device has that is restored of a namespace and of what was kept beside it; `None` where that tells no device.
+///
+/// # Errors
+///
+/// No memory.
+pub fn state_again(
+    alloc: Global,
+    image: Image,
+    programs: &[Option<KeptProgram>],
+    runs: &[Option<KeptRun>],
+) -> Result<Option<DeviceState>, AllocError>
+    requires programs { length programs.now ≡ PROGRAM_SLOTS }
+    requires runs { length runs.now ≡ RUNS }
+    ensures restored { IfOk result (λ found. MatchOption found
+        (TellNone image (map slot_told programs.now) (map place_told runs.now)) (IsRestored image (map slot_told programs.now) (map place_told runs.now))) }
+    ensures bytes { IfOk result (λ found. OnSome found
+        ((k : ℕ) (p : SavedProgram) → k < PROGRAM_SLOTS → get_or (map slot_told programs.now) k None ≡ Some p → IsOfBytes p)) }
+    ensures sound { IsNamespace image }
+{
+    let namespace = Namespace::new(image);
+    let block = namespace.geometry().block();
+    let Some(slots) = slots_again(alloc, programs, block)? else {
+        return Ok(None);
+    };
+    let Some(runs) = runs_again(&namespace, &slots, runs) else {
+        return Ok(None);
+    };
+    Ok(Some(DeviceState {
+        namespace,
+        slots,
+        runs,
+    }))
+}
