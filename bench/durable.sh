@@ -2,7 +2,7 @@
 # Times Appends of 4 KiB in batches of 32 by `zscli serve --frames`, with --durable and without, beside a program that appends the
 # same blocks to a file with an fdatasync behind each batch. Prints the least nanoseconds of an Append of several rounds. The files
 # are in memory (/dev/shm) unless FOLDER names another folder: in memory no disk is waited for, so what is seen is what the journal
-# costs beside it.
+# costs beside it. Then the nanoseconds of each when the journal is opened and done again, and by `zscli exec` of the same as text.
 set -eu
 here=$(cd "$(dirname "$0")" && pwd)
 work=$(mktemp -d "${FOLDER:-/dev/shm}/durable.XXXXXX")
@@ -70,11 +70,38 @@ def plain() -> float:
         return time.perf_counter() - begun
 
 
-def least(what) -> int:
+def spent(*words) -> float:
+    """The seconds that the program takes, with nothing to read."""
+    begun = time.perf_counter()
+    subprocess.run([zscli, *words], stdin=subprocess.DEVNULL, stdout=subprocess.DEVNULL, check=True)
+    return time.perf_counter() - begun
+
+
+def opened() -> float:
+    """The seconds that opening the journal of the Appends takes, above those of one without any."""
+    shutil.copy(work / "empty.img", work / "new.img")
+    spent("serve", work / "new.img", "--durable", "--frames")
+    return spent("serve", work / "zoned.img", "--durable", "--frames") - spent("serve", work / "new.img", "--durable", "--frames")
+
+
+def executed() -> float:
+    """The seconds that the same Appends take by `exec`, above those of none."""
+    shutil.copy(work / "empty.img", work / "new.img")
+    none = spent("exec", work / "new.img", os.devnull)
+    return spent("exec", work / "new.img", work / "commands") - none
+
+
+def least(what, count: int = BATCH * BATCHES) -> int:
     """The least nanoseconds of an Append."""
-    return round(min(what() for _ in range(rounds)) / (BATCH * BATCHES) * 1e9)
+    return round(min(what() for _ in range(rounds)) / count * 1e9)
 
 
 durable, held, file = least(lambda: served("--durable", "--frames")), least(lambda: served("--frames")), least(plain)
 print(f"an Append of 4 KiB in batches of {BATCH}: durable {durable} ns, not durable {held} ns, a file that is synced {file} ns")
+(work / "data").write_bytes(data)
+line = subprocess.run([zscli, "entry", "append", "--lba", "0", "--data", work / "data"], stdout=subprocess.PIPE, check=True).stdout
+(work / "commands").write_bytes(line * (BATCH * (BATCHES + 1)))
+served("--durable", "--frames")
+opening, executing = (least(what, BATCH * (BATCHES + 1)) for what in (opened, executed))
+print(f"an Append that is done again: by opening the journal {opening} ns, by exec of it as text {executing} ns")
 END
