@@ -20,7 +20,8 @@ with a run when it is told to, one block at a turn.
     ...     run.turn(), run.wait()
     (False, Result(records=0, blocks=0))
 
-The image is saved by `save`, and where the device ends: behind `with`, or by `shut`. The program is `zscli` of the repository in
+The image is saved by `save`, and where the device ends: behind `with`, or by `shut`. With `durable=True` a method returns when what it
+did is on the disk: after a crash the device that is opened again has it, with its programs, results and runs. The program is `zscli` of the repository in
 which this file stands, or the one that the variable `PIFNJARL_ZSCLI` names.
 """
 
@@ -529,14 +530,16 @@ class Run:
 
 
 class Device:
-    """A device over an image file. It holds the file, and what happens is in its memory, until it saves or ends.
+    """A device over an image file. It holds the file, and what happens is in its memory, until it saves or ends; with `durable`, it is
+    on the disk before a method returns, in a journal that takes the image's place.
 
     Its methods are called one at a time. Where nothing else is said, one that raises `Refused` changed nothing. A zone is its
     lowest LBA; `open`, `close`, `finish`, `reset` and `offline` also take `ALL_ZONES`.
     """
 
-    def __init__(self, image: FilePath, *, program: Optional[FilePath] = None, queue: int = 1) -> None:
-        """Opens a device over an image; `program` is `zscli`, and `queue` the submission queue of the commands that come.
+    def __init__(self, image: FilePath, *, program: Optional[FilePath] = None, queue: int = 1, durable: bool = False) -> None:
+        """Opens a device over an image; `program` is `zscli`, and `queue` the submission queue of the commands that come. A durable one
+        may be a journal too: the runs that a crash left there get their turns first.
 
         >>> Device("no image")
         Traceback (most recent call last):
@@ -546,9 +549,10 @@ class Device:
         self.queue = queue
         self._identifier = 0
         self._runs: Dict[Tuple[int, int], Run] = {}
-        self._stream = _Stream([zscli(program), "serve", os.fspath(image), "--frames"])
-        # what answers this says that the image is loaded
-        self.drain(turns=0)
+        durably = ["--durable"] if durable else []
+        self._stream = _Stream([zscli(program), "serve", os.fspath(image), "--frames", *durably])
+        # what answers this says that the image is loaded; no run is left whose identifier a command could get
+        self.drain()
         self.geometry = _geometry(image)
 
     def __enter__(self) -> Device:
@@ -819,8 +823,10 @@ class Device:
         """Ends the run whose completion this is, if it is one."""
         completion = frame.completion
         if completion is not None:
-            run = self._runs.pop((completion.queue, completion.identifier))
-            run._result = Result(completion.dword0, completion.dword1)
+            run = self._runs.pop((completion.queue, completion.identifier), None)
+            # (of a run that was left there, nobody waits for it)
+            if run is not None:
+                run._result = Result(completion.dword0, completion.dword1)
 
 
 # ---- examples

@@ -113,6 +113,22 @@ class Devices(Over):
         with pifnjarl.Device(self.folder / "copy.img") as copy:
             self.assertEqual(copy.read(128, 3), b"x" * 1024 + bytes(512))
 
+    def test_a_durable_device_is_there_after_it_is_killed(self) -> None:
+        device = pifnjarl.Device(self.image, durable=True)
+        first = device.append(0, ORDERS)
+        device.open(64)
+        device.load(0, self.filter(), emit=66)
+        device.run(0, first, 4, to=64, argument=3).turn()
+        device._stream._program.kill()
+        with self.assertRaises(pifnjarl.DeviceError):
+            device.save()
+        with pifnjarl.Device(self.image, durable=True) as again:
+            self.assertEqual(again.read(first, 4), ORDERS)
+            self.assertEqual([record[:8] for record in again.records(64, 1)], [b"order 01", b"order 03"])
+            again.run(0, first, 4, to=64, argument=1).wait()
+        with pifnjarl.Device(self.image, durable=True) as again:
+            self.assertEqual([record[:8] for record in again.records(65, 1)], [b"order 02"])
+
     def test_a_run_that_is_left_ends_with_the_device(self) -> None:
         """What it has still to append is in the image."""
         with pifnjarl.Device(self.image) as device:
