@@ -1,8 +1,9 @@
 -- The instructions of a program fit the fields that spell them.
-use Rattle.std.proofs.Common.{ℕ, zero, suc, ◌≡◌, Bool, true, false, List, [], ◌∷◌, Option, Some, None, subst}
+use Rattle.std.proofs.Common.{ℕ, zero, suc, ◌≡◌, ◌<◌, Bool, true, false, List, [], ◌∷◌, Option, Some, None, subst}
 use Rattle.std.specs.Int.{w16}
 use Rattle.std.specs.List.{AllByRecursion}
 use Rattle.std.specs.Prelude.{FitsSigned, if◌then◌else◌}
+use Rattle.program_interface.specs.declared.registers.TheConstants.{REGISTERS}
 use Rattle.instruction_set.specs.Program.{IsProgram, instruction_at, is_wide, slots_of}
 use Rattle.instruction_set.specs.Spelling.{Fits, first_slot}
 use Rattle.instruction_set.specs.declared.instruction.Instruction.{Instruction}
@@ -35,9 +36,13 @@ fits_at program is slot i at =
     let Q : List (Option Instruction) → Type 0 = λ slots. instruction_at slots slot ≡ Some i in
     all_fit is.instructions is.fits slot i (subst Q is.layout at)
 
--- the offset of each instruction is a number of 16 bits (RFC 9669, 3.1)
-pub record HasShortOffsets (program : List (Option Instruction)) : Type 0 where
+-- the offset of each instruction is a number of 16 bits, and its destination one of the registers (RFC 9669, 3.1)
+pub record HasFittingFields (program : List (Option Instruction)) : Type 0 where
   pub offsets : (slot : ℕ) (i : Instruction) → instruction_at program slot ≡ Some i → FitsSigned w16 (first_slot i).offset
+  pub destinations : (slot : ℕ) (i : Instruction) → instruction_at program slot ≡ Some i → (first_slot i).dst < REGISTERS
 
-pub short_offsets : (program : List (Option Instruction)) → IsProgram program → HasShortOffsets program
-short_offsets program is = record { offsets = λ slot i at. (fits_at program is slot i at).offset }
+pub fitting_fields : (program : List (Option Instruction)) → IsProgram program → HasFittingFields program
+fitting_fields program is = record {
+  offsets = λ slot i at. (fits_at program is slot i at).offset;
+  destinations = λ slot i at. (fits_at program is slot i at).dst;
+}

@@ -14,6 +14,7 @@ use Rattle.accepted_programs.specs.Cells.{joined_each}
 use Rattle.accepted_programs.specs.Facts.{facts_at, facts_at_target, facts_behind, given_below, gives, leads, merge, slot_behind}
 use Rattle.accepted_programs.proofs.KnownFacts.{AreFacts, SomeAreFacts, ahead_given, behind_given, given_facts, known_facts, merge_facts}
 use Rattle.accepted_programs.proofs.Edges.{IsAlong, Moved}
+use Rattle.accepted_programs.proofs.SumLaws.{join_first_fits, join_second_fits}
 use Rattle.accepted_programs.specs.Meets.{Belong, MeetsSome, word_in}
 use Rattle.accepted_programs.specs.declared.facts.Facts.{Facts}
 
@@ -56,6 +57,8 @@ module _ {D : Type 0} {IsFact : D → Type 0} {contains : D → ℕ → Type 0} 
           })
           (second.cells j joined.second joined.in_second));
       group = omega (arith, h.group);
+      sum = tt;
+      fit = join_first_fits s.registers a.fit b.fit h.fit;
     }
     merge_first (Some a) None first second h = h
     merge_first None b first second h = absurd h
@@ -75,6 +78,8 @@ module _ {D : Type 0} {IsFact : D → Type 0} {contains : D → ℕ → Type 0} 
             within = h.cells j joined.second joined.in_second;
           }));
       group = omega (arith, h.group);
+      sum = tt;
+      fit = join_second_fits s.registers a.fit b.fit h.fit;
     }
     merge_second (Some a) None first second h = absurd h
     merge_second None b first second h = h

@@ -24,7 +24,7 @@ use Rattle.accepted_programs.specs.Cells.{cell_of, filled, is_stack, joined_each
 use Rattle.common_definitions.proofs.Proved.{all_append, all_at, all_drop, all_same, all_set}
 use Rattle.accepted_programs.proofs.CellLaws.{if_some, joined_known, left_known, none_known, set_known}
 use Rattle.accepted_programs.specs.declared.facts.TheConstants.{CELLS}
-use Rattle.accepted_programs.specs.Facts.{after_store, along, area_of, cell_at, compared_fact, enters_stack, facts_at_start, fact, facts_at, facts_at_target, facts_behind, given_below, gives, is_register, kept_fact, leads, loaded_fact, merge, slot_behind, source_fact, with_both, with_fact}
+use Rattle.accepted_programs.specs.Facts.{after_store, along, area_of, cell_at, compared_fact, enters_stack, facts_at_start, fact, facts_at, facts_at_target, facts_behind, given_below, gives, is_register, kept_fact, leads, loaded_fact, merge, slot_behind, source_fact, with_both, with_fact, with_source, with_sums}
 use Rattle.accepted_programs.specs.declared.facts.Facts.{Facts}
 
 -- ---- the words of an instruction
@@ -98,12 +98,17 @@ module _ {D : Type 0} {IsFact : D → Type 0} {operations : Operations D} (give 
       → AreFacts IsFact (with_fact operations facts r d)
   with_facts facts r d are is = record { registers = all_set IsFact facts.registers r d are.registers is; cells = are.cells }
 
+  pub told_facts : (facts : Facts D) (dst : ℕ) (source : Source) (both : D × D) → AreFacts IsFact facts → IsFact both.0 × IsFact both.1
+      → AreFacts IsFact (with_source operations (with_fact operations facts dst both.0) source both.1)
+  told_facts facts dst (Register r) both are is =
+      with_facts (with_fact operations facts dst both.0) r both.1 (with_facts facts dst both.0 are is.0) is.1
+  told_facts facts dst (Immediate z) both are is = with_facts facts dst both.0 are is.0
+
   both_facts : (facts : Facts D) (dst : ℕ) (source : Source) (both : Option (D × D)) → AreFacts IsFact facts
       → IfSome both (λ facts. IsFact facts.0 × IsFact facts.1) → SomeAreFacts IsFact (with_both operations facts dst source both)
   both_facts facts dst source None are is = tt
-  both_facts facts dst (Register r) (Some both) are is =
-      with_facts (with_fact operations facts dst both.0) r both.1 (with_facts facts dst both.0 are is.0) is.1
-  both_facts facts dst (Immediate z) (Some both) are is = with_facts facts dst both.0 are is.0
+  both_facts facts dst source (Some both) are is =
+      let told = told_facts facts dst source both are is in record { registers = told.registers; cells = told.cells }
 
   along_facts : (facts : Facts D) (taken : Bool) (width : Width) (relation : Relation) (dst : ℕ) (source : Source)
       → AreFacts IsFact facts → SomeAreFacts IsFact (along operations taken width relation dst source facts)
@@ -111,6 +116,12 @@ module _ {D : Type 0} {IsFact : D → Type 0} {operations : Operations D} (give 
       both_facts facts dst source _ are
       (give.refine width relation taken (fact operations facts dst) (compared_fact operations width facts source)
       (is_register dst source) (fact_is facts dst are) (compared_is facts width source are))
+
+  -- a word is left, and what is known of registers together is no fact
+  word_facts : (i : Instruction) (facts : Facts D) (r : ℕ) (d : D) → AreFacts IsFact facts → IsFact d
+      → AreFacts IsFact (with_sums operations i facts (with_fact operations facts r d))
+  word_facts i facts r d are is =
+      record { registers = all_set IsFact facts.registers r d are.registers is; cells = are.cells }
 
   -- ---- the stack
   kept_is : (facts : Facts D) (size : Size) (src : ℕ) (d : D) → AreFacts IsFact facts → kept_fact operations facts size src ≡ Some d
@@ -149,24 +160,24 @@ module _ {D : Type 0} {IsFact : D → Type 0} {operations : Operations D} (give 
     behind_facts : (i : Instruction) (facts : Facts D) → AreFacts IsFact facts
         → SomeAreFacts IsFact (facts_behind operations block i facts)
     behind_facts (LoadImmediate dst value) facts are =
-        with_facts facts dst _ are (give.constant (value % 2 ^ 64) (mod-lt value (lit< tt)))
-    behind_facts (Load size dst src offset) facts are = with_facts facts dst _ are (loaded_is facts size src offset are)
-    behind_facts (LoadSigned size dst src offset) facts are = with_facts facts dst _ are (give.loaded_signed size)
+        word_facts (LoadImmediate dst value) facts dst _ are (give.constant (value % 2 ^ 64) (mod-lt value (lit< tt)))
+    behind_facts (Load size dst src offset) facts are = word_facts (Load size dst src offset) facts dst _ are (loaded_is facts size src offset are)
+    behind_facts (LoadSigned size dst src offset) facts are = word_facts (LoadSigned size dst src offset) facts dst _ are (give.loaded_signed size)
     behind_facts (StoreImmediate size dst offset value) facts are =
         stored_facts block facts size dst offset None are (λ d e. cc)
     behind_facts (StoreRegister size dst src offset) facts are =
         stored_facts block facts size dst offset (kept_fact operations facts size src) are (λ d e. kept_is facts size src d are e)
     behind_facts (Arithmetic width operation dst source) facts are =
-        with_facts facts dst _ are
+        word_facts (Arithmetic width operation dst source) facts dst _ are
         (give.alu (word.Binary width operation) _ _ (fact_is facts dst are) (source_is facts source are))
     behind_facts (Negate width dst) facts are =
-        with_facts facts dst _ are
+        word_facts (Negate width dst) facts dst _ are
         (give.alu (word.Negate width) _ _ (fact_is facts dst are) (give.constant 0 (lit< tt)))
     behind_facts (MoveSigned extension dst src) facts are =
-        with_facts facts dst _ are
+        word_facts (MoveSigned extension dst src) facts dst _ are
         (give.alu (word.MoveSigned extension) _ _ (give.constant 0 (lit< tt)) (fact_is facts src are))
     behind_facts (SwapBytes swap size dst) facts are =
-        with_facts facts dst _ are
+        word_facts (SwapBytes swap size dst) facts dst _ are
         (give.alu (word.SwapBytes swap size) _ _ (fact_is facts dst are) (give.constant 0 (lit< tt)))
     behind_facts (Jump distance) facts are = tt
     behind_facts (JumpLong distance) facts are = tt

@@ -1,3 +1,4 @@
+mod ByBounds
 mod CellLaws
 mod Edges
 mod FirstRefusals
@@ -14,4 +15,5 @@ mod Registers
 mod Soundness
 mod Statements
 mod StoreLaws
+mod SumLaws
 mod Unhindered

@@ -86,7 +86,7 @@ module _ {D : Type 0} {IsFact : D → Type 0} {contains : D → ℕ → Type 0} 
   module _ (facts : Facts D) (ws : List ℕ) (are : AreFacts IsFact facts) (words : (k : ℕ) → get_or ws k 0 < 2 ^ 64)
       (all : Belong contains facts.registers ws) where
     -- a register's word belongs to its fact
-    belongs : (r : ℕ) → Belongs IsFact contains (fact operations facts r) (get_or ws r 0)
+    pub belongs : (r : ℕ) → Belongs IsFact contains (fact operations facts r) (get_or ws r 0)
     belongs r = record {
       fact = fact_is sound.facts facts r are;
       word = words r;

@@ -22,7 +22,7 @@ use Rattle.accepted_programs.specs.Accepted.{refusal}
 use Rattle.accepted_programs.proofs.CellLaws.{none_known}
 use Rattle.accepted_programs.specs.Facts.{facts_at_start, facts_at}
 use Rattle.accepted_programs.proofs.Flow.{arrives}
-use Rattle.accepted_programs.proofs.Fitting.{HasShortOffsets, short_offsets}
+use Rattle.accepted_programs.proofs.Fitting.{HasFittingFields, fitting_fields}
 use Rattle.accepted_programs.specs.Emitted.{group_in, most_below, most_emitted}
 use Rattle.accepted_programs.proofs.KnownFacts.{known_facts}
 use Rattle.accepted_programs.specs.Laws.{AcceptedAccessesLie, AcceptedEmitsNoMore, AcceptedEndsByItself, AcceptedNeverTraps, FactsAreMet}
@@ -69,9 +69,11 @@ module _ {D : Type 0} {IsFact : D → Type 0} {contains : D → ℕ → Type 0} 
             (none, (context_at, (block_at, (scratch_at, (none, (none, (none, (none, (none, (none, (stack_end, tt)))))))))));
         cells = λ j d e. absurd (none_known CELLS j d e);
         group = omega arith;
+        sum = tt;
+        fit = tt;
       }
 
-  module _ (program : List (Option Instruction)) (short : HasShortOffsets program) (sizes : Sizes) (are_sizes : AreSizes sizes) where
+  module _ (program : List (Option Instruction)) (fields : HasFittingFields program) (sizes : Sizes) (are_sizes : AreSizes sizes) where
     -- ---- a step
     abbrev Holds : State → Type 0
     Holds s = Stands contains operations program sizes s
@@ -110,13 +112,14 @@ module _ {D : Type 0} {IsFact : D → Type 0} {contains : D → ℕ → Type 0} 
       passed_by i facts begins known meets =
           let passes = passed i facts (record { begins = begins; are = known }) in
           let are = known_facts sound.facts sizes.block program s.slot facts known in
-          let near = short.offsets s.slot i begins in
+          let near = fields.offsets s.slot i begins in
+          let into = fields.destinations s.slot i begins in
           let none = unhindered sound program sizes i facts s are_sizes holds.is holds.block_long are meets near passes in
           cond_both (is_exit i) true true (λ _. EndsOrLeads s)
           (λ exits. inl (rw (begins, decided_ends s i (least_cause program sizes.limit s i) none exits) refl))
           (λ runs_on.
           let goes = decided_goes s i (least_cause program sizes.limit s i) none runs_on in
-          let there = moved sound program sizes i facts s are_sizes holds.is holds.block_long are meets near runs_on passes in
+          let there = moved sound program sizes i facts s are_sizes holds.is holds.block_long are meets near into runs_on passes in
           inr
           (record {
             to = after s i;
@@ -168,7 +171,7 @@ module _ {D : Type 0} {IsFact : D → Type 0} {contains : D → ℕ → Type 0} 
         → place_known operations sizes.block at known ≡ Some place → AccessesAt program place s
     lies_at s (Some i) (Some facts) place holds passed begins known meets placed =
         accesses_at sound program sizes i facts s place are_sizes holds.is holds.block_long
-        (known_facts sound.facts sizes.block program s.slot facts known) meets (short.offsets s.slot i begins)
+        (known_facts sound.facts sizes.block program s.slot facts known) meets (fields.offsets s.slot i begins)
         (passed i facts (record { begins = begins; are = known }) EmitLimit) begins placed
     lies_at s (Some i) None place holds passed begins known meets placed = absurd meets
     lies_at s None known place holds passed begins e meets placed = cc
@@ -235,7 +238,7 @@ module _ {D : Type 0} {IsFact : D → Type 0} {contains : D → ℕ → Type 0} 
   -- ---- the theorems
   pub accepted_never_traps : AcceptedNeverTraps operations
   accepted_never_traps program is sizes are_sizes accepted =
-      starts program (short_offsets program is) sizes are_sizes accepted sizes.limit (λ s holds. holds.group) (begins program is)
+      starts program (fitting_fields program is) sizes are_sizes accepted sizes.limit (λ s holds. holds.group) (begins program is)
 
   pub accepted_ends_by_itself : AcceptedEndsByItself operations
   accepted_ends_by_itself program is sizes are_sizes accepted bytes context scratch long starting fuel enough =
@@ -250,24 +253,24 @@ module _ {D : Type 0} {IsFact : D → Type 0} {contains : D → ℕ → Type 0} 
 
   pub accepted_emits_no_more : AcceptedEmitsNoMore operations
   accepted_emits_no_more program is sizes are_sizes accepted bytes context scratch long starting =
-      let short = short_offsets program is in
-      let run = starts program short sizes are_sizes accepted (most_emitted operations program sizes.block)
-      (λ s holds. group_most program short sizes are_sizes s (facts_at operations sizes.block program s.slot)
+      let fields = fitting_fields program is in
+      let run = starts program fields sizes are_sizes accepted (most_emitted operations program sizes.block)
+      (λ s holds. group_most program fields sizes are_sizes s (facts_at operations sizes.block program s.slot)
       (begins_inside program s.slot holds.here) refl holds.known)
       (begins program is) bytes context scratch long starting in
       run.group
 
   pub accepted_accesses_lie : AcceptedAccessesLie operations
   accepted_accesses_lie program is sizes are_sizes accepted bytes context scratch long starting steps place placed =
-      let short = short_offsets program is in
-      let start = start_holds program short sizes are_sizes (begins program is) bytes context scratch long starting in
+      let fields = fitting_fields program is in
+      let start = start_holds program fields sizes are_sizes (begins program is) bytes context scratch long starting in
       let passed = accepted_fails_nowhere operations program sizes accepted in
       let s = state_after_steps program sizes.limit steps (at_start bytes context scratch) in
-      let there = comes program short sizes are_sizes steps 0 (at_start bytes context scratch) start (λ k less. passed _) in
-      lies_at program short sizes are_sizes s _ _ place there (passed s.slot) refl refl there.known placed
+      let there = comes program fields sizes are_sizes steps 0 (at_start bytes context scratch) start (λ k less. passed _) in
+      lies_at program fields sizes are_sizes s _ _ place there (passed s.slot) refl refl there.known placed
 
   pub facts_are_met : FactsAreMet contains operations
   facts_are_met program is sizes are_sizes bytes context scratch long starting steps passed =
-      let short = short_offsets program is in
-      let start = start_holds program short sizes are_sizes (begins program is) bytes context scratch long starting in
-      (comes program short sizes are_sizes steps 0 (at_start bytes context scratch) start passed).known
+      let fields = fitting_fields program is in
+      let start = start_holds program fields sizes are_sizes (begins program is) bytes context scratch long starting in
+      (comes program fields sizes are_sizes steps 0 (at_start bytes context scratch) start passed).known

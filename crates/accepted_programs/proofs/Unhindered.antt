@@ -1,11 +1,11 @@
 -- An instruction that passes every check of a verifier has no cause to be stuck, in a state that meets
 -- the facts.
-use Rattle.std.proofs.Common.{ℕ, ℤ, pos, ◌≡◌, ◌+◌, ◌^◌, ◌<◌, ◌≤◌, Bool, true, false, not, ◌&&◌, List, [], ◌∷◌, length, find, Option, Some, None, is_some, is_none, FitsSigned, lit<, refl, sym, arith}
-use Rattle.std.proofs.lemmas.Bool.{and_parts, and_from, and_right, cond_both, eqb-false, le-leb, le-ltb, leb-true, ltb-false, ne_eqb, or_from, or_parts}
+use Rattle.std.proofs.Common.{ℕ, ℤ, pos, ◌≡◌, ◌+◌, ◌^◌, ◌<◌, ◌≤◌, Bool, true, false, not, ◌&&◌, List, [], ◌∷◌, length, find, Option, Some, None, is_some, is_none, FitsSigned, lit<, refl, sym, arith, subst, get_or, inl, inr, ◌%◌, ◌-ℤ◌}
+use Rattle.std.proofs.lemmas.Bool.{and_cases, and_parts, and_from, and_right, cond_both, eqb-false, eqb-true, le-leb, le-ltb, leb-true, ltb-false, ltb-true, ne_eqb, not-false, or_cases, or_from, or_parts}
 use Rattle.std.proofs.lemmas.Int.{ints}
 use Rattle.std.specs.Int.{w16}
 use Rattle.std.specs.Option.{option_flatten}
-use Rattle.std.specs.Prelude.{◌==◌, nat_le, nat_lt, slice_index}
+use Rattle.std.specs.Prelude.{◌==◌, ◌≤ℤ◌, int_le, nat_le, nat_lt, slice_index}
 use Rattle.instruction_set.specs.Instruction.{access_of, distance_of, is_emit, signed_size_of, size_of, target}
 use Rattle.instruction_set.specs.Spelling.{first_slot}
 use Rattle.instruction_set.specs.declared.instruction.Instruction.{Instruction}
@@ -26,14 +26,16 @@ use Rattle.program_meaning.specs.declared.cause.Cause.TheVariants as cause
 use Rattle.program_interface.specs.declared.area.Area.{Area}
 use Rattle.program_interface.specs.declared.frame.TheConstants.{FRAME_LENGTH_BYTES}
 use Rattle.program_interface.specs.RunSizes.{AreSizes, Sizes}
-use Rattle.word_domain.specs.Domain.{IsSound, Operations}
+use Rattle.word_domain.specs.Domain.{IsAtOffset, IsSound, Operations}
+use Rattle.word_domain.specs.declared.offsets.Offsets.{Offsets}
 use Rattle.program_meaning.proofs.Proved.{areas_are_apart, blocks_are_short}
-use Rattle.accepted_programs.specs.Accepted.{emits_amiss, fails, falls_off, leads_nowhere, loads_outside, passes_limit, stores_outside}
-use Rattle.accepted_programs.specs.Facts.{area_of, fact, greatest_length, least_length}
+use Rattle.accepted_programs.specs.Accepted.{emits_amiss, ends_inside, fails, falls_off, fits_by_sum, is_record, leads_nowhere, loads_outside, passes_limit, record_fits, stores_outside}
+use Rattle.accepted_programs.specs.Facts.{area_of, fact, greatest, greatest_length, least_length}
 use Rattle.accepted_programs.proofs.KnownFacts.{AreFacts}
-use Rattle.accepted_programs.specs.Meets.{Meets}
+use Rattle.accepted_programs.specs.Meets.{AreWithin, Meets}
 use Rattle.accepted_programs.proofs.Registers.{word_of}
 use Rattle.accepted_programs.specs.declared.facts.Facts.{Facts}
+use Rattle.accepted_programs.specs.declared.sums.Fit.{Fit}
 use Rattle.accepted_programs.specs.declared.reason.Reason.{Reason}
 use Rattle.accepted_programs.specs.declared.reason.Reason.TheVariants as reason
 
@@ -74,6 +76,32 @@ shorter block area address n most less lies =
     let both = and_parts (nat_le (address_of area) address) (nat_le (address + most) end) lies in
     let last = leb-true (address + most) end both.1 in
     and_from (nat_le (address_of area) address) (nat_le (address + n) end) both.0 (le-leb (address + n) end (omega arith))
+
+-- an address that isn't before an area's
+from_start : (start address : ℕ) (low : ℤ) → int_le (pos 0) low ≡ true → low ≤ℤ (pos address -ℤ pos start) → start ≤ address
+from_start start address low not_before far =
+    let above : pos 0 ≤ℤ low = grind (arith, ints) in omega (arith, ints, above, far)
+
+-- a sum that doesn't wrap, and is at most an end and a number more, is at most the end without it
+without_wrap : (x y more most end : ℕ) → x + y + more < 2 ^ 64 → (x + y + more) % 2 ^ 64 ≤ most → most ≤ end + more → x + y ≤ end
+without_wrap x y more most end no_wrap sum at_end = omega (arith, no_wrap, sum, at_end)
+
+-- R1 and R2 are the two, in either order
+record_sum : (f : Fit) (words : List ℕ) → is_record f ≡ true → AreWithin (Some f) words
+    → (get_or words 1 0 + get_or words 2 0 + f.more) % 2 ^ 64 ≤ f.most
+record_sum f words is within = elim (or_cases ((f.first == 1) && (f.second == 2)) ((f.first == 2) && (f.second == 1)) is) [
+  | inl in_order ↦
+      let both = and_parts (f.first == 1) (f.second == 2) in_order in
+      let first = eqb-true f.first 1 both.0 in
+      let second = eqb-true f.second 2 both.1 in
+      rw (sym first, sym second) within
+  | inr other ↦
+      let both = and_parts (f.first == 2) (f.second == 1) other in
+      let first = eqb-true f.first 2 both.0 in
+      let second = eqb-true f.second 1 both.1 in
+      let sum : (get_or words 2 0 + get_or words 1 0 + f.more) % 2 ^ 64 ≤ f.most = rw (sym first, sym second) within in
+      omega (arith, sum)
+]
 
 -- the offset 0 and the sizes of accesses are those of instructions
 pub no_offset_fits : FitsSigned w16 (pos 0)
@@ -154,6 +182,37 @@ module _ {D : Type 0} {IsFact : D → Type 0} {contains : D → ℕ → Type 0} 
     pub bounded : (least_length operations facts ≤ register s 2) × (register s 2 ≤ greatest_length operations facts)
     bounded = sound.bounds (fact operations facts 2) (register s 2) (word_of sound facts s are is meets 2)
 
+    -- the sum of R1 and R2 is at most the end of the area that R1 is known to be in
+    sum_inside : (f : Fit) (told : Offsets) → AreWithin (Some f) s.registers → IsAtOffset told (register s 1)
+        → (is_record f && int_le (pos 0) told.low && nat_le 1 (least_length operations facts) && ends_inside operations block facts f told) ≡ true
+        → lies_in block told.area (register s 1) (register s 2) ≡ true
+    sum_inside f told within there fit =
+        let start = address_of told.area in
+        let end = address_of told.area + length_of block told.area in
+        let last = and_parts (is_record f && int_le (pos 0) told.low && nat_le 1 (least_length operations facts)) (ends_inside operations block facts f told) fit in
+        let some = and_parts (is_record f && int_le (pos 0) told.low) (nat_le 1 (least_length operations facts)) last.0 in
+        let record_is = and_parts (is_record f) (int_le (pos 0) told.low) some.0 in
+        let ends = and_parts (nat_lt (greatest operations facts 1 + greatest operations facts 2 + f.more) (2 ^ 64)) (nat_le f.most (end + f.more)) last.1 in
+        let no_wrap = ltb-true (greatest operations facts 1 + greatest operations facts 2 + f.more) (2 ^ 64) ends.0 in
+        let at_end = leb-true f.most (end + f.more) ends.1 in
+        let address = sound.bounds (fact operations facts 1) (register s 1) (word_of sound facts s are is meets 1) in
+        let sum = record_sum f s.registers record_is.0 within in
+        let from : start ≤ register s 1 = from_start start (register s 1) told.low record_is.1 there.0 in
+        let to : register s 1 + register s 2 ≤ end =
+        without_wrap (register s 1) (register s 2) f.more f.most end (omega (arith, address.1, bounded.1, no_wrap)) sum at_end in
+        and_from (nat_le start (register s 1)) (nat_le (register s 1 + register s 2) end) (le-leb start (register s 1) from)
+        (le-leb (register s 1 + register s 2) end to)
+
+    -- a record that fits by the sum lies in an area
+    fits_inside : (fit : Option Fit) (told : Option Offsets) → facts.fit ≡ fit → operations.offsets (fact operations facts 1) ≡ told
+        → fits_by_sum operations block facts fit told ≡ true → is_nowhere s (register s 1) (register s 2) ≡ false
+    fits_inside (Some f) (Some told) is_fit is_told inside =
+        somewhere told.area (register s 1) (register s 2)
+        (sum_inside f told (subst (λ o. AreWithin o s.registers) is_fit meets.fit)
+        (sound.offsets (fact operations facts 1) told (register s 1) is_told (word_of sound facts s are is meets 1)) inside)
+    fits_inside (Some f) None is_fit is_told inside = cc
+    fits_inside None told is_fit is_told inside = cc
+
     abbrev least : ℕ
     least = least_length operations facts
 
@@ -179,6 +238,14 @@ module _ {D : Type 0} {IsFact : D → Type 0} {contains : D → ℕ → Type 0} 
         (ne_eqb (register s 2) 0 (λ none. positive (omega arith)))
         (le-ltb sizes.limit (length s.group + FRAME_LENGTH_BYTES + register s 2) (omega arith))
 
+    -- by the bounds of address and length, or by their sum
+    somewhere_inside : (is_none (area_of operations block facts 1 (pos 0) most) && not (record_fits operations block facts)) ≡ false
+        → most < 2 ^ 64 → emits_outside s ≡ false
+    somewhere_inside told small = elim (and_cases (is_none (area_of operations block facts 1 (pos 0) most)) (not (record_fits operations block facts)) told) [
+      | inl bounds ↦ emits_inside _ most refl bounds bounded.1 small
+      | inr sum ↦ and_right (nat_le 1 (register s 2)) _ (fits_inside facts.fit _ refl refl (not-false _ sum))
+    ]
+
     -- what is checked where the instruction is emit
     emits : (emit : Bool)
         → (emit && emits_amiss operations block facts) ≡ false
@@ -187,7 +254,7 @@ module _ {D : Type 0} {IsFact : D → Type 0} {contains : D → ℕ → Type 0} 
     emits false length limit = (refl, refl)
     emits true length limit =
         let (some, told) = or_parts (least == 0) _ length in
-        (emits_inside _ most refl told bounded.1 (counted limit), emits_well some limit)
+        (somewhere_inside told (counted limit), emits_well some limit)
 
     module _ (program : List (Option Instruction)) (i : Instruction) (near : FitsSigned w16 (first_slot i).offset)
         (passed : (r : Reason) → fails operations program sizes s.slot facts i r ≡ false) where

@@ -1,5 +1,5 @@
 -- Which programs are accepted, and why others aren't (profile).
-use Rattle.std.specs.Prelude.{ℕ, ℤ, zero, suc, Bool, true, false, not, is_some, is_none, ◌+◌, ◌==◌, ◌&&◌, ◌||◌, nat_lt, List, [], ◌∷◌, length, find, Option, Some, None, if◌then◌else◌, pos, int_lt}
+use Rattle.std.specs.Prelude.{ℕ, ℤ, zero, suc, Bool, true, false, not, is_some, is_none, ◌+◌, ◌^◌, ◌==◌, ◌&&◌, ◌||◌, nat_lt, nat_le, List, [], ◌∷◌, length, find, Option, Some, None, if◌then◌else◌, pos, int_le, int_lt}
 use Rattle.std.specs.Option.{option_flatten, option_map, option_or}
 use Rattle.instruction_set.specs.Instruction.{access_of, distance_of, is_emit, target, writes}
 use Rattle.instruction_set.specs.Program.{instruction_at}
@@ -10,9 +10,12 @@ use Rattle.program_meaning.specs.Cause.{calls_unknown, hinders_load, hinders_sto
 use Rattle.program_interface.specs.declared.area.Area.{Area}
 use Rattle.program_interface.specs.declared.frame.TheConstants.{FRAME_LENGTH_BYTES}
 use Rattle.program_interface.specs.RunSizes.{Sizes}
+use Rattle.program_interface.specs.Area.{address_of, length_of}
 use Rattle.word_domain.specs.Domain.{Operations}
-use Rattle.accepted_programs.specs.Facts.{area_of, facts_at, greatest_length, least_length, slot_behind}
+use Rattle.word_domain.specs.declared.offsets.Offsets.{Offsets}
+use Rattle.accepted_programs.specs.Facts.{area_of, fact, facts_at, greatest, greatest_length, least_length, slot_behind}
 use Rattle.accepted_programs.specs.declared.facts.Facts.{Facts}
+use Rattle.accepted_programs.specs.declared.sums.Fit.{Fit}
 use Rattle.accepted_programs.specs.declared.reason.Reason.{Reason}
 use Rattle.accepted_programs.specs.declared.reason.Reason.TheVariants.{JumpBack, JumpOutside, FallsOff, WriteToFramePointer, LoadOutside, StoreOutside, UnknownHelper, EmitAddress, EmitLength, EmitLimit}
 use Rattle.accepted_programs.specs.declared.reason.Refusal.{Refusal}
@@ -65,6 +68,10 @@ falls_off program slot i = if turns_away i then false else not (begins_at progra
 abbrev pub refused_at : ℕ → Reason → Refusal
 refused_at slot reason = record { slot = slot; reason = reason }
 
+-- are the two R1 and R2, by which emit is told a record's address and length?
+abbrev pub is_record : Fit → Bool
+is_record f = ((f.first == 1) && (f.second == 2)) || ((f.first == 2) && (f.second == 1))
+
 module _ {D : Type 0} (operations : Operations D) where
   -- the area that holds the bytes of an access
   abbrev pub area_accessed : ℕ → Facts D → Access → Option Area
@@ -80,14 +87,32 @@ module _ {D : Type 0} (operations : Operations D) where
   stores_outside block facts (Some access) = hinders_store access.kind (area_accessed block facts access)
   stores_outside block facts None = false
 
+  -- the sum of address and length of a record, R1 and R2, is known not to wrap, and to be at most the end of the address's area
+  abbrev pub ends_inside : ℕ → Facts D → Fit → Offsets → Bool
+  ends_inside block facts f told =
+      nat_lt (greatest operations facts 1 + greatest operations facts 2 + f.more) (2 ^ 64)
+      && nat_le f.most (address_of told.area + length_of block told.area + f.more)
+
+  -- are all bytes of a record, at least one, known to lie in an area by the sum of its address and its length? The address isn't below
+  -- the area, and the sum is at most its end
+  abbrev pub fits_by_sum : ℕ → Facts D → Option Fit → Option Offsets → Bool
+  fits_by_sum block facts (Some f) (Some told) =
+      is_record f && int_le (pos 0) told.low && nat_le 1 (least_length operations facts) && ends_inside block facts f told
+  fits_by_sum block facts _ _ = false
+
+  -- the same by what is known of R1
+  abbrev pub record_fits : ℕ → Facts D → Bool
+  record_fits block facts = fits_by_sum block facts facts.fit (operations.offsets (fact operations facts 1))
+
   -- may it be that the address to emit from lies in no area, nor at the end of one?
   abbrev pub emits_from_nowhere : ℕ → Facts D → Bool
-  emits_from_nowhere block facts = is_none (area_of operations block facts 1 (pos 0) 0)
+  emits_from_nowhere block facts = is_none (area_of operations block facts 1 (pos 0) 0) && not (record_fits block facts)
 
   -- may there be no bytes to emit, or more than the area has?
   abbrev pub emits_amiss : ℕ → Facts D → Bool
   emits_amiss block facts =
-      least_length operations facts == 0 || is_none (area_of operations block facts 1 (pos 0) (greatest_length operations facts))
+      least_length operations facts == 0
+      || (is_none (area_of operations block facts 1 (pos 0) (greatest_length operations facts)) && not (record_fits block facts))
 
   -- may a frame take the group over its limit?
   abbrev pub passes_limit : ℕ → Facts D → Bool

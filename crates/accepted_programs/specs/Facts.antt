@@ -1,6 +1,6 @@
 -- What is known at each slot of a program, by the operations of a domain (profile).
-use Rattle.std.specs.Prelude.{ℕ, ℤ, zero, suc, Bool, true, false, ◌+◌, ◌%◌, ◌^◌, ◌==◌, ◌&&◌, ◌++◌, nat_le, List, [], ◌∷◌, drop, replicate, get_or, set, max, Option, Some, None, option_map, unwrap_or, if◌then◌else◌, pos}
-use Rattle.std.specs.Option.{option_or}
+use Rattle.std.specs.Prelude.{ℕ, ℤ, zero, suc, Bool, true, false, ◌+◌, ◌%◌, ◌^◌, ◌==◌, ◌&&◌, ◌||◌, ◌++◌, nat_le, List, [], ◌∷◌, drop, replicate, get_or, set, max, Option, Some, None, option_map, unwrap_or, if◌then◌else◌, pos}
+use Rattle.std.specs.Option.{option_and_then, option_or}
 use Rattle.std.specs.Ordering.{int_eq}
 use Rattle.instruction_set.specs.Instruction.{distance_of, immediate_word, size_of, target}
 use Rattle.instruction_set.specs.Program.{instruction_at, slots_taken}
@@ -12,6 +12,7 @@ use Rattle.instruction_set.specs.declared.operation.Relation.{Relation}
 use Rattle.instruction_set.specs.declared.operation.Size.{Size}
 use Rattle.instruction_set.specs.declared.operation.Size.TheVariants.{DoubleWord}
 use Rattle.instruction_set.specs.declared.operation.Width.{Width}
+use Rattle.program_meaning.specs.Laws.{changes}
 use Rattle.program_meaning.specs.Word.{low_bits}
 use Rattle.program_interface.specs.declared.area.Area.TheVariants.{Context, Block, Stack, Scratch}
 use Rattle.program_meaning.specs.declared.word.Arithmetic.TheVariants as word
@@ -21,7 +22,11 @@ use Rattle.program_interface.specs.declared.registers.TheConstants.{CLEARED_REGI
 use Rattle.program_interface.specs.declared.area.Area.{Area}
 use Rattle.word_domain.specs.Domain.{Operations}
 use Rattle.accepted_programs.specs.Cells.{cell_of, filled, is_stack, join_cell, joined_each, known_in, no_cells, overwritten}
+use Rattle.accepted_programs.specs.Sums.{computed_fit, fit_left, fit_of, join_fit, sum_behind}
+pub use Rattle.accepted_programs.specs.Sums.{is_register}
 use Rattle.accepted_programs.specs.declared.facts.Facts.{Facts}
+use Rattle.accepted_programs.specs.declared.sums.Fit.{Fit}
+use Rattle.accepted_programs.specs.declared.sums.Sum.{Sum}
 
 -- the slot behind an instruction
 abbrev pub slot_behind : ℕ → Instruction → ℕ
@@ -36,11 +41,6 @@ leads slot None other = false
 abbrev pub enters_stack : Option Area → Bool
 enters_stack (Some area) = is_stack area
 enters_stack None = false
-
--- is the source this register?
-abbrev pub is_register : ℕ → Source → Bool
-is_register r (Register s) = r == s
-is_register r (Immediate z) = false
 
 module _ {D : Type 0} (operations : Operations D) where
   -- the fact about a register
@@ -60,6 +60,8 @@ module _ {D : Type 0} (operations : Operations D) where
         ∷ operations.constant 0 ∷ operations.constant 0 ∷ operations.pointer Stack STACK_BYTES ∷ [];
     cells = no_cells;
     emitted = 0;
+    sum = None;
+    fit = None;
   }
 
   -- the source of an arithmetic instruction
@@ -77,9 +79,28 @@ module _ {D : Type 0} (operations : Operations D) where
   with_source facts (Register r) d = with_fact facts r d
   with_source facts (Immediate z) d = facts
 
-  -- the facts with others about the destination and the source of a compare, if there is such an edge
+  -- the greatest word that a register can have, or a greater one
+  abbrev pub greatest : Facts D → ℕ → ℕ
+  greatest facts r = (operations.bounds (fact facts r)).high
+
+  -- along an edge of a compare, behind which these are the facts: a sum of two registers in one of those that were compared is at
+  -- most what that can be; of any other two is known what was before
+  abbrev pub compared_fit : (dst : ℕ) → Source → Facts D → Option Sum → Option Fit
+  compared_fit dst source facts (Some s) =
+      if (s.register == dst) || is_register s.register source
+      then option_or (fit_of (greatest facts s.register) s s.second) facts.fit
+      else facts.fit
+  compared_fit dst source facts None = facts.fit
+
+  -- the facts with others about the destination and the source of a compare, and with what these tell of a sum
+  abbrev pub with_compared : ℕ → Source → Facts D → D × D → Facts D
+  with_compared dst source facts both =
+      let told = with_source (with_fact facts dst both.0) source both.1 in
+      record told { fit = compared_fit dst source told told.sum }
+
+  -- the same along an edge, if there is such an edge
   abbrev pub with_both : Facts D → ℕ → Source → Option (D × D) → Option (Facts D)
-  with_both facts dst source = option_map (λ both. with_source (with_fact facts dst both.0) source both.1)
+  with_both facts dst source = option_map (with_compared dst source facts)
 
   -- along an edge of a compare, which is taken or not; none where there is no such edge
   abbrev pub along : Bool → Width → Relation → ℕ → Source → Facts D → Option (Facts D)
@@ -92,7 +113,7 @@ module _ {D : Type 0} (operations : Operations D) where
 
   -- and the greatest
   abbrev pub greatest_length : Facts D → ℕ
-  greatest_length facts = (operations.bounds (fact facts 2)).high
+  greatest_length facts = greatest facts 2
 
   -- after emit R0 to R5 are 0 (BPF ABI 1.0, Registers and calling convention: a call needn't keep them; that they are 0
   -- is profile), and the group has grown by a frame: the two bytes of its length, and at most the longest record
@@ -160,6 +181,27 @@ module _ {D : Type 0} (operations : Operations D) where
   abbrev pub with_word : Facts D → Option (ℕ × D) → Option (Facts D)
   with_word facts = option_map (λ word. with_fact facts word.0 word.1)
 
+  -- ---- registers together
+
+  -- the greatest address that a register can have, if it is known to have one
+  abbrev pub greatest_address : Facts D → ℕ → Option ℕ
+  greatest_address facts r = option_map (λ told. greatest facts r) (operations.offsets (fact facts r))
+
+  -- what an instruction makes of two registers whose sum is at most a number, if it does
+  abbrev pub made_fit : Instruction → Facts D → Fit → Option Fit
+  made_fit (Arithmetic width operation dst source) facts f =
+      computed_fit (greatest_address facts dst) width operation dst source f
+  made_fit i facts f = None
+
+  -- after an instruction: what it makes of the two, or what was known
+  abbrev pub fit_behind : Instruction → Facts D → Option Fit
+  fit_behind i facts =
+      option_or (option_and_then (made_fit i facts) facts.fit) (option_and_then (fit_left (changes i)) facts.fit)
+
+  -- facts with what is known of registers together after an instruction, before which these others were known
+  abbrev pub with_sums : Instruction → Facts D → Facts D → Facts D
+  with_sums i before facts = record facts { sum = sum_behind i before.sum; fit = fit_behind i before }
+
   -- ---- joins
 
   -- what is known where two ways come together
@@ -168,6 +210,8 @@ module _ {D : Type 0} (operations : Operations D) where
     registers = joined_each operations.join a.registers b.registers;
     cells = joined_each (join_cell operations.join) a.cells b.cells;
     emitted = max a.emitted b.emitted;
+    sum = None;
+    fit = join_fit a.fit b.fit;
   }
 
   -- the join of what there is
@@ -184,8 +228,8 @@ module _ {D : Type 0} (operations : Operations D) where
     facts_behind (StoreRegister size dst src offset) facts =
         Some (after_store block facts size dst offset (kept_fact facts size src))
     facts_behind (Branch width relation dst source distance) facts = along false width relation dst source facts
-    facts_behind (Call helper) facts = Some (after_emit facts)
-    facts_behind i facts = with_word facts (option_or (loaded_word i facts) (computed_word i facts))
+    facts_behind (Call helper) facts = Some (with_sums (Call helper) facts (after_emit facts))
+    facts_behind i facts = option_map (with_sums i facts) (with_word facts (option_or (loaded_word i facts) (computed_word i facts)))
 
     -- at the target of a jump that is taken; none where there is no such edge
     abbrev pub facts_at_target : Instruction → Facts D → Option (Facts D)

@@ -1,5 +1,5 @@
 -- What acceptance is worth, and what a refusal tells.
-use Rattle.std.specs.Prelude.{ℕ, ◌≡◌, ◌<◌, ◌≤◌, List, length, Option, Some, None}
+use Rattle.std.specs.Prelude.{ℕ, ◌≡◌, ◌<◌, ◌≤◌, ◌-◌, ◌^◌, false, List, length, Option, Some, None, IsSome}
 use Rattle.instruction_set.specs.Program.{IsProgram, instruction_count}
 use Rattle.instruction_set.specs.declared.instruction.Instruction.{Instruction}
 use Rattle.program_meaning.specs.BlockRun.{block_run_of, state_after_steps}
@@ -9,12 +9,13 @@ use Rattle.program_meaning.specs.TrapFree.{Exits, NeverTraps}
 use Rattle.program_interface.specs.RunSizes.{AreSizes, Sizes}
 use Rattle.program_interface.specs.declared.TheConstants.{MOST_SLOTS}
 use Rattle.word_domain.specs.Domain.{Operations}
-use Rattle.accepted_programs.specs.Accepted.{refusal}
+use Rattle.accepted_programs.specs.Accepted.{record_fits, refusal}
 use Rattle.accepted_programs.specs.Emitted.{most_emitted}
-use Rattle.accepted_programs.specs.Facts.{facts_at}
+use Rattle.accepted_programs.specs.Facts.{fact, facts_at}
 use Rattle.accepted_programs.specs.FirstRefusal.{IsFirstRefusal, IsPassed}
 use Rattle.accepted_programs.specs.Meets.{MeetsSome}
 use Rattle.accepted_programs.specs.Places.{place_at}
+use Rattle.accepted_programs.specs.declared.facts.Facts.{Facts}
 use Rattle.accepted_programs.specs.declared.reason.Refusal.{Refusal}
 
 -- a program that these operations accept never traps
@@ -63,6 +64,17 @@ RefusalIsFirst operations = (program : List (Option Instruction)) (sizes : Sizes
 abbrev pub AcceptedFailsNowhere : {D : Type 0} → Operations D → Type 0
 AcceptedFailsNowhere operations = (program : List (Option Instruction)) (sizes : Sizes)
     → refusal operations program sizes ≡ None → (slot : ℕ) → IsPassed operations program sizes slot
+
+-- the bounds of a fact are in order, and those of an address go up to the greatest word
+pub record TakesAddressesForAny {D : Type 0} (IsFact : D → Type 0) (operations : Operations D) : Type 0 where
+  pub ordered : (d : D) → IsFact d → (operations.bounds d).low ≤ (operations.bounds d).high
+  pub addresses : (d : D) → IsFact d → IsSome (operations.offsets d) → (operations.bounds d).high ≡ 2 ^ 64 - 1
+
+-- in such a domain a record never fits by the sum of its address and its length: it is judged by the bounds of each alone
+abbrev pub JudgesByBounds : {D : Type 0} → (D → Type 0) → Operations D → Type 0
+JudgesByBounds {D} IsFact operations = TakesAddressesForAny IsFact operations
+    → (block : ℕ) (facts : Facts D) → IsFact (fact operations facts 1) → IsFact (fact operations facts 2)
+    → record_fits operations block facts ≡ false
 
 -- over every block of the length, every context and every scratch, each state of a block run meets what is known at its slot,
 -- where each slot that the block run was at before is passed; whether its own is passed doesn't matter

@@ -1,4 +1,5 @@
 pub mod Cells
+pub mod Sums
 pub mod Facts
 pub mod Meets
 pub mod Accepted

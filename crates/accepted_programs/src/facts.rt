@@ -3,6 +3,7 @@
 ghost use Rattle.std.specs.Prelude.{◌≡◌};
 ghost use Rattle.accepted_programs.specs.Facts.{fact, with_fact};
 
+use crate::sums::{Fit, Sum};
 use instruction_set::Register;
 use program_interface::{REGISTERS, STACK_BYTES};
 use std::alloc::AllocError;
@@ -14,7 +15,8 @@ pub const CELL_BYTES: usize = 8;
 /// The cells of the stack: words of eight bytes, each of which can be known.
 pub const CELLS: usize = STACK_BYTES / CELL_BYTES;
 
-/// A fact about each register, R0 to R10, and about words of the stack, and a bound on the bytes that were emitted.
+/// A fact about each register, R0 to R10, and about words of the stack, a bound on the bytes that were emitted, and what is known
+/// of registers together.
 pub struct Facts<D> {
     /// What is known of R0 to R10.
     pub registers: [D; REGISTERS],
@@ -22,6 +24,10 @@ pub struct Facts<D> {
     pub cells: [Option<D>; CELLS],
     /// The group has at most so many bytes, frame lengths counted.
     pub emitted: usize,
+    /// A register that has a sum.
+    pub sum: Option<Sum>,
+    /// A sum that is at most a number.
+    pub fit: Option<Fit>,
 }
 
 impl<D: Copy> Clone for Facts<D> {

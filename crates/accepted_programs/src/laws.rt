@@ -1,6 +1,6 @@
 //! Laws of the definitions. Each function does nothing: what it ensures is the law.
 
-ghost use Rattle.accepted_programs.specs.Laws.{AcceptedAccessesLie, AcceptedEmitsNoMore, AcceptedEndsByItself, AcceptedFailsNowhere, AcceptedNeverTraps, FactsAreMet, RefusalIsFirst, RefusalIsInside};
+ghost use Rattle.accepted_programs.specs.Laws.{AcceptedAccessesLie, AcceptedEmitsNoMore, AcceptedEndsByItself, AcceptedFailsNowhere, AcceptedNeverTraps, FactsAreMet, JudgesByBounds, RefusalIsFirst, RefusalIsInside};
 ghost use Rattle.accepted_programs.specs.Numbers.{CellsAreWords};
 
 use word_domain::Domain;
@@ -62,6 +62,12 @@ pub fn facts_are_met<D: Domain>()
 {
     D::sound();
 }
+
+/// Where an address counts as any word, as over intervals, a record fits an area only by the bounds of its address and of its length,
+/// and never by their sum.
+pub fn judges_by_bounds<D: Domain>()
+    ensures { JudgesByBounds D.is_fact D.operations }
+{}
 
 /// What is known of the stack is known of its words of eight bytes, of which there are 64 (profile).
 pub fn cells_are_words()

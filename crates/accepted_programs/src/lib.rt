@@ -5,6 +5,8 @@
 mod facts;
 pub mod laws;
 mod reason;
+mod sums;
 
 pub use facts::{CELL_BYTES, CELLS, Facts};
 pub use reason::{Reason, Refusal};
+pub use sums::{Fit, Sum};

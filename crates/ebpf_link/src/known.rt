@@ -72,6 +72,8 @@ pub(crate) fn at_start() -> Known {
             ],
             cells: [None; accepted_programs::CELLS],
             emitted: 0,
+            sum: None,
+            fit: None,
         },
         fields: NO_FIELDS,
         words: [None; WORDS],

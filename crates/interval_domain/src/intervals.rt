@@ -32,6 +32,16 @@ impl Model for Intervals {
 }
 
 impl Intervals {
+    ghost use Rattle.interval_domain.specs.Fact.{IsFact};
+
+    /// What a fact tells, whose bounds are in order, and near its area's address where it is a pointer.
+    pub fn of(fact: Fact) -> Intervals
+        requires { IsFact fact }
+        ensures { result ≡ fact }
+    {
+        Intervals { fact }
+    }
+
     /// The fact.
     pub fn fact(self) -> Fact
         ensures { result ≡ self }

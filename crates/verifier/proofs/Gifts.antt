@@ -11,7 +11,7 @@ use Rattle.instruction_set.specs.declared.instruction.Instruction.{Instruction}
 use Rattle.instruction_set.specs.declared.instruction.Source.{Source}
 use Rattle.instruction_set.specs.declared.instruction.Source.TheVariants.{Immediate, Register}
 use Rattle.word_domain.specs.Domain.{Operations}
-use Rattle.accepted_programs.specs.Facts.{facts_at_target, facts_behind, gives, leads, merge, slot_behind, with_fact, with_source}
+use Rattle.accepted_programs.specs.Facts.{compared_fit, facts_at_target, facts_behind, gives, leads, merge, slot_behind, with_compared}
 use Rattle.verifier.specs.steps.Rows.{EachBecomes, GivesBoth, held, held_at, Rows, with_gift}
 use Rattle.accepted_programs.specs.declared.facts.Facts.{Facts}
 
@@ -32,14 +32,18 @@ both_twice (x ∷ l) (suc i) zero a b c d = ap (λ t. d ∷ t) (set-set l i a c)
 both_twice (x ∷ l) (suc i) (suc j) a b c d = ap (λ t. x ∷ t) (both_twice l i j a b c d)
 
 module _ {D : Type 0} (operations : Operations D) where
-  -- what a compare tells along one edge replaces what it tells along the other
+  -- what a compare tells along one edge replaces what it tells along the other, once what was known of a sum is as before
   pub edge_replaced : (facts : Facts D) (dst : ℕ) (source : Source) (one other : D × D)
-      → with_source operations (with_fact operations (with_source operations (with_fact operations facts dst one.0) source one.1) dst other.0) source other.1
-      ≡ with_source operations (with_fact operations facts dst other.0) source other.1
+      → with_compared operations dst source (record (with_compared operations dst source facts one) { fit = facts.fit }) other
+      ≡ with_compared operations dst source facts other
   edge_replaced facts dst (Register r) one other =
-      ap (λ registers. record facts { registers = registers }) (both_twice facts.registers dst r one.0 one.1 other.0 other.1)
+      ap (λ registers. let told = record facts { registers = registers } in
+      record told { fit = compared_fit operations dst (Register r) told told.sum })
+      (both_twice facts.registers dst r one.0 one.1 other.0 other.1)
   edge_replaced facts dst (Immediate z) one other =
-      ap (λ registers. record facts { registers = registers }) (set-set facts.registers dst one.0 other.0)
+      ap (λ registers. let told = record facts { registers = registers } in
+      record told { fit = compared_fit operations dst (Immediate z) told told.sum })
+      (set-set facts.registers dst one.0 other.0)
 
   merge_none : (o : Option (Facts D)) → merge operations o None ≡ o
   merge_none (Some a) = refl

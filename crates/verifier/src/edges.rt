@@ -1,13 +1,15 @@
 //! What an instruction leaves known along its edges.
 
-ghost use Rattle.std.specs.Prelude.{◌≡◌, ◌+◌, ◌<◌, ◌^◌, ◌++◌, replicate, drop, None};
+ghost use Rattle.std.specs.Prelude.{◌≡◌, ◌+◌, ◌<◌, ◌^◌, ◌++◌, replicate, drop, None, option_map};
+ghost use Rattle.std.specs.Option.{option_or};
 ghost use Rattle.std.specs.Bool.{then_some};
 ghost use Rattle.instruction_set.specs.Instruction.{distance_of};
-ghost use Rattle.accepted_programs.specs.Facts.{source_fact, compared_fact, after_emit, after_store, computed_word, enters_stack as area_is_stack, facts_behind, greatest_length, is_register as source_is, kept_fact, loaded_fact, loaded_word, with_fact, with_source};
+ghost use Rattle.accepted_programs.specs.Facts.{source_fact, compared_fact, after_emit, after_store, computed_word, enters_stack as area_is_stack, facts_behind, greatest_length, kept_fact, loaded_fact, loaded_word, with_compared, with_fact, with_source, with_sums, with_word};
 ghost use Rattle.verifier.specs.steps.Instructions.{CanBeCounted, told_along};
 
 use crate::cells::{cell_of, is_stack, known, store_into};
-use accepted_programs::Facts;
+use crate::sums::{compared_fit, is_register, sums_behind};
+use accepted_programs::{Facts, Fit, Sum};
 use instruction_set::{Instruction, Register, Relation, Size, Source, Width};
 use program_interface::{Area, BlockSize, CLEARED_REGISTERS, FRAME_LENGTH_BYTES, REGISTERS};
 use program_meaning::Arithmetic;
@@ -38,17 +40,6 @@ fn compared<D: Domain>(width: Width, facts: &Facts<D>, source: &Source) -> D
     }
 }
 
-/// Is the source this register?
-#[inline]
-fn is_register(register: Register, source: &Source) -> bool
-    ensures { result ≡ source_is register source.now }
-{
-    match *source {
-        Source::Register(other) => register == other,
-        Source::Immediate(_) => false,
-    }
-}
-
 /// What a compare tells along the edge that is taken, or along the other.
 pub(crate) fn refined<D: Domain>(
     taken: bool,
@@ -67,18 +58,28 @@ pub(crate) fn refined<D: Domain>(
 
 /// Replaces the facts about the destination and the source, unless that is an immediate.
 #[inline]
-pub(crate) fn set_both<D: Domain>(
-    facts: &mut Facts<D>,
-    dst: Register,
-    source: &Source,
-    both: (D, D),
-)
+fn set_words<D: Domain>(facts: &mut Facts<D>, dst: Register, source: &Source, both: (D, D))
     ensures { facts.new ≡ with_source D.operations (with_fact D.operations facts.old dst both.0) source.now both.1 }
 {
     facts.set(dst, both.0);
     if let Source::Register(register) = *source {
         facts.set(register, both.1);
     }
+}
+
+/// The same, and takes what these tell of a sum.
+#[inline]
+pub(crate) fn set_both<D: Domain>(
+    facts: &mut Facts<D>,
+    dst: Register,
+    source: &Source,
+    both: (D, D),
+)
+    ensures { facts.new ≡ with_compared D.operations dst source.now facts.old both }
+{
+    set_words(facts, dst, source, both);
+    let fit = compared_fit(dst, source, facts);
+    facts.fit = fit;
 }
 
 /// Replaces the facts about the registers that a call clears.
@@ -206,6 +207,28 @@ fn computed<D: Domain>(instruction: &Instruction, facts: &Facts<D>) -> Option<(R
     Some((dst, D::alu(arithmetic, first, second)))
 }
 
+/// Replaces what is known of registers together.
+#[inline]
+fn set_sums<D: Domain>(facts: &mut Facts<D>, sums: (Option<Sum>, Option<Fit>))
+    ensures { facts.new ≡ record facts.old { sum = sums.0; fit = sums.1 } }
+{
+    facts.sum = sums.0;
+    facts.fit = sums.1;
+}
+
+/// Changes the facts to those after an instruction that leaves a word in its register; false for one that doesn't.
+fn leave<D: Domain>(instruction: &Instruction, facts: &mut Facts<D>) -> bool
+    ensures { then_some result facts.new ≡ option_map (with_sums D.operations instruction.now facts.old) (with_word D.operations facts.old (option_or (loaded_word D.operations instruction.now facts.old) (computed_word D.operations instruction.now facts.old))) }
+{
+    let Some((dst, fact)) = loaded(instruction, facts).or(computed(instruction, facts)) else {
+        return false;
+    };
+    let sums = sums_behind(instruction, facts);
+    facts.set(dst, fact);
+    set_sums(facts, sums);
+    true
+}
+
 /// Changes the facts to those at the slot behind an instruction that doesn't jump; false for EXIT, which leads to no slot.
 pub(crate) fn step<D: Domain>(
     instruction: &Instruction,
@@ -232,11 +255,12 @@ pub(crate) fn step<D: Domain>(
             let word = kept(facts, size, src);
             store(block, facts, size, dst, offset, word);
         }
-        Instruction::Call { .. } => emit(facts),
-        _ => match loaded(instruction, facts).or(computed(instruction, facts)) {
-            Some((dst, fact)) => facts.set(dst, fact),
-            None => return false,
-        },
+        Instruction::Call { .. } => {
+            let sums = sums_behind(instruction, facts);
+            emit(facts);
+            set_sums(facts, sums);
+        }
+        _ => return leave(instruction, facts),
     }
     true
 }

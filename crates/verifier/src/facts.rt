@@ -5,6 +5,7 @@ ghost use Rattle.accepted_programs.specs.Cells.{joined_each};
 ghost use Rattle.accepted_programs.specs.Facts.{facts_at_start, join_facts};
 
 use crate::cells::join as join_cells;
+use crate::sums::join as join_fit;
 use accepted_programs::{CELLS, Facts};
 use program_interface::{Area, REGISTERS, STACK_BYTES};
 use word_domain::Domain;
@@ -30,6 +31,8 @@ pub(crate) fn at_start<D: Domain>() -> Facts<D>
         ],
         cells: [None; CELLS],
         emitted: 0,
+        sum: None,
+        fit: None,
     }
 }
 
@@ -51,4 +54,6 @@ pub(crate) fn join<D: Domain>(facts: &mut Facts<D>, other: &Facts<D>)
     join_registers(&mut facts.registers, &other.registers);
     join_cells(&mut facts.cells, &other.cells);
     facts.emitted = facts.emitted.max(other.emitted);
+    facts.sum = None;
+    facts.fit = join_fit(facts.fit, other.fit);
 }

@@ -11,6 +11,7 @@ mod known;
 mod places;
 mod reasons;
 mod rows;
+mod sums;
 mod verified;
 mod verifying;
 

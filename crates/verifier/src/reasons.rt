@@ -1,15 +1,15 @@
 //! The reasons to refuse an instruction, in the order of their numbers.
 
-ghost use Rattle.std.specs.Prelude.{◌≡◌, ◌<◌};
+ghost use Rattle.std.specs.Prelude.{◌≡◌, ◌<◌, ◌&&◌, int_le, nat_le, pos, Some};
 ghost use Rattle.instruction_set.specs.Instruction.{access_of};
 ghost use Rattle.program_meaning.specs.Cause.{calls_unknown as instruction_calls_unknown, is_unwritable as area_is_unwritable};
-ghost use Rattle.accepted_programs.specs.Accepted.{area_accessed as area_of_access, begins_at, emits_amiss as facts_emit_amiss, emits_from_nowhere as facts_emit_from_nowhere, falls_off as instruction_falls_off, goes_back as distance_goes_back, leads_nowhere as distance_leads_nowhere, loads_outside as access_loads_outside, passes_limit as facts_pass_limit, reason_of, stores_outside as access_stores_outside, turns_away as instruction_turns_away};
-ghost use Rattle.accepted_programs.specs.Facts.{area_of, slot_behind as instruction_slot_behind};
+ghost use Rattle.accepted_programs.specs.Accepted.{area_accessed as area_of_access, begins_at, emits_amiss as facts_emit_amiss, emits_from_nowhere as facts_emit_from_nowhere, ends_inside as sum_ends_inside, falls_off as instruction_falls_off, fits_by_sum as record_fits_by_sum, goes_back as distance_goes_back, is_record as fit_is_record, leads_nowhere as distance_leads_nowhere, loads_outside as access_loads_outside, passes_limit as facts_pass_limit, reason_of, record_fits as facts_record_fits, stores_outside as access_stores_outside, turns_away as instruction_turns_away};
+ghost use Rattle.accepted_programs.specs.Facts.{area_of, least_length, slot_behind as instruction_slot_behind};
 
-use accepted_programs::{Facts, Reason};
+use accepted_programs::{Facts, Fit, Reason};
 use instruction_set::{Access, AccessKind, Instruction, Program, Register};
 use program_interface::{Area, BlockSize, EMIT, FRAME_LENGTH_BYTES, MOST_SLOTS, RunSizes};
-use word_domain::Domain;
+use word_domain::{Domain, Offsets};
 
 /// The slot behind an instruction.
 #[inline]
@@ -138,12 +138,66 @@ fn calls_unknown(instruction: &Instruction) -> bool
     }
 }
 
+/// Are the two R1 and R2, by which emit is told a record's address and length?
+#[inline]
+fn is_record(fit: &Fit) -> bool
+    ensures { result ≡ fit_is_record fit.now }
+{
+    (fit.first == Register::R1 && fit.second == Register::R2)
+        || (fit.first == Register::R2 && fit.second == Register::R1)
+}
+
+/// Is the sum of address and length known not to wrap, and to be at most the end of the address's area?
+fn ends_inside<D: Domain>(block: BlockSize, facts: &Facts<D>, fit: Fit, told: Offsets) -> bool
+    ensures { result ≡ sum_ends_inside D.operations block facts.now fit told }
+{
+    let (address, length) = (
+        facts.get(Register::R1).bounds().high,
+        facts.get(Register::R2).bounds().high,
+    );
+    let end = u128::from(told.area.address()) + told.area.length(block.bytes() as usize) as u128;
+    let most = end + u128::from(fit.more);
+    let sum = u128::from(address) + u128::from(length) + u128::from(fit.more);
+    sum < 0x1_0000_0000_0000_0000 && u128::from(fit.most) <= most
+}
+
+/// Is a record known to have at least one byte, and to begin no less far than its area does?
+fn begins_inside<D: Domain>(facts: &Facts<D>, fit: &Fit, told: Offsets) -> bool
+    ensures { result ≡ (fit_is_record fit.now && int_le (pos 0) told.low && nat_le 1 (least_length D.operations facts.now)) }
+{
+    if !is_record(fit) {
+        return false;
+    }
+    let (begins, has_byte) = (told.low >= 0, facts.get(Register::R2).bounds().low >= 1);
+    begins && has_byte
+}
+
+/// Are all its bytes known to lie in the area by the sum of its address and its length?
+fn fits_by_sum<D: Domain>(block: BlockSize, facts: &Facts<D>, fit: &Fit, told: Offsets) -> bool
+    ensures { result ≡ record_fits_by_sum D.operations block facts.now (Some fit.now) (Some told) }
+{
+    begins_inside(facts, fit, told) && ends_inside(block, facts, *fit, told)
+}
+
+/// The same, where there is such a sum and the address is known as one.
+fn record_fits<D: Domain>(block: BlockSize, facts: &Facts<D>) -> bool
+    ensures { result ≡ facts_record_fits D.operations block facts.now }
+{
+    let Some(fit) = facts.fit else {
+        return false;
+    };
+    match facts.get(Register::R1).offsets() {
+        Some(told) => fits_by_sum(block, facts, &fit, told),
+        None => false,
+    }
+}
+
 /// May it be that the address to emit from lies in no area, nor at the end of one?
 #[inline]
 fn emits_from_nowhere<D: Domain>(block: BlockSize, facts: &Facts<D>) -> bool
     ensures { result ≡ facts_emit_from_nowhere D.operations block facts.now }
 {
-    area(block, facts, Register::R1, 0, 0).is_none()
+    area(block, facts, Register::R1, 0, 0).is_none() && !record_fits(block, facts)
 }
 
 /// May there be no bytes to emit, or more than the area has?
@@ -152,7 +206,8 @@ fn emits_amiss<D: Domain>(block: BlockSize, facts: &Facts<D>) -> bool
     ensures { result ≡ facts_emit_amiss D.operations block facts.now }
 {
     let bounds = facts.get(Register::R2).bounds();
-    bounds.low == 0 || area(block, facts, Register::R1, 0, bounds.high).is_none()
+    bounds.low == 0
+        || area(block, facts, Register::R1, 0, bounds.high).is_none() && !record_fits(block, facts)
 }
 
 /// May a frame take the group over its limit?

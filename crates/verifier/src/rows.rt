@@ -4,7 +4,7 @@ ghost use Rattle.std.specs.Prelude.{◌≡◌, ◌<◌, length, Some, IsSome, If
 ghost use Rattle.instruction_set.specs.Instruction.{distance_of};
 ghost use Rattle.instruction_set.specs.Program.{instruction_at};
 ghost use Rattle.accepted_programs.specs.Accepted.{refusal_at, turns_away};
-ghost use Rattle.accepted_programs.specs.Facts.{gives, merge};
+ghost use Rattle.accepted_programs.specs.Facts.{gives, merge, with_compared};
 ghost use Rattle.verifier.specs.steps.Instructions.{CanBeCounted, StaysInside};
 ghost use Rattle.verifier.specs.steps.Rows.{EachBecomes, GivesAlong, GivesByJump, GivesOn, held, held_at, refusal_in, with_gift};
 
@@ -77,6 +77,26 @@ fn join_into<D: Domain>(row: &mut Row<D>, facts: &Facts<D>)
     }
 }
 
+/// Joins facts along the taken edge of a compare into those that its target was given, if it was given some, and changes them to
+/// those along the other edge.
+fn split<D: Domain>(
+    row: &mut Row<D>,
+    facts: &mut Facts<D>,
+    dst: Register,
+    source: &Source,
+    not_taken: (D, D),
+    taken: (D, D),
+)
+    ensures row { IsSome row.old → held row.new ≡ merge D.operations (held row.old) (Some (with_compared D.operations dst source.now facts.old taken)) }
+    ensures facts { facts.new ≡ with_compared D.operations dst source.now facts.old not_taken }
+{
+    let fit = facts.fit;
+    set_both(facts, dst, source, taken);
+    join_into(row, facts);
+    facts.fit = fit;
+    set_both(facts, dst, source, not_taken);
+}
+
 /// Where the two edges of a compare lead, and what they are known to change.
 #[derive(Clone, Copy)]
 struct Fork<D> {
@@ -108,9 +128,8 @@ fn give_both<D: Domain>(
 {
     // one slot at the end of both edges joins what comes along the taken one last
     if fork.target != fork.behind && rows[fork.target].is_some() {
-        set_both(&mut facts, fork.dst, &fork.source, taken);
-        join_into(&mut rows[fork.target], &facts);
-        set_both(&mut facts, fork.dst, &fork.source, not_taken);
+        let row = &mut rows[fork.target];
+        split(row, &mut facts, fork.dst, &fork.source, not_taken, taken);
         give(rows, spare, fork.behind, facts);
     } else {
         let mut copy = copied(alloc, spare, &facts)?;

@@ -11,6 +11,7 @@ use test_inputs::sizes::sizes;
 use verifier::verify;
 
 mod accesses;
+mod addresses;
 mod arithmetic;
 mod domains;
 mod emits;

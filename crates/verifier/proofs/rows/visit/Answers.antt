@@ -1,8 +1,10 @@
-use Rattle.std.proofs.Common.{◌≡◌, ap, arith, None, option_copied, rules, Some, sym, ◌∙◌}
+use Rattle.std.proofs.Common.{◌≡◌, ap, arith, Option, None, option_copied, rules, Some, sym, ◌∙◌}
 use Rattle.std.proofs.lemmas.List.{get_or_default, get_or-set_other, length-set}
 use Rattle.instruction_set.specs.Program.{instruction_at}
 use Rattle.verifier.specs.steps.Rows.{held, held_at}
 use Rattle.accepted_programs.specs.Accepted.{reason_of}
+use Rattle.accepted_programs.specs.declared.facts.Facts.{Facts}
+use Rattle.accepted_programs.specs.declared.reason.Reason.{Reason}
 use Rattle.verifier.proofs.Checks.{can_be_counted, stays_inside}
 use Rattle.verifier.proofs.Sizes.{facts_fit}
 use Rattle.verifier.proofs.rows.visit.Goals as goal
@@ -10,8 +12,10 @@ use Rattle.verifier.proofs.rows.visit.Goals as goal
 pub push-requires : goal.push-requires
 push-requires g c =
     let ops = g.D.Domain.operations in
+    let known_reason : Facts g.row.D.Denot → Option Reason =
+    λ facts. reason_of ops c.args.program.now c.args.sizes c.args.slot facts c.in-Some.instruction.now in
     let none : reason_of ops c.args.program.now c.args.sizes c.args.slot c.in-Some-take.facts.value c.in-Some.instruction.now ≡ None =
-    rw c.deref.ensures at (sym c.find_reason.ensures ∙ c.in_default-find_reason.is) in (
+    ap known_reason (sym c.deref.ensures) ∙ sym c.find_reason.ensures ∙ c.in_default-find_reason.is in (
       facts_fit _ _ c.fact_fits.ensures.size c.fact_fits.ensures.align,
       (
         search rules,

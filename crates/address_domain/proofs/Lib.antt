@@ -1,0 +1,4 @@
+mod AddressesSound
+mod Narrowing
+pub mod Proved
+mod WordFacts
