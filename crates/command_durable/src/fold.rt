@@ -22,16 +22,18 @@ use stored_file::StoredFile;
 pub const NAME: &str = "fold";
 
 const LONG_ABOUT: &str = "\
-Makes of a journal, as `serve --durable` writes it, a new base, which has the device as the events behind the old one left it, with \
-its programs, results and runs, and an empty journal. The new file is written beside the old one, as IMAGE.unfinished, and takes its place when it is whole. So the file \
-is no longer than its device wants, and is opened as fast as that is read. An image that is no journal stays as it is.
+Makes of a journal, as `serve --durable` writes it, a new base, which has the device as the events behind the old one left it, with its \
+programs, results and runs, and an empty journal. The new file is written beside the old one, as IMAGE.unfinished, and takes its place \
+when it is whole. So the file is no longer than its device wants, and is opened as fast as that is read. An image that is no journal \
+stays as it is.
 
 No other command works on the image meanwhile: one that tries to is told that it is in use.";
 
 const EXAMPLE: &str = "\
-Example, of a file of frames, as `serve --help` has them:
+Example, of a frame by which zone 3 becomes read only, as `serve --help` has it:
 
-  zscli serve zoned.img --durable --frames < requests > answers
+  zscli format zoned.img --block 512 --zones 4 --size 64 --capacity 64 --open 3 --active 3
+  printf '\\3\\1\\0\\0\\3\\0\\0\\0\\0\\0\\0\\0\\0\\0\\0\\0' | zscli serve zoned.img --durable --frames | xxd
   zscli fold zoned.img";
 
 /// How the command stands on the command line.

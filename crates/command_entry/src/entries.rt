@@ -17,7 +17,7 @@ use command_files::arguments::{
     option, required,
 };
 use command_files::{Failure, Files, printed, read};
-use command_images::image_file;
+use command_images::device_file;
 use program_interface::BlockSize;
 use std::alloc::{AllocError, Global};
 use std::io::Write;
@@ -113,8 +113,8 @@ fn asked_block<'a, F: Files>(
 {
     match matches.get_str(IMAGE) {
         Some(path) => {
-            let image = image_file::load(alloc, path, files)?;
-            Ok(image.geometry().block())
+            let device = device_file::load(alloc, path, files)?;
+            Ok(device.image().geometry().block())
         }
         None => block_size(number_or_hexadecimal(matches, BLOCK_OPTION)?),
     }

@@ -1,6 +1,6 @@
 //! Entries for programs: `load`, `run` and `result`.
 
-ghost use Rattle.std.specs.Prelude.{◌≡◌};
+ghost use Rattle.std.specs.Prelude.{◌≡◌, ◌≤◌, IfOk, vec_len};
 
 use crate::asked::Asked;
 use crate::data_file::read_data;
@@ -11,8 +11,8 @@ use command_files::arguments::{
     ARGUMENT_OPTION, EMIT_OPTION, PROGRAM, and_argument, argument_option, emit_option,
     number_or_hexadecimal, option, program_argument, required,
 };
-use command_files::{Failure, Files};
-use nvme_entry::{LoadCommand, RunCommand};
+use command_files::{Failure, Files, object_refusal};
+use nvme_entry::{LoadCommand, MOST_TRANSFER, RunCommand};
 use std::alloc::{AllocError, Global};
 
 pub(crate) const LOAD: &str = "load";
@@ -82,6 +82,19 @@ fn slot_option<'a>(alloc: Global) -> Arg<'a> {
         .help("The slot of the program, from 0 to 7")
 }
 
+/// All bytes of a file that `load` moves: of any that is no object.
+fn read_program<'a, F: Files>(path: &'a str, files: &mut F) -> Result<Vec<u8>, Failure<'a>>
+    ensures made { F.made files.new ≡ F.made files.old }
+    ensures contents { F.contents files.new ≡ F.contents files.old }
+    ensures most { IfOk result (λ bytes. vec_len bytes ≤ MOST_TRANSFER) }
+{
+    let data = read_data(path, files)?;
+    match object_refusal(path, data.as_slice()) {
+        Some(refusal) => Err(refusal),
+        None => Ok(data),
+    }
+}
+
 /// What the words of a `load` ask for.
 pub(crate) fn load<'a, F: Files>(
     matches: &ArgMatches<'a>,
@@ -92,7 +105,7 @@ pub(crate) fn load<'a, F: Files>(
 {
     let slot = slot(matches, SLOT)?;
     let limit = number_or_hexadecimal(matches, EMIT_OPTION)?;
-    let data = read_data(required(matches, PROGRAM), files)?;
+    let data = read_program(required(matches, PROGRAM), files)?;
     let load = LoadCommand {
         slot,
         limit,

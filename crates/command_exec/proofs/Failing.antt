@@ -8,7 +8,7 @@ use Rattle.command_files.specs.UserTold.{IsUnread, told_of_commands}
 use Rattle.command_files.specs.declared.failure.Failure.{Failure}
 use Rattle.command_files.specs.declared.failure.Failure.TheVariants.{CannotPrint, CannotRead, CannotWrite, LineRefused, NoMemory}
 use Rattle.command_files.proofs.Proved.{read_holds, same_name, unread_holds}
-use Rattle.command_images.specs.UserTold.{IsUnheld, LoadingFails, UpgradeFails}
+use Rattle.command_images.specs.UserTold.{IsUnheld, ReplacingFails}
 use Rattle.command_exec.specs.UserTold.{ExecFails, PrintsNothing}
 use Rattle.command_exec.specs.steps.Told.{SavingFails}
 
@@ -19,12 +19,12 @@ saving_of_changes path _ is = is
 
 module _ (reads : Type 0) (contents : List ℕ → Option (List ℕ)) (path commands : List ℕ) where
   -- the image isn't loaded
-  pub exec_of_loading : (image : List ℕ) → image ≡ path → (failure : Failure) → UpgradeFails reads (contents image) image failure → ExecFails reads contents path commands failure
+  pub exec_of_loading : (image : List ℕ) → image ≡ path → (failure : Failure) → ReplacingFails reads (contents image) image failure → ExecFails reads contents path commands failure
   exec_of_loading image is_named CannotPrint is = tt
   exec_of_loading image is_named (CannotWrite told cause) is = is ∙ is_named
   exec_of_loading image is_named (CannotRead told cause) is = inl (is ∙ is_named)
   exec_of_loading image is_named (LineRefused told number fault) is = absurd is
-  exec_of_loading image is_named failure is = subst (λ (p : List ℕ). LoadingFails reads (contents p) p failure) is_named is
+  exec_of_loading image is_named failure is = subst (λ (p : List ℕ). ReplacingFails reads (contents p) p failure) is_named is
 
   -- the command file isn't read
   pub exec_of_reading : (file : Bor (List ℕ)) → file.now ≡ commands → (failure : Failure) → IsUnread file failure → ExecFails reads contents path commands failure

@@ -22,7 +22,8 @@ use Rattle.command_files.specs.Crash.{AreWritten, LeavesOldOrNew}
 use Rattle.command_files.specs.Made.{Made}
 use Rattle.command_files.specs.Surroundings.{Surroundings}
 use Rattle.command_files.proofs.Proved.{leaves_behind, leaves_weaker, read_holds}
-use Rattle.command_images.specs.Images.{HasText, StandFor, image_of}
+use Rattle.command_images.specs.Devices.{TellNamespace}
+use Rattle.command_images.specs.Images.{HasText, image_of}
 use Rattle.command_exec.specs.Executed.{AreExecuted, AreInFiles, AreLeft, DoesAll, Executes, ExecutesFirst, HasBegun, HasDone, InEvents, InTurns, SavesAll, SavesFirst, commands_of}
 
 pub on_err : {T E fact : Type 0} (result : Result T E) → fact → OnErr result fact
@@ -144,16 +145,16 @@ module _ (reads writes : Type 0) (contents then : List ℕ → Option (List ℕ)
   abbrev pub from_there : (List ℕ → Option (List ℕ)) → Option (List Made) → Surroundings
   from_there held made = record { reads = reads; writes = writes; contents = held; before = made; after = after }
 
-  pub in_both : (reads → StandFor (contents path) namespace) → AreInFiles (from_there contents before) matches namespace events
+  pub in_both : (reads → TellNamespace (contents path) namespace) → AreInFiles (from_there contents before) matches namespace events
   in_both namespace_is = record {
-    namespace_is = λ read. subst (λ (p : List ℕ). StandFor (contents p) namespace) is_named (namespace_is read);
+    namespace_is = λ read. subst (λ (p : List ℕ). TellNamespace (contents p) namespace) is_named (namespace_is read);
     events_are = read_holds contents commands (commands_of matches) file slice (λ bytes. events_in bytes ≡ Ok (map told_of events)) are_named slice_is
         (subst (λ (c : List ℕ → Option (List ℕ)). IfSome (c commands) (λ bytes. file ≡ bytes)) same file_is) events_are;
   }
 
   -- what `run` does of them is what the command does of the files
   pub executes : {T E : Type 0} (held : List ℕ → Option (List ℕ)) (given : List Event) (printed printed_after : Option (List ℕ)) (result : Result T E)
-      → (reads → StandFor (contents path) namespace) → held ≡ contents
+      → (reads → TellNamespace (contents path) namespace) → held ≡ contents
       → OnOk result (SavesAll (from_there held loaded) given namespace path printed printed_after) → given ≡ events
       → OnOk result (Executes (from_there contents before) matches printed printed_after)
   executes held given printed printed_after (Err error) namespace_is held_is saves are = tt
@@ -167,7 +168,7 @@ module _ (reads writes : Type 0) (contents then : List ℕ → Option (List ℕ)
         (subst (λ (list : List Event). SavesAll (from_there held loaded) list namespace path printed printed_after) are saves)));
   }
 
-  pub executes_first : (held : List ℕ → Option (List ℕ)) (given : List Event) → (reads → StandFor (contents path) namespace) → held ≡ contents
+  pub executes_first : (held : List ℕ → Option (List ℕ)) (given : List Event) → (reads → TellNamespace (contents path) namespace) → held ≡ contents
       → SavesFirst (from_there held loaded) given namespace path → given ≡ events → ExecutesFirst (from_there contents before) matches
   executes_first held given namespace_is held_is saves are = record {
     namespace = namespace;
@@ -180,7 +181,7 @@ module _ (reads writes : Type 0) (contents then : List ℕ → Option (List ℕ)
   }
 
   -- what `run` may leave in the file is what the command may
-  pub executed_leaves : (given : List Event) (tried loaded_tried after_tried : List Attempt) → (reads → StandFor (contents path) namespace) → given ≡ events
+  pub executed_leaves : (given : List Event) (tried loaded_tried after_tried : List Attempt) → (reads → TellNamespace (contents path) namespace) → given ≡ events
       → loaded_tried ≡ tried → LeavesOldOrNew path (AreLeft writes given namespace) loaded_tried after_tried
       → LeavesOldOrNew (image_of matches) (AreExecuted (from_there contents before) matches) tried after_tried
   executed_leaves given tried loaded_tried after_tried namespace_is are same leaves =

@@ -17,7 +17,8 @@ use Rattle.clap.specs.declared.parser.matches.ArgMatches.{ArgMatches}
 use Rattle.command_files.specs.Arguments.{value_of}
 use Rattle.command_files.specs.Crash.{AreWritten}
 use Rattle.command_files.specs.Surroundings.{Surroundings}
-use Rattle.command_images.specs.Images.{HasText, StandFor, image_of}
+use Rattle.command_images.specs.Devices.{TellNamespace}
+use Rattle.command_images.specs.Images.{HasText, image_of}
 use Rattle.command_exec.specs.declared.exec.TheConstants.{COMMANDS}
 
 -- the name of the command file that a command line gives
@@ -67,10 +68,10 @@ pub record SavesFirst (here : Surroundings) (events : List Event) (namespace : Z
   pub begun : HasBegun events (new_state namespace) left
   pub saved : HasText here path (text left.namespace)
 
--- the image file's bytes stand for a namespace, where these and what is read of them are told, and the command file's for
--- some events, where these are told
+-- the image file's bytes stand for a device that has a namespace and nothing else, where these and what is read of them are told, and
+-- the command file's for some events, where these are told
 pub record AreInFiles (here : Surroundings) (matches : ArgMatches) (namespace : ZonedNamespace) (events : List Event) : Type 0 where
-  pub namespace_is : here.reads → StandFor (here.contents (image_of matches)) namespace
+  pub namespace_is : here.reads → TellNamespace (here.contents (image_of matches)) namespace
   pub events_are : IfSome (here.contents (commands_of matches)) (λ bytes. events_in bytes ≡ Ok (map told_of events))
 
 -- the events of the command file are done on the namespace of the image file

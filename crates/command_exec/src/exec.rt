@@ -1,6 +1,7 @@
 //! The command `exec`: the events of a command file, run on an image.
 
 ghost use Rattle.std.specs.Prelude.{◌≡◌, ◌≢◌, ◌≤◌, ◌<◌, ◌+◌, ◌^◌, length, OnOk, OnErr, IfErr, Some};
+ghost use Rattle.device_meaning.specs.State.{new_state};
 ghost use Rattle.command_files.specs.Crash.{LeavesOldOrNew};
 ghost use Rattle.command_files.specs.Made.{KeepsModes, KeepsOthers, MakesAtMost};
 ghost use Rattle.command_files.specs.Surroundings.{around};
@@ -14,12 +15,13 @@ use crate::watched::{Refusals, Watched};
 use clap::{Arg, ArgMatches, Command};
 use command_files::arguments::{and_argument, required};
 use command_files::{Failure, Files, read};
+use command_images::device_file;
 use command_images::image_file::{self, IMAGE};
 use event_text::{Lines, event_lines};
 use runner::{Device, Event, Stopped};
 use std::alloc::{AllocError, Global};
 use std::io::Write;
-use zns_commands::{Image, MOST_TRANSFER};
+use zns_commands::MOST_TRANSFER;
 
 /// The command's name.
 pub const NAME: &str = "exec";
@@ -51,6 +53,9 @@ What is printed, which `explain` says in words:
   idle                        there is no such run
   done                        a fault was taken
   refused                     a fault was refused
+
+IMAGE may be a journal too, which `serve --durable` makes of an image: the events in it are done again first, and an image takes its \
+place. Where its device has a program or a run, which no image keeps, it is refused (`device refused`), and no event happens.
 
 Where a line cannot be printed, no later event happens and no later turn is given, and the image is \
 written as those up to then left it. Where anything else fails, the image is as it was: the image or the command file cannot be \
@@ -120,7 +125,7 @@ pub fn exec<'a, F: Files, O: Write>(
     ensures modes { OnOk result (KeepsModes (F.modes files.old) (F.modes files.new)) }
 {
     let path = required(matches, IMAGE);
-    let image = image_file::load_to_replace(alloc, path, files)?;
+    let mut device = device_file::load_to_replace(alloc, path, files)?;
     let commands = required(matches, COMMANDS);
     let file = read(commands, files)?;
     match event_text::parse(alloc, file.as_slice()) {
@@ -128,7 +133,7 @@ pub fn exec<'a, F: Files, O: Write>(
             let numbers = event_lines(alloc, file.as_slice())?;
             run(
                 alloc,
-                image,
+                &mut *device,
                 events.as_slice(),
                 numbers.as_slice(),
                 path,
@@ -140,24 +145,23 @@ pub fn exec<'a, F: Files, O: Write>(
     }
 }
 
-/// Runs the events on an image and then the turns that are left, prints a line for each, and saves the image as they left it:
+/// Runs the events on a device and then the turns that are left, prints a line for each, and saves the image as they left it:
 /// all of them, or where standard output fails, those that were done by then. Of the events the numbers are their lines.
-// The device stands in this frame, which isn't to stand on the stack yet while the command line is read.
-#[inline(never)]
 fn run<'a, F: Files, O: Write>(
     alloc: Global,
-    image: Image,
+    device: &mut Device,
     events: &[Event],
     numbers: &[usize],
     path: &'a str,
     files: &mut F,
     out: &mut O,
 ) -> Result<Option<Refused>, Failure<'a>>
-    requires { F.held files.old ≡ Some path.now }
+    requires held { F.held files.old ≡ Some path.now }
+    requires new { device.old ≡ new_state device.old.namespace }
     ensures saved { let here = around F.Files F.Reader.tells F.Writer.tells files.old files.new in
-        OnOk result (SavesAll here events.now image path.now (O.contents out.old) (O.contents out.new)) }
+        OnOk result (SavesAll here events.now device.old.namespace path.now (O.contents out.old) (O.contents out.new)) }
     ensures stopped { let here = around F.Files F.Reader.tells F.Writer.tells files.old files.new in
-        result ≡ Err Failure.CannotPrint → SavesFirst here events.now image path.now }
+        result ≡ Err Failure.CannotPrint → SavesFirst here events.now device.old.namespace path.now }
     ensures failed { IfErr result (SavingFails path.entry) }
     ensures made { OnOk result (MakesAtMost path.now (F.made files.old) (F.made files.new)) }
     ensures one { result ≡ Err Failure.CannotPrint → MakesAtMost path.now (F.made files.old) (F.made files.new) }
@@ -165,14 +169,13 @@ fn run<'a, F: Files, O: Write>(
     ensures others_stopped { result ≡ Err Failure.CannotPrint → KeepsOthers path.now (F.contents files.old) (F.contents files.new) }
     ensures kept { IfErr result (λ failure. failure ≢ Failure.CannotPrint → F.made files.new ≡ F.made files.old) }
     ensures contents { IfErr result (λ failure. failure ≢ Failure.CannotPrint → F.contents files.new ≡ F.contents files.old) }
-    ensures crash { LeavesOldOrNew path.now (AreLeft F.Writer.tells events.now image) (F.tried files.old) (F.tried files.new) }
+    ensures crash { LeavesOldOrNew path.now (AreLeft F.Writer.tells events.now device.old.namespace) (F.tried files.old) (F.tried files.new) }
     ensures modes { OnOk result (KeepsModes (F.modes files.old) (F.modes files.new)) }
 {
     let lines = Lines::new(alloc, out)?;
     let mut watched = Watched::new(lines);
     let mut output = vec![in alloc; 0; MOST_TRANSFER]?;
-    let mut device = Device::new(alloc, image);
-    let done = serve_and_drain(&mut device, events, output.as_mut_slice(), &mut watched);
+    let done = serve_and_drain(device, events, output.as_mut_slice(), &mut watched);
     let refusals = watched.refusals();
     let lines = watched.into_out();
     let out = lines.into_writer();

@@ -1,7 +1,7 @@
 -- How the program ends (profile).
 use Rattle.std.specs.Prelude.{ℕ, Result, Ok, Err}
 use Rattle.command_files.specs.declared.failure.Failure.{Failure}
-use Rattle.command_files.specs.declared.failure.Failure.TheVariants.{CommandLine, NotText, NotInRange, CannotRead, CannotWrite, NotAnImage, CannotPrint, NoMemory, LineRefused, ReplyRefused, WordsRefused, CommandsRefused, GeometryRefused, NotABlock, EmitExceedsBlock, ImageRefused, JournalRefused, AssemblyRefused, ProgramRefused, FrameRefused, DataRefused, StreamRefused, StreamCutOff, NotAccepted}
+use Rattle.command_files.specs.declared.failure.Failure.TheVariants.{CommandLine, NotText, NotInRange, CannotRead, CannotWrite, NotAnImage, CannotPrint, NoMemory, LineRefused, ReplyRefused, WordsRefused, CommandsRefused, GeometryRefused, NotABlock, EmitExceedsBlock, ImageRefused, JournalRefused, DeviceRefused, AssemblyRefused, ProgramRefused, FrameRefused, DataRefused, StreamRefused, StreamCutOff, NotAccepted}
 
 -- the exit status of a failure: 1 for a file or memory, 2 for the command line, 3 for input that is refused, 4 for commands that the
 -- device refused; of a line of words it is the one that the words have by themselves
@@ -21,6 +21,7 @@ status_of (GeometryRefused refusal) = 3
 status_of (NotABlock path bytes) = 3
 status_of (ImageRefused path fault) = 3
 status_of (JournalRefused path place) = 3
+status_of (DeviceRefused path) = 3
 status_of (AssemblyRefused path refusal) = 3
 status_of (ProgramRefused path refusal) = 3
 status_of (FrameRefused path refusal) = 3

@@ -22,7 +22,7 @@ use Rattle.command_files.specs.declared.data_fault.DataFault.{DataFault}
 use Rattle.command_files.specs.declared.failure.Failure.{Failure}
 use Rattle.command_files.specs.declared.file_cause.FileCause.{FileCause}
 use Rattle.command_files.specs.declared.file_cause.FileCause.TheVariants.{Other}
-use Rattle.command_files.specs.declared.failure.Failure.TheVariants.{CommandLine, NotText, NotInRange, CannotRead, CannotWrite, NotAnImage, CannotPrint, NoMemory, LineRefused, ReplyRefused, WordsRefused, CommandsRefused, GeometryRefused, NotABlock, EmitExceedsBlock, ImageRefused, JournalRefused, AssemblyRefused, ProgramRefused, FrameRefused, DataRefused, StreamRefused, StreamCutOff, NotAccepted}
+use Rattle.command_files.specs.declared.failure.Failure.TheVariants.{CommandLine, NotText, NotInRange, CannotRead, CannotWrite, NotAnImage, CannotPrint, NoMemory, LineRefused, ReplyRefused, WordsRefused, CommandsRefused, GeometryRefused, NotABlock, EmitExceedsBlock, ImageRefused, JournalRefused, DeviceRefused, AssemblyRefused, ProgramRefused, FrameRefused, DataRefused, StreamRefused, StreamCutOff, NotAccepted}
 
 -- a text: one that is said here, one around words that another crate has, one that another crate has, or none
 pub data Text : Type 0 where
@@ -115,6 +115,10 @@ journal_text path place =
     Said (path ++ codes ", byte " ++ decimal place ++ codes ": an open gate, and no whole batch of events behind it"
     ++ 10 ∷ journal_behind place ++ 10 ∷ [])
 
+-- a journal whose device has more than an image keeps
+abbrev pub device_text : List ℕ → Text
+device_text path = Said (path ++ codes ": its device has a program or a run, which no image keeps; `serve --durable` keeps them\ndevice refused\n")
+
 -- a text that isn't assembled, with the line and the number of the fault
 abbrev pub assembly_text : List ℕ → AssemblyRefusal → Text
 assembly_text path refusal =
@@ -179,6 +183,7 @@ failure_text (NotABlock path bytes) = not_a_block_text (shown path.now) bytes
 failure_text (EmitExceedsBlock emit block) = emit_text emit block
 failure_text (ImageRefused path fault) = image_text (shown path.now) fault
 failure_text (JournalRefused path place) = journal_text (shown path.now) place
+failure_text (DeviceRefused path) = device_text (shown path.now)
 failure_text (AssemblyRefused path refusal) = assembly_text (shown path.now) refusal
 failure_text (ProgramRefused path refusal) = program_text (shown path.now) refusal
 failure_text (FrameRefused path refusal) = frame_text (shown path.now) refusal

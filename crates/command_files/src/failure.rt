@@ -89,6 +89,10 @@ pub enum Failure<'a> {
         path: &'a str,
         place: usize,
     },
+    /// A journal of which no image is made: its device has a program or a run, which no image keeps.
+    DeviceRefused {
+        path: &'a str,
+    },
     /// A file that is no assembly text.
     AssemblyRefused {
         path: &'a str,
@@ -168,6 +172,7 @@ impl<'a> Failure<'a> {
             | Failure::NotABlock { .. }
             | Failure::ImageRefused { .. }
             | Failure::JournalRefused { .. }
+            | Failure::DeviceRefused { .. }
             | Failure::AssemblyRefused { .. }
             | Failure::ProgramRefused { .. }
             | Failure::FrameRefused { .. }

@@ -3,11 +3,12 @@
 ghost use Rattle.std.specs.Prelude.{◌++◌, IfSome, OnOk};
 ghost use Rattle.std.specs.Io.KnownBytes.{Appends};
 ghost use Rattle.command_files.specs.Shown.{shown};
-ghost use Rattle.command_files.specs.Lines.{IsPrinted, IsTold, PrintsRefusal, PrintsSentence, assembly_text, at_byte, at_line, cause_sentence, commands_text, cut_off_text, data_failure_text, emit_text, frame_text, geometry_text, image_text, journal_text, line, line_front, line_failure_text, not_an_image_text, not_a_block_text, program_text, range_text, reply_failure_text, stream_text, unread_text, unwritten_text};
+ghost use Rattle.command_files.specs.Lines.{IsPrinted, IsTold, PrintsRefusal, PrintsSentence, assembly_text, at_byte, at_line, cause_sentence, commands_text, cut_off_text, data_failure_text, device_text, emit_text, frame_text, geometry_text, image_text, journal_text, line, line_front, line_failure_text, not_an_image_text, not_a_block_text, program_text, range_text, reply_failure_text, stream_text, unread_text, unwritten_text};
 
 use crate::data_fault::DataFault;
 use crate::failure::Failure;
 use crate::file_cause::FileCause;
+use crate::object_file::ProgramWords;
 use crate::shown::Shown;
 use ebpf_asm::AssemblyRefusal;
 use ebpf_decode::ProgramRefusal;
@@ -66,6 +67,7 @@ impl Failure<'_> {
             Failure::EmitExceedsBlock { emit, block } => print_emit(out, *emit, *block),
             Failure::ImageRefused { path, fault } => print_image(out, path, *fault),
             Failure::JournalRefused { path, place } => print_journal(out, path, *place),
+            Failure::DeviceRefused { path } => print_device(out, path),
             Failure::AssemblyRefused { path, refusal } => print_assembly(out, path, *refusal),
             Failure::ProgramRefused { path, refusal } => print_program(out, path, *refusal),
             Failure::FrameRefused { path, refusal } => print_frame(out, path, *refusal),
@@ -213,6 +215,16 @@ fn print_journal<W: Write>(out: &mut W, path: &str, place: usize) -> io::Result<
     print_line(out, format_args!("journal refused {place}"))
 }
 
+fn print_device<W: Write>(out: &mut W, path: &str) -> io::Result<()>
+    ensures { OnOk result (IsPrinted (device_text (shown path.now)) (W.contents out.old) (W.contents out.new)) }
+{
+    let path = Shown(path);
+    write!(
+        out,
+        "{path}: its device has a program or a run, which no image keeps; `serve --durable` keeps them\ndevice refused\n"
+    )
+}
+
 fn print_assembly<W: Write>(out: &mut W, path: &str, refusal: AssemblyRefusal) -> io::Result<()>
     ensures { OnOk result (IsPrinted (assembly_text (shown path.now) refusal) (W.contents out.old) (W.contents out.new)) }
 {
@@ -236,7 +248,7 @@ fn print_program<W: Write>(out: &mut W, path: &str, refusal: ProgramRefusal) -> 
         out,
         path,
         ", ",
-        refusal,
+        ProgramWords(refusal),
         format_args!("program refused {slot} {number}"),
     )
 }

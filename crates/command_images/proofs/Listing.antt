@@ -1,11 +1,12 @@
 -- The lines of zones.
 use Rattle.std.proofs.Common.{◌≡◌, ℕ, zero, suc, ◌+◌, ◌<◌, List, [], ◌∷◌, ◌++◌, length, take, get_or, Option, Result, Ok, Err, OnOk, OnErr, sym, ap, ◌∙◌, arith, subst, append-nil, append_assoc, add-zero, add-one}
 use Rattle.std.specs.Io.KnownBytes.{Appends}
-use Rattle.image_store.specs.Namespace.{ZonedNamespace, counted_zones}
+use Rattle.image_store.specs.Namespace.{counted_zones}
 use Rattle.zone_state.specs.Zone.{CountedZone}
 use Rattle.command_files.specs.declared.failure.Failure.{Failure}
 use Rattle.command_files.specs.declared.failure.Failure.TheVariants.{CannotPrint}
-use Rattle.command_images.specs.Images.{StandFor}
+use Rattle.device_meaning.specs.State.{State}
+use Rattle.command_images.specs.Devices.{TellDevice}
 use Rattle.command_images.specs.Zones.{PrintsZones, zone_line, zone_lines_from}
 
 -- the lines of one zone more
@@ -26,15 +27,15 @@ one_line_more zones i other lt =
     ap (λ n. zone_lines_from 0 (take n zones)) (add-one i) ∙ more 0 zones i other lt
     ∙ ap (λ n. zone_lines_from 0 (take i zones) ++ zone_line n (get_or zones i other)) first
 
--- an image was loaded of the file that is asked for, and its zones were printed
-pub prints_zones : {T E : Type 0} (reads : Type 0) (result : Result T E) (contents : List ℕ → Option (List ℕ)) (namespace : ZonedNamespace)
-    (path wanted : List ℕ) (zones : List CountedZone) (before after : Option (List ℕ)) → path ≡ wanted → zones ≡ counted_zones namespace
-    → (reads → StandFor (contents path) namespace) → OnOk result (Appends before after (zone_lines_from 0 zones))
+-- a device was loaded of the file that is asked for, and its zones were printed
+pub prints_zones : {T E : Type 0} (reads : Type 0) (result : Result T E) (contents : List ℕ → Option (List ℕ)) (device : State)
+    (path wanted : List ℕ) (zones : List CountedZone) (before after : Option (List ℕ)) → path ≡ wanted → zones ≡ counted_zones device.namespace
+    → (reads → TellDevice (contents path) device) → OnOk result (Appends before after (zone_lines_from 0 zones))
     → OnOk result (PrintsZones reads (contents wanted) before after)
-prints_zones reads (Err error) contents namespace path wanted zones before after is are held printed = tt
-prints_zones reads (Ok done) contents namespace path wanted zones before after is are held printed = record {
-  namespace = namespace;
-  held = λ read. subst (λ (p : List ℕ). StandFor (contents p) namespace) is (held read);
+prints_zones reads (Err error) contents device path wanted zones before after is are held printed = tt
+prints_zones reads (Ok done) contents device path wanted zones before after is are held printed = record {
+  device = device;
+  held = λ read. subst (λ (p : List ℕ). TellDevice (contents p) device) is (held read);
   printed = subst (λ (list : List CountedZone). Appends before after (zone_lines_from 0 list)) are printed;
 }
 

@@ -1,21 +1,21 @@
 -- What is known of the images that commands make.
-use Rattle.std.proofs.Common.{◌≡◌, ◌⊎◌, ℕ, List, Option, Result, Ok, Err, OnOk, IfSome, ap, inl, inr, sym, subst, ◌∙◌}
+use Rattle.std.proofs.Common.{◌≡◌, ◌⊎◌, ℕ, List, Option, Result, Ok, Err, OnOk, ap, inl, inr, sym, subst, ◌∙◌}
 use Rattle.std.specs.Borrow.{Bor}
 use Rattle.std.specs.List.{Contains}
 use Rattle.clap.specs.declared.parser.matches.ArgMatches.{ArgMatches}
 use Rattle.image_store.specs.Geometry.{Shape, shape_checks, tested}
 use Rattle.image_store.specs.Namespace.{ZonedNamespace, all_empty}
-use Rattle.image_text.specs.Reading.{namespace_in}
 use Rattle.image_text.specs.Text.{text}
 use Rattle.common_definitions.specs.Checks.{first_failed}
 use Rattle.common_definitions.proofs.Proved.{value_given}
 use Rattle.command_files.specs.declared.failure.Failure.{Failure}
-use Rattle.command_files.specs.declared.failure.Failure.TheVariants.{CannotRead, CannotWrite, NoMemory, NotAnImage, NotInRange}
+use Rattle.command_files.specs.declared.failure.Failure.TheVariants.{CannotRead, CannotWrite, DeviceRefused, NoMemory, NotAnImage, NotInRange}
 use Rattle.command_files.specs.Made.{Made, then_made}
 use Rattle.command_files.specs.UserTold.{IsUnwritten, SpellsNone}
 use Rattle.command_files.proofs.Proved.{same_name, unwritten_holds}
 use Rattle.command_images.specs.Images.{IsAnother, IsAskedFor, IsForced, IsReplaceable, MakesEmpty, MakesAnew}
-use Rattle.command_images.specs.UserTold.{FormatFails, IsUnheld, IsUnreplaced, LoadingFails, RefusesShape, UpgradeFails, shape_options}
+use Rattle.command_images.specs.Devices.{TellNamespace}
+use Rattle.command_images.specs.UserTold.{FormatFails, IsUnheld, IsUnreplaced, LoadingDeviceFails, RefusesShape, ReplacingFails, shape_options}
 
 -- the shape that tests give is the one that they are made of
 same_shape : (s g : Shape) → Ok g ≡ tested s → s ≡ g
@@ -39,17 +39,18 @@ makes_empty writes (Ok done) image shape matches path wanted before loaded after
       ∙ ap (λ (ns : ZonedNamespace). then_made before wanted (text ns)) empty;
 }
 
--- an image was loaded of the files of before, and its file was made
-pub makes_anew : {T E : Type 0} (reads writes : Type 0) (result : Result T E) (contents : List ℕ → Option (List ℕ)) (image : ZonedNamespace) (path wanted : List ℕ)
-    (before loaded after : Option (List Made)) → path ≡ wanted → loaded ≡ before
-    → (reads → IfSome (contents path) (λ bytes. namespace_in bytes ≡ Ok image))
-    → OnOk result (writes → after ≡ then_made loaded path (text image))
+-- a device was loaded of the files of before, and a file was made of the image that it shows
+pub makes_anew : {T E : Type 0} (reads writes : Type 0) (result : Result T E) (contents : List ℕ → Option (List ℕ)) (image shown : ZonedNamespace) (path wanted : List ℕ)
+    (before loaded after : Option (List Made)) → path ≡ wanted → loaded ≡ before → shown ≡ image
+    → (reads → TellNamespace (contents path) image)
+    → OnOk result (writes → after ≡ then_made loaded path (text shown))
     → OnOk result (MakesAnew (record { reads = reads; writes = writes; contents = contents; before = before; after = after }) wanted)
-makes_anew reads writes (Err error) contents image path wanted before loaded after same kept held saved = tt
-makes_anew reads writes (Ok done) contents image path wanted before loaded after same kept held saved = record {
+makes_anew reads writes (Err error) contents image shown path wanted before loaded after same kept shows held saved = tt
+makes_anew reads writes (Ok done) contents image shown path wanted before loaded after same kept shows held saved = record {
   namespace = image;
-  held = λ read. subst (λ (p : List ℕ). IfSome (contents p) (λ bytes. namespace_in bytes ≡ Ok image)) same (held read);
-  made = λ write. saved write ∙ ap (λ (made : Option (List Made)). then_made made path (text image)) kept ∙ ap (λ (p : List ℕ). then_made before p (text image)) same;
+  held = λ read. subst (λ (p : List ℕ). TellNamespace (contents p) image) same (held read);
+  made = λ write. saved write ∙ ap (λ (made : Option (List Made)). then_made made path (text shown)) kept ∙ ap (λ (p : List ℕ). then_made before p (text shown)) same
+      ∙ ap (λ (ns : ZonedNamespace). then_made before wanted (text ns)) shows;
 }
 
 -- the word of an option of a shape spells no number
@@ -82,16 +83,17 @@ module _ (path : Bor (List ℕ)) (named : List ℕ) (is_named : path.now ≡ nam
   format_of_holding matches contents forced by NoMemory is = tt
   format_of_holding matches contents forced by _ is = absurd is
 
-  pub upgrade_of_writing : (reads : Type 0) (known : Option (List ℕ)) (failure : Failure) → IsUnwritten path failure → UpgradeFails reads known named failure
-  upgrade_of_writing reads known = unwritten_holds path (UpgradeFails reads known named) (λ told cause is. same_name is is_named) tt
+  pub upgrade_of_writing : (reads : Type 0) (known : Option (List ℕ)) (failure : Failure) → IsUnwritten path failure → ReplacingFails reads known named failure
+  upgrade_of_writing reads known = unwritten_holds path (ReplacingFails reads known named) (λ told cause is. same_name is is_named) tt
 
 -- it isn't loaded
-pub replace_of_loading : (reads : Type 0) (known : Option (List ℕ)) (path : List ℕ) (failure : Failure) → LoadingFails reads known path failure → UpgradeFails reads known path failure
+pub replace_of_loading : (reads : Type 0) (known : Option (List ℕ)) (path : List ℕ) (failure : Failure) → LoadingDeviceFails reads known path failure → ReplacingFails reads known path failure
 replace_of_loading reads known path (CannotWrite told cause) is = absurd is
+replace_of_loading reads known path (DeviceRefused told) is = absurd is
 replace_of_loading reads known path _ is = is
 
 -- it isn't held
-pub replace_of_holding : (reads : Type 0) (known : Option (List ℕ)) (path : Bor (List ℕ)) (failure : Failure) → IsUnheld path failure → UpgradeFails reads known path.now failure
+pub replace_of_holding : (reads : Type 0) (known : Option (List ℕ)) (path : Bor (List ℕ)) (failure : Failure) → IsUnheld path failure → ReplacingFails reads known path.now failure
 replace_of_holding reads known path (CannotRead told cause) is = ap (λ (b : Bor (List ℕ)). b.now) is
 replace_of_holding reads known path (CannotWrite told cause) is = ap (λ (b : Bor (List ℕ)). b.now) is
 replace_of_holding reads known path NoMemory is = tt

@@ -11,6 +11,7 @@ use Rattle.command_files.specs.Arguments.{number_of, value_of}
 use Rattle.command_files.specs.Crash.{AreWritten}
 use Rattle.command_files.specs.Made.{Made, then_made}
 use Rattle.command_files.specs.Surroundings.{Surroundings}
+use Rattle.command_images.specs.Devices.{TellNamespace}
 use Rattle.command_images.specs.declared.image_file.TheConstants.{IMAGE}
 
 -- the numbers of a shape are those that the options of a command line spell
@@ -54,17 +55,17 @@ pub record AreEmpty (writes : Type 0) (matches : ArgMatches) (bytes : List ℕ) 
 abbrev pub StandFor : Option (List ℕ) → ZonedNamespace → Type 0
 StandFor bytes namespace = IfSome bytes (λ bytes. namespace_in bytes ≡ Ok namespace)
 
--- the file is made anew of a namespace, where what is written of it is told: of the one that its bytes stand for, where
--- these and what is read of them are told
+-- the file is made anew of a namespace, where what is written of it is told: of that of the device that its bytes stand for, which has
+-- nothing else, where these and what is read of them are told
 pub record MakesAnew (here : Surroundings) (path : List ℕ) : Type 0 where
   pub namespace : ZonedNamespace
-  pub held : here.reads → StandFor (here.contents path) namespace
+  pub held : here.reads → TellNamespace (here.contents path) namespace
   pub made : here.writes → here.after ≡ then_made here.before path (text namespace)
 
--- these bytes are an image of the namespace that a file's bytes stand for, where these, what is read of them and what is written are told
+-- these bytes are an image of the namespace of the device that a file's bytes stand for, where these, what is read of them and what is written are told
 pub record AreAnew (reads writes : Type 0) (held : Option (List ℕ)) (bytes : List ℕ) : Type 0 where
   pub namespace : ZonedNamespace
-  pub held_is : reads → StandFor held namespace
+  pub held_is : reads → TellNamespace held namespace
   pub written : AreWritten writes (text namespace) bytes
 
 -- a file has a text afterwards, where its bytes, what is read of them and what is written are told: none is made, since it had

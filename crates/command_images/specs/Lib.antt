@@ -1,3 +1,4 @@
+pub mod Devices
 pub mod Images
 pub mod UserTold
 pub mod Zones

@@ -7,8 +7,9 @@ use Rattle.image_store.specs.Geometry.{Shape, tested}
 use Rattle.image_text.specs.Reading.{namespace_in}
 use Rattle.image_store.specs.declared.geometry.GeometryRefusal.{GeometryRefusal}
 use Rattle.command_files.specs.declared.failure.Failure.{Failure}
-use Rattle.command_files.specs.declared.failure.Failure.TheVariants.{NotInRange, CannotRead, CannotWrite, NoMemory, NotAnImage, GeometryRefused, ImageRefused}
+use Rattle.command_files.specs.declared.failure.Failure.TheVariants.{NotInRange, CannotRead, CannotWrite, DeviceRefused, JournalRefused, NoMemory, NotAnImage, GeometryRefused, ImageRefused}
 use Rattle.command_files.specs.UserTold.{IsUnwritten, SpellsNone}
+use Rattle.command_images.specs.Devices.{AreDamaged, StandForNone, TellMore}
 use Rattle.command_images.specs.Images.{IsAnother, IsAskedFor, IsForced}
 
 -- the options that give the numbers of a shape
@@ -46,7 +47,24 @@ LoadingFails reads bytes path (CannotRead told cause) = told.now ≡ path
 LoadingFails reads bytes path NoMemory = Unit {0}
 LoadingFails reads bytes path _ = ⊥
 
--- why an image isn't loaded to be replaced, and why `upgrade` makes none: that, or a file that can't be written, and nothing else
+-- why no device is loaded: the first fault of the file's bytes as an image, where they stand for no device; the byte from which on they
+-- are a damaged journal; a file that can't be read; or want of memory; and nothing else
+abbrev pub LoadingDeviceFails : Type 0 → Option (List ℕ) → List ℕ → Failure → Type 0
+LoadingDeviceFails reads bytes path (ImageRefused told fault) =
+    (told.now ≡ path) × (reads → IfSome bytes (λ bytes. (namespace_in bytes ≡ Err fault) × StandForNone bytes))
+LoadingDeviceFails reads bytes path (JournalRefused told place) = (told.now ≡ path) × (reads → IfSome bytes (AreDamaged place))
+LoadingDeviceFails reads bytes path (CannotRead told cause) = told.now ≡ path
+LoadingDeviceFails reads bytes path NoMemory = Unit {0}
+LoadingDeviceFails reads bytes path _ = ⊥
+
+-- why none is loaded whose file is to be replaced by an image, and why `upgrade` makes none: that, a file that can't be written, or a
+-- device that has more than a namespace, and nothing else
+abbrev pub ReplacingFails : Type 0 → Option (List ℕ) → List ℕ → Failure → Type 0
+ReplacingFails reads bytes path (CannotWrite told cause) = told.now ≡ path
+ReplacingFails reads bytes path (DeviceRefused told) = (told.now ≡ path) × (reads → TellMore bytes)
+ReplacingFails reads bytes path failure = LoadingDeviceFails reads bytes path failure
+
+-- why an image isn't loaded to be folded: that of an image, or a file that can't be written, and nothing else
 abbrev pub UpgradeFails : Type 0 → Option (List ℕ) → List ℕ → Failure → Type 0
 UpgradeFails reads bytes path (CannotWrite told cause) = told.now ≡ path
 UpgradeFails reads bytes path failure = LoadingFails reads bytes path failure

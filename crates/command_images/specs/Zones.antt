@@ -5,7 +5,8 @@ use Rattle.std.specs.Io.KnownBytes.{Appends}
 use Rattle.image_store.specs.Namespace.{ZonedNamespace, counted_zones}
 use Rattle.zone_state.specs.Words.{state_word}
 use Rattle.zone_state.specs.Zone.{CountedZone}
-use Rattle.command_images.specs.Images.{StandFor}
+use Rattle.device_meaning.specs.State.{State}
+use Rattle.command_images.specs.Devices.{TellDevice}
 
 -- the line of a zone: its number, the word for its state, and how many of its blocks are written
 abbrev pub zone_line : ℕ → CountedZone → List ℕ
@@ -20,9 +21,9 @@ zone_lines_from number (zone ∷ rest) = zone_line number zone ++ zone_lines_fro
 abbrev pub zone_lines : ZonedNamespace → List ℕ
 zone_lines namespace = zone_lines_from 0 (counted_zones namespace)
 
--- the lines of a namespace's zones are printed, and nothing else, where the output tells what it has: of the namespace that the
--- bytes of this file stand for, where these and what is read of them are told
+-- the lines of a device's zones are printed, and nothing else, where the output tells what it has: of the one that the bytes of this
+-- file stand for, where these and what is read of them are told
 pub record PrintsZones (reads : Type 0) (bytes before after : Option (List ℕ)) : Type 0 where
-  pub namespace : ZonedNamespace
-  pub held : reads → StandFor bytes namespace
-  pub printed : Appends before after (zone_lines namespace)
+  pub device : State
+  pub held : reads → TellDevice bytes device
+  pub printed : Appends before after (zone_lines device.namespace)

@@ -8,7 +8,7 @@ ghost use Rattle.command_files.specs.Made.{KeepsModes, KeepsOthers, MakesAtMost,
 ghost use Rattle.command_files.specs.Surroundings.{around};
 ghost use Rattle.command_files.specs.UserTold.{IsUnread, IsUnwritten};
 ghost use Rattle.command_images.specs.Images.{HasText, StandFor};
-ghost use Rattle.command_images.specs.UserTold.{IsUnheld, LoadingFails, UpgradeFails};
+ghost use Rattle.command_images.specs.UserTold.{IsUnheld, LoadingFails};
 ghost use Rattle.command_images.specs.steps.Texts.{TellsWhether};
 ghost use Rattle.command_images.specs.steps.Told.{told_of_image};
 
@@ -71,29 +71,6 @@ pub fn load<'a, F: Files>(alloc: Global, path: &'a str, files: &mut F) -> Result
     }
 }
 
-/// The image of a file that is to be replaced, as of [`load`]: its name is held from before the file is read on.
-///
-/// # Errors
-///
-/// Another command holds the file, it is no ordinary one or can't be read, its first fault as an image, or want of memory.
-pub fn load_to_replace<'a, F: Files>(
-    alloc: Global,
-    path: &'a str,
-    files: &mut F,
-) -> Result<Image, Failure<'a>>
-    ensures made { F.made files.new ≡ F.made files.old }
-    ensures contents { F.contents files.new ≡ F.contents files.old }
-    ensures modes { F.modes files.new ≡ F.modes files.old }
-    ensures tried { F.tried files.new ≡ F.tried files.old }
-    ensures held { OnOk result (F.held files.new ≡ Some path.now) }
-    ensures image { F.Reader.tells → IfOk result (StandFor (F.contents files.old path.now)) }
-    ensures failed { IfErr result (UpgradeFails F.Reader.tells (F.contents files.old path.now) path.now) }
-    ensures not_printing { result ≢ Err Failure.CannotPrint }
-{
-    hold(path, files)?;
-    load_held(alloc, path, files)
-}
-
 /// The image of the file whose name is held.
 ///
 /// # Errors
@@ -142,8 +119,9 @@ pub fn load_from<'a, S: Source>(
 }
 
 /// What the user is told of an image that was not loaded.
-fn refused<'a>(path: &'a str, fault: LoadFault) -> Failure<'a>
-    ensures { result ≡ told_of_image path.entry fault }
+pub(crate) fn refused<'a>(path: &'a str, fault: LoadFault) -> Failure<'a>
+    ensures told { result ≡ told_of_image path.entry fault }
+    ensures not_printing { result ≢ Failure.CannotPrint }
 {
     match fault {
         LoadFault::Stream => Failure::CannotRead(path, FileCause::Other),

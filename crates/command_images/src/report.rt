@@ -2,7 +2,8 @@
 
 ghost use Rattle.std.specs.Prelude.{◌≡◌};
 
-use crate::image_file::{self, IMAGE};
+use crate::device_file;
+use crate::image_file::IMAGE;
 use clap::{Arg, ArgAction, ArgMatches, Command};
 use command_files::arguments::{and_argument, required};
 use command_files::{Failure, Files, printed};
@@ -33,7 +34,8 @@ With --json one JSON object is printed, on a line: `block_bytes`, `zone_count`, 
 `number`, its `start`, its `state` as `zscli zones` prints it, its `condition`, the state's number, and `written`, how many of its \
 blocks are written.
 
-Of a file that is no image, `image refused REASON` tells the first fault.";
+Of a journal, which `serve --durable` makes of an image, it prints what the events in it left. Of a file that is no image, \
+`image refused REASON` tells the first fault.";
 
 const EXAMPLE: &str = "\
 Example:
@@ -73,11 +75,12 @@ pub fn report<'a, F: Files, O: Write>(
     ensures made { F.made files.new ≡ F.made files.old }
     ensures contents { F.contents files.new ≡ F.contents files.old }
 {
-    let image = image_file::load(alloc, required(matches, IMAGE), files)?;
+    let device = device_file::load(alloc, required(matches, IMAGE), files)?;
+    let image = device.image();
     if matches.get_flag(JSON) {
-        printed(print_json(&image, out))
+        printed(print_json(image, out))
     } else {
-        printed(print(&image, out))
+        printed(print(image, out))
     }
 }
 

@@ -5,8 +5,9 @@ ghost use Rattle.command_files.specs.Crash.{LeavesOldOrNew};
 ghost use Rattle.command_files.specs.Made.{KeepsModes, KeepsOthers, MakesOne};
 ghost use Rattle.command_files.specs.Surroundings.{around};
 ghost use Rattle.command_images.specs.Images.{AreAnew, MakesAnew, image_of};
-ghost use Rattle.command_images.specs.UserTold.{UpgradeFails};
+ghost use Rattle.command_images.specs.UserTold.{ReplacingFails};
 
+use crate::device_file;
 use crate::image_file::{self, IMAGE};
 use clap::{Arg, ArgMatches, Command};
 use command_files::arguments::required;
@@ -21,6 +22,9 @@ Loads an image, of version 1 or 2, and saves it as version 2 in its place. The n
 zones, their states and their blocks. An image of version 2 stays as it is, byte for byte.
 
 `exec` saves version 2 too, so that an image needs no upgrade to be worked on.
+
+Of a journal, which `serve --durable` makes of an image, it makes an image of the zones as the events in it left them. Where its \
+device has a program or a run, which no image keeps, it is refused (`device refused`).
 
 Of a file that is no image, `image refused REASON` tells the first fault, and the file stays as it is.";
 
@@ -60,7 +64,7 @@ pub fn upgrade<'a, F: Files>(
     files: &mut F,
 ) -> Result<(), Failure<'a>>
     ensures same { OnOk result (MakesAnew (around F.Files F.Reader.tells F.Writer.tells files.old files.new) (image_of matches.now)) }
-    ensures failed { IfErr result (UpgradeFails F.Reader.tells (F.contents files.old (image_of matches.now)) (image_of matches.now)) }
+    ensures failed { IfErr result (ReplacingFails F.Reader.tells (F.contents files.old (image_of matches.now)) (image_of matches.now)) }
     ensures made { OnOk result (MakesOne (image_of matches.now) (F.made files.old) (F.made files.new)) }
     ensures others { OnOk result (KeepsOthers (image_of matches.now) (F.contents files.old) (F.contents files.new)) }
     ensures kept { OnErr result (F.made files.new ≡ F.made files.old) }
@@ -70,6 +74,6 @@ pub fn upgrade<'a, F: Files>(
     ensures modes { OnOk result (KeepsModes (F.modes files.old) (F.modes files.new)) }
 {
     let path = required(matches, IMAGE);
-    let image = image_file::load_to_replace(alloc, path, files)?;
-    image_file::save(&image, path, files)
+    let device = device_file::load_to_replace(alloc, path, files)?;
+    image_file::save(device.image(), path, files)
 }

@@ -5,7 +5,8 @@ ghost use Rattle.std.specs.Io.KnownBytes.{Appends};
 ghost use Rattle.command_images.specs.Images.{image_of};
 ghost use Rattle.command_images.specs.Zones.{PrintsZones, zone_line, zone_lines_from};
 
-use crate::image_file::{self, IMAGE};
+use crate::device_file;
+use crate::image_file::IMAGE;
 use clap::{Arg, ArgMatches, Command};
 use command_files::arguments::required;
 use command_files::{Failure, Files, printed};
@@ -23,7 +24,8 @@ written.
 The states: empty, implicit and explicit (opened by a write, and by a command), closed, readonly, \
 full, offline.
 
-Of a file that is no image, `image refused REASON` tells the first fault.";
+Of a journal, which `serve --durable` makes of an image, they are the zones as the events in it left them. Of a file that is no \
+image, `image refused REASON` tells the first fault.";
 
 const EXAMPLE: &str = "\
 Example:
@@ -61,8 +63,8 @@ pub fn zones<'a, F: Files, O: Write>(
     ensures made { F.made files.new ≡ F.made files.old }
     ensures contents { F.contents files.new ≡ F.contents files.old }
 {
-    let image = image_file::load(alloc, required(matches, IMAGE), files)?;
-    printed(print(image.zones(), out))
+    let device = device_file::load(alloc, required(matches, IMAGE), files)?;
+    printed(print(device.image().zones(), out))
 }
 
 /// Prints each zone on a line.

@@ -14,9 +14,10 @@ use Rattle.live_lines.specs.declared.fault.LinesFault.TheVariants as fault
 use Rattle.command_files.specs.Made.{Made}
 use Rattle.command_files.specs.Surroundings.{Surroundings}
 use Rattle.command_files.specs.declared.failure.Failure.{Failure}
-use Rattle.command_files.specs.declared.failure.Failure.TheVariants.{CannotPrint, CannotRead, CannotWrite, ImageRefused, LineRefused, NoMemory}
-use Rattle.command_images.specs.Images.{HasText, StandFor, image_of}
-use Rattle.command_images.specs.UserTold.{IsUnheld, UpgradeFails}
+use Rattle.command_files.specs.declared.failure.Failure.TheVariants.{CannotPrint, CannotRead, CannotWrite, DeviceRefused, ImageRefused, JournalRefused, LineRefused, NoMemory}
+use Rattle.command_images.specs.Devices.{TellNamespace}
+use Rattle.command_images.specs.Images.{HasText, image_of}
+use Rattle.command_images.specs.UserTold.{IsUnheld, ReplacingFails}
 use Rattle.command_serve.specs.ByLine.{InRuns, LinesStoppedBy, ServesByLine, ServesFirstLines, ServesImageLines, ServesLinesAndDrains, StopsByLine, StopsInLines}
 
 -- ---- behind all lines
@@ -67,11 +68,13 @@ unheld_by_line P path NoMemory is = tt
 unheld_by_line P path failure is = absurd is
 
 pub unloaded_by_line : (P : LinesFault → Type 0) (reads : Type 0) (bytes : Option (List ℕ)) (path : List ℕ) (failure : Failure)
-    → UpgradeFails reads bytes path failure → LinesStoppedBy P failure
+    → ReplacingFails reads bytes path failure → LinesStoppedBy P failure
 unloaded_by_line P reads bytes path (CannotRead told cause) is = tt
 unloaded_by_line P reads bytes path (CannotWrite told cause) is = tt
 unloaded_by_line P reads bytes path NoMemory is = tt
 unloaded_by_line P reads bytes path (ImageRefused told fault) is = tt
+unloaded_by_line P reads bytes path (JournalRefused told place) is = tt
+unloaded_by_line P reads bytes path (DeviceRefused told) is = tt
 unloaded_by_line P reads bytes path failure is = absurd is
 
 -- ---- what is saved
@@ -103,13 +106,13 @@ module _ (here : Surroundings) (namespace shown : ZonedNamespace) (path : List �
 -- the image was loaded before, of the file that the command line names, and files stayed what they were
 module _ (reads writes : Type 0) (contents then : List ℕ → Option (List ℕ)) (made loaded after : Option (List Made)) (matches : ArgMatches) (path : List ℕ)
     (namespace : ZonedNamespace) (drains : Bool) (unread before : Option (List ℕ)) (is_named : path ≡ image_of matches)
-    (same : then ≡ contents) (kept : loaded ≡ made) (stands : reads → StandFor (contents path) namespace) where
+    (same : then ≡ contents) (kept : loaded ≡ made) (stands : reads → TellNamespace (contents path) namespace) where
   -- what stands around the command, where files held these bytes and these were made by then
   abbrev pub from_there : (List ℕ → Option (List ℕ)) → Option (List Made) → Surroundings
   from_there held by_then = record { reads = reads; writes = writes; contents = held; before = by_then; after = after }
 
-  named : reads → StandFor (contents (image_of matches)) namespace
-  named read = subst (λ (p : List ℕ). StandFor (contents p) namespace) is_named (stands read)
+  named : reads → TellNamespace (contents (image_of matches)) namespace
+  named read = subst (λ (p : List ℕ). TellNamespace (contents p) namespace) is_named (stands read)
 
   -- what holds of all that stands around the loaded image holds of what stands around the command
   moved : (P : Surroundings → List ℕ → Type 0) → P (from_there then loaded) path → P (from_there contents made) (image_of matches)

@@ -15,10 +15,11 @@ use Rattle.runner.specs.declared.device.Stopped.{Stopped}
 use Rattle.command_files.specs.Made.{Made}
 use Rattle.command_files.specs.Surroundings.{Surroundings, around}
 use Rattle.command_files.specs.declared.failure.Failure.{Failure}
-use Rattle.command_files.specs.declared.failure.Failure.TheVariants.{CannotPrint, CannotRead, CannotWrite, ImageRefused, NoMemory, StreamCutOff, StreamRefused}
+use Rattle.command_files.specs.declared.failure.Failure.TheVariants.{CannotPrint, CannotRead, CannotWrite, DeviceRefused, ImageRefused, JournalRefused, NoMemory, StreamCutOff, StreamRefused}
 use Rattle.command_files.specs.declared.files.Files.{Ghosts}
-use Rattle.command_images.specs.Images.{HasText, StandFor, image_of}
-use Rattle.command_images.specs.UserTold.{IsUnheld, UpgradeFails}
+use Rattle.command_images.specs.Devices.{TellNamespace}
+use Rattle.command_images.specs.Images.{HasText, image_of}
+use Rattle.command_images.specs.UserTold.{IsUnheld, ReplacingFails}
 use Rattle.command_serve.specs.steps.Told.{IsTold}
 use Rattle.command_serve.specs.Served.{EndsRuns, FilesThen, InRuns, IsSaved, Serves, ServesAndDrains, ServesFirst, ServesImage, StoppedBy, StopsBefore, StopsEarly, StopsEnding, Untold, standing, turns_between}
 
@@ -88,11 +89,13 @@ unheld_unsaid P path NoMemory is = tt
 unheld_unsaid P path failure is = absurd is
 
 pub unloaded_unsaid : (P : ServeFault → Type 0) (reads : Type 0) (bytes : Option (List ℕ)) (path : List ℕ) (failure : Failure)
-    → UpgradeFails reads bytes path failure → StoppedBy P failure
+    → ReplacingFails reads bytes path failure → StoppedBy P failure
 unloaded_unsaid P reads bytes path (CannotRead told cause) is = tt
 unloaded_unsaid P reads bytes path (CannotWrite told cause) is = tt
 unloaded_unsaid P reads bytes path NoMemory is = tt
 unloaded_unsaid P reads bytes path (ImageRefused told fault) is = tt
+unloaded_unsaid P reads bytes path (JournalRefused told place) is = tt
+unloaded_unsaid P reads bytes path (DeviceRefused told) is = tt
 unloaded_unsaid P reads bytes path failure is = absurd is
 
 -- it stopped by this fault, of which it holds
@@ -147,13 +150,13 @@ module _ {F R W : Type 0} (files : Ghosts F R W) (reads writes : Type 0) (old be
 -- the image was loaded before, of the file that the command line names, and files stayed what they were
 module _ (reads writes : Type 0) (contents then : List ℕ → Option (List ℕ)) (made loaded after : Option (List Made)) (matches : ArgMatches) (path : List ℕ)
     (namespace : ZonedNamespace) (turns : ℕ) (unread before : Option (List ℕ)) (is_named : path ≡ image_of matches) (turns_are : turns ≡ turns_between matches)
-    (same : then ≡ contents) (kept : loaded ≡ made) (stands : reads → StandFor (contents path) namespace) where
+    (same : then ≡ contents) (kept : loaded ≡ made) (stands : reads → TellNamespace (contents path) namespace) where
   -- what stands around the command, where files held these bytes and these were made by then
   abbrev pub from_there : (List ℕ → Option (List ℕ)) → Option (List Made) → Surroundings
   from_there held by_then = record { reads = reads; writes = writes; contents = held; before = by_then; after = after }
 
-  named : reads → StandFor (contents (image_of matches)) namespace
-  named read = subst (λ (p : List ℕ). StandFor (contents p) namespace) is_named (stands read)
+  named : reads → TellNamespace (contents (image_of matches)) namespace
+  named read = subst (λ (p : List ℕ). TellNamespace (contents p) namespace) is_named (stands read)
 
   -- what holds of all that stands around the loaded image holds of what stands around the command
   moved : (P : Surroundings → List ℕ → ℕ → Type 0) → P (from_there then loaded) path turns → P (from_there contents made) (image_of matches) (turns_between matches)

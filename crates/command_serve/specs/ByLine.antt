@@ -11,7 +11,8 @@ use Rattle.command_files.specs.Surroundings.{Surroundings}
 use Rattle.command_files.specs.declared.failure.Failure.{Failure}
 use Rattle.command_files.specs.declared.failure.Failure.TheVariants.{CannotPrint, LineRefused}
 use Rattle.clap.specs.declared.parser.matches.ArgMatches.{ArgMatches}
-use Rattle.command_images.specs.Images.{HasText, StandFor, image_of}
+use Rattle.command_images.specs.Devices.{TellNamespace}
+use Rattle.command_images.specs.Images.{HasText, image_of}
 
 -- the events of all that was left to read were done, and the lines of the replies printed; then the runs ended
 pub record ServesLinesAndDrains (drains : Bool) (unread : Option (List ℕ)) (old new : State)
@@ -54,12 +55,12 @@ LinesStoppedBy P failure = Unit {0}
 -- all is done on the namespace of the image file, where the file's bytes and what is read of them are told
 pub record ServesByLine (here : Surroundings) (matches : ArgMatches) (drains : Bool) (unread before after : Option (List ℕ)) : Type 0 where
   pub namespace : ZonedNamespace
-  pub namespace_is : here.reads → StandFor (here.contents (image_of matches)) namespace
+  pub namespace_is : here.reads → TellNamespace (here.contents (image_of matches)) namespace
   pub serves : ServesImageLines here namespace (image_of matches) drains unread before after
 
 -- it stops, and the file has what was done before
 pub record StopsByLine (here : Surroundings) (matches : ArgMatches) (drains : Bool) (unread before : Option (List ℕ))
     (why : LinesFault) : Type 0 where
   pub namespace : ZonedNamespace
-  pub namespace_is : here.reads → StandFor (here.contents (image_of matches)) namespace
+  pub namespace_is : here.reads → TellNamespace (here.contents (image_of matches)) namespace
   pub stops : ServesFirstLines here namespace (image_of matches) drains unread before why

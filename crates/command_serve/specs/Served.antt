@@ -18,7 +18,8 @@ use Rattle.command_files.specs.declared.failure.Failure.{Failure}
 use Rattle.command_files.specs.declared.failure.Failure.TheVariants.{CannotPrint, StreamCutOff, StreamRefused}
 use Rattle.command_files.specs.declared.files.Files.{Ghosts}
 use Rattle.command_serve.specs.Asked.{asks_drain}
-use Rattle.command_images.specs.Images.{HasText, StandFor, image_of}
+use Rattle.command_images.specs.Devices.{TellNamespace}
+use Rattle.command_images.specs.Images.{HasText, image_of}
 
 -- how many turns the runs are given at most between two reads: all, where it is asked for
 abbrev pub turns_between : ArgMatches → ℕ
@@ -110,11 +111,11 @@ StoppedBy P failure = Unit {0}
 -- all is done on the namespace of the image file, where the file's bytes and what is read of them are told
 pub record Serves (here : Surroundings) (matches : ArgMatches) (unread before after : Option (List ℕ)) : Type 0 where
   pub namespace : ZonedNamespace
-  pub namespace_is : here.reads → StandFor (here.contents (image_of matches)) namespace
+  pub namespace_is : here.reads → TellNamespace (here.contents (image_of matches)) namespace
   pub serves : ServesImage here namespace (image_of matches) (turns_between matches) unread before after
 
 -- it stops, and the file has what was done before
 pub record StopsEarly (here : Surroundings) (matches : ArgMatches) (unread before : Option (List ℕ)) (why : ServeFault) : Type 0 where
   pub namespace : ZonedNamespace
-  pub namespace_is : here.reads → StandFor (here.contents (image_of matches)) namespace
+  pub namespace_is : here.reads → TellNamespace (here.contents (image_of matches)) namespace
   pub stops : ServesFirst here namespace (image_of matches) (turns_between matches) unread before why

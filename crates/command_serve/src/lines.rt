@@ -2,6 +2,7 @@
 
 ghost use Rattle.std.specs.Prelude.{◌≡◌, ◌≤◌, ◌<◌, ◌+◌, ◌^◌, length, IfErr, OnOk, Some};
 ghost use Rattle.nvme_entry.specs.declared.command.TheConstants.{MOST_TRANSFER};
+ghost use Rattle.device_meaning.specs.State.{new_state};
 ghost use Rattle.command_files.specs.Surroundings.{ChangesOnly, around};
 ghost use Rattle.command_images.specs.Images.{image_of};
 ghost use Rattle.command_serve.specs.ByLine.{LinesStoppedBy, ServesByLine, ServesFirstLines, ServesImageLines, ServesLinesAndDrains};
@@ -10,9 +11,9 @@ ghost use Rattle.command_serve.specs.ByLine.{StopsByLine, StopsInLines};
 use clap::ArgMatches;
 use command_files::arguments::required;
 use command_files::{Failure, FileCause, Files};
+use command_images::device_file;
 use command_images::image_file::{self, IMAGE};
 use event_text::Lines;
-use image_store::Image;
 use live_lines::{LinesFault, serve_lines};
 use nvme_entry::MOST_TRANSFER;
 use runner::{Device, Stopped};
@@ -39,36 +40,34 @@ pub(crate) fn serve_from<'a, F: Files, I: Read, O: Write>(
     ensures changes { ChangesOnly F.Files F.Writer.tells (image_of matches.now) files.old files.new }
 {
     let path = required(matches, IMAGE);
-    let image = image_file::load_to_replace(alloc, path, files)?;
-    run(alloc, image, drains, path, files, input, out)
+    let mut device = device_file::load_to_replace(alloc, path, files)?;
+    run(alloc, &mut *device, drains, path, files, input, out)
 }
 
-/// Does the events of the lines that come, on an image, ends the runs that are left, and saves the image as they left it; or as what
+/// Does the events of the lines that come, on a device, ends the runs that are left, and saves the image as they left it; or as what
 /// was done left it by then, where a line is refused, or the input or standard output fails.
-// The device stands in this frame, which isn't to stand on the stack yet while the command line is read.
-#[inline(never)]
 fn run<'a, F: Files, I: Read, O: Write>(
     alloc: Global,
-    image: Image,
+    device: &mut Device,
     drains: bool,
     path: &'a str,
     files: &mut F,
     input: &mut I,
     out: &mut O,
 ) -> Result<(), Failure<'a>>
-    requires { F.held files.old ≡ Some path.now }
+    requires held { F.held files.old ≡ Some path.now }
+    requires new { device.old ≡ new_state device.old.namespace }
     ensures served { let here = around F.Files F.Reader.tells F.Writer.tells files.old files.new in
-        OnOk result (ServesImageLines here image path.now drains (I.remaining input.old) (O.contents out.old) (O.contents out.new)) }
+        OnOk result (ServesImageLines here device.old.namespace path.now drains (I.remaining input.old) (O.contents out.old) (O.contents out.new)) }
     ensures stopped { let here = around F.Files F.Reader.tells F.Writer.tells files.old files.new in
-        IfErr result (LinesStoppedBy (ServesFirstLines here image path.now drains (I.remaining input.old) (O.contents out.old))) }
+        IfErr result (LinesStoppedBy (ServesFirstLines here device.old.namespace path.now drains (I.remaining input.old) (O.contents out.old))) }
     ensures changes { ChangesOnly F.Files F.Writer.tells path.now files.old files.new }
 {
     let mut output = vec![in alloc; 0; MOST_TRANSFER]?;
     let mut lines = Lines::new(alloc, out)?;
-    let mut device = Device::new(alloc, image);
     let done = serve_and_drain(
         alloc,
-        &mut device,
+        device,
         drains,
         input,
         output.as_mut_slice(),

@@ -4,6 +4,7 @@ ghost use Rattle.std.specs.Prelude.{◌≡◌, ◌≤◌, ◌<◌, ◌+◌, ◌^
 ghost use Rattle.std.specs.Option.{option_map_or};
 ghost use Rattle.nvme_entry.specs.declared.command.TheConstants.{MOST_TRANSFER};
 ghost use Rattle.device_meaning.specs.Draining.{HasStoppedDraining};
+ghost use Rattle.device_meaning.specs.State.{new_state};
 ghost use Rattle.live_serve.specs.Served.{seen};
 ghost use Rattle.command_files.specs.Surroundings.{ChangesOnly, around};
 ghost use Rattle.command_images.specs.Images.{HasText, image_of};
@@ -21,6 +22,7 @@ use crate::lines::{self, INPUT};
 use clap::{Arg, ArgAction, ArgMatches, Command};
 use command_files::arguments::{and_argument, required};
 use command_files::{Failure, FileCause, Files};
+use command_images::device_file;
 use command_images::image_file::{self, IMAGE};
 use event_frames::{Frames, StreamFault};
 use image_store::Image;
@@ -74,7 +76,10 @@ Where an answer cannot be written, no later request is done. Where a byte is non
 cannot be read further, what was asked for before is done. In each case, and where memory is wanting for a request, the image is \
 written as that left it. Where it cannot be written, it is as it was when it was last saved.
 
-With --durable what is answered is on the disk: IMAGE becomes a journal, a base and the events behind it, which is written as they come. What has come when the last answers are written is one batch, and nothing of a batch is answered before it is on the disk. After a crash at any moment the next command finds the device after all that was answered, with its programs, results and runs. A save answers at once. Of a journal that grows long and whose device has neither a program nor a run a new base is written.";
+With --durable what is answered is on the disk: IMAGE becomes a journal, a base and the events behind it, which is written as they come. What has come when the last answers are written is one batch, and nothing of a batch is answered before it is on the disk. After a crash at any moment the next command finds the device after all that was answered, with its programs, results and runs. A save answers at once. Of a journal that grows long a new base is written.
+
+Without --durable IMAGE may be a journal too: an image takes its place. Where its device has a program or a run, which no image keeps, \
+it is refused (`device refused`).";
 
 const EXAMPLE: &str = "\
 Example, in the folder of the sources, of the lines of a command file, and of a turn of run 0, which no run has then:
@@ -218,9 +223,9 @@ fn serve_from<'a, F: Files, I: Read, O: Write>(
     ensures changes { ChangesOnly F.Files F.Writer.tells (image_of matches.now) files.old files.new }
 {
     let path = required(matches, IMAGE);
-    let image = image_file::load_to_replace(alloc, path, files)?;
+    let mut device = device_file::load_to_replace(alloc, path, files)?;
     let turns = turns_between(matches);
-    run(alloc, image, turns, path, files, input, out)
+    run(alloc, &mut *device, turns, path, files, input, out)
 }
 
 /// How many turns the runs are given at most between two reads.
@@ -234,28 +239,26 @@ fn turns_between<'a>(matches: &ArgMatches<'a>) -> u32
     }
 }
 
-/// Does what the input asks of an image, ends the runs that are left, and saves the image as they left it; or as what was done
+/// Does what the input asks of a device, ends the runs that are left, and saves the image as they left it; or as what was done
 /// left it by then, where the input or standard output fails.
-// The device stands in this frame, which isn't to stand on the stack yet while the command line is read.
-#[inline(never)]
 fn run<'a, F: Files, I: Read, O: Write>(
     alloc: Global,
-    image: Image,
+    device: &mut Device,
     turns: u32,
     path: &'a str,
     files: &mut F,
     input: &mut I,
     out: &mut O,
 ) -> Result<(), Failure<'a>>
-    requires { F.held files.old ≡ Some path.now }
+    requires held { F.held files.old ≡ Some path.now }
+    requires new { device.old ≡ new_state device.old.namespace }
     ensures served { let here = around F.Files F.Reader.tells F.Writer.tells files.old files.new in
-        OnOk result (ServesImage here image path.now turns (I.remaining input.old) (O.contents out.old) (O.contents out.new)) }
+        OnOk result (ServesImage here device.old.namespace path.now turns (I.remaining input.old) (O.contents out.old) (O.contents out.new)) }
     ensures stopped { let here = around F.Files F.Reader.tells F.Writer.tells files.old files.new in
-        IfErr result (StoppedBy (ServesFirst here image path.now turns (I.remaining input.old) (O.contents out.old))) }
+        IfErr result (StoppedBy (ServesFirst here device.old.namespace path.now turns (I.remaining input.old) (O.contents out.old))) }
     ensures changes { ChangesOnly F.Files F.Writer.tells path.now files.old files.new }
 {
-    let mut device = Device::new(alloc, image);
-    let (done, failure) = serve_in(alloc, &mut device, turns, path, files, input, out);
+    let (done, failure) = serve_in(alloc, device, turns, path, files, input, out);
     save_at_last(device.image(), path, files, failure)?;
     told(done)
 }

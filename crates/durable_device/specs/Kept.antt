@@ -2,7 +2,7 @@
 use Rattle.std.specs.Prelude.{ℕ, List}
 use Rattle.stored_file.specs.File.{FileState}
 use Rattle.durable_machine.specs.Files.{IsDurable, IsItsState, IsOldOrStands, IsState, AlwaysKeepsState}
-use Rattle.durable_machine.specs.Refused.{Refuses}
+use Rattle.durable_machine.specs.Refused.{IsRefused, Refuses}
 use Rattle.durable_machine.specs.declared.fault.Fault.{Fault}
 use Rattle.device_meaning.specs.State.{State}
 use Rattle.durable_device.specs.Machine.{IsDeviceBase, next_state}
@@ -30,3 +30,7 @@ IsKept = IsDurable IsDeviceBase next_state
 -- a file is refused for what it has, and nothing of it changes; or memory was wanting, or the disk has failed
 abbrev pub RefusesFile : FileState → FileState → Fault → Type 0
 RefusesFile = Refuses IsDeviceBase next_state
+
+-- bytes are refused for this: they stand for no device; or memory was wanting
+abbrev pub RefusesBytes : List ℕ → Fault → Type 0
+RefusesBytes = IsRefused IsDeviceBase next_state

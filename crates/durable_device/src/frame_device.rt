@@ -74,6 +74,14 @@ impl FrameDevice {
         &self.device
     }
 
+    /// The device, for events of any kind.
+    pub fn into_device(self) -> Box<Device>
+        ensures { result.value ≡ self }
+    {
+        let FrameDevice { device, .. } = self;
+        device
+    }
+
     /// The namespace as an image. The device is in a state that events leave.
     pub fn image(&self) -> &Image
         ensures value { result.now ≡ self.now.namespace }

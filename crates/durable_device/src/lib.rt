@@ -7,7 +7,9 @@ mod durable_device;
 mod frame_device;
 mod frame_event;
 pub mod laws;
+mod reading;
 mod sections;
 
 pub use durable_device::DurableDevice;
 pub use frame_device::{FrameDevice, Given};
+pub use reading::device_in;

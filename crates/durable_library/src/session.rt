@@ -108,8 +108,7 @@ impl Session {
         ensures failed { result ≡ false → self.new.failed ≡ true }
         ensures kept { WillBeKept self.new }
     {
-        let done = self.device.fold(alloc);
-        self.failed = done.is_err();
+        self.failed = self.device.fold(alloc).is_err();
         !self.failed
     }
 }

@@ -11,9 +11,11 @@ mod durable;
 mod fault;
 pub mod laws;
 mod machine;
+mod reading;
 mod replay;
 mod sectors;
 
 pub use durable::Durable;
 pub use fault::Fault;
 pub use machine::{Applied, Machine, Saves};
+pub use reading::machine_in;

@@ -1,14 +1,29 @@
--- The failure that a fault of loading an image becomes.
-use Rattle.std.specs.Prelude.{ℕ, List}
+-- The failures that faults of loading become.
+use Rattle.std.specs.Prelude.{◌≡◌, ℕ, List}
 use Rattle.std.specs.Borrow.{Bor}
 use Rattle.image_text.specs.declared.fault.LoadFault.{LoadFault}
-use Rattle.image_text.specs.declared.fault.LoadFault.TheVariants.{Stream, Memory}
+use Rattle.image_text.specs.declared.fault.LoadFault.TheVariants.{Magic, Stream, Memory}
+use Rattle.durable_machine.specs.declared.fault.Fault.{Fault}
+use Rattle.durable_machine.specs.declared.fault.Fault.TheVariants.{Damaged, OfFile, Unreadable}
+use Rattle.durable_device.specs.Kept.{RefusesBytes}
 use Rattle.command_files.specs.declared.failure.Failure.{Failure}
 use Rattle.command_files.specs.declared.file_cause.FileCause.TheVariants.{Other}
-use Rattle.command_files.specs.declared.failure.Failure.TheVariants.{CannotRead, ImageRefused, NoMemory}
+use Rattle.command_files.specs.declared.failure.Failure.TheVariants.{CannotRead, ImageRefused, JournalRefused, NoMemory}
 
 -- the fault, but where the stream or memory failed, which says nothing of the file
 abbrev pub told_of_image : Bor (List ℕ) → LoadFault → Failure
 told_of_image path Stream = CannotRead path Other
 told_of_image path Memory = NoMemory
 told_of_image path fault = ImageRefused path fault
+
+-- that of a journal: the byte from which on it is damaged; without a base it is a file that begins as no image
+abbrev pub told_of_journal : Bor (List ℕ) → Fault → Failure
+told_of_journal path Unreadable = ImageRefused path Magic
+told_of_journal path (Damaged place) = JournalRefused path place
+told_of_journal path (OfFile error) = NoMemory
+
+-- bytes are refused as a journal for a fault, which this tells
+pub record RefusesJournal (path : Bor (List ℕ)) (bytes : List ℕ) (failure : Failure) : Type 0 where
+  pub fault : Fault
+  pub refused : RefusesBytes bytes fault
+  pub told : failure ≡ told_of_journal path fault

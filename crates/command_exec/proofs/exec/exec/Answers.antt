@@ -1,6 +1,8 @@
-use Rattle.std.proofs.Common.{◌∙◌, rules}
+use Rattle.std.proofs.Common.{◌∙◌, rules, subst, sym}
 use Rattle.std.proofs.lemmas.Result.{err_from_is_err_and, IfErr-weaker, on_ok_weaker}
 use Rattle.command_files.proofs.Proved.{leaves_as_before, others_kept}
+use Rattle.device_meaning.specs.State.{State}
+use Rattle.command_images.specs.Devices.{TellNamespace}
 use Rattle.command_images.specs.Images.{image_of}
 use Rattle.command_exec.specs.Executed.{commands_of}
 use Rattle.command_exec.proofs.Failing.{quiet, quiet_of_saving, exec_of_commands, exec_of_loading, exec_of_reading, exec_of_saving}
@@ -11,25 +13,27 @@ pub returns-in-Ok-clause-executed : goal.returns-in-Ok-clause-executed
 returns-in-Ok-clause-executed g c =
     executes g.F.Reader.Source.tells g.F.Writer.Sink.tells (g.F.Files.contents c.args.files.now) (g.F.Files.contents c.load_to_replace.new.files)
     c.required-path.result.now c.required-commands.result.now c.args.matches.now
-    c.in_ok-file.file.items c.as_slice.result.now c.in_ok-image.image c.in-Ok.events.items
+    c.in_ok-file.file.items c.as_slice.result.now c.deref_mut.result.now.namespace c.in-Ok.events.items
     (g.F.Files.made c.args.files.now) (g.F.Files.made c.read.new.files) (g.F.Files.made c.run.new.files)
     c.load_to_replace.ensures.contents c.required-path.ensures c.required-commands.ensures (search rules) c.in_ok-file.ensures.bytes c.as_slice.ensures.value c.in-Ok.ensures
-    (g.F.Files.contents c.read.new.files) _ _ _ c.run.result c.in_ok-image.ensures.image (c.read.ensures.contents ∙ c.load_to_replace.ensures.contents) c.run.ensures.saved (search rules)
+    (g.F.Files.contents c.read.new.files) _ _ _ c.run.result (subst (λ (s : State). g.F.Reader.Source.tells → TellNamespace (g.F.Files.contents c.args.files.now c.required-path.result.now) s.namespace)
+    (sym c.deref_mut.ensures.value) c.in_ok-device.ensures.namespace) (c.read.ensures.contents ∙ c.load_to_replace.ensures.contents) c.run.ensures.saved (search rules)
 
 pub returns-in-Ok-clause-stopped : goal.returns-in-Ok-clause-stopped
 returns-in-Ok-clause-stopped g c = λ stops.
     executes_first g.F.Reader.Source.tells g.F.Writer.Sink.tells (g.F.Files.contents c.args.files.now) (g.F.Files.contents c.load_to_replace.new.files)
     c.required-path.result.now c.required-commands.result.now c.args.matches.now
-    c.in_ok-file.file.items c.as_slice.result.now c.in_ok-image.image c.in-Ok.events.items
+    c.in_ok-file.file.items c.as_slice.result.now c.deref_mut.result.now.namespace c.in-Ok.events.items
     (g.F.Files.made c.args.files.now) (g.F.Files.made c.read.new.files) (g.F.Files.made c.run.new.files)
     c.load_to_replace.ensures.contents c.required-path.ensures c.required-commands.ensures (search rules) c.in_ok-file.ensures.bytes c.as_slice.ensures.value c.in-Ok.ensures
-    (g.F.Files.contents c.read.new.files) _ c.in_ok-image.ensures.image (c.read.ensures.contents ∙ c.load_to_replace.ensures.contents) (c.run.ensures.stopped stops) (search rules)
+    (g.F.Files.contents c.read.new.files) _ (subst (λ (s : State). g.F.Reader.Source.tells → TellNamespace (g.F.Files.contents c.args.files.now c.required-path.result.now) s.namespace)
+    (sym c.deref_mut.ensures.value) c.in_ok-device.ensures.namespace) (c.read.ensures.contents ∙ c.load_to_replace.ensures.contents) (c.run.ensures.stopped stops) (search rules)
 
-pub returns-in_err-image-clause-failed : goal.returns-in_err-image-clause-failed
-returns-in_err-image-clause-failed g c =
+pub returns-in_err-device-clause-failed : goal.returns-in_err-device-clause-failed
+returns-in_err-device-clause-failed g c =
     let p = err_from_is_err_and c.from_residual.result c.from_residual.ensures.1 in
     rw (p.1, p.2) (exec_of_loading g.F.Reader.Source.tells (g.F.Files.contents c.args.files.now) (image_of c.args.matches.now) (commands_of c.args.matches.now)
-    c.required-path.result.now c.required-path.ensures c.in_err-image.field-0.0 c.in_err-image.ensures.failed)
+    c.required-path.result.now c.required-path.ensures c.in_err-device.field-0.0 c.in_err-device.ensures.failed)
 
 pub returns-in_err-file-clause-failed : goal.returns-in_err-file-clause-failed
 returns-in_err-file-clause-failed g c =
@@ -59,8 +63,8 @@ returns-in-Ok-clause-others_stopped g c = λ stops.
     others_kept c.required-path.result.now _ _ _ _ c.required-path.ensures (c.read.ensures.contents ∙ c.load_to_replace.ensures.contents)
     (c.run.ensures.others_stopped stops)
 
-pub returns-in_err-image-clause-quiet : goal.returns-in_err-image-clause-quiet
-returns-in_err-image-clause-quiet g c =
+pub returns-in_err-device-clause-quiet : goal.returns-in_err-device-clause-quiet
+returns-in_err-device-clause-quiet g c =
     let p = err_from_is_err_and c.from_residual.result c.from_residual.ensures.1 in
     rw p.1 (quiet (image_of c.args.matches.now) _ _ (search rules) p.0)
 
@@ -76,8 +80,8 @@ pub returns-in-Ok-clause-quiet : goal.returns-in-Ok-clause-quiet
 returns-in-Ok-clause-quiet g c =
     IfErr-weaker c.run.result _ _ (quiet_of_saving c.required-path.result (image_of c.args.matches.now) _ _ c.required-path.ensures) c.run.ensures.failed
 
-pub returns-in_err-image-clause-crash : goal.returns-in_err-image-clause-crash
-returns-in_err-image-clause-crash g c = leaves_as_before (image_of c.args.matches.now) _ _ _ c.load_to_replace.ensures.tried
+pub returns-in_err-device-clause-crash : goal.returns-in_err-device-clause-crash
+returns-in_err-device-clause-crash g c = leaves_as_before (image_of c.args.matches.now) _ _ _ c.load_to_replace.ensures.tried
 
 pub returns-in_err-file-clause-crash : goal.returns-in_err-file-clause-crash
 returns-in_err-file-clause-crash g c = leaves_as_before (image_of c.args.matches.now) _ _ _ (c.read.ensures.tried ∙ c.load_to_replace.ensures.tried)
@@ -92,7 +96,8 @@ pub returns-in-Ok-clause-crash : goal.returns-in-Ok-clause-crash
 returns-in-Ok-clause-crash g c =
     executed_leaves g.F.Reader.Source.tells g.F.Writer.Sink.tells (g.F.Files.contents c.args.files.now) (g.F.Files.contents c.load_to_replace.new.files)
     c.required-path.result.now c.required-commands.result.now c.args.matches.now
-    c.in_ok-file.file.items c.as_slice.result.now c.in_ok-image.image c.in-Ok.events.items
+    c.in_ok-file.file.items c.as_slice.result.now c.deref_mut.result.now.namespace c.in-Ok.events.items
     (g.F.Files.made c.args.files.now) (g.F.Files.made c.read.new.files) (g.F.Files.made c.run.new.files)
     c.load_to_replace.ensures.contents c.required-path.ensures c.required-commands.ensures (search rules) c.in_ok-file.ensures.bytes c.as_slice.ensures.value c.in-Ok.ensures
-    _ _ _ _ c.in_ok-image.ensures.image (search rules) (c.read.ensures.tried ∙ c.load_to_replace.ensures.tried) c.run.ensures.crash
+    _ _ _ _ (subst (λ (s : State). g.F.Reader.Source.tells → TellNamespace (g.F.Files.contents c.args.files.now c.required-path.result.now) s.namespace)
+    (sym c.deref_mut.ensures.value) c.in_ok-device.ensures.namespace) (search rules) (c.read.ensures.tried ∙ c.load_to_replace.ensures.tried) c.run.ensures.crash

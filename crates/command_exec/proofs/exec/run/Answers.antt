@@ -15,18 +15,18 @@ returns-in-Ok-clause-saved g c =
     let contents = g.O.Write.contents in
     let writer = c.into_writer-out.ensures.same_writer ∙ ap (λ (lines : Lines _). lines.out.ghost_name) c.into_out-lines.ensures
     ∙ c.serve_and_drain-done.ensures.same_writer ∙ ap (λ (lines : Lines _). lines.out.ghost_name) c.new-watched.ensures ∙ c.in_ok-lines.ensures.same_writer.0 in
-    saves_all (around g.F.Files g.F.Reader.Source.tells g.F.Writer.Sink.tells c.args.files.now c.save_changes.new.files) c.args.events.now c.args.image c.image-2.result.now c.args.path.now
-    c.serve_and_drain-done.new.device c.in_ok-save_changes.ensures.saved c.image-2.ensures.value _ _
-    (prints_all c.args.events.now c.args.image c.new-device.result c.serve_and_drain-done.new.device
-    (contents c.new-watched.result.out.out.now) _ (contents c.serve_and_drain-done.new.lines.out.out.now) _ c.new-device.ensures.value
+    saves_all (around g.F.Files g.F.Reader.Source.tells g.F.Writer.Sink.tells c.args.files.now c.save_changes.new.files) c.args.events.now c.args.device.now.namespace c.image.result.now c.args.path.now
+    c.serve_and_drain-done.new.device c.in_ok-save_changes.ensures.saved c.image.ensures.value _ _
+    (prints_all c.args.events.now c.args.device.now.namespace c.args.device.now c.serve_and_drain-done.new.device
+    (contents c.new-watched.result.out.out.now) _ (contents c.serve_and_drain-done.new.lines.out.out.now) _ c.requires.new
     (ap (λ (lines : Lines _). contents lines.out.now) c.new-watched.ensures ∙ ap contents c.in_ok-lines.ensures.same_writer.1)
     (ap (λ (lines : Lines _). contents lines.out.now) (sym c.into_out-lines.ensures) ∙ ap contents (sym c.into_writer-out.ensures.value ∙ search rules)) c.in-Ok.ensures.done)
 
 pub returns-clause-stopped : goal.returns-clause-stopped
 returns-clause-stopped g c = λ _.
-    saves_first (around g.F.Files g.F.Reader.Source.tells g.F.Writer.Sink.tells c.args.files.now c.save_changes.new.files) c.args.events.now c.args.image c.image-2.result.now c.args.path.now
-    c.serve_and_drain-done.new.device c.in_ok-save_changes.ensures.saved c.image-2.ensures.value
-    c.new-device.result c.new-device.ensures.value c.in-Err.ensures.stopped
+    saves_first (around g.F.Files g.F.Reader.Source.tells g.F.Writer.Sink.tells c.args.files.now c.save_changes.new.files) c.args.events.now c.args.device.now.namespace c.image.result.now c.args.path.now
+    c.serve_and_drain-done.new.device c.in_ok-save_changes.ensures.saved c.image.ensures.value
+    c.args.device.now c.requires.new c.in-Err.ensures.stopped
 
 pub returns-in_err-save_changes-clause-failed : goal.returns-in_err-save_changes-clause-failed
 returns-in_err-save_changes-clause-failed g c =
@@ -42,26 +42,26 @@ returns-clause-others_stopped g c = λ _. c.in_ok-save_changes.ensures.others
 pub returns-in-Ok-clause-crash : goal.returns-in-Ok-clause-crash
 returns-in-Ok-clause-crash g c =
     let writes = g.F.Writer.Sink.tells in
-    leaves_weaker c.args.path.now (AreWritten writes (text c.image-2.result.now)) (AreLeft writes c.args.events.now c.args.image)
-    (shown_is_left c.serve_and_drain-done.result writes c.args.events.now c.args.image c.image-2.result.now c.new-device.result c.serve_and_drain-done.new.device
-    (g.O.Write.contents c.new-watched.result.out.out.now) (g.O.Write.contents c.serve_and_drain-done.new.lines.out.out.now) c.new-device.ensures.value c.image-2.ensures.value
+    leaves_weaker c.args.path.now (AreWritten writes (text c.image.result.now)) (AreLeft writes c.args.events.now c.args.device.now.namespace)
+    (shown_is_left c.serve_and_drain-done.result writes c.args.events.now c.args.device.now.namespace c.image.result.now c.args.device.now c.serve_and_drain-done.new.device
+    (g.O.Write.contents c.new-watched.result.out.out.now) (g.O.Write.contents c.serve_and_drain-done.new.lines.out.out.now) c.requires.new c.image.ensures.value
     c.serve_and_drain-done.ensures.done c.serve_and_drain-done.ensures.stopped)
     _ _ c.save_changes.ensures.crash
 
 pub returns-clause-crash : goal.returns-clause-crash
 returns-clause-crash g c =
     let writes = g.F.Writer.Sink.tells in
-    leaves_weaker c.args.path.now (AreWritten writes (text c.image-2.result.now)) (AreLeft writes c.args.events.now c.args.image)
-    (shown_is_left c.serve_and_drain-done.result writes c.args.events.now c.args.image c.image-2.result.now c.new-device.result c.serve_and_drain-done.new.device
-    (g.O.Write.contents c.new-watched.result.out.out.now) (g.O.Write.contents c.serve_and_drain-done.new.lines.out.out.now) c.new-device.ensures.value c.image-2.ensures.value
+    leaves_weaker c.args.path.now (AreWritten writes (text c.image.result.now)) (AreLeft writes c.args.events.now c.args.device.now.namespace)
+    (shown_is_left c.serve_and_drain-done.result writes c.args.events.now c.args.device.now.namespace c.image.result.now c.args.device.now c.serve_and_drain-done.new.device
+    (g.O.Write.contents c.new-watched.result.out.out.now) (g.O.Write.contents c.serve_and_drain-done.new.lines.out.out.now) c.requires.new c.image.ensures.value
     c.serve_and_drain-done.ensures.done c.serve_and_drain-done.ensures.stopped)
     _ _ c.save_changes.ensures.crash
 
 pub returns-in_err-save_changes-clause-crash : goal.returns-in_err-save_changes-clause-crash
 returns-in_err-save_changes-clause-crash g c =
     let writes = g.F.Writer.Sink.tells in
-    leaves_weaker c.args.path.now (AreWritten writes (text c.image-2.result.now)) (AreLeft writes c.args.events.now c.args.image)
-    (shown_is_left c.serve_and_drain-done.result writes c.args.events.now c.args.image c.image-2.result.now c.new-device.result c.serve_and_drain-done.new.device
-    (g.O.Write.contents c.new-watched.result.out.out.now) (g.O.Write.contents c.serve_and_drain-done.new.lines.out.out.now) c.new-device.ensures.value c.image-2.ensures.value
+    leaves_weaker c.args.path.now (AreWritten writes (text c.image.result.now)) (AreLeft writes c.args.events.now c.args.device.now.namespace)
+    (shown_is_left c.serve_and_drain-done.result writes c.args.events.now c.args.device.now.namespace c.image.result.now c.args.device.now c.serve_and_drain-done.new.device
+    (g.O.Write.contents c.new-watched.result.out.out.now) (g.O.Write.contents c.serve_and_drain-done.new.lines.out.out.now) c.requires.new c.image.ensures.value
     c.serve_and_drain-done.ensures.done c.serve_and_drain-done.ensures.stopped)
     _ _ c.save_changes.ensures.crash

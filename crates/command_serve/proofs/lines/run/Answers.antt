@@ -10,42 +10,42 @@ pub returns-in_err-save_changes-clause-stopped : goal.returns-in_err-save_change
 returns-in_err-save_changes-clause-stopped g c =
     let p = err_from_is_err_and c.from_residual-in_err-save_changes.result c.from_residual-in_err-save_changes.ensures.1 in
     let here = around g.F.Files g.F.Reader.Source.tells g.F.Writer.Sink.tells c.args.files.now c.save_changes.new.files in
-    let stops = ServesFirstLines here c.args.image c.args.path.now c.args.drains (g.I.Read.remaining c.args.input.now) (g.O.Write.contents c.args.out.now) in
+    let stops = ServesFirstLines here c.args.device.now.namespace c.args.path.now c.args.drains (g.I.Read.remaining c.args.input.now) (g.O.Write.contents c.args.out.now) in
     rw (p.1, p.2) (unheld_by_line stops c.args.path c.in_err-save_changes.field-0.0 c.in_err-save_changes.ensures.failed)
 
 pub returns-in_err-save_changes-clause-changes : goal.returns-in_err-save_changes-clause-changes
 returns-in_err-save_changes-clause-changes g c =
     let e = c.in_err-save_changes.ensures in
-    unsaved g.F.Files g.F.Writer.Sink.tells c.args.path.now c.args.files.now c.save_changes.new.files c.image-2.result.now e.kept c.save_changes.ensures.crash e.contents e.modes_left
+    unsaved g.F.Files g.F.Writer.Sink.tells c.args.path.now c.args.files.now c.save_changes.new.files c.image.result.now e.kept c.save_changes.ensures.crash e.contents e.modes_left
 
 pub returns-in-Ok-clause-served : goal.returns-in-Ok-clause-served
 returns-in-Ok-clause-served g c =
     let contents = g.O.Write.contents in
     let writer = c.into_writer-out.ensures.same_writer ∙ c.serve_and_drain-done.ensures.same_writer ∙ c.in_ok-lines.ensures.same_writer.0 in
-    saves_lines (around g.F.Files g.F.Reader.Source.tells g.F.Writer.Sink.tells c.args.files.now c.save_changes.new.files) c.args.image c.image-2.result.now
+    saves_lines (around g.F.Files g.F.Reader.Source.tells g.F.Writer.Sink.tells c.args.files.now c.save_changes.new.files) c.args.device.now.namespace c.image.result.now
     c.args.path.now c.args.drains (g.I.Read.remaining c.args.input.now)
     (contents c.in_ok-lines.lines.out.now) (contents c.args.out.now) (contents c.serve_and_drain-done.new.lines.out.now) _
-    c.new-device.result c.serve_and_drain-done.new.device c.new-device.ensures.value c.image-2.ensures.value (ap contents c.in_ok-lines.ensures.same_writer.1)
+    c.args.device.now c.serve_and_drain-done.new.device c.requires.new c.image.ensures.value (ap contents c.in_ok-lines.ensures.same_writer.1)
     c.in_ok-save_changes.ensures.saved (ap contents (sym c.into_writer-out.ensures.value ∙ search rules)) c.in-Ok.ensures.done
 
 pub returns-in-Ok-clause-changes : goal.returns-in-Ok-clause-changes
 returns-in-Ok-clause-changes g c =
     let e = c.in_ok-save_changes.ensures in
-    changed g.F.Files g.F.Writer.Sink.tells c.args.path.now c.args.files.now c.save_changes.new.files c.image-2.result.now e.made c.save_changes.ensures.crash e.others e.modes
+    changed g.F.Files g.F.Writer.Sink.tells c.args.path.now c.args.files.now c.save_changes.new.files c.image.result.now e.made c.save_changes.ensures.crash e.others e.modes
 
 pub returns-clause-stopped : goal.returns-clause-stopped
 returns-clause-stopped g c =
     let contents = g.O.Write.contents in
     let here = around g.F.Files g.F.Reader.Source.tells g.F.Writer.Sink.tells c.args.files.now c.save_changes.new.files in
     let unread = g.I.Read.remaining c.args.input.now in
-    lines_stopped_by (ServesFirstLines here c.args.image c.args.path.now c.args.drains unread (contents c.args.out.now)) c.in-Err.fault c.failure_of.result
+    lines_stopped_by (ServesFirstLines here c.args.device.now.namespace c.args.path.now c.args.drains unread (contents c.args.out.now)) c.in-Err.fault c.failure_of.result
     c.failure_of.ensures
-    (saves_first_lines here c.args.image c.image-2.result.now c.args.path.now c.args.drains unread
+    (saves_first_lines here c.args.device.now.namespace c.image.result.now c.args.path.now c.args.drains unread
     (contents c.in_ok-lines.lines.out.now) (contents c.args.out.now) (contents c.serve_and_drain-done.new.lines.out.now) (contents c.args.out.now)
-    c.new-device.result c.serve_and_drain-done.new.device c.new-device.ensures.value c.image-2.ensures.value (ap contents c.in_ok-lines.ensures.same_writer.1)
+    c.args.device.now c.serve_and_drain-done.new.device c.requires.new c.image.ensures.value (ap contents c.in_ok-lines.ensures.same_writer.1)
     c.in_ok-save_changes.ensures.saved c.in-Err.fault c.in-Err.ensures.stopped)
 
 pub returns-clause-changes : goal.returns-clause-changes
 returns-clause-changes g c =
     let e = c.in_ok-save_changes.ensures in
-    changed g.F.Files g.F.Writer.Sink.tells c.args.path.now c.args.files.now c.save_changes.new.files c.image-2.result.now e.made c.save_changes.ensures.crash e.others e.modes
+    changed g.F.Files g.F.Writer.Sink.tells c.args.path.now c.args.files.now c.save_changes.new.files c.image.result.now e.made c.save_changes.ensures.crash e.others e.modes

@@ -1,23 +1,26 @@
+use Rattle.std.proofs.Common.{subst, sym}
 use Rattle.std.proofs.lemmas.Result.{err_from_is_err_and}
 use Rattle.command_files.proofs.Proved.{changes_join}
 use Rattle.command_files.specs.Surroundings.{around}
+use Rattle.device_meaning.specs.State.{State}
+use Rattle.command_images.specs.Devices.{TellNamespace}
 use Rattle.command_images.specs.Images.{image_of}
 use Rattle.command_serve.specs.ByLine.{StopsByLine}
 use Rattle.command_serve.proofs.ByLineServing.{serves_by_line, stops_by_line, unloaded_by_line}
 use Rattle.command_serve.proofs.Keeping.{named, unchanged}
 use Rattle.command_serve.proofs.lines.serve_from.Goals as goal
 
-pub returns-in_err-image-clause-stopped : goal.returns-in_err-image-clause-stopped
-returns-in_err-image-clause-stopped g c =
+pub returns-in_err-device-clause-stopped : goal.returns-in_err-device-clause-stopped
+returns-in_err-device-clause-stopped g c =
     let p = err_from_is_err_and c.from_residual.result c.from_residual.ensures.1 in
     let here = around g.F.Files g.F.Reader.Source.tells g.F.Writer.Sink.tells c.args.files.now c.load_to_replace.new.files in
     let stops = StopsByLine here c.args.matches.now c.args.drains (g.I.Read.remaining c.args.input.now) (g.O.Write.contents c.args.out.now) in
     rw (p.1, p.2)
     (unloaded_by_line stops g.F.Reader.Source.tells (g.F.Files.contents c.args.files.now c.required-path.result.now) c.required-path.result.now
-    c.in_err-image.field-0.0 c.in_err-image.ensures.failed)
+    c.in_err-device.field-0.0 c.in_err-device.ensures.failed)
 
-pub returns-in_err-image-clause-changes : goal.returns-in_err-image-clause-changes
-returns-in_err-image-clause-changes g c =
+pub returns-in_err-device-clause-changes : goal.returns-in_err-device-clause-changes
+returns-in_err-device-clause-changes g c =
     unchanged g.F.Files g.F.Writer.Sink.tells (image_of c.args.matches.now) c.args.files.now c.load_to_replace.new.files
     c.load_to_replace.ensures.made c.load_to_replace.ensures.tried c.load_to_replace.ensures.contents c.load_to_replace.ensures.modes
 
@@ -25,16 +28,18 @@ pub returns-clause-served : goal.returns-clause-served
 returns-clause-served g c =
     serves_by_line g.F.Reader.Source.tells g.F.Writer.Sink.tells (g.F.Files.contents c.args.files.now) (g.F.Files.contents c.load_to_replace.new.files)
     (g.F.Files.made c.args.files.now) (g.F.Files.made c.load_to_replace.new.files) (g.F.Files.made c.run.new.files) c.args.matches.now c.required-path.result.now
-    c.in_ok-image.image c.args.drains (g.I.Read.remaining c.args.input.now) (g.O.Write.contents c.args.out.now)
-    c.required-path.ensures c.load_to_replace.ensures.contents c.load_to_replace.ensures.made c.in_ok-image.ensures.image
+    c.deref_mut.result.now.namespace c.args.drains (g.I.Read.remaining c.args.input.now) (g.O.Write.contents c.args.out.now)
+    c.required-path.ensures c.load_to_replace.ensures.contents c.load_to_replace.ensures.made (subst (λ (s : State). g.F.Reader.Source.tells → TellNamespace (g.F.Files.contents c.args.files.now c.required-path.result.now) s.namespace)
+    (sym c.deref_mut.ensures.value) c.in_ok-device.ensures.namespace)
     c.run.result (g.O.Write.contents c.run.new.out) c.run.ensures.served
 
 pub returns-clause-stopped : goal.returns-clause-stopped
 returns-clause-stopped g c =
     stops_by_line g.F.Reader.Source.tells g.F.Writer.Sink.tells (g.F.Files.contents c.args.files.now) (g.F.Files.contents c.load_to_replace.new.files)
     (g.F.Files.made c.args.files.now) (g.F.Files.made c.load_to_replace.new.files) (g.F.Files.made c.run.new.files) c.args.matches.now c.required-path.result.now
-    c.in_ok-image.image c.args.drains (g.I.Read.remaining c.args.input.now) (g.O.Write.contents c.args.out.now)
-    c.required-path.ensures c.load_to_replace.ensures.contents c.load_to_replace.ensures.made c.in_ok-image.ensures.image
+    c.deref_mut.result.now.namespace c.args.drains (g.I.Read.remaining c.args.input.now) (g.O.Write.contents c.args.out.now)
+    c.required-path.ensures c.load_to_replace.ensures.contents c.load_to_replace.ensures.made (subst (λ (s : State). g.F.Reader.Source.tells → TellNamespace (g.F.Files.contents c.args.files.now c.required-path.result.now) s.namespace)
+    (sym c.deref_mut.ensures.value) c.in_ok-device.ensures.namespace)
     c.run.result c.run.ensures.stopped
 
 pub returns-clause-changes : goal.returns-clause-changes

@@ -10,19 +10,19 @@ returns-clause-served g c =
     served_told _ c.serve_in-done.result.0 c.told.result c.told.ensures
     (on_ok_weaker c.serve_in-done.result.0
     (saves_image g.F.Files g.F.Reader.Source.tells g.F.Writer.Sink.tells c.args.files.now c.serve_in-done.new.files c.save_at_last.new.files
-    c.args.image c.image.result.now c.args.path.now c.args.turns (g.I.Read.remaining c.args.input.now) (g.O.Write.contents c.args.out.now)
-    (g.O.Write.contents c.serve_in-done.new.out) c.new-device.result c.serve_in-done.new.device c.new-device.ensures.value c.image.ensures.value c.in_ok-save_at_last.ensures.saved)
+    c.args.device.now.namespace c.image.result.now c.args.path.now c.args.turns (g.I.Read.remaining c.args.input.now) (g.O.Write.contents c.args.out.now)
+    (g.O.Write.contents c.serve_in-done.new.out) c.args.device.now c.serve_in-done.new.device c.requires.new c.image.ensures.value c.in_ok-save_at_last.ensures.saved)
     c.serve_in-done.ensures.done)
 
 pub returns-clause-stopped : goal.returns-clause-stopped
 returns-clause-stopped g c =
-    stopped_told (ServesFirst (around g.F.Files g.F.Reader.Source.tells g.F.Writer.Sink.tells c.args.files.now c.save_at_last.new.files) c.args.image c.args.path.now c.args.turns
+    stopped_told (ServesFirst (around g.F.Files g.F.Reader.Source.tells g.F.Writer.Sink.tells c.args.files.now c.save_at_last.new.files) c.args.device.now.namespace c.args.path.now c.args.turns
     (g.I.Read.remaining c.args.input.now) (g.O.Write.contents c.args.out.now))
     c.serve_in-done.result.0 c.told.result c.told.ensures
     (IfErr-weaker c.serve_in-done.result.0 _ _
     (saves_first g.F.Files g.F.Reader.Source.tells g.F.Writer.Sink.tells c.args.files.now c.serve_in-done.new.files c.save_at_last.new.files
-    c.args.image c.image.result.now c.args.path.now c.args.turns (g.I.Read.remaining c.args.input.now) (g.O.Write.contents c.args.out.now)
-    (g.O.Write.contents c.serve_in-done.new.out) c.new-device.result c.serve_in-done.new.device c.new-device.ensures.value c.image.ensures.value c.in_ok-save_at_last.ensures.saved)
+    c.args.device.now.namespace c.image.result.now c.args.path.now c.args.turns (g.I.Read.remaining c.args.input.now) (g.O.Write.contents c.args.out.now)
+    (g.O.Write.contents c.serve_in-done.new.out) c.args.device.now c.serve_in-done.new.device c.requires.new c.image.ensures.value c.in_ok-save_at_last.ensures.saved)
     c.serve_in-done.ensures.stopped)
 
 pub returns-clause-changes : goal.returns-clause-changes
@@ -36,6 +36,6 @@ returns-in_err-save_at_last-clause-changes g c =
 pub returns-in_err-save_at_last-clause-stopped : goal.returns-in_err-save_at_last-clause-stopped
 returns-in_err-save_at_last-clause-stopped g c =
     let p = err_from_is_err_and c.from_residual.result c.from_residual.ensures.1 in
-    rw (p.1, p.2) (unheld_unsaid (ServesFirst (around g.F.Files g.F.Reader.Source.tells g.F.Writer.Sink.tells c.args.files.now c.save_at_last.new.files) c.args.image c.args.path.now c.args.turns
+    rw (p.1, p.2) (unheld_unsaid (ServesFirst (around g.F.Files g.F.Reader.Source.tells g.F.Writer.Sink.tells c.args.files.now c.save_at_last.new.files) c.args.device.now.namespace c.args.path.now c.args.turns
     (g.I.Read.remaining c.args.input.now) (g.O.Write.contents c.args.out.now))
     c.args.path c.in_err-save_at_last.field-0.0 c.in_err-save_at_last.ensures.failed)

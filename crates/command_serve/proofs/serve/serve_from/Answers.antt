@@ -1,24 +1,27 @@
+use Rattle.std.proofs.Common.{subst, sym}
 use Rattle.std.proofs.lemmas.Result.{err_from_is_err_and}
 use Rattle.command_files.proofs.Proved.{changes_join}
 use Rattle.command_files.specs.Surroundings.{around}
+use Rattle.device_meaning.specs.State.{State}
+use Rattle.command_images.specs.Devices.{TellNamespace}
 use Rattle.command_images.specs.Images.{image_of}
 use Rattle.command_serve.specs.Served.{StopsEarly}
 use Rattle.command_serve.proofs.Keeping.{named, unchanged}
 use Rattle.command_serve.proofs.Serving.{serves, stops_early, unloaded_unsaid}
 use Rattle.command_serve.proofs.serve.serve_from.Goals as goal
 
-pub returns-in_err-image-clause-changes : goal.returns-in_err-image-clause-changes
-returns-in_err-image-clause-changes g c =
+pub returns-in_err-device-clause-changes : goal.returns-in_err-device-clause-changes
+returns-in_err-device-clause-changes g c =
     unchanged g.F.Files g.F.Writer.Sink.tells (image_of c.args.matches.now) c.args.files.now c.load_to_replace.new.files
     c.load_to_replace.ensures.made c.load_to_replace.ensures.tried c.load_to_replace.ensures.contents c.load_to_replace.ensures.modes
 
-pub returns-in_err-image-clause-stopped : goal.returns-in_err-image-clause-stopped
-returns-in_err-image-clause-stopped g c =
+pub returns-in_err-device-clause-stopped : goal.returns-in_err-device-clause-stopped
+returns-in_err-device-clause-stopped g c =
     let p = err_from_is_err_and c.from_residual.result c.from_residual.ensures.1 in
     rw (p.1, p.2) (unloaded_unsaid
     (StopsEarly (around g.F.Files g.F.Reader.Source.tells g.F.Writer.Sink.tells c.args.files.now c.load_to_replace.new.files) c.args.matches.now
     (g.I.Read.remaining c.args.input.now) (g.O.Write.contents c.args.out.now)) g.F.Reader.Source.tells (g.F.Files.contents c.args.files.now c.required-path.result.now) c.required-path.result.now
-    c.in_err-image.field-0.0 c.in_err-image.ensures.failed)
+    c.in_err-device.field-0.0 c.in_err-device.ensures.failed)
 
 pub returns-clause-changes : goal.returns-clause-changes
 returns-clause-changes g c =
@@ -32,14 +35,16 @@ pub returns-clause-served : goal.returns-clause-served
 returns-clause-served g c =
     serves g.F.Reader.Source.tells g.F.Writer.Sink.tells (g.F.Files.contents c.args.files.now) (g.F.Files.contents c.load_to_replace.new.files)
     (g.F.Files.made c.args.files.now) (g.F.Files.made c.load_to_replace.new.files) (g.F.Files.made c.run.new.files) c.args.matches.now c.required-path.result.now
-    c.in_ok-image.image c.turns_between-turns.result (g.I.Read.remaining c.args.input.now) (g.O.Write.contents c.args.out.now)
-    c.required-path.ensures c.turns_between-turns.ensures c.load_to_replace.ensures.contents c.load_to_replace.ensures.made c.in_ok-image.ensures.image
+    c.deref_mut.result.now.namespace c.turns_between-turns.result (g.I.Read.remaining c.args.input.now) (g.O.Write.contents c.args.out.now)
+    c.required-path.ensures c.turns_between-turns.ensures c.load_to_replace.ensures.contents c.load_to_replace.ensures.made (subst (λ (s : State). g.F.Reader.Source.tells → TellNamespace (g.F.Files.contents c.args.files.now c.required-path.result.now) s.namespace)
+    (sym c.deref_mut.ensures.value) c.in_ok-device.ensures.namespace)
     c.run.result (g.O.Write.contents c.run.new.out) c.run.ensures.served
 
 pub returns-clause-stopped : goal.returns-clause-stopped
 returns-clause-stopped g c =
     stops_early g.F.Reader.Source.tells g.F.Writer.Sink.tells (g.F.Files.contents c.args.files.now) (g.F.Files.contents c.load_to_replace.new.files)
     (g.F.Files.made c.args.files.now) (g.F.Files.made c.load_to_replace.new.files) (g.F.Files.made c.run.new.files) c.args.matches.now c.required-path.result.now
-    c.in_ok-image.image c.turns_between-turns.result (g.I.Read.remaining c.args.input.now) (g.O.Write.contents c.args.out.now)
-    c.required-path.ensures c.turns_between-turns.ensures c.load_to_replace.ensures.contents c.load_to_replace.ensures.made c.in_ok-image.ensures.image
+    c.deref_mut.result.now.namespace c.turns_between-turns.result (g.I.Read.remaining c.args.input.now) (g.O.Write.contents c.args.out.now)
+    c.required-path.ensures c.turns_between-turns.ensures c.load_to_replace.ensures.contents c.load_to_replace.ensures.made (subst (λ (s : State). g.F.Reader.Source.tells → TellNamespace (g.F.Files.contents c.args.files.now c.required-path.result.now) s.namespace)
+    (sym c.deref_mut.ensures.value) c.in_ok-device.ensures.namespace)
     c.run.result c.run.ensures.stopped

@@ -1,0 +1,107 @@
+-- What image files stand for, and what is told of those that stand for no device.
+use Rattle.std.proofs.Common.{◌≡◌, arith, inl, inr, ℕ, ◌<◌, List, length, length-take, take, take_all, Option, Some, None, IfSome, Result, Ok, Err, IfErr, ap, refl, sym, ◌∙◌, subst}
+use Rattle.std.specs.Borrow.{Bor}
+use Rattle.image_store.specs.Namespace.{ZonedNamespace}
+use Rattle.image_text.specs.Loading.{LoadFails}
+use Rattle.image_text.specs.Reading.{namespace_in}
+use Rattle.image_text.specs.declared.fault.LoadFault.{LoadFault}
+use Rattle.image_text.specs.declared.fault.LoadFault.TheVariants.{Magic, Memory, Stream}
+use Rattle.device_meaning.specs.State.{State, new_state}
+use Rattle.durable_machine.specs.Refused.{IsDamaged}
+use Rattle.durable_machine.specs.declared.fault.Fault.{Fault}
+use Rattle.durable_machine.specs.declared.fault.Fault.TheVariants.{Damaged, OfFile, Unreadable}
+use Rattle.durable_device.specs.Kept.{RefusesBytes, StandsFor, StandsForIt}
+use Rattle.durable_device.specs.Machine.{IsDeviceBase, next_state}
+use Rattle.command_files.specs.Made.{AreAsTold}
+use Rattle.command_files.specs.declared.failure.Failure.{Failure}
+use Rattle.command_images.specs.Devices.{AreDamaged, IsNoImage, StandForNone, TellDevice}
+use Rattle.command_images.specs.UserTold.{LoadingDeviceFails}
+use Rattle.command_images.specs.steps.Told.{RefusesJournal, told_of_image, told_of_journal}
+
+-- ---- what stands for a device
+
+-- an image was loaded, and its device is new
+pub tells_image : (contents : Option (List ℕ)) (read : List ℕ) (image : ZonedNamespace) (s : State) → AreAsTold contents read
+    → namespace_in read ≡ Ok image → s ≡ new_state image → TellDevice contents s
+tells_image None read image s told loaded new = tt
+tells_image (Some bytes) read image s told loaded new =
+    let same : s.namespace ≡ image = ap (λ (t : State). t.namespace) new in
+    inl (record {
+      read = ap namespace_in (sym told) ∙ loaded ∙ ap (λ (ns : ZonedNamespace). Ok ns) (sym same);
+      new = new ∙ ap new_state (sym same);
+    })
+
+-- a journal was done again
+pub tells_journal : (contents : Option (List ℕ)) (read : List ℕ) (s : State) → AreAsTold contents read
+    → IsNoImage contents → StandsForIt read s → TellDevice contents s
+tells_journal None read s told none stands = tt
+tells_journal (Some bytes) read s told none stands =
+    inr (record { no_image = none; stand = subst (λ (file : List ℕ). StandsForIt file s) told stands })
+
+-- ---- what stands for none
+
+magic_only : (fault : LoadFault) (bytes : List ℕ) → namespace_in bytes ≡ Err fault → namespace_in bytes ≡ Err Magic → fault ≡ Magic
+magic_only fault bytes is other = cc
+
+-- no image, and no journal where it begins as one
+pub stand_for_none : (bytes : List ℕ) (fault : LoadFault) → namespace_in bytes ≡ Err fault
+    → (fault ≡ Magic → (s : State) → StandsFor bytes s → ⊥) → StandForNone bytes
+stand_for_none bytes fault is none s (inl image) = absurd (differ (sym is ∙ image.read))
+  where
+    differ : Err fault ≡ Ok s.namespace → ⊥
+    differ same = cc
+stand_for_none bytes fault is none s (inr journal) = none (magic_only fault bytes is journal.no_image) s journal.stand.is
+
+-- ---- what is told
+
+-- of a fault that no journal has
+pub fails_as_image : (reads : Type 0) (contents : Option (List ℕ)) (read : List ℕ) (path : Bor (List ℕ)) (fault : LoadFault)
+    → (reads → AreAsTold contents read) → ¬ (fault ≡ Magic) → (reads → (wanted : Type 0) × LoadFails wanted fault (namespace_in read))
+    → LoadingDeviceFails reads contents path.now (told_of_image path fault)
+fails_as_image reads contents read path Stream told other fails = refl
+fails_as_image reads contents read path Memory told other fails = tt
+fails_as_image reads contents read path fault told other fails = (refl, λ known. at contents (told known) (fails known).1)
+  where
+    at : (held : Option (List ℕ)) → AreAsTold held read → namespace_in read ≡ Err fault
+        → IfSome held (λ bytes. (namespace_in bytes ≡ Err fault) × StandForNone bytes)
+    at None same is = tt
+    at (Some bytes) same is =
+        let failed : namespace_in bytes ≡ Err fault = ap namespace_in (sym same) ∙ is in
+        (failed, stand_for_none bytes fault failed (λ magic. absurd (other magic)))
+
+-- of a journal that stands for none
+pub fails_as_journal : (reads : Type 0) (contents : Option (List ℕ)) (read : List ℕ) (path : Bor (List ℕ)) (fault : Fault)
+    → AreAsTold contents read → (reads → IsNoImage contents) → RefusesBytes read fault
+    → LoadingDeviceFails reads contents path.now (told_of_journal path fault)
+fails_as_journal reads contents read path Unreadable told none refused = (refl, λ known. at contents told (none known))
+  where
+    at : (held : Option (List ℕ)) → AreAsTold held read → IfSome held (λ bytes. namespace_in bytes ≡ Err Magic)
+        → IfSome held (λ bytes. (namespace_in bytes ≡ Err Magic) × StandForNone bytes)
+    at None same is = tt
+    at (Some bytes) same is =
+        (is, stand_for_none bytes Magic is (λ magic s stands. refused s (subst (λ (file : List ℕ). StandsFor file s) (sym same) stands)))
+fails_as_journal reads contents read path (Damaged place) told none refused = (refl, λ known. at contents told (none known))
+  where
+    at : (held : Option (List ℕ)) → AreAsTold held read → IfSome held (λ bytes. namespace_in bytes ≡ Err Magic) → IfSome held (AreDamaged place)
+    at None same is = tt
+    at (Some bytes) same is = (
+      subst (λ (file : List ℕ). IsDamaged IsDeviceBase next_state place file) same refused.0,
+      stand_for_none bytes Magic is (λ magic s stands. refused.1 s (subst (λ (file : List ℕ). StandsFor file s) (sym same) stands)),
+    )
+fails_as_journal reads contents read path (OfFile error) told none refused = tt
+
+pub refused_as_journal : {T : Type 0} (reads : Type 0) (contents : Option (List ℕ)) (read slice : List ℕ) (path : Bor (List ℕ)) → slice ≡ read
+    → AreAsTold contents read → (reads → IsNoImage contents) → (result : Result T Failure) → IfErr result (RefusesJournal path slice)
+    → IfErr result (LoadingDeviceFails reads contents path.now)
+refused_as_journal reads contents read slice path same told none (Ok device) refused = tt
+refused_as_journal reads contents read slice path same told none (Err failure) refused =
+    subst (λ (f : Failure). LoadingDeviceFails reads contents path.now f) (sym refused.told)
+    (fails_as_journal reads contents read path refused.fault told none (subst (λ (bytes : List ℕ). RefusesBytes bytes refused.fault) same refused.refused))
+
+-- ---- what is read
+
+-- so many bytes as there can be are all of them
+pub all_taken : (most : ℕ) (read : List ℕ) (contents : Option (List ℕ)) → length read < most → IfSome contents (λ bytes. read ≡ take most bytes)
+    → AreAsTold contents read
+all_taken most read None fewer is = tt
+all_taken most read (Some bytes) fewer is = is ∙ take_all most bytes (omega (arith, fewer, ap length is, length-take most bytes))

@@ -1,0 +1,49 @@
+-- What an image file stands for: an image, or a journal.
+use Rattle.std.specs.Prelude.{◌≡◌, ◌≢◌, ◌⊎◌, ℕ, List, Option, IfSome, Ok, Err}
+use Rattle.image_store.specs.Namespace.{ZonedNamespace}
+use Rattle.image_text.specs.Reading.{namespace_in}
+use Rattle.image_text.specs.declared.fault.LoadFault.TheVariants.{Magic}
+use Rattle.device_meaning.specs.State.{State, new_state}
+use Rattle.durable_machine.specs.Refused.{IsDamaged}
+use Rattle.durable_device.specs.Kept.{StandsForIt}
+use Rattle.durable_device.specs.Machine.{IsDeviceBase, next_state}
+
+-- the bytes are an image, whose device has neither a program nor a run
+pub record AreImage (bytes : List ℕ) (s : State) : Type 0 where
+  pub read : namespace_in bytes ≡ Ok s.namespace
+  pub new : s ≡ new_state s.namespace
+
+-- they begin as no image does, and are a journal, which stands for a device in this state and in no other
+pub record AreJournal (bytes : List ℕ) (s : State) : Type 0 where
+  pub no_image : namespace_in bytes ≡ Err Magic
+  pub stand : StandsForIt bytes s
+
+-- the bytes of a file, where they are told, begin as no image does
+abbrev pub IsNoImage : Option (List ℕ) → Type 0
+IsNoImage bytes = IfSome bytes (λ bytes. namespace_in bytes ≡ Err Magic)
+
+-- they stand for a device in this state
+abbrev pub AreOf : List ℕ → State → Type 0
+AreOf bytes s = AreImage bytes s ⊎ AreJournal bytes s
+
+-- the bytes of a file, where they are told, stand for a device in this state
+abbrev pub TellDevice : Option (List ℕ) → State → Type 0
+TellDevice bytes s = IfSome bytes (λ bytes. AreOf bytes s)
+
+-- they stand for one that has this namespace, and neither a program nor a run
+abbrev pub TellNamespace : Option (List ℕ) → ZonedNamespace → Type 0
+TellNamespace bytes namespace = TellDevice bytes (new_state namespace)
+
+-- they stand for one that has a program or a run, which no image keeps
+pub record TellMore (bytes : Option (List ℕ)) : Type 0 where
+  pub device : State
+  pub tell : TellDevice bytes device
+  pub more : device ≢ new_state device.namespace
+
+-- bytes stand for no device
+abbrev pub StandForNone : List ℕ → Type 0
+StandForNone bytes = (s : State) → AreOf bytes s → ⊥
+
+-- they are a journal that is damaged from this byte on, and stand for no device
+abbrev pub AreDamaged : ℕ → List ℕ → Type 0
+AreDamaged place bytes = IsDamaged IsDeviceBase next_state place bytes × StandForNone bytes

@@ -1,0 +1,209 @@
+//! The devices that image files stand for.
+
+ghost use Rattle.std.specs.Prelude.{◌≡◌, ◌≢◌, IfOk, IfErr, OnOk, Some};
+ghost use Rattle.device_meaning.specs.State.{new_state};
+ghost use Rattle.durable_device.specs.Kept.{StandsForIt};
+ghost use Rattle.command_files.specs.Made.{AreAsTold};
+ghost use Rattle.command_files.specs.UserTold.{IsUnread};
+ghost use Rattle.command_images.specs.Devices.{IsNoImage, TellDevice, TellNamespace};
+ghost use Rattle.command_images.specs.UserTold.{LoadingDeviceFails, ReplacingFails};
+ghost use Rattle.command_images.specs.steps.Told.{RefusesJournal, told_of_journal};
+
+use crate::image_file;
+use command_files::{Failure, Files, cannot_read, read};
+use durable_device::device_in;
+use durable_machine::Fault;
+use image_store::Image;
+use image_text::{ImageText, LoadFault};
+use runner::Device;
+use std::alloc::{AllocError, Global};
+
+/// The device that a file stands for: that of an image, without a program or a run; or that of a journal, to which the events in it
+/// happened again. Where the file's bytes are known, it is the one that they stand for, or else is told what is wrong with them. Each
+/// file has the bytes that it had.
+///
+/// # Errors
+///
+/// The file can't be read; its first fault as an image, or the byte from which on a journal is damaged; or want of memory.
+#[tactic(auto, using(crate::proofs::Devices::tells_image, crate::proofs::Devices::fails_as_image))]
+pub fn load<'a, F: Files>(
+    alloc: Global,
+    path: &'a str,
+    files: &mut F,
+) -> Result<Box<Device>, Failure<'a>>
+    ensures made { F.made files.new ≡ F.made files.old }
+    ensures contents { F.contents files.new ≡ F.contents files.old }
+    ensures modes { F.modes files.new ≡ F.modes files.old }
+    ensures tried { F.tried files.new ≡ F.tried files.old }
+    ensures held { F.held files.new ≡ F.held files.old }
+    ensures device { F.Reader.tells → IfOk result (λ device. TellDevice (F.contents files.old path.now) device.value) }
+    ensures failed { IfErr result (LoadingDeviceFails F.Reader.tells (F.contents files.old path.now) path.now) }
+    ensures not_printing { result ≢ Err Failure.CannotPrint }
+{
+    match files.open(path) {
+        Ok(mut file) => match Image::load(alloc, &mut file) {
+            Ok(image) => Ok(boxed(alloc, image)?),
+            Err(LoadFault::Magic) => load_journal(alloc, path, files),
+            Err(fault) => Err(image_file::refused(path, fault)),
+        },
+        Err(fault) => Err(cannot_read(path, fault)),
+    }
+}
+
+/// The device of a file that is to be replaced by an image, as of [`load`]: its name is held from before the file is read on. The
+/// device has neither a program nor a run.
+///
+/// # Errors
+///
+/// Another command holds the file, or it is no ordinary one; those of [`load`]; or the device has a program or a run, which no image
+/// keeps.
+#[tactic(auto, using(crate::proofs::Making::replace_of_loading, crate::proofs::Making::replace_of_holding))]
+pub fn load_to_replace<'a, F: Files>(
+    alloc: Global,
+    path: &'a str,
+    files: &mut F,
+) -> Result<Box<Device>, Failure<'a>>
+    ensures made { F.made files.new ≡ F.made files.old }
+    ensures contents { F.contents files.new ≡ F.contents files.old }
+    ensures modes { F.modes files.new ≡ F.modes files.old }
+    ensures tried { F.tried files.new ≡ F.tried files.old }
+    ensures held { OnOk result (F.held files.new ≡ Some path.now) }
+    ensures new { IfOk result (λ device. device.value ≡ new_state device.value.namespace) }
+    ensures namespace { F.Reader.tells
+        → IfOk result (λ device. TellNamespace (F.contents files.old path.now) device.value.namespace) }
+    ensures failed { IfErr result (ReplacingFails F.Reader.tells (F.contents files.old path.now) path.now) }
+    ensures not_printing { result ≢ Err Failure.CannotPrint }
+{
+    image_file::hold(path, files)?;
+    let device = load_held(alloc, path, files)?;
+    if device.is_new() {
+        Ok(device)
+    } else {
+        Err(Failure::DeviceRefused { path })
+    }
+}
+
+/// The device that the file stands for whose name is held, as of [`load`].
+#[tactic(auto, using(crate::proofs::Devices::tells_image, crate::proofs::Devices::fails_as_image))]
+fn load_held<'a, F: Files>(
+    alloc: Global,
+    path: &'a str,
+    files: &mut F,
+) -> Result<Box<Device>, Failure<'a>>
+    requires { F.held files.old ≡ Some path.now }
+    ensures made { F.made files.new ≡ F.made files.old }
+    ensures contents { F.contents files.new ≡ F.contents files.old }
+    ensures modes { F.modes files.new ≡ F.modes files.old }
+    ensures tried { F.tried files.new ≡ F.tried files.old }
+    ensures held { F.held files.new ≡ F.held files.old }
+    ensures device { F.Reader.tells → IfOk result (λ device. TellDevice (F.contents files.old path.now) device.value) }
+    ensures failed { IfErr result (LoadingDeviceFails F.Reader.tells (F.contents files.old path.now) path.now) }
+    ensures not_printing { result ≢ Err Failure.CannotPrint }
+{
+    match files.open_held(path) {
+        Ok(mut file) => match Image::load(alloc, &mut file) {
+            Ok(image) => Ok(boxed(alloc, image)?),
+            Err(LoadFault::Magic) => load_held_journal(alloc, path, files),
+            Err(fault) => Err(image_file::refused(path, fault)),
+        },
+        Err(fault) => Err(cannot_read(path, fault)),
+    }
+}
+
+/// The device of a file that begins as no image: that of its journal.
+#[tactic(auto, using(crate::proofs::Devices::tells_journal))]
+fn load_journal<'a, F: Files>(
+    alloc: Global,
+    path: &'a str,
+    files: &mut F,
+) -> Result<Box<Device>, Failure<'a>>
+    requires { F.Reader.tells → IsNoImage (F.contents files.old path.now) }
+    ensures made { F.made files.new ≡ F.made files.old }
+    ensures contents { F.contents files.new ≡ F.contents files.old }
+    ensures modes { F.modes files.new ≡ F.modes files.old }
+    ensures tried { F.tried files.new ≡ F.tried files.old }
+    ensures held { F.held files.new ≡ F.held files.old }
+    ensures device { F.Reader.tells → IfOk result (λ device. TellDevice (F.contents files.old path.now) device.value) }
+    ensures failed { IfErr result (LoadingDeviceFails F.Reader.tells (F.contents files.old path.now) path.now) }
+    ensures not_printing { result ≢ Err Failure.CannotPrint }
+{
+    let bytes = read(path, files)?;
+    journal_device(alloc, path, &bytes)
+}
+
+/// The same of a file whose name is held.
+#[tactic(auto, using(crate::proofs::Devices::tells_journal))]
+fn load_held_journal<'a, F: Files>(
+    alloc: Global,
+    path: &'a str,
+    files: &mut F,
+) -> Result<Box<Device>, Failure<'a>>
+    requires held { F.held files.old ≡ Some path.now }
+    requires none { F.Reader.tells → IsNoImage (F.contents files.old path.now) }
+    ensures made { F.made files.new ≡ F.made files.old }
+    ensures contents { F.contents files.new ≡ F.contents files.old }
+    ensures modes { F.modes files.new ≡ F.modes files.old }
+    ensures tried { F.tried files.new ≡ F.tried files.old }
+    ensures held { F.held files.new ≡ F.held files.old }
+    ensures device { F.Reader.tells → IfOk result (λ device. TellDevice (F.contents files.old path.now) device.value) }
+    ensures failed { IfErr result (LoadingDeviceFails F.Reader.tells (F.contents files.old path.now) path.now) }
+    ensures not_printing { result ≢ Err Failure.CannotPrint }
+{
+    let bytes = read_held(path, files)?;
+    journal_device(alloc, path, &bytes)
+}
+
+/// All bytes of the file whose name is held.
+fn read_held<'a, F: Files>(path: &'a str, files: &mut F) -> Result<Vec<u8>, Failure<'a>>
+    requires { F.held files.old ≡ Some path.now }
+    ensures made { F.made files.new ≡ F.made files.old }
+    ensures contents { F.contents files.new ≡ F.contents files.old }
+    ensures modes { F.modes files.new ≡ F.modes files.old }
+    ensures tried { F.tried files.new ≡ F.tried files.old }
+    ensures held { F.held files.new ≡ F.held files.old }
+    ensures bytes { IfOk result (λ file. AreAsTold (F.contents files.old path.now) file.items) }
+    ensures unread { IfErr result (IsUnread path.entry) }
+    ensures not_printing { result ≢ Err Failure.CannotPrint }
+{
+    match files.first_bytes(path, usize::MAX) {
+        Ok(bytes) => Ok(bytes),
+        Err(fault) => Err(cannot_read(path, fault)),
+    }
+}
+
+/// The device that the bytes of a journal stand for.
+fn journal_device<'a>(
+    alloc: Global,
+    path: &'a str,
+    bytes: &[u8],
+) -> Result<Box<Device>, Failure<'a>>
+    ensures state { IfOk result (λ device. StandsForIt bytes.now device.value) }
+    ensures refused { IfErr result (RefusesJournal path.entry bytes.now) }
+    ensures not_printing { result ≢ Err Failure.CannotPrint }
+{
+    match device_in(alloc, bytes) {
+        Ok(device) => Ok(device),
+        Err(fault) => Err(journal_refused(path, fault)),
+    }
+}
+
+/// What the user is told of a journal that stands for no device: of one without a whole base what is told of a file that is no image.
+fn journal_refused<'a>(path: &'a str, fault: Fault) -> Failure<'a>
+    ensures told { result ≡ told_of_journal path.entry fault }
+    ensures not_printing { result ≢ Failure.CannotPrint }
+{
+    match fault {
+        Fault::Damaged(place) => Failure::JournalRefused { path, place },
+        Fault::Unreadable => image_file::refused(path, LoadFault::Magic),
+        Fault::OfFile(_) => Failure::NoMemory,
+    }
+}
+
+/// The device of an image that was loaded.
+// The device stands in this frame until it is on the heap.
+#[inline(never)]
+fn boxed(alloc: Global, image: Image) -> Result<Box<Device>, AllocError>
+    ensures { IfOk result (λ device. device.value ≡ new_state image) }
+{
+    Ok(Box::new(alloc, Device::new(alloc, image))?)
+}
