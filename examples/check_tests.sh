@@ -1,7 +1,7 @@
 #!/bin/sh
 # Compares the programs in the tests of filters with what clang makes of this folder's files today, for both versions of the
-# instruction set, and of those of spills/ and refused/; and the filter of the README's test and of pushdown.cmd. Prints the
-# digits of those that aren't there, and then ends with status 1.
+# instruction set, and of those of spills/ and refused/; the objects of drafts/; and the filter of the README's test and of
+# pushdown.cmd. Prints the digits of those that aren't there, and then ends with status 1.
 set -eu
 cd "$(dirname "$0")"
 work=$(mktemp -d)
@@ -37,6 +37,15 @@ make -s -C spills TO="$work/spills"
 compare program "$work/spills" ../crates/compiled_filters/src/tests/spills/*.rt
 make -s -C refused TO="$work/refused"
 compare program "$work/refused" ../crates/compiled_filters/src/tests/refused.rt
+for kind in linux sql storage; do
+    mkdir "$work/$kind"
+    for draft in drafts/$kind/*.c; do
+        made=$work/$kind/$(basename "$draft" .c)
+        make -s FROM=drafts/$kind TO="$work/$kind" MADE_FOR="-mcpu=v3 -O2 -fno-addrsig -w" "$made.o"
+        llvm-strip --strip-unneeded -o "$made.bin" "$made.o"
+    done
+    compare object "$work/$kind" ../crates/linked_filters/src/tests/$kind.rt
+done
 
 # the README's test has the filter's bytes as Rust escapes them, in lines that a backslash joins
 digits=$(xxd -p "$work/v3/filter.bin" | tr -d '\n')

@@ -4,3 +4,4 @@
 pub mod link;
 mod making;
 mod refusal;
+mod source;

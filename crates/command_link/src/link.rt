@@ -5,7 +5,7 @@ ghost use Rattle.command_files.specs.Arguments.{value_of};
 ghost use Rattle.command_files.specs.Made.{MakesOne};
 ghost use Rattle.command_files.specs.declared.arguments.TheConstants.{PROGRAM};
 
-use crate::making::{bytes_of, made};
+use crate::making::{LinkedProgram, made};
 use crate::refusal::Refusal;
 use clap::{Arg, ArgAction, ArgMatches, Command};
 use command_files::arguments::{
@@ -35,8 +35,9 @@ are unrolled as often as they can go round, as far as is known of registers. In 
 to lie within an area stands a compare, that ends the block run where it does not. So ends a block run that needs more rounds of \
 a loop than there is room for.
 
-`verify` judges the program like any other. Of an object that no program is made of, `link refused` and a sentence tell \
-why, and no file is written.";
+Of an object of which no program is made, `link refused` and a sentence tell the function, the line, where `clang -g` wrote \
+it, and what to write instead, and no file is written. Of a program that `verify` refuses even with --emit B, `note` and a \
+sentence tell the same, and the slot; it is written.";
 
 const EXAMPLE: &str = "\
 Example:
@@ -97,33 +98,45 @@ pub fn link<'a, F: Files, O: Write>(
     let block = block_size(number(matches, BLOCK_OPTION)?)?;
     let object = read(required(matches, OBJECT), files)?;
     let name = required(matches, FUNCTION);
-    let linked = linked(alloc, object.as_slice(), name, block, out)?;
-    if let Some(rounds) = linked.rounds {
-        tell_rounds(rounds, out)?;
-    }
-    if required(matches, VERBOSE) == "true" {
-        tell(&linked, out)?;
-    }
-    let bytes = bytes_of(alloc, linked.slots.as_slice())?;
-    write(required(matches, PROGRAM), bytes.as_slice(), files)
+    let made = program(alloc, object.as_slice(), name, block, out)?;
+    tell(&made, required(matches, VERBOSE) == "true", out)?;
+    write(required(matches, PROGRAM), made.bytes.as_slice(), files)
 }
 
 /// The program of the object of these bytes; where there is none, standard output tells why.
-fn linked<'a, O: Write>(
+fn program<'a, O: Write>(
     alloc: Global,
     bytes: &[u8],
     name: &str,
     block: BlockSize,
     out: &mut O,
-) -> Result<Linked, Failure<'a>> {
+) -> Result<LinkedProgram, Failure<'a>> {
     match made(alloc, bytes, name, block) {
-        Ok(linked) => Ok(linked),
+        Ok(found) => Ok(found),
         Err(Refusal::Memory) => Err(Failure::NoMemory),
         Err(Refusal::Told(text)) => {
             printed(writeln!(out, "link refused: {text}"))?;
             Err(Failure::NotAccepted)
         }
     }
+}
+
+/// Tells what there is to be told of a program: where it has not all rounds, where `verify` refuses it, and with numbers its own.
+fn tell<'a, O: Write>(
+    made: &LinkedProgram,
+    has_numbers: bool,
+    out: &mut O,
+) -> Result<(), Failure<'a>> {
+    if let Some(rounds) = made.linked.rounds {
+        tell_rounds(rounds, out)?;
+    }
+    if let Some(text) = &made.refused {
+        printed(writeln!(out, "note: {text}"))?;
+    }
+    if has_numbers {
+        tell_numbers(&made.linked, out)?;
+    }
+    Ok(())
 }
 
 /// Tells that a loop isn't laid out to its end.
@@ -135,7 +148,7 @@ fn tell_rounds<'a, O: Write>(rounds: usize, out: &mut O) -> Result<(), Failure<'
 }
 
 /// Tells how many slots a program has, and how many guards of each kind.
-fn tell<'a, O: Write>(linked: &Linked, out: &mut O) -> Result<(), Failure<'a>> {
+fn tell_numbers<'a, O: Write>(linked: &Linked, out: &mut O) -> Result<(), Failure<'a>> {
     let slots = linked.slots.len();
     let [memory, emit, size, _] = linked.guards;
     printed(writeln!(

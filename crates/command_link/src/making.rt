@@ -1,22 +1,36 @@
 //! A program of an object's bytes.
 
-use crate::refusal::Refusal;
+use crate::refusal::{Refusal, of_verdict};
+use crate::source::{Source, source_of};
+use accepted_programs::Refusal as Verdict;
 use ebpf_calls::{named_function, only_function};
-use ebpf_decode::push_instruction;
-use ebpf_gather::gather;
+use ebpf_decode::{decode, push_instruction};
+use ebpf_gather::{Gathered, Origin, gather, origins};
 use ebpf_inline::inline;
 use ebpf_link::{Linked, link};
 use ebpf_object::{Function, Object};
 use instruction_set::Instruction;
-use program_interface::BlockSize;
+use interval_domain::Intervals;
+use program_interface::{BlockSize, RunSizes};
 use std::alloc::{AllocError, Global};
+use verifier::{Judgement, judge};
+
+/// What is made of an object.
+#[derive(Drop)]
+pub(crate) struct LinkedProgram {
+    pub linked: Linked,
+    /// Those of the program.
+    pub bytes: Vec<u8>,
+    /// What `verify` refuses of it with the greatest limit, if it does.
+    pub refused: Option<String>,
+}
 
 /// The function with a name, or the only one that can be seen from outside where none is given.
 fn start(alloc: Global, object: &Object<'_>, name: &str) -> Result<Function, Refusal> {
     if name.is_empty() {
         return match only_function(object) {
             Ok(function) => Ok(function),
-            Err(fault) => Err(Refusal::of(format!(in alloc; "{fault}: name one by --function"))),
+            Err(fault) => Err(Refusal::of_start(alloc, object, fault)),
         };
     }
     match named_function(object, name.as_bytes()) {
@@ -26,10 +40,7 @@ fn start(alloc: Global, object: &Object<'_>, name: &str) -> Result<Function, Ref
 }
 
 /// The bytes of instructions.
-pub(crate) fn bytes_of(
-    alloc: Global,
-    slots: &[Option<Instruction>],
-) -> Result<Vec<u8>, AllocError> {
+fn bytes_of(alloc: Global, slots: &[Option<Instruction>]) -> Result<Vec<u8>, AllocError> {
     let mut bytes = Vec::new(alloc);
     for slot in slots {
         if let Some(instruction) = slot {
@@ -39,25 +50,82 @@ pub(crate) fn bytes_of(
     Ok(bytes)
 }
 
+/// The program that functions are laid out as.
+fn laid_out(
+    alloc: Global,
+    source: &Source<'_, '_>,
+    gathered: &Gathered,
+    origins: &[Option<Origin>],
+    block: BlockSize,
+) -> Result<Linked, Refusal> {
+    let slots = match inline(alloc, &gathered.unit) {
+        Ok(slots) => slots,
+        Err(fault) => return Err(Refusal::of_inlining(alloc, source, gathered, fault)),
+    };
+    match link(alloc, &slots, gathered.own, block) {
+        Ok(linked) => Ok(linked),
+        Err(fault) => Err(Refusal::of_linking(alloc, source, origins, fault)),
+    }
+}
+
+/// What the verifier refuses of a program, whatever its limit is: the least that it is refused for with the greatest one.
+fn verdict(alloc: Global, bytes: &[u8], block: BlockSize) -> Result<Option<Verdict>, Refusal> {
+    let Ok(program) = decode(alloc, bytes) else {
+        return Err(Refusal::Memory);
+    };
+    let Some(sizes) = RunSizes::new(block, block.bytes()) else {
+        return Ok(None);
+    };
+    match judge::<Intervals>(alloc, &program, sizes)? {
+        Judgement::Accepted { .. } => Ok(None),
+        Judgement::Refused(refused) => Ok(Some(refused.refusal)),
+    }
+}
+
+/// What a slot of a program was made of.
+fn origin_at(linked: &Linked, origins: &[Option<Origin>], slot: usize) -> Option<Origin> {
+    *origins.get(*linked.origins.get(slot)?)?
+}
+
+/// What is told of what the verifier refuses.
+fn refused_text(
+    alloc: Global,
+    source: &Source<'_, '_>,
+    linked: &Linked,
+    origins: &[Option<Origin>],
+    verdict: Option<Verdict>,
+) -> Result<Option<String>, AllocError> {
+    match verdict {
+        None => Ok(None),
+        Some(refusal) => {
+            let origin = origin_at(linked, origins, refusal.slot);
+            Ok(Some(of_verdict(alloc, source, origin, refusal)?))
+        }
+    }
+}
+
 /// The program of an object.
-fn linked(
+fn program(
     alloc: Global,
     object: &Object<'_>,
     function: Function,
     block: BlockSize,
-) -> Result<Linked, Refusal> {
-    let (unit, own) = match gather(alloc, object, function) {
+) -> Result<LinkedProgram, Refusal> {
+    let source = source_of(alloc, object)?;
+    let gathered = match gather(alloc, object, function) {
         Ok(found) => found,
-        Err(fault) => return Err(Refusal::of_gathering(alloc, object, fault)),
+        Err(fault) => return Err(Refusal::of_gathering(alloc, &source, fault)),
     };
-    let slots = match inline(alloc, &unit) {
-        Ok(slots) => slots,
-        Err(fault) => return Err(Refusal::of_inlining(alloc, fault)),
-    };
-    match link(alloc, &slots, own, block) {
-        Ok(linked) => Ok(linked),
-        Err(fault) => Err(Refusal::of_linking(alloc, fault)),
-    }
+    let origins = origins(alloc, &gathered)?;
+    let linked = laid_out(alloc, &source, &gathered, &origins, block)?;
+    let bytes = bytes_of(alloc, linked.slots.as_slice())?;
+    let verdict = verdict(alloc, bytes.as_slice(), block)?;
+    let refused = refused_text(alloc, &source, &linked, &origins, verdict)?;
+    Ok(LinkedProgram {
+        linked,
+        bytes,
+        refused,
+    })
 }
 
 /// The program of the object of these bytes, that starts with the function of a name.
@@ -66,11 +134,11 @@ pub(crate) fn made(
     bytes: &[u8],
     name: &str,
     block: BlockSize,
-) -> Result<Linked, Refusal> {
+) -> Result<LinkedProgram, Refusal> {
     let object = match Object::read(bytes) {
         Ok(object) => object,
         Err(fault) => return Err(Refusal::of(format!(in alloc; "{fault}"))),
     };
     let function = start(alloc, &object, name)?;
-    linked(alloc, &object, function, block)
+    program(alloc, &object, function, block)
 }

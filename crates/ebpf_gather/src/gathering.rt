@@ -13,6 +13,17 @@ use std::alloc::{AllocError, Global};
 /// The bytes that the function to start with has below its own: for what is put in between its instructions.
 pub const SPARE_BYTES: usize = 24;
 
+/// What a program is made of.
+#[derive(Drop)]
+pub struct Gathered {
+    /// The functions, and the data that they give addresses of.
+    pub unit: TranslationUnit,
+    /// What each of the functions is, by its number.
+    pub functions: Vec<Wanted>,
+    /// So many bytes of the stack has the function to start with, without the [`SPARE_BYTES`] below them.
+    pub own: usize,
+}
+
 /// The slots of a function.
 fn slots_of(
     alloc: Global,
@@ -45,7 +56,6 @@ fn section_bytes(
 
 /// The functions that a program is made of which starts with this one: it, and all that are called, directly or by others, each
 /// once; and the sections of data that they refer to. `memcpy`, `memset` and `memcmp` of a constant length are functions of their own.
-/// The second number is how many bytes of the stack the function to start with has, without the [`SPARE_BYTES`] below them.
 ///
 /// # Errors
 ///
@@ -54,7 +64,7 @@ pub fn gather(
     alloc: Global,
     object: &Object<'_>,
     start: Function,
-) -> Result<(TranslationUnit, usize), GatherFault> {
+) -> Result<Gathered, GatherFault> {
     let Some(symbol) = symbol_of(object, start) else {
         return Err(GatherFault::NoStart);
     };
@@ -90,5 +100,9 @@ pub fn gather(
         sections,
         start: 0,
     };
-    Ok((unit, own))
+    Ok(Gathered {
+        unit,
+        functions: found.functions,
+        own,
+    })
 }

@@ -7,8 +7,10 @@ mod frame;
 mod gathering;
 mod library;
 mod slots;
+mod tracing;
 mod wanted;
 
 pub use fault::{GatherFault, SlotProblem};
-pub use gathering::{SPARE_BYTES, gather};
+pub use gathering::{Gathered, SPARE_BYTES, gather};
+pub use tracing::{Origin, origins};
 pub use wanted::{LibraryCall, LibraryFunction, Wanted};

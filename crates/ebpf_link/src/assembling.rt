@@ -15,6 +15,8 @@ use std::alloc::{AllocError, Global};
 pub struct Linked {
     /// Its slots.
     pub slots: Vec<Option<Instruction>>,
+    /// The slot that each was made of, or put in front of, of those that were given.
+    pub origins: Vec<usize>,
     /// How many guards of each kind were put in, also such as other instructions were then left out with.
     pub guards: [usize; Guard::COUNT],
     /// So many rounds of each loop were laid out at least, if one wasn't laid out to its end.
@@ -207,6 +209,75 @@ fn without_idle_stores(layout: &Layout<'_>, sizes: &mut [usize]) {
     }
 }
 
+/// The slot that begins at a piece, if one does; else the one before.
+fn begun(piece: &Piece, before: usize, slots: usize) -> usize {
+    match piece {
+        Piece::Begins(slot) if *slot < slots => *slot,
+        _ => before,
+    }
+}
+
+/// The slot that each slot of the program was made of, or put in front of.
+fn origins(alloc: Global, layout: &Layout<'_>, sizes: &[usize]) -> Result<Vec<usize>, AllocError> {
+    let mut origins = Vec::new(alloc);
+    let mut slot = 0;
+    for (place, piece) in layout.pieces.iter().enumerate() {
+        slot = begun(piece, slot, layout.slots.len());
+        let origin = number_at(layout.origins, slot);
+        match number_at(sizes, place) {
+            0 => {}
+            1 => origins.extend_from_slice(&[origin])?,
+            _ => origins.extend_from_slice(&[origin, origin])?,
+        }
+    }
+    Ok(origins)
+}
+
+/// How many slots are of each loop that is in no other, by its first slot.
+fn loop_sizes(
+    alloc: Global,
+    layout: &Layout<'_>,
+    sizes: &[usize],
+) -> Result<Vec<usize>, AllocError> {
+    let mut counts = zeros(alloc, layout.slots.len())?;
+    let mut slot = 0;
+    for (place, piece) in layout.pieces.iter().enumerate() {
+        slot = begun(piece, slot, layout.slots.len());
+        if let Some(first) = layout.loops.outermost(slot) {
+            let count = number_at(&counts, first).saturating_add(number_at(sizes, place));
+            set_number(&mut counts, first, count);
+        }
+    }
+    Ok(counts)
+}
+
+/// The place of the greatest number of a list, where that isn't 0.
+fn greatest(list: &[usize]) -> Option<usize> {
+    let mut greatest = None;
+    let mut most = 0;
+    for (place, number) in list.iter().enumerate() {
+        if *number > most {
+            most = *number;
+            greatest = Some(place);
+        }
+    }
+    greatest
+}
+
+/// What is told of a program of so many slots: the loop that most of them are of.
+fn too_long(
+    alloc: Global,
+    layout: &Layout<'_>,
+    sizes: &[usize],
+    count: usize,
+) -> Result<LinkFault, AllocError> {
+    let slots = match greatest(&loop_sizes(alloc, layout, sizes)?) {
+        Some(first) => layout.loop_slots(alloc, first)?,
+        None => Vec::new(alloc),
+    };
+    Ok(LinkFault::TooLong { count, slots })
+}
+
 /// The program of the pieces that were laid out.
 pub(crate) fn assembled(alloc: Global, layout: &Layout<'_>) -> Result<Linked, LinkFault> {
     let pieces = layout.pieces.as_slice();
@@ -215,7 +286,7 @@ pub(crate) fn assembled(alloc: Global, layout: &Layout<'_>) -> Result<Linked, Li
     without_idle_stores(layout, &mut sizes);
     let count = count(&sizes);
     if count > MOST_SLOTS {
-        return Err(LinkFault::TooLong(count));
+        return Err(too_long(alloc, layout, &sizes, count)?);
     }
     let distances = distances(alloc, pieces, &sizes, all, count)?;
     let mut slots = Vec::new(alloc);
@@ -232,6 +303,7 @@ pub(crate) fn assembled(alloc: Global, layout: &Layout<'_>) -> Result<Linked, Li
     }
     Ok(Linked {
         slots,
+        origins: origins(alloc, layout, &sizes)?,
         guards,
         rounds: layout.fewest_rounds(),
     })

@@ -16,18 +16,21 @@ pub enum LinkFault {
     #[error("an instruction leads to slot {0}, where none begins")]
     Leaves(usize),
     /// A loop has no end that is known, or so many rounds that the program has more slots than can be.
-    #[error("the loop from slot {first} to {last} isn't known to be over after {rounds} rounds")]
+    #[error("a loop that isn't known to be over after {rounds} rounds")]
     Loop {
-        /// The first slot of the loop.
-        first: usize,
-        /// Its last.
-        last: usize,
+        /// The slots of the loop, of those that were given.
+        slots: Vec<usize>,
         /// How many rounds were laid out.
         rounds: usize,
     },
     /// There are more slots than a program can have.
-    #[error("{0} slots, and a program has {most} at most", most = program_interface::MOST_SLOTS)]
-    TooLong(usize),
+    #[error("{count} slots, and a program has {most} at most", most = program_interface::MOST_SLOTS)]
+    TooLong {
+        /// How many.
+        count: usize,
+        /// The slots of the loop that most of them are of, of those that were given; none, where there is no loop.
+        slots: Vec<usize>,
+    },
 }
 
 impl From<AllocError> for LinkFault {

@@ -27,6 +27,8 @@ pub(crate) type Row = Option<Box<Known>>;
 pub(crate) struct Layout<'a> {
     /// The slots that it is made of.
     pub slots: &'a [Option<Instruction>],
+    /// What each of them was made of, of the slots that were given.
+    pub origins: &'a [usize],
     /// The size of a block.
     pub block: BlockSize,
     /// Their loops.
@@ -237,16 +239,29 @@ impl Layout<'_> {
         self.put_end(Guard::Rounds)
     }
 
-    /// What is told of a program that has more pieces than are looked at.
-    fn too_long(&self, slot: usize) -> LinkFault {
-        let Some(first) = self.loops.innermost(slot) else {
-            return LinkFault::TooLong(self.pieces.len());
-        };
-        LinkFault::Loop {
-            first,
-            last: self.loops.end(first),
-            rounds: number_at(&self.rounds, first),
+    /// The slots that those of a loop were made of.
+    pub(crate) fn loop_slots(&self, alloc: Global, first: usize) -> Result<Vec<usize>, AllocError> {
+        let mut slots = Vec::new(alloc);
+        for slot in first..self.loops.end(first).saturating_add(1) {
+            if let Some(origin) = self.origins.get(slot) {
+                slots.extend_from_slice(&[*origin])?;
+            }
         }
+        Ok(slots)
+    }
+
+    /// What is told of a program that has more pieces than are looked at.
+    fn too_long(&self, alloc: Global, slot: usize) -> Result<LinkFault, AllocError> {
+        let Some(first) = self.loops.innermost(slot) else {
+            return Ok(LinkFault::TooLong {
+                count: self.pieces.len(),
+                slots: Vec::new(alloc),
+            });
+        };
+        Ok(LinkFault::Loop {
+            slots: self.loop_slots(alloc, first)?,
+            rounds: number_at(&self.rounds, first),
+        })
     }
 
     /// Counts a round of the loop that begins at a slot: the first, where it is come to from outside.
@@ -344,7 +359,7 @@ impl Layout<'_> {
                 break;
             }
         }
-        Err(self.too_long(slot))
+        Err(self.too_long(alloc, slot)?)
     }
 }
 

@@ -120,6 +120,18 @@ impl Loops {
     pub fn around(&self, slot: usize) -> Option<usize> {
         *self.around.get(slot)?
     }
+
+    /// The first slot of the outermost loop that a slot is in.
+    pub fn outermost(&self, slot: usize) -> Option<usize> {
+        let mut outer = self.innermost(slot)?;
+        for _ in 0..self.heads.len() {
+            match self.around(outer) {
+                Some(found) => outer = found,
+                None => break,
+            }
+        }
+        Some(outer)
+    }
 }
 
 /// The first slot of the innermost loop around a slot that doesn't begin there: the loop that begins right before it or one around that.

@@ -263,44 +263,61 @@ fn led(instruction: &Instruction, from: usize, to: usize) -> Instruction {
     }
 }
 
+/// Slots in order.
+#[derive(Drop)]
+pub(crate) struct Sequence {
+    /// Its slots.
+    pub slots: Vec<Option<Instruction>>,
+    /// The slot that each was made of.
+    pub origins: Vec<usize>,
+}
+
+impl Sequence {
+    /// Adds an instruction that was made of a slot.
+    fn push(&mut self, instruction: Instruction, origin: usize) -> Result<(), AllocError> {
+        self.slots.extend_from_slice(&[Some(instruction)])?;
+        self.origins.extend_from_slice(&[origin])?;
+        if instruction.slots() == 2 {
+            self.slots.extend_from_slice(&[None])?;
+            self.origins.extend_from_slice(&[origin])?;
+        }
+        Ok(())
+    }
+}
+
 /// Adds what stands at a slot in order.
 fn push_placed(
-    into: &mut Vec<Option<Instruction>>,
+    into: &mut Sequence,
     slots: &[Option<Instruction>],
     places: &[Option<usize>],
     one: Placed,
 ) -> Result<(), LinkFault> {
-    let here = into.len();
+    let here = into.slots.len();
     if let Some(to) = one.jump {
         let to = found(places, to).unwrap_or(0);
-        into.extend_from_slice(&[Some(led(&Instruction::Jump { distance: 0 }, here, to))])?;
+        into.push(led(&Instruction::Jump { distance: 0 }, here, to), one.slot)?;
         return Ok(());
     }
     let Some(Some(instruction)) = slots.get(one.slot) else {
         return Err(LinkFault::Leaves(one.slot));
     };
-    match ways_from(slots, one.slot)?.target {
-        Some(target) => {
-            let to = found(places, target).unwrap_or(0);
-            into.extend_from_slice(&[Some(led(instruction, here, to))])?;
-        }
-        None => into.extend_from_slice(&[Some(*instruction)])?,
-    }
-    if instruction.slots() == 2 {
-        into.extend_from_slice(&[None])?;
-    }
+    let placed = match ways_from(slots, one.slot)?.target {
+        Some(target) => led(instruction, here, found(places, target).unwrap_or(0)),
+        None => *instruction,
+    };
+    into.push(placed, one.slot)?;
     Ok(())
 }
 
 /// The same program, whose slots stand in order.
-pub(crate) fn ordered(
-    alloc: Global,
-    slots: &[Option<Instruction>],
-) -> Result<Vec<Option<Instruction>>, LinkFault> {
+pub(crate) fn ordered(alloc: Global, slots: &[Option<Instruction>]) -> Result<Sequence, LinkFault> {
     let order = in_order(alloc, slots)?;
     let placed = with_jumps(alloc, slots, &order)?;
     let places = places(alloc, slots, &placed)?;
-    let mut all = Vec::new(alloc);
+    let mut all = Sequence {
+        slots: Vec::new(alloc),
+        origins: Vec::new(alloc),
+    };
     for one in placed {
         push_placed(&mut all, slots, &places, one)?;
     }

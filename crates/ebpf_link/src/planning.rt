@@ -7,7 +7,7 @@ use crate::layout::{Layout, empty_rows};
 use crate::lists::{no_answers, number_at, set_number, zeros};
 use crate::liveness::{Registers, live_registers};
 use crate::loops::Loops;
-use crate::ordering::ordered;
+use crate::ordering::{Sequence, ordered};
 use crate::remainders::with_remainders;
 use instruction_set::Instruction;
 use program_interface::{BlockSize, MOST_SLOTS};
@@ -26,6 +26,7 @@ pub(crate) struct Plan {
 #[derive(Drop)]
 struct Parts {
     slots: Vec<Option<Instruction>>,
+    origins: Vec<usize>,
     loops: Loops,
     live: Vec<Registers>,
     own: usize,
@@ -42,6 +43,7 @@ fn laid_out<'a>(
     let count = parts.slots.len();
     let mut layout = Layout {
         slots: &parts.slots,
+        origins: &parts.origins,
         block: parts.block,
         loops: &parts.loops,
         live: &parts.live,
@@ -126,7 +128,7 @@ fn made_with(alloc: Global, parts: &Parts, caps: &[usize]) -> Result<Made, LinkF
 fn attempt_within(alloc: Global, parts: &Parts, caps: &[usize]) -> Result<Option<Made>, LinkFault> {
     match made_with(alloc, parts, caps) {
         Ok(found) => Ok(Some(found)),
-        Err(LinkFault::Loop { .. } | LinkFault::TooLong(_)) => Ok(None),
+        Err(LinkFault::Loop { .. } | LinkFault::TooLong { .. }) => Ok(None),
         Err(fault) => Err(fault),
     }
 }
@@ -274,11 +276,12 @@ pub fn link(
     own: usize,
     block: BlockSize,
 ) -> Result<Linked, LinkFault> {
-    let slots = ordered(alloc, &with_remainders(alloc, slots)?)?;
+    let Sequence { slots, origins } = ordered(alloc, &with_remainders(alloc, slots)?)?;
     let parts = Parts {
         loops: Loops::of(alloc, &slots)?,
         live: live_registers(alloc, &slots)?,
         slots,
+        origins,
         own,
         block,
     };

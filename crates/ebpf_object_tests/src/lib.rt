@@ -4,6 +4,10 @@
 #[cfg(test)]
 mod calls_object;
 #[cfg(test)]
+mod lines;
+#[cfg(test)]
+mod lines_objects;
+#[cfg(test)]
 mod programs;
 #[cfg(test)]
 mod references;

@@ -33,9 +33,9 @@ fn linked(alloc: Global, block: BlockSize) -> Result<Vec<u8>, Fail> {
     let bytes = calls(alloc)?;
     let object = Object::read(&bytes)?;
     let filter = named_function(&object, b"filter").ok_or("no filter")?;
-    let (unit, own) = gather(alloc, &object, filter)?;
-    let slots = inline(alloc, &unit)?;
-    let linked = link(alloc, &slots, own, block)?;
+    let gathered = gather(alloc, &object, filter)?;
+    let slots = inline(alloc, &gathered.unit)?;
+    let linked = link(alloc, &slots, gathered.own, block)?;
     Ok(bytes_of(alloc, &linked.slots)?)
 }
 

@@ -1,0 +1,162 @@
+//! Where in the source an instruction stands, as a user is told it.
+
+use command_files::Shown;
+use ebpf_gather::Origin;
+use ebpf_lines::{Lines, Row};
+use ebpf_object::{Function, Object};
+use std::alloc::{AllocError, Global};
+use std::fmt;
+use std::str::from_utf8;
+
+/// An object, and the lines that its instructions were made of.
+#[derive(Drop)]
+pub(crate) struct Source<'a, 'b> {
+    pub object: &'b Object<'a>,
+    pub lines: Lines<'a>,
+}
+
+/// A text of an object as one that can be shown.
+fn text(bytes: &[u8]) -> &str {
+    match from_utf8(bytes) {
+        Ok(text) => text,
+        Err(_) => "?",
+    }
+}
+
+/// The name of a symbol.
+pub(crate) fn symbol_name<'a>(object: &Object<'a>, symbol: usize) -> &'a str {
+    if symbol >= object.symbol_count() {
+        return "?";
+    }
+    text(object.symbol_name(symbol))
+}
+
+/// A line of a file, where it is told, and a slot of a function.
+#[derive(Clone, Copy)]
+pub(crate) struct Place<'a> {
+    line: Option<(&'a str, u64)>,
+    function: &'a str,
+    slot: usize,
+}
+
+impl fmt::Display for Place<'_> {
+    fn fmt<W: fmt::Write>(&self, f: &mut fmt::Formatter<W>) -> fmt::Result {
+        let function = Shown(self.function);
+        match self.line {
+            Some((file, line)) => {
+                let file = Shown(file);
+                write!(f, "{file}, line {line}, in {function}")
+            }
+            None => {
+                let slot = self.slot;
+                write!(f, "{function}, slot {slot}")
+            }
+        }
+    }
+}
+
+impl<'a> Source<'a, '_> {
+    /// The function that a symbol stands for.
+    fn function(&self, symbol: usize) -> Option<Function> {
+        if symbol < self.object.symbol_count() {
+            self.object.function(symbol)
+        } else {
+            None
+        }
+    }
+
+    /// The line of a slot.
+    fn row(&self, origin: Origin) -> Option<Row> {
+        let function = self.function(origin.symbol)?;
+        let byte = function
+            .offset
+            .saturating_add(origin.slot.saturating_mul(8));
+        self.lines.row(function.section, byte)
+    }
+
+    /// The place of a slot whose line this is.
+    fn place_with(&self, origin: Origin, row: Option<Row>) -> Place<'a> {
+        let line = match row {
+            Some(row) => match self.lines.file_name(&row) {
+                Some(name) => Some((text(name), row.line)),
+                None => None,
+            },
+            None => None,
+        };
+        Place {
+            line,
+            function: symbol_name(self.object, origin.symbol),
+            slot: origin.slot,
+        }
+    }
+
+    /// Where a slot of a function stands.
+    pub fn place(&self, origin: Origin) -> Place<'a> {
+        self.place_with(origin, self.row(origin))
+    }
+
+    /// The first line of those of slots of one function that stand in the file in which the function begins.
+    fn first_row(&self, first: Origin, origins: &[Option<Origin>], slots: &[usize]) -> Option<Row> {
+        let function = self.function(first.symbol)?;
+        let begin = self.lines.first_row(function.section, function.offset)?;
+        let mut least: Option<Row> = None;
+        for slot in slots {
+            if let Some(row) = self.row_within(first, &begin, origins, *slot) {
+                least = match least {
+                    Some(earlier) if earlier.line <= row.line => Some(earlier),
+                    _ => Some(row),
+                };
+            }
+        }
+        least
+    }
+
+    /// The line of a slot, where that is of the same function as another one, and its line in the file of a row.
+    fn row_within(
+        &self,
+        first: Origin,
+        begin: &Row,
+        origins: &[Option<Origin>],
+        slot: usize,
+    ) -> Option<Row> {
+        let origin = (*origins.get(slot)?)?;
+        if origin.symbol != first.symbol {
+            return None;
+        }
+        let row = self.row(origin)?;
+        if row.is_of_file_of(begin) {
+            Some(row)
+        } else {
+            None
+        }
+    }
+
+    /// Where a loop of these slots of a program stands; nothing, where there are none.
+    pub fn loop_place(&self, origins: &[Option<Origin>], slots: &[usize]) -> Option<Place<'a>> {
+        let first = (*origins.get(*slots.first()?)?)?;
+        match self.first_row(first, origins, slots) {
+            Some(row) => Some(self.place_with(first, Some(row))),
+            None => Some(self.place(first)),
+        }
+    }
+
+    /// What is said behind a refusal, where no line could be told.
+    pub fn hint(&self) -> &'static str {
+        if self.lines.is_empty() {
+            "; behind `clang -g` the line is told"
+        } else {
+            ""
+        }
+    }
+}
+
+/// An object with its lines.
+pub(crate) fn source_of<'a, 'b>(
+    alloc: Global,
+    object: &'b Object<'a>,
+) -> Result<Source<'a, 'b>, AllocError> {
+    Ok(Source {
+        object,
+        lines: Lines::read(alloc, object)?,
+    })
+}
