@@ -1,8 +1,8 @@
 //! Where an instruction makes a word of an address that is known as an address no more.
 
+use crate::told::Told;
 use accepted_programs::{CELL_BYTES, Facts};
 use instruction_set::{Instruction, Operation, Register, Size, Source, Width};
-use interval_domain::{Fact, Intervals};
 use program_interface::{Area, CLEARED_REGISTERS};
 use program_meaning::Arithmetic;
 use std::fmt;
@@ -45,40 +45,42 @@ pub(crate) struct Forgotten {
 
 /// An instruction that computes, with what is known of the words that it takes.
 #[derive(Clone, Copy)]
-struct Computed {
+struct Computed<D> {
     register: Register,
     arithmetic: Arithmetic,
-    first: Intervals,
-    second: Intervals,
+    first: D,
+    second: D,
 }
 
-impl Computed {
+impl<D: Domain> Computed<D> {
     /// The address that it takes, if one of its words is known as one.
     fn address(&self) -> Option<Offsets> {
         self.first.offsets().or(self.second.offsets())
     }
 
     /// What is known of the word that it makes.
-    fn word(&self) -> Intervals {
-        Intervals::alu(self.arithmetic, self.first, self.second)
+    fn word(&self) -> D {
+        D::alu(self.arithmetic, self.first, self.second)
     }
 
-    /// The address that it takes, if what it makes of it isn't known as one.
+    /// The address that it takes, if what it makes of it isn't known as one. A difference of two addresses that is known is a
+    /// number, and none is forgotten.
     fn forgotten(&self) -> Option<Forgotten> {
-        let address = self.address()?;
-        match self.word().offsets() {
-            Some(_) => None,
-            None => Some(Forgotten {
+        let (address, cause) = (self.address()?, self.cause());
+        match (Told::of(self.word()), cause) {
+            (Told::Address(_), _) => None,
+            (number, Cause::Address) if !number.is_any() => None,
+            _ => Some(Forgotten {
                 address,
                 register: self.register,
-                cause: self.cause(),
+                cause,
             }),
         }
     }
 
     /// Why no address is known of it, where one is of a word that it takes.
     fn cause(&self) -> Cause {
-        let (first, second) = (self.first.fact(), self.second.fact());
+        let (first, second) = (Told::of(self.first), Told::of(self.second));
         match self.arithmetic {
             Arithmetic::Binary {
                 width: Width::Bits64,
@@ -94,18 +96,18 @@ impl Computed {
 }
 
 /// Why a sum with an address isn't known as one.
-fn cause_of_sum(first: Fact, second: Fact) -> Cause {
+fn cause_of_sum(first: Told, second: Told) -> Cause {
     match (first, second) {
-        (Fact::Words(words), _) | (_, Fact::Words(words)) => cause_of_number(words),
+        (Told::Words(words), _) | (_, Told::Words(words)) => cause_of_number(words),
         _ => Cause::Address,
     }
 }
 
 /// Why a difference, from an address or of one, isn't known as one.
-fn cause_of_difference(second: Fact) -> Cause {
+fn cause_of_difference(second: Told) -> Cause {
     match second {
-        Fact::Words(words) => cause_of_number(words),
-        Fact::Pointer { .. } => Cause::Address,
+        Told::Words(words) => cause_of_number(words),
+        Told::Address(_) => Cause::Address,
     }
 }
 
@@ -119,8 +121,8 @@ fn cause_of_number(words: Bounds) -> Cause {
 }
 
 /// An instruction that computes, and what is known of the words that it takes. Where it takes one alone, 0 stands for the other.
-fn computed_by(instruction: &Instruction, facts: &Facts<Intervals>) -> Option<Computed> {
-    let zero = Intervals::constant(0);
+fn computed_by<D: Domain>(instruction: &Instruction, facts: &Facts<D>) -> Option<Computed<D>> {
+    let zero = D::constant(0);
     let (register, arithmetic, first, second) = match *instruction {
         Instruction::Arithmetic {
             width,
@@ -163,29 +165,29 @@ fn computed_by(instruction: &Instruction, facts: &Facts<Intervals>) -> Option<Co
 }
 
 /// What is known of the source of an arithmetic instruction.
-fn source_of(source: Source, facts: &Facts<Intervals>) -> Intervals {
+fn source_of<D: Domain>(source: Source, facts: &Facts<D>) -> D {
     match source {
         Source::Register(register) => facts.get(register),
-        Source::Immediate(value) => Intervals::constant(Instruction::immediate_word(value)),
+        Source::Immediate(value) => D::constant(Instruction::immediate_word(value)),
     }
 }
 
 /// The address that an instruction takes, if it computes from one what isn't known as an address.
-pub(crate) fn forgotten_by(
+pub(crate) fn forgotten_by<D: Domain>(
     instruction: &Instruction,
-    facts: &Facts<Intervals>,
+    facts: &Facts<D>,
 ) -> Option<Forgotten> {
     computed_by(instruction, facts)?.forgotten()
 }
 
 /// What an instruction leaves in a register, on the way to the slot behind it, where it is no jump.
-pub(crate) fn left_in(
+pub(crate) fn left_in<D: Domain>(
     register: Register,
     instruction: &Instruction,
-    facts: &Facts<Intervals>,
-) -> Intervals {
+    facts: &Facts<D>,
+) -> D {
     match *instruction {
-        Instruction::Call { .. } if register.index() < CLEARED_REGISTERS => Intervals::constant(0),
+        Instruction::Call { .. } if register.index() < CLEARED_REGISTERS => D::constant(0),
         _ if !instruction.writes(register) => facts.get(register),
         Instruction::Load {
             size: Size::DoubleWord,
@@ -194,17 +196,20 @@ pub(crate) fn left_in(
             ..
         } => match word_at(src, offset, facts) {
             Some((_, Some(known))) => known,
-            _ => Intervals::any(),
+            _ => D::any(),
         },
         _ => match computed_by(instruction, facts) {
             Some(computed) => computed.word(),
-            None => Intervals::any(),
+            None => D::any(),
         },
     }
 }
 
 /// The distance of the word of the stack that an instruction loads whole, if nothing is known of it.
-pub(crate) fn unknown_word(instruction: &Instruction, facts: &Facts<Intervals>) -> Option<usize> {
+pub(crate) fn unknown_word<D: Domain>(
+    instruction: &Instruction,
+    facts: &Facts<D>,
+) -> Option<usize> {
     let Instruction::Load {
         size: Size::DoubleWord,
         src,
@@ -221,11 +226,11 @@ pub(crate) fn unknown_word(instruction: &Instruction, facts: &Facts<Intervals>) 
 }
 
 /// The distance of the word of the stack at an offset from a register, and what is known of it, if it is one.
-fn word_at(
+fn word_at<D: Domain>(
     register: Register,
     offset: i16,
-    facts: &Facts<Intervals>,
-) -> Option<(usize, Option<Intervals>)> {
+    facts: &Facts<D>,
+) -> Option<(usize, Option<D>)> {
     let told = facts.get(register).offsets()?;
     let distance = told.low.checked_add(i64::from(offset))?;
     let byte = usize::try_from(distance).ok()?;

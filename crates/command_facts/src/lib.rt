@@ -5,8 +5,10 @@ mod forgotten;
 mod listing;
 mod reads;
 mod register_set;
+mod told;
 mod wanted;
 mod ways;
 
 pub use listing::fact_lines;
 pub use reads::registers_read;
+pub use told::Told;

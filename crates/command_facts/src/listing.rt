@@ -3,16 +3,16 @@
 use crate::forgotten::{forgotten_by, unknown_word};
 use crate::reads::registers_read;
 use crate::register_set::RegisterSet;
+use crate::told::Told;
 use crate::wanted::registers_wanted;
 use crate::ways::Known;
 use accepted_programs::{Facts, Refusal};
 use ebpf_asm::instruction_text;
 use instruction_set::{Instruction, Program, Register};
-use interval_domain::{Fact, Intervals};
-use program_interface::RunSizes;
+use program_interface::{Area, RunSizes};
 use std::alloc::{AllocError, Global};
 use verifier::known_facts;
-use word_domain::Bounds;
+use word_domain::Domain;
 
 /// What is known at each slot of a program, up to the first that is refused: a line with the instruction behind its slot, as
 /// `disasm` lists it, and what is known of each register that it reads; behind the slot of the refusal a `>` stands. Lines
@@ -22,13 +22,15 @@ use word_domain::Bounds;
 /// # Errors
 ///
 /// Want of memory.
-pub fn fact_lines(
+#[tactic(auto, using(crate::proofs::Sizes::facts_fit))]
+pub fn fact_lines<D: Domain>(
     alloc: Global,
     program: &Program,
     sizes: RunSizes,
     refusal: Option<Refusal>,
 ) -> Result<String, AllocError> {
-    let facts = known_facts::<Intervals>(alloc, program, sizes)?;
+    D::fact_fits();
+    let facts = known_facts::<D>(alloc, program, sizes)?;
     let wanted = registers_wanted(alloc, program)?;
     let known = Known {
         program,
@@ -60,13 +62,15 @@ fn push_instruction(
 }
 
 /// What is known where an instruction is, and the end of its line; and lines that say what is forgotten there.
-fn push_known(
-    known: &Known<'_>,
+#[tactic(auto, using(crate::proofs::Sizes::facts_fit))]
+fn push_known<D: Domain>(
+    known: &Known<'_, D>,
     slot: usize,
     instruction: &Instruction,
     wanted: RegisterSet,
     text: &mut String,
 ) -> Result<(), AllocError> {
+    D::fact_fits();
     let Some(facts) = known.at(slot) else {
         return text.push_str("  no slot leads here\n");
     };
@@ -80,23 +84,23 @@ fn push_known(
 }
 
 /// What is known of a register, if there is one, behind this.
-fn push_register(
+fn push_register<D: Domain>(
     before: &str,
     register: Option<Register>,
-    facts: &Facts<Intervals>,
+    facts: &Facts<D>,
     text: &mut String,
 ) -> Result<(), AllocError> {
     let Some(register) = register else {
         return Ok(());
     };
-    let (number, fact) = (register.number(), facts.get(register).fact());
+    let (number, fact) = (register.number(), Told::of(facts.get(register)));
     write!(text, "{before}r{number} is {fact}")
 }
 
 /// In front of an emit, how many bytes were emitted before at most.
-fn push_emitted(
+fn push_emitted<D: Domain>(
     instruction: &Instruction,
-    facts: &Facts<Intervals>,
+    facts: &Facts<D>,
     text: &mut String,
 ) -> Result<(), AllocError> {
     if instruction.is_emit() {
@@ -107,10 +111,10 @@ fn push_emitted(
 }
 
 /// The addresses that are forgotten where ways meet at a slot, in these registers.
-fn push_meetings(
-    known: &Known<'_>,
+fn push_meetings<D: Domain>(
+    known: &Known<'_, D>,
     slot: usize,
-    facts: &Facts<Intervals>,
+    facts: &Facts<D>,
     wanted: RegisterSet,
     text: &mut String,
 ) -> Result<(), AllocError> {
@@ -119,7 +123,7 @@ fn push_meetings(
     }
     for number in 0..11 {
         let register = Register::from_number(number);
-        if wanted.has(register) && is_any(facts.get(register).fact()) {
+        if wanted.has(register) && is_where_addresses_are(Told::of(facts.get(register))) {
             push_meeting(known, slot, register, text)?;
         }
     }
@@ -127,8 +131,8 @@ fn push_meetings(
 }
 
 /// The address that is forgotten in a register where ways meet at a slot, if one is.
-fn push_meeting(
-    known: &Known<'_>,
+fn push_meeting<D: Domain>(
+    known: &Known<'_, D>,
     slot: usize,
     register: Register,
     text: &mut String,
@@ -145,9 +149,9 @@ fn push_meeting(
 }
 
 /// The address that an instruction forgets, if it does, and that nothing is known of the word that it loads.
-fn push_forgotten(
+fn push_forgotten<D: Domain>(
     instruction: &Instruction,
-    facts: &Facts<Intervals>,
+    facts: &Facts<D>,
     text: &mut String,
 ) -> Result<(), AllocError> {
     if let Some(forgotten) = forgotten_by(instruction, facts) {
@@ -164,7 +168,10 @@ fn push_forgotten(
     Ok(())
 }
 
-/// Is it every word?
-fn is_any(fact: Fact) -> bool {
-    fact == Fact::Words(Bounds::FULL)
+/// May it be a number that is an address? So are those that addresses in two areas are joined to.
+fn is_where_addresses_are(told: Told) -> bool {
+    match told {
+        Told::Words(bounds) => bounds.high >= Area::Context.address(),
+        Told::Address(_) => false,
+    }
 }

@@ -1,10 +1,10 @@
 //! Where ways meet on which a register isn't an address in the same area.
 
 use crate::forgotten::left_in;
+use crate::told::Told;
 use crate::wanted::target;
 use accepted_programs::Facts;
 use instruction_set::{Instruction, Program, Register, Relation, Source, Width};
-use interval_domain::{Fact, Intervals};
 use word_domain::{Domain, Offsets};
 
 /// An address that a register has on one way to a slot alone.
@@ -15,16 +15,16 @@ pub(crate) struct Meeting {
     /// The slot that leads there.
     pub(crate) from: usize,
     /// What the register is on another way.
-    pub(crate) other: Fact,
+    pub(crate) other: Told,
     /// The slot that leads there on that.
     pub(crate) other_from: usize,
 }
 
 /// A program, and what is known at its slots.
 #[derive(Clone, Copy)]
-pub(crate) struct Known<'p> {
+pub(crate) struct Known<'p, D> {
     pub(crate) program: &'p Program,
-    pub(crate) facts: &'p [Option<Facts<Intervals>>],
+    pub(crate) facts: &'p [Option<Facts<D>>],
 }
 
 /// A compare, without its distance.
@@ -36,9 +36,9 @@ struct Compare {
     source: Source,
 }
 
-impl Known<'_> {
+impl<D: Domain> Known<'_, D> {
     /// What is known at a slot, if a slot leads there.
-    pub(crate) fn at(&self, slot: usize) -> Option<&Facts<Intervals>> {
+    pub(crate) fn at(&self, slot: usize) -> Option<&Facts<D>> {
         match self.facts.get(slot) {
             Some(Some(facts)) => Some(facts),
             _ => None,
@@ -91,10 +91,12 @@ impl Known<'_> {
         slot: usize,
         register: Register,
         address: Offsets,
-    ) -> Option<(usize, Fact)> {
+    ) -> Option<(usize, Told)> {
         for from in 0..slot {
             match self.brought(from, slot, register) {
-                Some(word) if !is_in(word.offsets(), address) => return Some((from, word.fact())),
+                Some(word) if !is_in(word.offsets(), address) => {
+                    return Some((from, Told::of(word)));
+                }
                 _ => {}
             }
         }
@@ -107,51 +109,60 @@ impl Known<'_> {
     }
 
     /// What a register is known to be on the way from one slot to another, if there is one.
-    fn brought(&self, from: usize, to: usize, register: Register) -> Option<Intervals> {
-        let (instruction, facts) = (self.program.at(from)?, self.at(from)?);
+    #[tactic(auto, using(crate::proofs::Sizes::facts_fit))]
+    fn brought(&self, from: usize, to: usize, register: Register) -> Option<D> {
+        D::fact_fits();
+        let facts = self.at(from)?;
+        let instruction = self.program.at(from)?;
         let is_behind = from + instruction.slots() == to;
         let is_target = target(from, instruction) == Some(to);
-        match *instruction {
-            Instruction::Branch {
+        left_along(instruction, is_behind, is_target, register, facts)
+    }
+}
+
+/// What an instruction leaves in a register along its edge to its target or to the slot behind it, if it has that edge.
+fn left_along<D: Domain>(
+    instruction: &Instruction,
+    is_behind: bool,
+    is_target: bool,
+    register: Register,
+    facts: &Facts<D>,
+) -> Option<D> {
+    match *instruction {
+        Instruction::Branch {
+            width,
+            relation,
+            dst,
+            source,
+            ..
+        } if is_behind || is_target => {
+            let compare = Compare {
                 width,
                 relation,
                 dst,
                 source,
-                ..
-            } if is_behind || is_target => {
-                let compare = Compare {
-                    width,
-                    relation,
-                    dst,
-                    source,
-                };
-                compare.left_in(register, is_target, facts)
-            }
-            Instruction::Jump { .. } | Instruction::JumpLong { .. } if is_target => {
-                Some(facts.get(register))
-            }
-            Instruction::Branch { .. }
-            | Instruction::Jump { .. }
-            | Instruction::JumpLong { .. }
-            | Instruction::Exit => None,
-            _ if is_behind => Some(left_in(register, instruction, facts)),
-            _ => None,
+            };
+            compare.left_in(register, is_target, facts)
         }
+        Instruction::Jump { .. } | Instruction::JumpLong { .. } if is_target => {
+            Some(facts.get(register))
+        }
+        Instruction::Branch { .. }
+        | Instruction::Jump { .. }
+        | Instruction::JumpLong { .. }
+        | Instruction::Exit => None,
+        _ if is_behind => Some(left_in(register, instruction, facts)),
+        _ => None,
     }
 }
 
 impl Compare {
     /// What a register is known to be along one of its edges, if there is such an edge.
-    fn left_in(
-        self,
-        register: Register,
-        taken: bool,
-        facts: &Facts<Intervals>,
-    ) -> Option<Intervals> {
+    fn left_in<D: Domain>(self, register: Register, taken: bool, facts: &Facts<D>) -> Option<D> {
         let first = facts.get(self.dst);
         let second = compared(self.width, self.source, facts);
         let same = self.source == Source::Register(self.dst);
-        let both = Intervals::refine(self.width, self.relation, taken, first, second, same)?;
+        let both = D::refine(self.width, self.relation, taken, first, second, same)?;
         if self.source == Source::Register(register) {
             Some(both.1)
         } else if self.dst == register {
@@ -163,14 +174,12 @@ impl Compare {
 }
 
 /// What is known of the second word of a compare.
-fn compared(width: Width, source: Source, facts: &Facts<Intervals>) -> Intervals {
+fn compared<D: Domain>(width: Width, source: Source, facts: &Facts<D>) -> D {
     match source {
         Source::Register(register) => facts.get(register),
         Source::Immediate(value) => match width {
-            Width::Bits32 => {
-                Intervals::constant(Instruction::immediate_word(value) % 0x1_0000_0000)
-            }
-            Width::Bits64 => Intervals::constant(Instruction::immediate_word(value)),
+            Width::Bits32 => { D::constant(Instruction::immediate_word(value) % 0x1_0000_0000) }
+            Width::Bits64 => D::constant(Instruction::immediate_word(value)),
         },
     }
 }

@@ -10,13 +10,15 @@ use Rattle.accepted_programs.specs.Accepted.{refusal}
 use Rattle.accepted_programs.specs.Emitted.{most_emitted}
 use Rattle.instruction_set.specs.Program.{instruction_count}
 use Rattle.instruction_set.specs.declared.instruction.Instruction.{Instruction}
-use Rattle.interval_domain.specs.Intervals.{intervals}
+use Rattle.interval_domain.specs.declared.fact.Fact.{Fact}
 use Rattle.program_interface.specs.RunSizes.{Sizes, sizes_with}
+use Rattle.word_domain.specs.Domain.{Operations}
 use Rattle.command_files.specs.Arguments.{number_of}
 use Rattle.command_files.specs.Lines.{GrowsAround}
-use Rattle.command_programs.specs.Asked.{IsLimit, Spell}
+use Rattle.command_programs.specs.Asked.{IsLimit, Spell, profile_number}
 use Rattle.command_programs.specs.MakesProgram.{program_file_of}
-use Rattle.command_programs.specs.Printed.{Judges, PrintsAcceptance, SaysAccepted, form_of}
+use Rattle.command_programs.specs.Printed.{Judges, PrintsAcceptance, SaysAccepted, form_of, operations_of}
+use Rattle.command_programs.specs.declared.profile.Profile.{Profile}
 use Rattle.command_programs.specs.declared.verify.Form.{Form}
 
 -- a line, and some words behind it
@@ -46,28 +48,33 @@ says_around result front words behind old first second new at_first then at_last
     on_ok_weaker result (grows_around old first second new front words behind at_first then) at_last
 
 -- that a program is accepted was printed
-pub says_accepted : {T E : Type 0} (result : Result T E) (program : List (Option Instruction)) (sizes : Sizes) (form : Form) (emitted : ℕ)
-    (before after : Option (List ℕ)) → refusal intervals program sizes ≡ None → emitted ≡ most_emitted intervals program sizes.block
+pub says_accepted : {T E D : Type 0} (result : Result T E) (operations : Operations D) (program : List (Option Instruction)) (sizes : Sizes)
+    (form : Form) (emitted : ℕ) (before after : Option (List ℕ)) → refusal operations program sizes ≡ None
+    → emitted ≡ most_emitted operations program sizes.block
     → OnOk result (PrintsAcceptance form (instruction_count program) emitted before after)
-    → OnOk result (SaysAccepted program sizes form before after)
-says_accepted (Err error) program sizes form emitted before after accepted bounded printed = tt
-says_accepted (Ok done) program sizes form emitted before after accepted bounded printed = record {
+    → OnOk result (SaysAccepted operations program sizes form before after)
+says_accepted (Err error) operations program sizes form emitted before after accepted bounded printed = tt
+says_accepted (Ok done) operations program sizes form emitted before after accepted bounded printed = record {
   accepted = accepted;
   printed = subst (λ (n : ℕ). PrintsAcceptance form (instruction_count program) n before after) bounded printed;
 }
 
 -- a program was judged, which was decoded of the file that is asked for
-pub judges : (Says : List (Option Instruction) → Sizes → Form → Type 0) (matches : ArgMatches) (contents : List ℕ → Option (List ℕ)) (path : List ℕ)
-    (program : List (Option Instruction)) (block limit : ℕ) (sizes : Sizes) (form : Form) → path ≡ program_file_of matches
+pub judges : (Says : Operations Fact → List (Option Instruction) → Sizes → Form → Type 0) (matches : ArgMatches) (contents : List ℕ → Option (List ℕ))
+    (path : List ℕ) (program : List (Option Instruction)) (block limit : ℕ) (sizes : Sizes) (profile : Profile) (form : Form)
+    → path ≡ program_file_of matches
     → number_of matches (codes "block") ≡ Some block → IsLimit matches (first_value (found_of matches) (codes "emit")) limit → sizes_with block limit ≡ Some sizes
-    → form ≡ form_of matches → Spell (contents path) program → Says program sizes form
+    → number_of matches (codes "profile") ≡ Some (profile_number profile) → form ≡ form_of matches → Spell (contents path) program
+    → Says (operations_of profile) program sizes form
     → Judges Says matches (contents (program_file_of matches))
-judges Says matches contents path program block limit sizes form is block_is limit_is sizes_is asked spelled says = record {
+judges Says matches contents path program block limit sizes profile form is block_is limit_is sizes_is profile_is asked spelled says = record {
   program = program;
   spelled = subst (λ (p : List ℕ). Spell (contents p) program) is spelled;
   block = block;
   blocked = block_is;
   sizes = sizes;
   asked = record { limit = limit; limited = limit_is; fits = sizes_is };
-  says = subst (λ (f : Form). Says program sizes f) asked says;
+  profile = profile;
+  profiled = profile_is;
+  says = subst (λ (f : Form). Says (operations_of profile) program sizes f) asked says;
 }

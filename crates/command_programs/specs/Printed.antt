@@ -12,11 +12,16 @@ use Rattle.ebpf_asm.specs.Listing.{listing, listing_with_slots}
 use Rattle.emit_append.specs.Unpacking.{unpacked}
 use Rattle.instruction_set.specs.Program.{instruction_count}
 use Rattle.instruction_set.specs.declared.instruction.Instruction.{Instruction}
+use Rattle.address_domain.specs.Addresses.{addresses}
 use Rattle.interval_domain.specs.Intervals.{intervals}
+use Rattle.interval_domain.specs.declared.fact.Fact.{Fact}
 use Rattle.program_interface.specs.RunSizes.{Sizes}
+use Rattle.word_domain.specs.Domain.{Operations}
 use Rattle.command_files.specs.Arguments.{number_of, value_of}
 use Rattle.command_files.specs.Lines.{GrowsAround}
-use Rattle.command_programs.specs.Asked.{AsksForSizes, Spell, is_set}
+use Rattle.command_programs.specs.Asked.{AsksForSizes, Spell, is_set, profile_number}
+use Rattle.command_programs.specs.declared.profile.Profile.{Profile}
+use Rattle.command_programs.specs.declared.profile.Profile.TheVariants.{Two, Three}
 use Rattle.command_programs.specs.declared.unpack.TheConstants.{FILE}
 use Rattle.command_programs.specs.declared.verify.Form.{Form}
 use Rattle.command_programs.specs.declared.verify.Form.TheVariants.{Json, Line, Worded}
@@ -110,33 +115,40 @@ PrintsFirstRefusal Line instructions first before after = Appends before after (
 PrintsFirstRefusal (Worded explained facts) instructions first before after = GrowsAround (refused_line first) [] before after
 PrintsFirstRefusal Json instructions first before after = GrowsAround (refused_front instructions first) (codes "}\n") before after
 
-module _ (program : List (Option Instruction)) (sizes : Sizes) (form : Form) (before after : Option (List ℕ)) where
+-- the operations by which a profile judges
+abbrev pub operations_of : Profile → Operations Fact
+operations_of Two = intervals
+operations_of Three = addresses
+
+module _ {D : Type 0} (operations : Operations D) (program : List (Option Instruction)) (sizes : Sizes) (form : Form) (before after : Option (List ℕ)) where
   -- the program is accepted, and this is printed
   pub record SaysAccepted : Type 0 where
-    pub accepted : refusal intervals program sizes ≡ None
-    pub printed : PrintsAcceptance form (instruction_count program) (most_emitted intervals program sizes.block) before after
+    pub accepted : refusal operations program sizes ≡ None
+    pub printed : PrintsAcceptance form (instruction_count program) (most_emitted operations program sizes.block) before after
 
   -- it is refused, and the first refusal is printed
   pub record SaysRefused : Type 0 where
     pub first : Refusal
-    pub refused : refusal intervals program sizes ≡ Some first
+    pub refused : refusal operations program sizes ≡ Some first
     pub printed : PrintsFirstRefusal form (instruction_count program) first before after
 
--- the program that a file's bytes spell, where these are told, is judged for the sizes that are asked for, and this is said of it, in
--- the form that is asked for
-pub record Judges (Says : List (Option Instruction) → Sizes → Form → Type 0) (matches : ArgMatches) (bytes : Option (List ℕ)) : Type 0 where
+-- the program that a file's bytes spell, where these are told, is judged for the sizes that are asked for, by the operations of the
+-- profile that is asked for, and this is said of it, in the form that is asked for
+pub record Judges (Says : Operations Fact → List (Option Instruction) → Sizes → Form → Type 0) (matches : ArgMatches) (bytes : Option (List ℕ)) : Type 0 where
   pub program : List (Option Instruction)
   pub spelled : Spell bytes program
   pub block : ℕ
   pub blocked : number_of matches (codes "block") ≡ Some block
   pub sizes : Sizes
   pub asked : AsksForSizes matches block sizes
-  pub says : Says program sizes (form_of matches)
+  pub profile : Profile
+  pub profiled : number_of matches (codes "profile") ≡ Some (profile_number profile)
+  pub says : Says (operations_of profile) program sizes (form_of matches)
 
 -- it is accepted, and this is printed
 abbrev pub PrintsAccepted : ArgMatches → Option (List ℕ) → Option (List ℕ) → Option (List ℕ) → Type 0
-PrintsAccepted matches bytes before after = Judges (λ program sizes form. SaysAccepted program sizes form before after) matches bytes
+PrintsAccepted matches bytes before after = Judges (λ operations program sizes form. SaysAccepted operations program sizes form before after) matches bytes
 
 -- it is refused, and the first refusal is printed
 abbrev pub PrintsRefused : ArgMatches → Option (List ℕ) → Option (List ℕ) → Option (List ℕ) → Type 0
-PrintsRefused matches bytes before after = Judges (λ program sizes form. SaysRefused program sizes form before after) matches bytes
+PrintsRefused matches bytes before after = Judges (λ operations program sizes form. SaysRefused operations program sizes form before after) matches bytes

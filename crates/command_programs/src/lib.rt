@@ -5,6 +5,7 @@ pub mod asm;
 pub mod disasm;
 mod flags;
 mod printing;
+mod profile;
 mod program;
 mod refusal_fields;
 mod refusal_lines;

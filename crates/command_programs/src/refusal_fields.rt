@@ -2,14 +2,13 @@
 //! character has to be escaped.
 
 use crate::refused_instruction::{Detail, RefusedInstruction};
-use command_facts::registers_read;
+use command_facts::{Told, registers_read};
 use instruction_set::Register;
-use interval_domain::Fact;
 use program_interface::Area;
 use std::io::{self, Write};
-use word_domain::Offsets;
+use word_domain::{Domain, Offsets};
 
-impl RefusedInstruction<'_> {
+impl<D: Domain> RefusedInstruction<'_, D> {
     /// Prints the reason's words, the instruction, which has this text, the reason's numbers, and what is known of each
     /// register that the instruction reads, as fields behind others.
     pub(crate) fn print_fields<O: Write>(&self, text: &str, out: &mut O) -> io::Result<()> {
@@ -63,12 +62,12 @@ impl RefusedInstruction<'_> {
         };
         let number = register.number();
         write!(out, "{before}{{\"register\":{number},")?;
-        match self.fact(register) {
-            Fact::Words(bounds) => {
+        match self.told(register) {
+            Told::Words(bounds) => {
                 let (low, high) = (bounds.low, bounds.high);
                 write!(out, "\"low\":{low},\"high\":{high}}}")
             }
-            Fact::Pointer { area, low, high } => {
+            Told::Address(Offsets { area, low, high }) => {
                 let area = word_of(area);
                 write!(out, "\"area\":\"{area}\",\"low\":{low},\"high\":{high}}}")
             }

@@ -7,9 +7,9 @@ use command_files::Counted;
 use instruction_set::Register;
 use program_interface::FRAME_LENGTH_BYTES;
 use std::io::{self, Write};
-use word_domain::Offsets;
+use word_domain::{Domain, Offsets};
 
-impl RefusedInstruction<'_> {
+impl<D: Domain> RefusedInstruction<'_, D> {
     /// Prints the instruction, which has this text, behind its slot, and then the reason and what is known there.
     pub(crate) fn explain<O: Write>(&self, text: &str, out: &mut O) -> io::Result<()> {
         let (slot, reason) = (self.slot, self.reason);
@@ -62,8 +62,8 @@ impl RefusedInstruction<'_> {
     fn print_register<O: Write>(&self, register: Option<Register>, out: &mut O) -> io::Result<()> {
         match register {
             Some(register) => {
-                let (number, fact) = (register.number(), self.fact(register));
-                writeln!(out, "r{number} is {fact}")
+                let (number, told) = (register.number(), self.told(register));
+                writeln!(out, "r{number} is {told}")
             }
             None => Ok(()),
         }

@@ -4,20 +4,20 @@ ghost use Rattle.std.specs.Prelude.{◌<◌};
 ghost use Rattle.program_interface.specs.declared.TheConstants.{MOST_SLOTS};
 
 use accepted_programs::{Facts, Reason};
+use command_facts::Told;
 use instruction_set::{Access, Instruction, Register};
-use interval_domain::{Fact, Intervals};
 use program_interface::{Area, RunSizes};
 use word_domain::{Domain, Offsets};
 
 /// An instruction that is refused, of a program of so many slots, the reason, and what is known at its slot.
-#[derive(Clone, Copy)]
-pub(crate) struct RefusedInstruction<'p> {
+#[derive(Drop)]
+pub(crate) struct RefusedInstruction<'p, D> {
     pub(crate) slots: usize,
     pub(crate) slot: usize,
     pub(crate) instruction: &'p Instruction,
     pub(crate) reason: Reason,
     pub(crate) sizes: RunSizes,
-    pub(crate) facts: &'p Facts<Intervals>,
+    pub(crate) facts: &'p Facts<D>,
     ghost within: { slot < MOST_SLOTS },
 }
 
@@ -50,7 +50,7 @@ pub(crate) enum Detail {
     },
 }
 
-impl RefusedInstruction<'_> {
+impl<D: Domain> RefusedInstruction<'_, D> {
     /// The numbers of the reason; `None` of one that says all by itself.
     pub(crate) fn detail(&self) -> Option<Detail> {
         match self.reason {
@@ -80,8 +80,8 @@ impl RefusedInstruction<'_> {
 
     /// The same of a store, or that the area is one to read.
     fn stored(&self, access: Access) -> Detail {
-        match self.fact(access.base) {
-            Fact::Pointer { area, .. } if !area.is_writable() => Detail::ReadOnly {
+        match self.told(access.base) {
+            Told::Address(address) if !address.area.is_writable() => Detail::ReadOnly {
                 base: access.base,
                 bytes: access.size,
             },
@@ -91,11 +91,11 @@ impl RefusedInstruction<'_> {
 
     /// Where a register has to point, so that so many bytes at an offset from there lie in its area.
     fn address(&self, base: Register, offset: i16, bytes: u8) -> Detail {
-        let allowed = match self.fact(base) {
-            Fact::Pointer { area, .. } => {
+        let allowed = match self.told(base) {
+            Told::Address(Offsets { area, .. }) => {
                 Some(offsets_allowed(area, self.length(area), offset, bytes))
             }
-            Fact::Words(_) => None,
+            Told::Words(_) => None,
         };
         Detail::Address {
             base,
@@ -106,16 +106,18 @@ impl RefusedInstruction<'_> {
 
     /// How many bytes an emit can take, from its address to the end of the area.
     fn room(&self) -> Detail {
-        match self.fact(Register::R1) {
-            Fact::Pointer { area, high, .. } => {
+        match self.told(Register::R1) {
+            Told::Address(Offsets { area, high, .. }) => {
                 Detail::Room(Some(bytes_behind(self.length(area), high)))
             }
-            Fact::Words(_) => Detail::Room(None),
+            Told::Words(_) => Detail::Room(None),
         }
     }
 
     /// What the group has before this emit, what it adds, and what it may have.
+    #[tactic(auto, using(command_facts::proofs::Sizes::facts_fit))]
     fn over_limit(&self) -> Detail {
+        D::fact_fits();
         Detail::Limit {
             emitted: self.facts.emitted as u64,
             record: self.facts.get(Register::R2).bounds().high,
@@ -123,9 +125,11 @@ impl RefusedInstruction<'_> {
         }
     }
 
-    /// The fact about a register.
-    pub(crate) fn fact(&self, register: Register) -> Fact {
-        self.facts.get(register).fact()
+    /// What is told of a register.
+    #[tactic(auto, using(command_facts::proofs::Sizes::facts_fit))]
+    pub(crate) fn told(&self, register: Register) -> Told {
+        D::fact_fits();
+        Told::of(self.facts.get(register))
     }
 
     /// The bytes of an area.
@@ -143,8 +147,8 @@ fn offsets_allowed(area: Area, length: u32, offset: i16, size: u8) -> Offsets {
 }
 
 /// The bytes of an area of this length from an offset on.
-fn bytes_behind(length: u32, offset: i32) -> i64 {
-    i64::from(length) - i64::from(offset)
+fn bytes_behind(length: u32, offset: i64) -> i64 {
+    i64::from(length).saturating_sub(offset)
 }
 
 /// The helper that an instruction calls, if it calls one.

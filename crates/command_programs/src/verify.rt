@@ -8,14 +8,16 @@ ghost use Rattle.program_interface.specs.RunSizes.{sizes_with};
 ghost use Rattle.command_files.specs.Arguments.{number_of};
 ghost use Rattle.command_programs.specs.Asked.{IsLimit};
 ghost use Rattle.command_programs.specs.MakesProgram.{program_file_of};
-ghost use Rattle.command_programs.specs.Printed.{PrintsAcceptance, PrintsAccepted, PrintsFirstRefusal, PrintsRefused, SaysAccepted, SaysRefused, form_of, place_fields, refused_line};
+ghost use Rattle.command_programs.specs.Printed.{PrintsAcceptance, PrintsAccepted, PrintsFirstRefusal, PrintsRefused, SaysAccepted, SaysRefused, form_of, operations_of, place_fields, refused_line};
 
 use crate::flags::{JSON, is_set, json_flag};
 use crate::printing::print;
+use crate::profile::{Profile, profile_asked, profile_option};
 use crate::program::program_in_file;
 use crate::refused_instruction::RefusedInstruction;
 use crate::sizes::{limit, run_sizes};
 use accepted_programs::{Facts, Refusal};
+use address_domain::Addresses;
 use clap::{Arg, ArgAction, ArgMatches, Command};
 use command_facts::fact_lines;
 use command_files::arguments::{
@@ -30,6 +32,7 @@ use program_interface::RunSizes;
 use std::alloc::{AllocError, Global};
 use std::io::{self, Write};
 use verifier::{Judgement, Refused, judge};
+use word_domain::Domain;
 
 /// The command's name.
 pub const NAME: &str = "verify";
@@ -82,7 +85,11 @@ the program has. Of an accepted program `most_emitted` is how many bytes a block
 instruction reads: its number, `register`, and the least and the greatest number that it can have, `low` and `high`, or of an address \
 its `area` and the distances from there. The reason's numbers stand in fields of their own: `target` and `slot_count` of 1 and 2; of 5, 6 and 8 \
 `base`, the register of the address, `bytes`, and `allowed`, where the register may point, or null; `helper` of 7; `longest` of 9, the most bytes that \
-can be emitted from R1 on, or null; of 10 `emitted`, by the group before, `record` and `limit`.";
+can be emitted from R1 on, or null; of 10 `emitted`, by the group before, `record` and `limit`.
+
+Load judges by profile 2. With --profile 3 more is known: addresses are numbers too, so that two can be compared and subtracted, and an \
+emit whose address and length have a sum that was compared ends where that does. What is accepted never traps, by either, but Load takes \
+only what is accepted by profile 2.";
 
 const EXAMPLE: &str = "\
 Example: the program of `asm --help`, with a limit that is too low.
@@ -93,7 +100,26 @@ Example: the program of `asm --help`, with a limit that is too low.
      4  call 1
   an emit over the limit: behind 0 bytes, 2 for its length and 8 bytes come to 10, and 9 may be emitted
   r1 is block + 0
-  r2 is 8";
+  r2 is 8
+
+Example: a program whose emit ends where the sum of its address and its length does.
+
+  ldxh r6, [r2]
+  ldxb r7, [r2+2]
+  add r7, 1
+  mov r3, r6
+  add r3, r7
+  jgt r3, 512, done
+  add r2, r6
+  mov r1, r2
+  mov r2, r7
+  call 1
+  done: mov r0, 0
+  exit
+
+  zscli verify record.bin --block 512 --emit 258 --profile 3
+
+  accepted 12";
 
 /// How the command stands on the command line.
 ///
@@ -116,6 +142,7 @@ pub fn subcommand<'a>(alloc: Global) -> Result<Command<'a>, AllocError> {
     let command = and_argument(Ok(command), program_argument(alloc));
     let command = and_argument(command, block_option(alloc));
     let command = and_argument(command, emit_option(alloc));
+    let command = and_argument(command, profile_option(alloc));
     let command = and_argument(command, explain);
     let command = and_argument(command, facts);
     and_argument(command, json_flag(alloc))
@@ -143,9 +170,10 @@ pub fn verify<'a, F: Files, O: Write>(
     ensures contents { F.contents files.new ≡ F.contents files.old }
 {
     let (block, limit) = numbers_asked(matches)?;
+    let profile = profile_asked(matches)?;
     let program = program_in_file(alloc, required(matches, PROGRAM), files)?;
     let sizes = sizes_with(block, limit)?;
-    say(alloc, &program, sizes, form_asked(matches), out)
+    say_by(profile, alloc, &program, sizes, form_asked(matches), out)
 }
 
 /// How the verdict is to be printed.
@@ -181,21 +209,42 @@ fn sizes_with<'a>(block: u32, limit: u32) -> Result<RunSizes, Failure<'a>>
     run_sizes(block_size(block)?, limit)
 }
 
-/// Judges a program, and prints whether it is accepted.
-fn say<'a, O: Write>(
+/// Judges a program by a profile, and prints whether it is accepted.
+fn say_by<'a, O: Write>(
+    profile: Profile,
     alloc: Global,
     program: &Program,
     sizes: RunSizes,
     form: Form,
     out: &mut O,
 ) -> Result<(), Failure<'a>>
-    ensures accepted { OnOk result (SaysAccepted program.now sizes form (O.contents out.old) (O.contents out.new)) }
+    ensures accepted { OnOk result (SaysAccepted (operations_of profile) program.now sizes form (O.contents out.old) (O.contents out.new)) }
     ensures refused { result ≡ Err Failure.NotAccepted
-        → SaysRefused program.now sizes form (O.contents out.old) (O.contents out.new) }
+        → SaysRefused (operations_of profile) program.now sizes form (O.contents out.old) (O.contents out.new) }
 {
-    match judge::<Intervals>(alloc, program, sizes)? {
+    match profile {
+        Profile::Two => say::<Intervals, O>(alloc, program, sizes, form, out),
+        Profile::Three => say::<Addresses, O>(alloc, program, sizes, form, out),
+    }
+}
+
+/// Judges a program over a domain, and prints whether it is accepted.
+#[tactic(auto, using(command_facts::proofs::Sizes::facts_fit))]
+fn say<'a, D: Domain, O: Write>(
+    alloc: Global,
+    program: &Program,
+    sizes: RunSizes,
+    form: Form,
+    out: &mut O,
+) -> Result<(), Failure<'a>>
+    ensures accepted { OnOk result (SaysAccepted D.operations program.now sizes form (O.contents out.old) (O.contents out.new)) }
+    ensures refused { result ≡ Err Failure.NotAccepted
+        → SaysRefused D.operations program.now sizes form (O.contents out.old) (O.contents out.new) }
+{
+    D::fact_fits();
+    match judge::<D>(alloc, program, sizes)? {
         Judgement::Accepted { most_emitted, .. } => {
-            say_accepted(alloc, program, sizes, most_emitted, form, out)
+            say_accepted::<D, O>(alloc, program, sizes, most_emitted, form, out)
         }
         Judgement::Refused(Refused { refusal, facts }) => {
             say_refused(alloc, program, sizes, refusal, &*facts, form, out)?;
@@ -205,7 +254,7 @@ fn say<'a, O: Write>(
 }
 
 /// Prints that a program is accepted, which emits at most so many bytes for a block.
-fn say_accepted<'a, O: Write>(
+fn say_accepted<'a, D: Domain, O: Write>(
     alloc: Global,
     program: &Program,
     sizes: RunSizes,
@@ -222,7 +271,14 @@ fn say_accepted<'a, O: Write>(
         Form::Line => printed(writeln!(out, "accepted {instructions}")),
         Form::Worded { explained, facts } => {
             printed(writeln!(out, "accepted {instructions}"))?;
-            let told = words_of_acceptance(alloc, program, sizes, most_emitted, explained, facts)?;
+            let told = words_of_acceptance::<D>(
+                alloc,
+                program,
+                sizes,
+                most_emitted,
+                explained,
+                facts,
+            )?;
             print(told.as_str().as_bytes(), out)
         }
         Form::Json => printed(print_accepted(instructions, most_emitted, out)),
@@ -241,7 +297,7 @@ fn print_accepted<O: Write>(instructions: usize, most_emitted: usize, out: &mut 
 
 /// The lines that are asked for behind that of an accepted program: how many steps and bytes a block takes at most, and what is
 /// known at each slot.
-fn words_of_acceptance(
+fn words_of_acceptance<D: Domain>(
     alloc: Global,
     program: &Program,
     sizes: RunSizes,
@@ -256,19 +312,19 @@ fn words_of_acceptance(
         writeln!(told, "for a block at most {taken}, and {emitted} emitted")?;
     }
     if facts {
-        let lines = fact_lines(alloc, program, sizes, None)?;
+        let lines = fact_lines::<D>(alloc, program, sizes, None)?;
         told.push_str(lines.as_str())?;
     }
     Ok(told)
 }
 
 /// Prints the first refusal of a program.
-fn say_refused<'a, O: Write>(
+fn say_refused<'a, D: Domain, O: Write>(
     alloc: Global,
     program: &Program,
     sizes: RunSizes,
     refusal: Refusal,
-    facts: &Facts<Intervals>,
+    facts: &Facts<D>,
     form: Form,
     out: &mut O,
 ) -> Result<(), Failure<'a>>
@@ -328,12 +384,12 @@ fn print_place<O: Write>(refusal: Refusal, out: &mut O) -> io::Result<()>
 }
 
 /// The lines that are asked for behind that of a refusal.
-fn words_of_refusal(
+fn words_of_refusal<D: Domain>(
     alloc: Global,
     program: &Program,
     sizes: RunSizes,
     refusal: Refusal,
-    known: &Facts<Intervals>,
+    known: &Facts<D>,
     form: Form,
 ) -> Result<Vec<u8>, AllocError> {
     let mut told = Vec::new(alloc);
@@ -345,7 +401,7 @@ fn words_of_refusal(
         told = explanation(alloc, program, sizes, refusal, known, form)?;
     }
     if let Form::Worded { facts: true, .. } = form {
-        let lines = fact_lines(alloc, program, sizes, Some(refusal))?;
+        let lines = fact_lines::<D>(alloc, program, sizes, Some(refusal))?;
         told.extend_from_slice(lines.as_str().as_bytes())?;
     }
     Ok(told)
@@ -356,12 +412,12 @@ fn words_of_refusal(
 /// # Errors
 ///
 /// Want of memory.
-fn explanation(
+fn explanation<D: Domain>(
     alloc: Global,
     program: &Program,
     sizes: RunSizes,
     refusal: Refusal,
-    facts: &Facts<Intervals>,
+    facts: &Facts<D>,
     form: Form,
 ) -> Result<Vec<u8>, AllocError> {
     let Refusal { slot, reason } = refusal;

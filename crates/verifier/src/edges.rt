@@ -8,8 +8,8 @@ ghost use Rattle.accepted_programs.specs.Facts.{source_fact, compared_fact, afte
 ghost use Rattle.verifier.specs.steps.Instructions.{CanBeCounted, told_along};
 
 use crate::cells::{cell_of, is_stack, known, store_into};
-use crate::sums::{compared_fit, is_register, sums_behind};
-use accepted_programs::{Facts, Fit, Sum};
+use crate::sums::{alter_sums, compared_fit, is_register};
+use accepted_programs::Facts;
 use instruction_set::{Instruction, Register, Relation, Size, Source, Width};
 use program_interface::{Area, BlockSize, CLEARED_REGISTERS, FRAME_LENGTH_BYTES, REGISTERS};
 use program_meaning::Arithmetic;
@@ -207,15 +207,6 @@ fn computed<D: Domain>(instruction: &Instruction, facts: &Facts<D>) -> Option<(R
     Some((dst, D::alu(arithmetic, first, second)))
 }
 
-/// Replaces what is known of registers together.
-#[inline]
-fn set_sums<D: Domain>(facts: &mut Facts<D>, sums: (Option<Sum>, Option<Fit>))
-    ensures { facts.new ≡ record facts.old { sum = sums.0; fit = sums.1 } }
-{
-    facts.sum = sums.0;
-    facts.fit = sums.1;
-}
-
 /// Changes the facts to those after an instruction that leaves a word in its register; false for one that doesn't.
 fn leave<D: Domain>(instruction: &Instruction, facts: &mut Facts<D>) -> bool
     ensures { then_some result facts.new ≡ option_map (with_sums D.operations instruction.now facts.old) (with_word D.operations facts.old (option_or (loaded_word D.operations instruction.now facts.old) (computed_word D.operations instruction.now facts.old))) }
@@ -223,9 +214,8 @@ fn leave<D: Domain>(instruction: &Instruction, facts: &mut Facts<D>) -> bool
     let Some((dst, fact)) = loaded(instruction, facts).or(computed(instruction, facts)) else {
         return false;
     };
-    let sums = sums_behind(instruction, facts);
+    alter_sums(instruction, facts);
     facts.set(dst, fact);
-    set_sums(facts, sums);
     true
 }
 
@@ -256,9 +246,8 @@ pub(crate) fn step<D: Domain>(
             store(block, facts, size, dst, offset, word);
         }
         Instruction::Call { .. } => {
-            let sums = sums_behind(instruction, facts);
+            alter_sums(instruction, facts);
             emit(facts);
-            set_sums(facts, sums);
         }
         _ => return leave(instruction, facts),
     }

@@ -1,10 +1,10 @@
 //! What is known of registers together, after an instruction, along an edge and where ways meet.
 
 ghost use Rattle.std.specs.Prelude.{◌≡◌, false};
-ghost use Rattle.std.specs.Option.{option_map_or};
+ghost use Rattle.std.specs.Option.{option_and_then, option_map_or};
 ghost use Rattle.program_meaning.specs.Laws.{changes as instruction_changes};
-ghost use Rattle.accepted_programs.specs.Facts.{compared_fit as fit_along, fit_behind as fit_after, greatest as greatest_word, greatest_address as greatest_known_address, made_fit as fit_made};
-ghost use Rattle.accepted_programs.specs.Sums.{carried as fit_carried, copied as register_copied, fit_left as fit_stays, fit_of as fit_of_sum, grown as sum_grown, is_added as register_is_added, is_register as source_is, join_fit as fits_joined, made_sum as sum_made, moved_fit as fit_moved, renamed as fit_renamed, shifted as fit_shifted, sum_behind as sum_after, sum_left as sum_stays, with_more as sum_with_more};
+ghost use Rattle.accepted_programs.specs.Facts.{compared_fit as fit_along, fit_behind as fit_after, greatest as greatest_word, greatest_address as greatest_known_address, made_fit as fit_made, with_sums};
+ghost use Rattle.accepted_programs.specs.Sums.{alters_sum, carried as fit_carried, copied as register_copied, fit_left as fit_stays, fit_of as fit_of_sum, grown as sum_grown, is_added as register_is_added, is_register as source_is, join_fit as fits_joined, made_sum as sum_made, moved_fit as fit_moved, renamed as fit_renamed, shifted as fit_shifted, sum_behind as sum_after, sum_left as sum_stays, with_more as sum_with_more};
 
 use accepted_programs::{Facts, Fit, Sum};
 use instruction_set::{Instruction, Operation, Register, Source, Width};
@@ -46,17 +46,47 @@ fn changes_second(instruction: &Instruction, second: Option<Register>) -> bool
     }
 }
 
-/// The sum, unless an instruction changes one of its registers.
-fn sum_left(instruction: &Instruction, sum: Sum) -> Option<Sum>
-    ensures { result ≡ sum_stays (instruction_changes instruction.now) sum }
+/// Is this register one of those that are added?
+#[inline]
+fn is_added(register: Register, sum: &Sum) -> bool
+    ensures { result ≡ register_is_added register sum.now }
 {
-    if changes(instruction, sum.register)
-        || changes(instruction, sum.first)
-        || changes_second(instruction, sum.second)
-    {
-        None
-    } else {
-        Some(sum)
+    let is_second = match sum.second {
+        Some(second) => register == second,
+        None => false,
+    };
+    register == sum.first || is_second
+}
+
+/// Does an instruction change one of the registers of a sum?
+#[inline]
+fn alters(instruction: &Instruction, sum: &Sum) -> bool
+    ensures { result ≡ alters_sum (instruction_changes instruction.now) sum.now }
+{
+    match *instruction {
+        Instruction::Call { .. } => {
+            changes(instruction, sum.register)
+                || changes(instruction, sum.first)
+                || changes_second(instruction, sum.second)
+        }
+        _ => match instruction.destination() {
+            Some(dst) => dst == sum.register || is_added(dst, sum),
+            None => false,
+        },
+    }
+}
+
+/// Forgets a sum, where an instruction changes one of its registers.
+#[inline]
+fn forget(instruction: &Instruction, sum: &mut Option<Sum>)
+    ensures { sum.new ≡ option_and_then (sum_stays (instruction_changes instruction.now)) sum.old }
+{
+    let is_altered = match sum {
+        Some(known) => alters(instruction, known),
+        None => false,
+    };
+    if is_altered {
+        *sum = None;
     }
 }
 
@@ -75,39 +105,29 @@ fn copied(dst: Register, src: Register) -> Option<Sum>
     })
 }
 
-/// Is this register one of those that are added?
-fn is_added(register: Register, sum: Sum) -> bool
-    ensures { result ≡ register_is_added register sum }
-{
-    let is_second = match sum.second {
-        Some(second) => register == second,
-        None => false,
-    };
-    register == sum.first || is_second
-}
-
 /// A sum with one register more, of which it has two at most, or with a number more.
-fn with_more(source: Source, sum: Sum) -> Option<Sum>
-    ensures { result ≡ sum_with_more source sum }
+fn with_more(source: Source, sum: &Sum) -> Option<Sum>
+    ensures { result ≡ sum_with_more source sum.now }
 {
     match source {
         Source::Register(register) => match sum.second {
             None => Some(Sum {
                 second: Some(register),
-                ..sum
+                ..*sum
             }),
             Some(_) => None,
         },
         Source::Immediate(value) => Some(Sum {
             more: sum.more.wrapping_add(Instruction::immediate_word(value)),
-            ..sum
+            ..*sum
         }),
     }
 }
 
 /// After an addition to the register that has the sum, and is no part of it.
-fn grown(dst: Register, source: Source, sum: Sum) -> Option<Sum>
-    ensures { result ≡ sum_grown dst source sum }
+#[inline]
+fn grown(dst: Register, source: Source, sum: &Sum) -> Option<Sum>
+    ensures { result ≡ sum_grown dst source sum.now }
 {
     if dst == sum.register && !is_added(dst, sum) && !is_register(dst, &source) {
         with_more(source, sum)
@@ -117,8 +137,9 @@ fn grown(dst: Register, source: Source, sum: Sum) -> Option<Sum>
 }
 
 /// The sum that an instruction makes, if it does.
-fn made_sum(instruction: &Instruction, sum: Option<Sum>) -> Option<Sum>
-    ensures { result ≡ sum_made instruction.now sum }
+#[inline]
+fn made_sum(instruction: &Instruction, sum: &Option<Sum>) -> Option<Sum>
+    ensures { result ≡ sum_made instruction.now sum.now }
 {
     match *instruction {
         Instruction::Arithmetic {
@@ -132,18 +153,22 @@ fn made_sum(instruction: &Instruction, sum: Option<Sum>) -> Option<Sum>
             operation: Operation::Add,
             dst,
             source,
-        } => grown(dst, source, sum?),
+        } => match sum {
+            Some(sum) => grown(dst, source, sum),
+            None => None,
+        },
         _ => None,
     }
 }
 
-/// After an instruction: the sum that it makes, or the one that was known.
-fn sum_behind(instruction: &Instruction, sum: Option<Sum>) -> Option<Sum>
-    ensures { result ≡ sum_after instruction.now sum }
+/// Changes the sum that was known to the one that is known behind an instruction.
+#[inline]
+fn alter_sum(instruction: &Instruction, sum: &mut Option<Sum>)
+    ensures { sum.new ≡ sum_after instruction.now sum.old }
 {
     match made_sum(instruction, sum) {
-        Some(made) => Some(made),
-        None => sum_left(instruction, sum?),
+        Some(made) => *sum = Some(made),
+        None => forget(instruction, sum),
     }
 }
 
@@ -266,16 +291,25 @@ fn fit_behind<D: Domain>(instruction: &Instruction, facts: &Facts<D>) -> Option<
     }
 }
 
-/// What is known of registers together after an instruction.
-pub(crate) fn sums_behind<D: Domain>(
-    instruction: &Instruction,
-    facts: &Facts<D>,
-) -> (Option<Sum>, Option<Fit>)
-    ensures sum { result.0 ≡ sum_after instruction.now facts.now.sum }
-    ensures fit { result.1 ≡ fit_after D.operations instruction.now facts.now }
+/// Changes what was known of two registers whose sum is at most a number to what is known behind an instruction.
+// Few programs have such a fact, so the rest of a step is not to make room for it.
+#[inline(never)]
+fn alter_fit<D: Domain>(instruction: &Instruction, facts: &mut Facts<D>)
+    ensures { facts.new ≡ record facts.old { fit = fit_after D.operations instruction.now facts.old } }
 {
     let fit = fit_behind(instruction, facts);
-    (sum_behind(instruction, facts.sum), fit)
+    facts.fit = fit;
+}
+
+/// Changes what was known of registers together to what is known behind an instruction.
+#[inline]
+pub(crate) fn alter_sums<D: Domain>(instruction: &Instruction, facts: &mut Facts<D>)
+    ensures { facts.new ≡ with_sums D.operations instruction.now facts.old facts.old }
+{
+    if facts.fit.is_some() {
+        alter_fit(instruction, facts);
+    }
+    alter_sum(instruction, &mut facts.sum);
 }
 
 // ---- edges and joins

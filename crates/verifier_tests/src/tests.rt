@@ -19,6 +19,7 @@ mod ends;
 mod jumps;
 mod kept;
 mod places;
+mod profiles;
 mod programs;
 mod runs;
 mod verdicts;

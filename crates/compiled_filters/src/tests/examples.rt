@@ -11,6 +11,7 @@ mod walks;
 ghost use Rattle.std.specs.Prelude.{◌<◌, ◌≤◌, length};
 
 use super::{BLOCK, sizes};
+use address_domain::Addresses;
 use ebpf_decode::decode;
 use events::{APPEND, LOAD, OPEN, READ, RESULT, RUN, append, done, load, open, read, result, run};
 use interval_domain::Intervals;
@@ -106,7 +107,7 @@ impl Trial {
         Ok(())
     }
 
-    /// Runs the filter, which has to be accepted, with this argument, and compares what it leaves.
+    /// Runs the filter, which both profiles have to accept, with this argument, and compares what it leaves.
     fn check(&mut self, rt: &impl Abort, filter: &Filter, argument: u32) -> Result<(), Fail> {
         self.end_group()?;
         fill(&mut self.output, BLOCK)?;
@@ -127,6 +128,8 @@ impl Trial {
         let program = hex::decode(self.alloc, program)?;
         let decoded = decode(self.alloc, &program)?;
         verify::<Intervals>(self.alloc, decoded, sizes(filter.emit)?)?;
+        let decoded = decode(self.alloc, &program)?;
+        verify::<Addresses>(self.alloc, decoded, sizes(filter.emit)?)?;
         let mut device = device(self.alloc)?;
         let mut room = vec![in self.alloc; 0; MOST_TRANSFER]?;
         let output = room.as_mut_slice();

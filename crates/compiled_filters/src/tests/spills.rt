@@ -13,6 +13,7 @@ mod offsets;
 mod tables;
 
 use super::{BLOCK, sizes};
+use address_domain::Addresses;
 use bytes::{group_of, put, put_at};
 use ebpf_decode::decode;
 use interp::Machine;
@@ -65,9 +66,10 @@ struct Left {
     scratch: [u8; SCRATCH_BYTES],
 }
 
-/// Runs a filter, which has to be accepted, over the block of each of its scenes.
+/// Runs a filter, which both profiles have to accept, over the block of each of its scenes.
 fn check(rt: &impl Abort, alloc: Global, filter: &Filter) -> Result<(), Fail> {
     let bytes = hex::decode(alloc, filter.program)?;
+    verify::<Addresses>(alloc, decode(alloc, &bytes)?, sizes(filter.emit)?)?;
     let program = decode(alloc, &bytes)?;
     let verified = verify::<Intervals>(alloc, program, sizes(filter.emit)?)?;
     let prepared = Prepared::new(alloc, verified)?;
