@@ -77,23 +77,20 @@ def spent(*words) -> float:
     return time.perf_counter() - begun
 
 
-def opened() -> float:
-    """The seconds that opening the journal of the Appends takes, above those of one without any."""
-    shutil.copy(work / "empty.img", work / "new.img")
-    spent("serve", work / "new.img", "--durable", "--frames")
-    return spent("serve", work / "zoned.img", "--durable", "--frames") - spent("serve", work / "new.img", "--durable", "--frames")
+def above(some, none) -> int:
+    """The least nanoseconds of an Append of the first, above the least time of the second, which has none."""
+    times = [min(spent(*words()) for _ in range(rounds)) for words in (some, none)]
+    return round((times[0] - times[1]) / (BATCH * (BATCHES + 1)) * 1e9)
 
 
-def executed() -> float:
-    """The seconds that the same Appends take by `exec`, above those of none."""
-    shutil.copy(work / "empty.img", work / "new.img")
-    none = spent("exec", work / "new.img", os.devnull)
-    return spent("exec", work / "new.img", work / "commands") - none
+def fresh() -> pathlib.Path:
+    """A new copy of the image."""
+    return pathlib.Path(shutil.copy(work / "empty.img", work / "new.img"))
 
 
-def least(what, count: int = BATCH * BATCHES) -> int:
+def least(what) -> int:
     """The least nanoseconds of an Append."""
-    return round(min(what() for _ in range(rounds)) / count * 1e9)
+    return round(min(what() for _ in range(rounds)) / (BATCH * BATCHES) * 1e9)
 
 
 durable, held, file = least(lambda: served("--durable", "--frames")), least(lambda: served("--frames")), least(plain)
@@ -102,6 +99,9 @@ print(f"an Append of 4 KiB in batches of {BATCH}: durable {durable} ns, not dura
 line = subprocess.run([zscli, "entry", "append", "--lba", "0", "--data", work / "data"], stdout=subprocess.PIPE, check=True).stdout
 (work / "commands").write_bytes(line * (BATCH * (BATCHES + 1)))
 served("--durable", "--frames")
-opening, executing = (least(what, BATCH * (BATCHES + 1)) for what in (opened, executed))
+empty = fresh().rename(work / "journal.img")
+spent("serve", empty, "--durable", "--frames")
+opening = above(lambda: ("serve", work / "zoned.img", "--durable", "--frames"), lambda: ("serve", empty, "--durable", "--frames"))
+executing = above(lambda: ("exec", fresh(), work / "commands"), lambda: ("exec", fresh(), os.devnull))
 print(f"an Append that is done again: by opening the journal {opening} ns, by exec of it as text {executing} ns")
 END

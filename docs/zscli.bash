@@ -4,7 +4,7 @@ _zscli() {
     case "$before" in
         --state) COMPREPLY=($(compgen -W "all empty implicit explicit closed full readonly offline" -- "$word")); return ;;
         --commands | --data | --image | --into | --output | --program) COMPREPLY=($(compgen -f -- "$word")); return ;;
-        --active | --argument | --block | --blocks | --capacity | --cid | --dwords | --emit | --from | --fuel | --function | --lba | --open | --queue | --size | --slot | --to | --zones) return ;;
+        --active | --argument | --block | --blocks | --capacity | --cid | --dwords | --emit | --from | --fuel | --function | --lba | --open | --profile | --queue | --size | --slot | --to | --zones) return ;;
     esac
     [ "$COMP_CWORD" -gt 1 ] && words+=" ${COMP_WORDS[1]}"
     case "${COMP_WORDS[1]}" in
@@ -23,7 +23,7 @@ _zscli() {
         "zscli disasm") commands="" options="--slots --help" ;;
         "zscli link") commands="" options="--block --output --function --verbose --help" ;;
         "zscli trace") commands="" options="--emit --argument --fuel --registers --help" ;;
-        "zscli verify") commands="" options="--block --emit --explain --facts --json --help" ;;
+        "zscli verify") commands="" options="--block --emit --profile --explain --facts --json --help" ;;
         "zscli unpack") commands="" options="--block --json --help" ;;
         "zscli entry") commands="append write read open close finish reset offline report load run result" options="--help" ;;
         "zscli entry append") commands="" options="--lba --data --block --queue --cid --into --help" ;;

@@ -10,7 +10,9 @@
 #include <sys/wait.h>
 #include <unistd.h>
 
-enum { BLOCK_BYTES = 512, HEADER_BYTES = 16, ENTRY_BYTES = 64, COMPLETION_BYTES = 16, READ = 0x02, APPEND = 0x7d, BATCH = 3 };
+enum { BLOCK_BYTES = 512, HEADER_BYTES = 16, ENTRY_BYTES = 64, COMPLETION_BYTES = 16, RESULT_BYTES = 1024, BATCH = 3 };
+enum { READ = 0x02, SEND = 0x79, APPEND = 0x7d, RUN = 0xc0, LOAD = 0xc1, RESULT = 0xc2 };
+enum { PENDING = 2 }; /* the kind of a frame, as is that of a turn */
 
 static unsigned passed, failed;
 static long calls_left = -1;
@@ -76,18 +78,34 @@ static void put(unsigned char *at, uint64_t number, int bytes)
         at[i] = (unsigned char)(number >> 8 * i);
 }
 
-/* The frame of an entry of one block in zone 0 (docs/device.md), with its data. */
-static size_t frame_of_block(unsigned char *frame, int opcode, uint64_t lba, int data)
+/* The frame of an entry (docs/device.md) of these dwords from the tenth on, with its data. */
+static size_t frame_of(unsigned char *frame, int opcode, const uint32_t dwords[6], const void *data, size_t data_bytes)
 {
-    size_t data_bytes = opcode == APPEND ? BLOCK_BYTES : 0;
     memset(frame, 0, HEADER_BYTES + ENTRY_BYTES);
     put(frame, 1, 1);
     put(frame + 8, data_bytes, 4);
     put(frame + HEADER_BYTES, (unsigned)opcode, 1);
     put(frame + HEADER_BYTES + 4, 1, 4); /* the namespace */
-    put(frame + HEADER_BYTES + 40, lba, 8);
-    memset(frame + HEADER_BYTES + ENTRY_BYTES, data, data_bytes);
+    for (int dword = 0; dword < 6; dword++)
+        put(frame + HEADER_BYTES + 40 + 4 * dword, dwords[dword], 4);
+    memcpy(frame + HEADER_BYTES + ENTRY_BYTES, data, data_bytes);
     return HEADER_BYTES + ENTRY_BYTES + data_bytes;
+}
+
+/* That of one block in zone 0. */
+static size_t frame_of_block(unsigned char *frame, int opcode, uint32_t lba, int data)
+{
+    unsigned char block[BLOCK_BYTES];
+    memset(block, data, sizeof block);
+    return frame_of(frame, opcode, (uint32_t[6]){lba}, block, opcode == APPEND ? sizeof block : 0);
+}
+
+/* A turn of run 0. */
+static size_t frame_of_turn(unsigned char *frame)
+{
+    memset(frame, 0, HEADER_BYTES);
+    put(frame, 2, 1);
+    return HEADER_BYTES;
 }
 
 /* Appends blocks to zone 0 in one batch, and says whether all are told as appended. */
@@ -115,7 +133,7 @@ static int blocks_of(struct pifnjarl_durable *device)
 {
     for (int block = 0;; block++) {
         unsigned char frame[HEADER_BYTES + ENTRY_BYTES], reply[HEADER_BYTES + COMPLETION_BYTES + BLOCK_BYTES];
-        frame_of_block(frame, READ, (uint64_t)block, 0);
+        frame_of_block(frame, READ, (uint32_t)block, 0);
         if (pifnjarl_durable_serve(device, frame, sizeof frame) != PIFNJARL_DURABLE_DONE)
             return -1;
         if (pifnjarl_durable_replies(device, 0, reply, sizeof reply) != sizeof reply)
@@ -137,9 +155,23 @@ static struct pifnjarl_durable *open_again(const char *path)
     return device;
 }
 
-/* A child opens the device and appends a batch, and another, and dies at its call of this number, if it has as many. Gives how many batches
-   it told as appended; *ended says whether it didn't die. */
-static int child(const char *path, long calls, int *ended)
+/* Appends a batch, and another, and tells each. */
+static int append_batches(struct pifnjarl_durable *device, int told)
+{
+    for (int batch = 0; batch < 2; batch++)
+        if (!append(device, BATCH, 'a' + batch) || write(told, "", 1) != 1)
+            return 0;
+    return 1;
+}
+
+static int fold(struct pifnjarl_durable *device, int told)
+{
+    return pifnjarl_durable_fold(device) == PIFNJARL_DURABLE_DONE && write(told, "", 1) == 1;
+}
+
+/* A child opens the device and does its work, and dies at its call of this number, if it has as many. Gives how often it told that
+   something is done; *ended says whether it didn't die. */
+static int child(const char *path, long calls, int (*work)(struct pifnjarl_durable *, int), int *ended)
 {
     int told[2], status;
     if (pipe(told) != 0)
@@ -150,15 +182,12 @@ static int child(const char *path, long calls, int *ended)
         calls_left = calls;
         if (pifnjarl_durable_open(path, &device) != PIFNJARL_DURABLE_DONE)
             _exit(1);
-        for (int batch = 0; batch < 2; batch++)
-            if (!append(device, BATCH, 'a' + batch) || write(told[1], "", 1) != 1)
-                _exit(1);
-        _exit(0);
+        _exit(work(device, told[1]) ? 0 : 1);
     }
     close(told[1]);
     waitpid(pid, &status, 0);
-    char batches[2];
-    ssize_t count = read(told[0], batches, sizeof batches);
+    char done[2];
+    ssize_t count = read(told[0], done, sizeof done);
     close(told[0]);
     CHECK(WIFEXITED(status) && (WEXITSTATUS(status) == 9 || WEXITSTATUS(status) == 0));
     *ended = WIFEXITED(status) && WEXITSTATUS(status) == 0;
@@ -184,10 +213,77 @@ static void crashes(const char *path, const unsigned char *image, size_t count, 
             CHECK(append(device, had, 'A'));
             pifnjarl_durable_close(device);
         }
-        int told = child(path, calls, &ended);
+        int told = child(path, calls, append_batches, &ended);
         struct pifnjarl_durable *device = open_again(path);
         int has = blocks_of(device);
         CHECK(has >= had + told * BATCH && has <= had + (told + 1) * BATCH && has <= had + 2 * BATCH && (has - had) % BATCH == 0);
+        pifnjarl_durable_close(device);
+    }
+    CHECK(ended);
+}
+
+/* Adds the first byte of a block to a sum in scratch. */
+static const unsigned char program[] = {
+    0x71, 0x24, 0, 0, 0, 0, 0, 0, /* ldxb r4, [r2+0] */
+    0x79, 0x35, 0, 0, 0, 0, 0, 0, /* ldxdw r5, [r3+0] */
+    0x0f, 0x45, 0, 0, 0, 0, 0, 0, /* add r5, r4 */
+    0x7b, 0x53, 0, 0, 0, 0, 0, 0, /* stxdw [r3+0], r5 */
+    0xb7, 0x00, 0, 0, 0, 0, 0, 0, /* mov r0, 0 */
+    0x95, 0x00, 0, 0, 0, 0, 0, 0, /* exit */
+};
+
+/* Leaves a device with a program, whose result is that of a run over one block, and with a run over two that has a turn left. The zone is
+   the one behind that of the blocks. */
+static void use(struct pifnjarl_durable *device, uint32_t zone)
+{
+    unsigned char frames[1024], replies[1024];
+    size_t completion = HEADER_BYTES + COMPLETION_BYTES;
+    size_t count = frame_of(frames, SEND, (uint32_t[6]){zone, 0, 0, 3}, "", 0);
+    count += frame_of(frames + count, LOAD, (uint32_t[6]){0, 0, sizeof program}, program, sizeof program);
+    for (uint32_t more = 0; more < 2; more++) {
+        count += frame_of(frames + count, RUN, (uint32_t[6]){0, 0, more, 0, zone}, "", 0);
+        count += frame_of_turn(frames + count);
+    }
+    CHECK(append(device, 2, 'A'));
+    CHECK(pifnjarl_durable_serve(device, frames, count) == PIFNJARL_DURABLE_DONE);
+    CHECK(pifnjarl_durable_replies(device, 0, replies, sizeof replies) == 3 * completion + 3 * HEADER_BYTES);
+    CHECK(replies[3 * completion + 2 * HEADER_BYTES] == PENDING);
+}
+
+/* The result is there, and the run has its turn, behind which its sum is the result. */
+static void check_used(struct pifnjarl_durable *device)
+{
+    unsigned char frames[1024], replies[4096];
+    size_t count = frame_of(frames, RESULT, (uint32_t[6]){0}, "", 0);
+    count += frame_of_turn(frames + count);
+    count += frame_of(frames + count, RESULT, (uint32_t[6]){0}, "", 0);
+    size_t completion = HEADER_BYTES + COMPLETION_BYTES;
+    CHECK(pifnjarl_durable_serve(device, frames, count) == PIFNJARL_DURABLE_DONE);
+    CHECK(pifnjarl_durable_replies(device, 0, replies, sizeof replies) == 3 * completion + 2 * RESULT_BYTES);
+    CHECK(replies[completion] == 'A' && replies[completion + 1] == 0);
+    CHECK(replies[3 * completion + RESULT_BYTES] == 2 * 'A' && replies[3 * completion + RESULT_BYTES + 1] == 0);
+    CHECK(blocks_of(device) == 2);
+}
+
+/* How many blocks a zone of an image has (docs/device.md). */
+static uint32_t blocks_of_a_zone(const unsigned char *image)
+{
+    return image[16] | (uint32_t)image[17] << 8 | (uint32_t)image[18] << 16 | (uint32_t)image[19] << 24;
+}
+
+/* A device that is folded is there after each crash, with its program, the result and the run. */
+static void folds(const char *path, const unsigned char *image, size_t count)
+{
+    int ended = 0;
+    for (long calls = 0; !ended && calls < 100; calls++) {
+        write_image(path, image, count);
+        struct pifnjarl_durable *device = open_again(path);
+        use(device, blocks_of_a_zone(image));
+        pifnjarl_durable_close(device);
+        int told = child(path, calls, fold, &ended);
+        CHECK(told == ended);
+        device = open_again(path);
+        check_used(device);
         pifnjarl_durable_close(device);
     }
     CHECK(ended);
@@ -225,6 +321,7 @@ int main(int count, char **words)
     fclose(file);
     crashes(words[1], image, size, 0);
     crashes(words[1], image, size, BATCH);
+    folds(words[1], image, size);
     refusals(words[1]);
     printf("%u checks passed, %u failed\n", passed, failed);
     return failed != 0;

@@ -402,9 +402,10 @@ class Geometry(NamedTuple):
 
 
 def _geometry(image: FilePath) -> Geometry:
-    """The numbers of an image file, which stand behind its first 8 bytes."""
+    """The numbers of an image file, which stand behind its first 8 bytes; a journal has its image behind 17 bytes more."""
     with open(image, "rb") as file:
-        return Geometry(*struct.unpack("<8x6I", file.read(32)))
+        front = file.read(49)
+    return Geometry(*struct.unpack_from("<8x6I", front, 17 if front.startswith(b"ZNSJRN01") else 0))
 
 
 def format_image(

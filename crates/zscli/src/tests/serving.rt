@@ -11,7 +11,7 @@ pub(super) const ZEROS: &[u8] = b"\0\0\0\0\0\0\0\0";
 /// The header of a submission to queue 1 with a block of data, and of one with 16 bytes and without.
 pub(super) const WITH_BLOCK: &[u8] = b"\x01\0\x01\0\0\0\0\0\0\x02\0\0\0\0\0\0";
 
-const WITH_PROGRAM: &[u8] = b"\x01\0\x01\0\0\0\0\0\x10\0\0\0\0\0\0\0";
+pub(super) const WITH_PROGRAM: &[u8] = b"\x01\0\x01\0\0\0\0\0\x10\0\0\0\0\0\0\0";
 
 pub(super) const WITHOUT: &[u8] = b"\x01\0\x01\0\0\0\0\0\0\0\0\0\0\0\0\0";
 
@@ -19,18 +19,18 @@ pub(super) const WITHOUT: &[u8] = b"\x01\0\x01\0\0\0\0\0\0\0\0\0\0\0\0\0";
 pub(super) const APPEND: &[u8] = b"\x7d\0\x01\0\x01\0\0\0";
 
 /// Zone Management Send: zone 1 is opened.
-const OPEN: &[u8] = b"\x79\0\x02\0\x01\0\0\0";
+pub(super) const OPEN: &[u8] = b"\x79\0\x02\0\x01\0\0\0";
 
 /// Load of 16 bytes into slot 0: a program that emits nothing.
-const LOAD: &[u8] = b"\xc1\0\x03\0\x01\0\0\0";
+pub(super) const LOAD: &[u8] = b"\xc1\0\x03\0\x01\0\0\0";
 
-const PROGRAM: &[u8] = b"\xb7\0\0\0\0\0\0\0\x95\0\0\0\0\0\0\0";
+pub(super) const PROGRAM: &[u8] = b"\xb7\0\0\0\0\0\0\0\x95\0\0\0\0\0\0\0";
 
 /// Run of it over the block of zone 0, to zone 1.
 const RUN: &[u8] = b"\xc0\0\x04\0\x01\0\0\0";
 
 /// Turns of run 0, a drain of all turns, and a save.
-const TURN: &[u8] = b"\x02\0\0\0\0\0\0\0\0\0\0\0\0\0\0\0";
+pub(super) const TURN: &[u8] = b"\x02\0\0\0\0\0\0\0\0\0\0\0\0\0\0\0";
 
 const DRAIN: &[u8] = b"\x04\0\0\0\xff\xff\xff\xff\0\0\0\0\0\0\0\0";
 
@@ -40,7 +40,7 @@ pub(super) const SAVE: &[u8] = b"\x05\0\0\0\0\0\0\0\0\0\0\0\0\0\0\0";
 /// is none; the turns of a drain, one or none; that the image is saved.
 pub(super) const COMPLETED: &[u8] = b"\x01\0\x01\0\0\0\0\0\0\0\0\0\0\0\0\0\0\0\0\0\0\0\0\0\0\0";
 
-const PENDING: &[u8] = b"\x02\0\0\0\0\0\0\0\0\0\0\0\0\0\0\0";
+pub(super) const PENDING: &[u8] = b"\x02\0\0\0\0\0\0\0\0\0\0\0\0\0\0\0";
 
 const IDLE: &[u8] = b"\x03\0\0\0\0\0\0\0\0\0\0\0\0\0\0\0";
 
@@ -51,7 +51,7 @@ const DRAINED_NONE: &[u8] = b"\x06\0\0\0\0\0\0\0\0\0\0\0\0\0\0\0";
 pub(super) const SAVED: &[u8] = b"\x07\0\0\0\0\0\0\0\0\0\0\0\0\0\0\0";
 
 /// The image with one block in zone 0.
-const ONE_BLOCK: Parts = &[
+pub(super) const ONE_BLOCK: Parts = &[
     (MAGIC, 1),
     (ZONE_NUMBERS, 1),
     (LIMITS, 1),

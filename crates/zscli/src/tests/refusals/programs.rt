@@ -89,6 +89,35 @@ const LEFT_OUT: &[Act] = &[
     ),
 ];
 
+/// An object is told as such, whatever length it has.
+const OBJECTS: &[Act] = &[
+    Act::Put("p.o", &[(b"\x7fELF\x02\x01\x01\0", 9)]),
+    Act::Refuses(
+        "zscli verify p.o --block 512 --emit 66",
+        "p.o, an ELF file, and no program: `zscli link` makes one of an object\nprogram refused 0 25\n",
+    ),
+    Act::Refuses(
+        "zscli entry load --slot 0 --program p.o --emit 66",
+        "p.o, an ELF file, and no program: `zscli link` makes one of an object\nprogram refused 0 23\n",
+    ),
+    Act::Put("p.o", &[(b"\x7fELF\x02\x01\x01\0", 1), (b"\0", 1)]),
+    Act::Refuses(
+        "zscli disasm p.o",
+        "p.o, an ELF file, and no program: `zscli link` makes one of an object\nprogram refused 0 20\n",
+    ),
+    Act::Put("p.o", &[(b"\x7fELE", 2)]),
+    Act::Refuses(
+        "zscli disasm p.o",
+        "p.o, slot 0: opcode 7fh, registers 5 and 4, offset 17740, immediate 1162626431: a field that the instruction does not \
+         use is not 0\nprogram refused 0 25\n",
+    ),
+    Act::Ends(
+        "zscli entry load --slot 0 --program p.o --emit 66 --into q",
+        0,
+        "",
+    ),
+];
+
 /// Texts with each fault but a label too far away, which no program of 4096 slots has.
 const TEXTS: &[Act] = &[
     Act::Put("t", &[(b"exit\n next: sum r1, r2 ; both", 1)]),
@@ -139,6 +168,10 @@ const SCENES: &[Scene] = &[
     Scene {
         name: "instructions that are left out",
         acts: LEFT_OUT,
+    },
+    Scene {
+        name: "objects in place of programs",
+        acts: OBJECTS,
     },
     Scene {
         name: "assembly texts",
