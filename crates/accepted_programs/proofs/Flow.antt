@@ -15,7 +15,8 @@ use Rattle.accepted_programs.specs.Facts.{facts_at, facts_at_target, facts_behin
 use Rattle.accepted_programs.proofs.KnownFacts.{AreFacts, SomeAreFacts, ahead_given, behind_given, given_facts, known_facts, merge_facts}
 use Rattle.accepted_programs.proofs.Edges.{IsAlong, Moved}
 use Rattle.accepted_programs.proofs.SumLaws.{join_first_fits, join_second_fits}
-use Rattle.accepted_programs.specs.Meets.{Belong, MeetsSome, word_in}
+use Rattle.accepted_programs.proofs.Untracked.{tracked_holds}
+use Rattle.accepted_programs.specs.Meets.{AreWithin, Belong, MeetsSome, word_in}
 use Rattle.accepted_programs.specs.declared.facts.Facts.{Facts}
 
 module _ {D : Type 0} {IsFact : D → Type 0} {contains : D → ℕ → Type 0} {operations : Operations D}
@@ -58,7 +59,7 @@ module _ {D : Type 0} {IsFact : D → Type 0} {contains : D → ℕ → Type 0} 
           (second.cells j joined.second joined.in_second));
       group = omega (arith, h.group);
       sum = tt;
-      fit = join_first_fits s.registers a.fit b.fit h.fit;
+      fit = tracked_holds operations (λ o. AreWithin o s.registers) _ tt (join_first_fits s.registers a.fit b.fit h.fit);
     }
     merge_first (Some a) None first second h = h
     merge_first None b first second h = absurd h
@@ -79,7 +80,7 @@ module _ {D : Type 0} {IsFact : D → Type 0} {contains : D → ℕ → Type 0} 
           }));
       group = omega (arith, h.group);
       sum = tt;
-      fit = join_second_fits s.registers a.fit b.fit h.fit;
+      fit = tracked_holds operations (λ o. AreWithin o s.registers) _ tt (join_second_fits s.registers a.fit b.fit h.fit);
     }
     merge_second (Some a) None first second h = absurd h
     merge_second None b first second h = h

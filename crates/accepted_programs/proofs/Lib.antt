@@ -17,3 +17,4 @@ mod Statements
 mod StoreLaws
 mod SumLaws
 mod Unhindered
+mod Untracked

@@ -37,12 +37,13 @@ use Rattle.word_domain.specs.declared.offsets.Offsets.{Offsets}
 use Rattle.accepted_programs.specs.Accepted.{fails, goes_back, stores_outside}
 use Rattle.accepted_programs.proofs.CellLaws.{if_some}
 use Rattle.accepted_programs.specs.Cells.{cell_of, filled, is_stack, known_in, overwritten}
-use Rattle.accepted_programs.specs.Facts.{after_emit, after_store, along, area_of, cell_at, compared_fact, compared_fit, enters_stack, fact, facts_at_target, facts_behind, fit_behind, greatest, greatest_address, is_register, kept_fact, loaded_fact, made_fit, slot_behind, with_both, with_fact, with_source, with_sums}
+use Rattle.accepted_programs.specs.Facts.{after_emit, after_store, along, area_of, cell_at, compared_fact, compared_fit, enters_stack, fact, facts_at_target, facts_behind, fit_behind, greatest, greatest_address, is_register, kept_fact, loaded_fact, made_fit, slot_behind, tracked, with_both, with_fact, with_source, with_sums}
 use Rattle.accepted_programs.proofs.KnownFacts.{AreFacts, immediate_fits, told_facts}
 use Rattle.accepted_programs.proofs.StoreLaws.{cell_loaded, in_stack, stack_stays, stack_written, stored_belong}
 use Rattle.accepted_programs.proofs.Unhindered.{size_fits}
 use Rattle.accepted_programs.specs.declared.reason.Reason.{Reason}
 use Rattle.accepted_programs.specs.declared.reason.Reason.TheVariants as reason
+use Rattle.accepted_programs.proofs.Untracked.{tracked_holds}
 use Rattle.accepted_programs.proofs.SumLaws.{AreLeft, call_leaves, computed_fits, computed_has, edge_fits, either_fit, either_sum, fit_stays, made_within, others_left, sum_stays}
 use Rattle.accepted_programs.specs.Meets.{AreWithin, HasSum, Meets, MeetsSome}
 use Rattle.accepted_programs.specs.Sums.{made_sum, sum_behind}
@@ -110,12 +111,14 @@ module _ {D : Type 0} {IsFact : D → Type 0} {contains : D → ℕ → Type 0} 
 
     -- what is known of registers together after an instruction that leaves others as they were
     module _ (i : Instruction) (words : List ℕ) (left : AreLeft (changes i) s.registers words) (makes : Makes i words) where
-      sum_meets : HasSum (sum_behind i facts.sum) words
-      sum_meets = either_sum (made_sum i facts.sum) _ words makes.0 (sum_stays (changes i) s.registers words left facts.sum meets.sum)
+      sum_meets : HasSum (tracked operations (sum_behind i facts.sum)) words
+      sum_meets = tracked_holds operations (λ o. HasSum o words) _ tt
+          (either_sum (made_sum i facts.sum) _ words makes.0 (sum_stays (changes i) s.registers words left facts.sum meets.sum))
 
-      fit_meets : AreWithin (fit_behind operations i facts) words
-      fit_meets = either_fit (option_and_then (made_fit operations i facts) facts.fit) _ words makes.1
-          (fit_stays (changes i) s.registers words left facts.fit meets.fit)
+      fit_meets : AreWithin (tracked operations (fit_behind operations i facts)) words
+      fit_meets = tracked_holds operations (λ o. AreWithin o words) _ tt
+          (either_fit (option_and_then (made_fit operations i facts) facts.fit) _ words makes.1
+          (fit_stays (changes i) s.registers words left facts.fit meets.fit))
 
     -- most instructions make nothing
     makes_none : (words : List ℕ) (fit : Option Fit) → AreWithin (option_and_then (λ (f : Fit). None) fit) words
@@ -175,7 +178,8 @@ module _ {D : Type 0} {IsFact : D → Type 0} {contains : D → ℕ → Type 0} 
           cells = met.cells;
           group = met.group;
           sum = met.sum;
-          fit = compared_meets told dst source told.sum (told_facts sound.facts facts dst source both are are_both) met met.sum;
+          fit = tracked_holds operations (λ o. AreWithin o s.registers) _ tt
+              (compared_meets told dst source told.sum (told_facts sound.facts facts dst source both are are_both) met met.sum);
         }
 
     along_meets : (taken : Bool) (width : Width) (relation : Relation) (dst : ℕ) (source : Source) (slot : ℕ)

@@ -83,6 +83,10 @@ module _ {D : Type 0} (operations : Operations D) where
   abbrev pub greatest : Facts D → ℕ → ℕ
   greatest facts r = (operations.bounds (fact facts r)).high
 
+  -- what is known of registers together, where sums are tracked; else nothing
+  abbrev pub tracked : {A : Type 0} → Option A → Option A
+  tracked known = if operations.tracks_sums then known else None
+
   -- along an edge of a compare, behind which these are the facts: a sum of two registers in one of those that were compared is at
   -- most what that can be; of any other two is known what was before
   abbrev pub compared_fit : (dst : ℕ) → Source → Facts D → Option Sum → Option Fit
@@ -96,7 +100,7 @@ module _ {D : Type 0} (operations : Operations D) where
   abbrev pub with_compared : ℕ → Source → Facts D → D × D → Facts D
   with_compared dst source facts both =
       let told = with_source (with_fact facts dst both.0) source both.1 in
-      record told { fit = compared_fit dst source told told.sum }
+      record told { fit = tracked (compared_fit dst source told told.sum) }
 
   -- the same along an edge, if there is such an edge
   abbrev pub with_both : Facts D → ℕ → Source → Option (D × D) → Option (Facts D)
@@ -200,7 +204,11 @@ module _ {D : Type 0} (operations : Operations D) where
 
   -- facts with what is known of registers together after an instruction, before which these others were known
   abbrev pub with_sums : Instruction → Facts D → Facts D → Facts D
-  with_sums i before facts = record facts { sum = sum_behind i before.sum; fit = fit_behind i before }
+  with_sums i before facts = record facts { sum = tracked (sum_behind i before.sum); fit = tracked (fit_behind i before) }
+
+  -- after an instruction that leaves a word in its register; none after another
+  abbrev pub after_word : Instruction → Facts D → Option (Facts D)
+  after_word i facts = option_map (with_sums i facts) (with_word facts (option_or (loaded_word i facts) (computed_word i facts)))
 
   -- ---- joins
 
@@ -211,7 +219,7 @@ module _ {D : Type 0} (operations : Operations D) where
     cells = joined_each (join_cell operations.join) a.cells b.cells;
     emitted = max a.emitted b.emitted;
     sum = None;
-    fit = join_fit a.fit b.fit;
+    fit = tracked (join_fit a.fit b.fit);
   }
 
   -- the join of what there is
@@ -229,7 +237,7 @@ module _ {D : Type 0} (operations : Operations D) where
         Some (after_store block facts size dst offset (kept_fact facts size src))
     facts_behind (Branch width relation dst source distance) facts = along false width relation dst source facts
     facts_behind (Call helper) facts = Some (with_sums (Call helper) facts (after_emit facts))
-    facts_behind i facts = option_map (with_sums i facts) (with_word facts (option_or (loaded_word i facts) (computed_word i facts)))
+    facts_behind i facts = after_word i facts
 
     -- at the target of a jump that is taken; none where there is no such edge
     abbrev pub facts_at_target : Instruction → Facts D → Option (Facts D)

@@ -1,5 +1,5 @@
 -- What acceptance is worth, and what a refusal tells.
-use Rattle.std.specs.Prelude.{ℕ, ◌≡◌, ◌<◌, ◌≤◌, ◌-◌, ◌^◌, false, List, length, Option, Some, None, IsSome}
+use Rattle.std.specs.Prelude.{ℕ, ◌≡◌, ◌<◌, ◌≤◌, ◌-◌, ◌^◌, false, List, length, Option, Some, None, IfSome, IsSome}
 use Rattle.instruction_set.specs.Program.{IsProgram, instruction_count}
 use Rattle.instruction_set.specs.declared.instruction.Instruction.{Instruction}
 use Rattle.program_meaning.specs.BlockRun.{block_run_of, state_after_steps}
@@ -75,6 +75,11 @@ abbrev pub JudgesByBounds : {D : Type 0} → (D → Type 0) → Operations D →
 JudgesByBounds {D} IsFact operations = TakesAddressesForAny IsFact operations
     → (block : ℕ) (facts : Facts D) → IsFact (fact operations facts 1) → IsFact (fact operations facts 2)
     → record_fits operations block facts ≡ false
+
+-- where sums aren't tracked, nothing is known of registers together at any slot: a program is judged as if there were no sums
+abbrev pub JudgesWithoutSums : {D : Type 0} → Operations D → Type 0
+JudgesWithoutSums operations = operations.tracks_sums ≡ false → (block : ℕ) (program : List (Option Instruction)) (slot : ℕ)
+    → IfSome (facts_at operations block program slot) (λ facts. (facts.sum ≡ None) × (facts.fit ≡ None))
 
 -- over every block of the length, every context and every scratch, each state of a block run meets what is known at its slot,
 -- where each slot that the block run was at before is passed; whether its own is passed doesn't matter

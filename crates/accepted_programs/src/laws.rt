@@ -1,6 +1,6 @@
 //! Laws of the definitions. Each function does nothing: what it ensures is the law.
 
-ghost use Rattle.accepted_programs.specs.Laws.{AcceptedAccessesLie, AcceptedEmitsNoMore, AcceptedEndsByItself, AcceptedFailsNowhere, AcceptedNeverTraps, FactsAreMet, JudgesByBounds, RefusalIsFirst, RefusalIsInside};
+ghost use Rattle.accepted_programs.specs.Laws.{AcceptedAccessesLie, AcceptedEmitsNoMore, AcceptedEndsByItself, AcceptedFailsNowhere, AcceptedNeverTraps, FactsAreMet, JudgesByBounds, JudgesWithoutSums, RefusalIsFirst, RefusalIsInside};
 ghost use Rattle.accepted_programs.specs.Numbers.{CellsAreWords};
 
 use word_domain::Domain;
@@ -67,6 +67,12 @@ pub fn facts_are_met<D: Domain>()
 /// and never by their sum.
 pub fn judges_by_bounds<D: Domain>()
     ensures { JudgesByBounds D.is_fact D.operations }
+{}
+
+/// Where a domain doesn't track sums of registers, nothing is known of registers together at any slot of a program: it is judged as
+/// if there were no sums.
+pub fn judges_without_sums<D: Domain>()
+    ensures { JudgesWithoutSums D.operations }
 {}
 
 /// What is known of the stack is known of its words of eight bytes, of which there are 64 (profile).

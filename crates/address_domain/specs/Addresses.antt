@@ -1,5 +1,5 @@
 -- The domain of addresses: that of intervals, in which an address is a word too (profile).
-use Rattle.std.specs.Prelude.{ℕ, ℤ, pos, nat_abs, ◌+ℤ◌, ◌-ℤ◌}
+use Rattle.std.specs.Prelude.{ℕ, ℤ, true, pos, nat_abs, ◌+ℤ◌, ◌-ℤ◌}
 use Rattle.std.specs.Option.{option_map}
 use Rattle.program_interface.specs.Area.{address_of}
 use Rattle.program_interface.specs.declared.area.Area.{Area}
@@ -46,4 +46,5 @@ addresses = record intervals {
   refine = λ width relation taken d s same.
       option_map (both_narrowed d s) (intervals.refine width relation taken (as_words d) (as_words s) same);
   bounds = words_of;
+  tracks_sums = true;
 }

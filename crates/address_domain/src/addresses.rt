@@ -219,4 +219,9 @@ impl Domain for Addresses {
     fn offsets(self) -> Option<Offsets> {
         self.fact.offsets()
     }
+
+    #[inline]
+    fn tracks_sums() -> bool {
+        true
+    }
 }

@@ -1,5 +1,5 @@
 -- What the rules for facts come to: the operations of the domain of intervals (profile).
-use Rattle.std.specs.Prelude.{pos}
+use Rattle.std.specs.Prelude.{false, pos}
 use Rattle.word_domain.specs.Domain.{Operations}
 use Rattle.interval_domain.specs.Arithmetic.{alu_of}
 use Rattle.interval_domain.specs.Edge.{refine_of}
@@ -21,4 +21,5 @@ intervals = record {
   access = area_accessed;
   bounds = bounds_of;
   offsets = offsets_of;
+  tracks_sums = false;
 }

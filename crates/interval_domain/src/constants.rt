@@ -112,4 +112,9 @@ impl Domain for Constants {
     fn offsets(self) -> Option<Offsets> {
         offsets(self.fact)
     }
+
+    #[inline]
+    fn tracks_sums() -> bool {
+        false
+    }
 }

@@ -127,4 +127,9 @@ impl Domain for Intervals {
     fn offsets(self) -> Option<Offsets> {
         offsets(self.fact)
     }
+
+    #[inline]
+    fn tracks_sums() -> bool {
+        false
+    }
 }

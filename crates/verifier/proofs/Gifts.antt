@@ -11,7 +11,7 @@ use Rattle.instruction_set.specs.declared.instruction.Instruction.{Instruction}
 use Rattle.instruction_set.specs.declared.instruction.Source.{Source}
 use Rattle.instruction_set.specs.declared.instruction.Source.TheVariants.{Immediate, Register}
 use Rattle.word_domain.specs.Domain.{Operations}
-use Rattle.accepted_programs.specs.Facts.{compared_fit, facts_at_target, facts_behind, gives, leads, merge, slot_behind, with_compared}
+use Rattle.accepted_programs.specs.Facts.{compared_fit, facts_at_target, facts_behind, gives, leads, merge, slot_behind, tracked, with_compared}
 use Rattle.verifier.specs.steps.Rows.{EachBecomes, GivesBoth, held, held_at, Rows, with_gift}
 use Rattle.accepted_programs.specs.declared.facts.Facts.{Facts}
 
@@ -38,11 +38,11 @@ module _ {D : Type 0} (operations : Operations D) where
       ≡ with_compared operations dst source facts other
   edge_replaced facts dst (Register r) one other =
       ap (λ registers. let told = record facts { registers = registers } in
-      record told { fit = compared_fit operations dst (Register r) told told.sum })
+      record told { fit = tracked operations (compared_fit operations dst (Register r) told told.sum) })
       (both_twice facts.registers dst r one.0 one.1 other.0 other.1)
   edge_replaced facts dst (Immediate z) one other =
       ap (λ registers. let told = record facts { registers = registers } in
-      record told { fit = compared_fit operations dst (Immediate z) told told.sum })
+      record told { fit = tracked operations (compared_fit operations dst (Immediate z) told told.sum) })
       (set-set facts.registers dst one.0 other.0)
 
   merge_none : (o : Option (Facts D)) → merge operations o None ≡ o

@@ -1,10 +1,9 @@
 //! What an instruction leaves known along its edges.
 
-ghost use Rattle.std.specs.Prelude.{◌≡◌, ◌+◌, ◌<◌, ◌^◌, ◌++◌, replicate, drop, None, option_map};
-ghost use Rattle.std.specs.Option.{option_or};
+ghost use Rattle.std.specs.Prelude.{◌≡◌, ◌+◌, ◌<◌, ◌^◌, ◌++◌, replicate, drop, None};
 ghost use Rattle.std.specs.Bool.{then_some};
 ghost use Rattle.instruction_set.specs.Instruction.{distance_of};
-ghost use Rattle.accepted_programs.specs.Facts.{source_fact, compared_fact, after_emit, after_store, computed_word, enters_stack as area_is_stack, facts_behind, greatest_length, kept_fact, loaded_fact, loaded_word, with_compared, with_fact, with_source, with_sums, with_word};
+ghost use Rattle.accepted_programs.specs.Facts.{source_fact, compared_fact, after_emit, after_store, after_word, computed_word, enters_stack as area_is_stack, facts_behind, greatest_length, kept_fact, loaded_fact, loaded_word, with_compared, with_fact, with_source};
 ghost use Rattle.verifier.specs.steps.Instructions.{CanBeCounted, told_along};
 
 use crate::cells::{cell_of, is_stack, known, store_into};
@@ -209,7 +208,7 @@ fn computed<D: Domain>(instruction: &Instruction, facts: &Facts<D>) -> Option<(R
 
 /// Changes the facts to those after an instruction that leaves a word in its register; false for one that doesn't.
 fn leave<D: Domain>(instruction: &Instruction, facts: &mut Facts<D>) -> bool
-    ensures { then_some result facts.new ≡ option_map (with_sums D.operations instruction.now facts.old) (with_word D.operations facts.old (option_or (loaded_word D.operations instruction.now facts.old) (computed_word D.operations instruction.now facts.old))) }
+    ensures { then_some result facts.new ≡ after_word D.operations instruction.now facts.old }
 {
     let Some((dst, fact)) = loaded(instruction, facts).or(computed(instruction, facts)) else {
         return false;

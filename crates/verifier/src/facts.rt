@@ -55,5 +55,5 @@ pub(crate) fn join<D: Domain>(facts: &mut Facts<D>, other: &Facts<D>)
     join_cells(&mut facts.cells, &other.cells);
     facts.emitted = facts.emitted.max(other.emitted);
     facts.sum = None;
-    facts.fit = join_fit(facts.fit, other.fit);
+    facts.fit = join_fit::<D>(&facts.fit, &other.fit);
 }

@@ -1,8 +1,8 @@
 //! What a verifier says of a program, and what it knows of it.
 
-ghost use Rattle.std.specs.Prelude.{◌≡◌, ◌<◌, ◌≤◌, ◌==◌, if◌then◌else◌, ℕ, length, get_or, None, Some, IfOk};
+ghost use Rattle.std.specs.Prelude.{◌≡◌, ◌<◌, ◌≤◌, ℕ, length, get_or, None, IfOk};
 ghost use Rattle.accepted_programs.specs.Facts.{facts_at_start, given_below};
-ghost use Rattle.verifier.specs.steps.Rows.{held, held_at};
+ghost use Rattle.verifier.specs.steps.Rows.{HoldStart, held, held_at};
 ghost use Rattle.accepted_programs.specs.Emitted.{group_in};
 ghost use Rattle.verifier.specs.Judged.{IsJudged};
 
@@ -64,7 +64,7 @@ fn boxed_start<D: Domain>(alloc: Global) -> Result<Box<Facts<D>>, AllocError>
 pub(crate) fn first_rows<D: Domain>(alloc: Global, slots: usize) -> Result<Vec<Row<D>>, AllocError>
     requires { 1 ≤ slots }
     ensures len { IfOk result (λ rows. length rows.items ≡ slots) }
-    ensures rows { IfOk result (λ rows. (s : ℕ) → s < slots → held_at rows.items s ≡ (if s == 0 then Some (facts_at_start D.operations) else None)) }
+    ensures rows { IfOk result (λ rows. HoldStart D.operations slots rows.items) }
 {
     let mut rows = empty_rows(alloc, slots)?;
     rows[0] = Some(boxed_start(alloc)?);

@@ -2,11 +2,10 @@
 
 ghost use Rattle.std.specs.Prelude.{◌≡◌, ◌<◌, length, Some, IsSome, IfSome, IfNone, IfOk, OnOk, false};
 ghost use Rattle.instruction_set.specs.Instruction.{distance_of};
-ghost use Rattle.instruction_set.specs.Program.{instruction_at};
-ghost use Rattle.accepted_programs.specs.Accepted.{refusal_at, turns_away};
+ghost use Rattle.accepted_programs.specs.Accepted.{turns_away};
 ghost use Rattle.accepted_programs.specs.Facts.{gives, merge, with_compared};
 ghost use Rattle.verifier.specs.steps.Instructions.{CanBeCounted, StaysInside};
-ghost use Rattle.verifier.specs.steps.Rows.{EachBecomes, GivesAlong, GivesByJump, GivesOn, held, held_at, refusal_in, with_gift};
+ghost use Rattle.verifier.specs.steps.Rows.{EachBecomes, GivesAlong, GivesByJump, GivesOn, IsFoundAt, IsJoined, held, held_at, with_gift};
 
 use crate::edges::{refined, set_both, step};
 use crate::facts::join;
@@ -70,7 +69,7 @@ fn give<D: Domain>(rows: &mut [Row<D>], spare: &mut Row<D>, to: usize, facts: Bo
 
 /// Joins facts into those that a slot was given, if it was given some.
 fn join_into<D: Domain>(row: &mut Row<D>, facts: &Facts<D>)
-    ensures { IsSome row.old → held row.new ≡ merge D.operations (held row.old) (Some facts.now) }
+    ensures { IsJoined D.operations facts.now row.old row.new }
 {
     if let Some(earlier) = row {
         join(earlier, facts);
@@ -87,7 +86,7 @@ fn split<D: Domain>(
     not_taken: (D, D),
     taken: (D, D),
 )
-    ensures row { IsSome row.old → held row.new ≡ merge D.operations (held row.old) (Some (with_compared D.operations dst source.now facts.old taken)) }
+    ensures row { IsJoined D.operations (with_compared D.operations dst source.now facts.old taken) row.old row.new }
     ensures facts { facts.new ≡ with_compared D.operations dst source.now facts.old not_taken }
 {
     let fit = facts.fit;
@@ -253,7 +252,7 @@ pub(crate) fn visit<D: Domain>(
     requires long { length rows.old ≡ length program.now }
     requires within { slot < length program.now }
     ensures len { length rows.new ≡ length rows.old }
-    ensures found { IfOk result (λ found. refusal_in found ≡ refusal_at D.operations program.now sizes slot (instruction_at program.now slot) (held_at rows.old slot)) }
+    ensures found { IfOk result (IsFoundAt D.operations program.now sizes slot rows.old) }
     ensures facts { IfOk result (λ found. IfSome found (λ refused. Some refused.facts.value ≡ held_at rows.old slot)) }
     ensures given { IfOk result (λ found. IfNone found (GivesOn D.operations sizes.block program.now slot rows.old rows.new)) }
 {

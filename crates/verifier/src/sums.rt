@@ -3,7 +3,7 @@
 ghost use Rattle.std.specs.Prelude.{◌≡◌, false};
 ghost use Rattle.std.specs.Option.{option_and_then, option_map_or};
 ghost use Rattle.program_meaning.specs.Laws.{changes as instruction_changes};
-ghost use Rattle.accepted_programs.specs.Facts.{compared_fit as fit_along, fit_behind as fit_after, greatest as greatest_word, greatest_address as greatest_known_address, made_fit as fit_made, with_sums};
+ghost use Rattle.accepted_programs.specs.Facts.{compared_fit as fit_along, fit_behind as fit_after, greatest as greatest_word, greatest_address as greatest_known_address, made_fit as fit_made, tracked, with_sums};
 ghost use Rattle.accepted_programs.specs.Sums.{alters_sum, carried as fit_carried, copied as register_copied, fit_left as fit_stays, fit_of as fit_of_sum, grown as sum_grown, is_added as register_is_added, is_register as source_is, join_fit as fits_joined, made_sum as sum_made, moved_fit as fit_moved, renamed as fit_renamed, shifted as fit_shifted, sum_behind as sum_after, sum_left as sum_stays, with_more as sum_with_more};
 
 use accepted_programs::{Facts, Fit, Sum};
@@ -303,13 +303,26 @@ fn alter_fit<D: Domain>(instruction: &Instruction, facts: &mut Facts<D>)
 
 /// Changes what was known of registers together to what is known behind an instruction.
 #[inline]
-pub(crate) fn alter_sums<D: Domain>(instruction: &Instruction, facts: &mut Facts<D>)
-    ensures { facts.new ≡ with_sums D.operations instruction.now facts.old facts.old }
+fn alter_known<D: Domain>(instruction: &Instruction, facts: &mut Facts<D>)
+    ensures { facts.new ≡ record facts.old { sum = sum_after instruction.now facts.old.sum; fit = fit_after D.operations instruction.now facts.old } }
 {
     if facts.fit.is_some() {
         alter_fit(instruction, facts);
     }
     alter_sum(instruction, &mut facts.sum);
+}
+
+/// The same where sums are tracked; else nothing is known of registers together.
+#[inline]
+pub(crate) fn alter_sums<D: Domain>(instruction: &Instruction, facts: &mut Facts<D>)
+    ensures { facts.new ≡ with_sums D.operations instruction.now facts.old facts.old }
+{
+    if D::tracks_sums() {
+        alter_known(instruction, facts);
+    } else {
+        facts.sum = None;
+        facts.fit = None;
+    }
 }
 
 // ---- edges and joins
@@ -327,11 +340,7 @@ fn fit_of(most: u64, sum: Sum) -> Option<Fit>
 }
 
 /// Along an edge of a compare, behind which these are the facts.
-pub(crate) fn compared_fit<D: Domain>(
-    dst: Register,
-    source: &Source,
-    facts: &Facts<D>,
-) -> Option<Fit>
+fn told_fit<D: Domain>(dst: Register, source: &Source, facts: &Facts<D>) -> Option<Fit>
     ensures { result ≡ fit_along D.operations dst source.now facts.now facts.now.sum }
 {
     let Some(sum) = facts.sum else {
@@ -347,8 +356,24 @@ pub(crate) fn compared_fit<D: Domain>(
     }
 }
 
+/// The same where sums are tracked; else nothing.
+#[inline]
+pub(crate) fn compared_fit<D: Domain>(
+    dst: Register,
+    source: &Source,
+    facts: &Facts<D>,
+) -> Option<Fit>
+    ensures { result ≡ tracked D.operations (fit_along D.operations dst source.now facts.now facts.now.sum) }
+{
+    if D::tracks_sums() {
+        told_fit(dst, source, facts)
+    } else {
+        None
+    }
+}
+
 /// What is known on both ways.
-pub(crate) fn join(fit: Option<Fit>, other: Option<Fit>) -> Option<Fit>
+fn join_fits(fit: Option<Fit>, other: Option<Fit>) -> Option<Fit>
     ensures { result ≡ fits_joined fit other }
 {
     let (Some(fit), Some(other)) = (fit, other) else {
@@ -359,6 +384,18 @@ pub(crate) fn join(fit: Option<Fit>, other: Option<Fit>) -> Option<Fit>
             most: fit.most.max(other.most),
             ..fit
         })
+    } else {
+        None
+    }
+}
+
+/// The same where sums are tracked; else nothing.
+#[inline]
+pub(crate) fn join<D: Domain>(fit: &Option<Fit>, other: &Option<Fit>) -> Option<Fit>
+    ensures { result ≡ tracked D.operations (fits_joined fit.now other.now) }
+{
+    if D::tracks_sums() {
+        join_fits(*fit, *other)
     } else {
         None
     }

@@ -42,6 +42,8 @@ pub record Operations (D : Type 0) : Type 0 where
   pub bounds : D → Bounds
   -- the area from whose address every word is a distance away, and the least and the greatest distance, or wider
   pub offsets : D → Option Offsets
+  -- are sums of registers tracked? They are of no use where an address has the bounds of any word
+  pub tracks_sums : Bool
 
 -- the edge exists, and both words belong after it
 abbrev pub BelongAfter : {D : Type 0} → (D → ℕ → Type 0) → ℕ → ℕ → Option (D × D) → Type 0

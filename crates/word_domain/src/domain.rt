@@ -89,4 +89,9 @@ pub trait Domain: Copy {
     /// distance, or wider. None where that isn't known.
     fn offsets(self) -> Option<Offsets>
         ensures { result ≡ operations.offsets self };
+
+    /// Are sums of registers tracked? They are of use only where `bounds` tells bounds of addresses too: by these and a sum a
+    /// record can be known to end inside its area.
+    fn tracks_sums() -> bool
+        ensures { result ≡ operations.tracks_sums };
 }

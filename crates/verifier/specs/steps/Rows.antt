@@ -1,9 +1,11 @@
 -- The facts of the slots, each in a box of its own, and what slots hold once facts were given to some.
-use Rattle.std.specs.Prelude.{ℕ, ◌≡◌, ◌<◌, ◌==◌, Box, List, length, get_or, option_map, Option, None, if◌then◌else◌}
+use Rattle.std.specs.Prelude.{ℕ, ◌≡◌, ◌<◌, ◌==◌, Box, List, length, get_or, option_map, Option, Some, None, IsSome, if◌then◌else◌}
 use Rattle.instruction_set.specs.Program.{instruction_at}
 use Rattle.instruction_set.specs.declared.instruction.Instruction.{Instruction}
+use Rattle.program_interface.specs.RunSizes.{Sizes}
 use Rattle.word_domain.specs.Domain.{Operations}
-use Rattle.accepted_programs.specs.Facts.{facts_at_target, facts_behind, gives, merge, with_both}
+use Rattle.accepted_programs.specs.Accepted.{refusal_at}
+use Rattle.accepted_programs.specs.Facts.{facts_at_start, facts_at_target, facts_behind, gives, merge, with_both}
 use Rattle.accepted_programs.specs.declared.facts.Facts.{Facts}
 use Rattle.accepted_programs.specs.declared.reason.Refusal.{Refusal}
 use Rattle.verifier.specs.declared.rows.Fork.{Fork}
@@ -32,6 +34,14 @@ module _ {D : Type 0} (operations : Operations D) where
   with_gift to given slot sofar = merge operations sofar (if to == slot then given else None)
 
   module _ {Z : Type 0} where
+    -- of so many slots the first holds what is known at the start of a block run, and no other holds anything
+    abbrev pub HoldStart : ℕ → Rows D Z → Type 0
+    HoldStart slots rows = (s : ℕ) → s < slots → held_at rows s ≡ (if s == 0 then Some (facts_at_start operations) else None)
+
+    -- facts were joined into those that a slot was given, if it was given some
+    abbrev pub IsJoined : Facts D → (old new : Option (Box (Facts D) Z)) → Type 0
+    IsJoined facts old new = IsSome old → held new ≡ merge operations (held old) (Some facts)
+
     -- facts were given to the slot behind a jump, and then others to its target
     abbrev pub GivesBoth : ℕ → Option (Facts D) → ℕ → Option (Facts D) → (old new : Rows D Z) → Type 0
     GivesBoth behind given target others =
@@ -58,3 +68,8 @@ module _ {D : Type 0} (operations : Operations D) where
 -- the refusal that a visit found, if it did
 abbrev pub refusal_in : {D : Type 0} → Option (Refused D) → Option Refusal
 refusal_in = option_map (λ refused. refused.refusal)
+
+-- what is found at a slot is its refusal, by the facts that it holds
+abbrev pub IsFoundAt : {D Z : Type 0} → Operations D → List (Option Instruction) → Sizes → ℕ → Rows D Z → Option (Refused D) → Type 0
+IsFoundAt operations program sizes slot rows found =
+    refusal_in found ≡ refusal_at operations program sizes slot (instruction_at program slot) (held_at rows slot)
