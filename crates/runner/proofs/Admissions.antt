@@ -13,6 +13,7 @@ use Rattle.program_interface.specs.RunSizes.{Sizes}
 use Rattle.image_store.specs.Namespace.{ZonedNamespace}
 use Rattle.image_store.specs.declared.geometry.ZoneBlock.{ZoneBlock}
 use Rattle.emit_append.specs.Need.{need}
+use Rattle.word_domain.specs.declared.domain.Domain.{Ghosts}
 use Rattle.verifier.specs.Verified.{sizes_of}
 use Rattle.zns_commands.specs.Address.{zone_block_in}
 use Rattle.device_meaning.specs.Admission.{Loaded, address_checks, destination_checks, destination_zone, granted_sizes, run_refusal, sizes_in, source_checks}
@@ -76,17 +77,18 @@ destination_decides s command input sizes source destination run blocks holds no
 
 -- ---- the sizes that the program of a slot was accepted for
 
--- by what a device keeps in the slot
-abbrev pub sizes_known : Option LoadedProgram → Option Sizes
-sizes_known = option_map (λ (p : LoadedProgram). sizes_of p.prepared)
+module _ {D : Type 0} {domain : Ghosts D} where
+  -- by what a device keeps in the slot
+  abbrev pub sizes_known : Option (LoadedProgram D domain) → Option Sizes
+  sizes_known = option_map (λ (p : LoadedProgram D domain). sizes_of p.prepared)
 
--- where it is for the blocks of the namespace, the limit of what is loaded tells them
-sizes_by : (ns : ZonedNamespace) (o : Option LoadedProgram) → ((p : LoadedProgram) → o ≡ Some p → IsForBlocks ns p)
-    → option_map (λ (loaded : Loaded). granted_sizes ns loaded.limit) (loaded_slot o) ≡ sizes_known o
-sizes_by ns None accepted = refl
-sizes_by ns (Some p) accepted = ap (λ (block : ℕ). Some (record { block = block; limit = (sizes_of p.prepared).limit })) (sym (accepted p refl))
+  -- where it is for the blocks of the namespace, the limit of what is loaded tells them
+  sizes_by : (ns : ZonedNamespace) (o : Option (LoadedProgram D domain)) → ((p : LoadedProgram D domain) → o ≡ Some p → IsForBlocks ns p)
+      → option_map (λ (loaded : Loaded). granted_sizes ns loaded.limit) (loaded_slot o) ≡ sizes_known o
+  sizes_by ns None accepted = refl
+  sizes_by ns (Some p) accepted = ap (λ (block : ℕ). Some (record { block = block; limit = (sizes_of p.prepared).limit })) (sym (accepted p refl))
 
-module _ (ns : ZonedNamespace) (slots : List (Option LoadedProgram)) (runs : List (Option ActiveRun)) where
+module _ {D : Type 0} {domain : Ghosts D} (ns : ZonedNamespace) (slots : List (Option (LoadedProgram D domain))) (runs : List (Option ActiveRun)) where
   pub program_is : (slot : ℕ) → loaded_at (device_state ns slots runs) slot ≡ loaded_slot (get_or slots slot None)
   program_is slot = get_or-map loaded_slot slots slot None
 

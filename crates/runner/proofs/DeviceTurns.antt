@@ -9,7 +9,8 @@ use Rattle.nvme_entry.specs.declared.command.RunCommand.{RunCommand}
 use Rattle.instruction_set.specs.declared.instruction.Instruction.{Instruction}
 use Rattle.program_meaning.proofs.Proved.{the_value}
 use Rattle.accepted_programs.proofs.Proved.{set_known, set_some}
-use Rattle.device_meaning.specs.Judging.{interval_judge}
+use Rattle.device_meaning.specs.Judging.{IsSoundJudge, Judge, interval_judge}
+use Rattle.word_domain.specs.declared.domain.Domain.{Ghosts}
 use Rattle.verifier.specs.Verified.{program_of, sizes_of}
 use Rattle.image_store.specs.Geometry.{Shape}
 use Rattle.image_store.specs.Namespace.{ZonedNamespace, shape, zone_at}
@@ -27,7 +28,7 @@ use Rattle.device_meaning.specs.View.{place_of, seen, to_come, turns_of}
 use Rattle.device_events.specs.ToldEvents as told
 use Rattle.device_events.specs.declared.reply.Reply.{Reply}
 use Rattle.device_events.specs.declared.reply.Reply.TheVariants as reply
-use Rattle.device_meaning.proofs.Proved.{blocks_leave_others, events_keep_for_runs, turned_is}
+use Rattle.device_meaning.proofs.Proved.{blocks_leave_others, events_keep_for_runs, states_are_sound, turned_is}
 use Rattle.runner.specs.steps.Answered.{complete_reply}
 use Rattle.runner.specs.DeviceState.{active_of, loaded_slot, loaded_of, running, device_state}
 use Rattle.runner.specs.steps.Ready.{FitsNamespace, HasRoomLeft, IsForBlocks, IsReady, IsRunning}
@@ -36,11 +37,10 @@ use Rattle.runner.specs.steps.Turning.{FitsAt, FitsIn, FitsOn, TurnGoesOn, HasEn
 use Rattle.runner.specs.declared.active_run.ActiveRun.{ActiveRun}
 use Rattle.runner.specs.declared.loaded_program.LoadedProgram.{LoadedProgram}
 use Rattle.runner.proofs.MayBeThere.{found}
-use Rattle.runner.proofs.Reached.{reached_is_sound}
 use Rattle.runner.proofs.Staying.{Stays, grows_there, keeps_source, others_stay, place_is, placed_at, still_fits, still_left}
 
-module _ (ns : ZonedNamespace) (slots : List (Option LoadedProgram)) (runs : List (Option ActiveRun)) (ready : IsReady ns slots runs)
-    (k : ℕ) (a : ActiveRun) (at : get_or runs k None ≡ Some a) (p : LoadedProgram) (loaded : get_or slots a.command.slot None ≡ Some p) where
+module _ {D : Type 0} {domain : Ghosts D} (ns : ZonedNamespace) (slots : List (Option (LoadedProgram D domain))) (runs : List (Option ActiveRun)) (ready : IsReady ns slots runs)
+    (k : ℕ) (a : ActiveRun) (at : get_or runs k None ≡ Some a) (p : LoadedProgram D domain) (loaded : get_or slots a.command.slot None ≡ Some p) where
   abbrev s : State
   s = device_state ns slots runs
 
@@ -74,11 +74,11 @@ module _ (ns : ZonedNamespace) (slots : List (Option LoadedProgram)) (runs : Lis
   left : HasRoomLeft ns limit a
   left =
       let own = ready.running k a at in
-      subst (λ (o : Option LoadedProgram). IfSome o (λ q. HasRoomLeft ns (sizes_of q.prepared).limit a)) (sym own.loaded ∙ loaded) own.left
+      subst (λ (o : Option (LoadedProgram D domain)). IfSome o (λ q. HasRoomLeft ns (sizes_of q.prepared).limit a)) (sym own.loaded ∙ loaded) own.left
 
-  fits_on : IsReached interval_judge s → FitsOn ns code limit a
-  fits_on reached =
-      let sound = reached_is_sound s reached in
+  fits_on : (judge : Judge) → IsSoundJudge judge → IsReached judge s → FitsOn ns code limit a
+  fits_on judge judges reached =
+      let sound = states_are_sound judge judges s reached in
       record {
         run = fits;
         some = omega (arith, block_some sound.namespace.shape);
@@ -89,15 +89,15 @@ module _ (ns : ZonedNamespace) (slots : List (Option LoadedProgram)) (runs : Lis
         left = left;
       }
 
-  fits_in : IsReached interval_judge s → FitsIn ns (get_or slots a.command.slot None) a
-  fits_in reached = subst (λ (o : Option LoadedProgram). FitsIn ns o a) (sym loaded) (accepted, fits_on reached)
+  fits_in : (judge : Judge) → IsSoundJudge judge → IsReached judge s → FitsIn ns (get_or slots a.command.slot None) a
+  fits_in judge judges reached = subst (λ (o : Option (LoadedProgram D domain)). FitsIn ns o a) (sym loaded) (accepted, fits_on judge judges reached)
 
   -- ---- the first of its turns is done, and its program and its place are these
 
-  module _ (new : ZonedNamespace) (q : LoadedProgram) (r : Option ActiveRun) (turn : Turn) (later : List Turn)
+  module _ (new : ZonedNamespace) (q : LoadedProgram D domain) (r : Option ActiveRun) (turn : Turn) (later : List Turn)
       (first : turns_of ns code limit (active_of a) ≡ turn ∷ later) (written : new ≡ added ns a.destination turn.blocks)
       (same : q.prepared ≡ p.prepared) (programs : slots_left s place turn.ending ≡ map loaded_slot (set slots a.command.slot (Some q))) where
-    abbrev slots' : List (Option LoadedProgram)
+    abbrev slots' : List (Option (LoadedProgram D domain))
     slots' = set slots a.command.slot (Some q)
 
     comes : turned s k ≡ take_turn s k place (turn ∷ later)
@@ -136,17 +136,17 @@ module _ (ns : ZonedNamespace) (slots : List (Option LoadedProgram)) (runs : Lis
           (keeps j b there).program;
     }
 
-    still_for : (i : ℕ) (x : LoadedProgram) → get_or slots' i None ≡ Some x → IsForBlocks new x
+    still_for : (i : ℕ) (x : LoadedProgram D domain) → get_or slots' i None ≡ Some x → IsForBlocks new x
     still_for i x there = elim (set_known slots a.command.slot i (Some q) x there) [
       | inl is ↦ subst (λ o. IfSome o (IsForBlocks new)) is.1 (ap (λ v. (sizes_of v).block) same ∙ accepted ∙ same_block)
       | inr was ↦ ready.programs i x was.1 ∙ same_block
     ]
 
     -- the limit of what is in a slot
-    abbrev limit_at : Option LoadedProgram → ℕ
+    abbrev limit_at : Option (LoadedProgram D domain) → ℕ
     limit_at o = option_map_or (λ x. (sizes_of x.prepared).limit) o 0
 
-    same_limit : (i : ℕ) (x z : LoadedProgram) → get_or slots i None ≡ Some x → get_or slots' i None ≡ Some z
+    same_limit : (i : ℕ) (x z : LoadedProgram D domain) → get_or slots i None ≡ Some x → get_or slots' i None ≡ Some z
         → (sizes_of x.prepared).limit ≡ (sizes_of z.prepared).limit
     same_limit i x z was there = elim (set_known slots a.command.slot i (Some q) z there) [
       | inl is ↦
@@ -155,7 +155,7 @@ module _ (ns : ZonedNamespace) (slots : List (Option LoadedProgram)) (runs : Lis
     ]
 
     -- a run whose program was in its slot, and is
-    is_running : (b : ActiveRun) (x : LoadedProgram) → get_or slots b.command.slot None ≡ Some x → FitsNamespace new b
+    is_running : (b : ActiveRun) (x : LoadedProgram D domain) → get_or slots b.command.slot None ≡ Some x → FitsNamespace new b
         → HasRoomLeft new (sizes_of x.prepared).limit b → IsRunning new slots' b
     is_running b x was fit room =
         let z = the_value _ (set_some slots a.command.slot b.command.slot q (ap is_some was)) in
@@ -232,7 +232,7 @@ module _ (ns : ZonedNamespace) (slots : List (Option LoadedProgram)) (runs : Lis
 
   -- ---- a turn after which it goes on
 
-  module _ (new : ZonedNamespace) (q : LoadedProgram) (b : ActiveRun) (same : q ≡ p) (g : TurnGoesOn ns new code limit a b) (kept : Keeps a b) where
+  module _ (new : ZonedNamespace) (q : LoadedProgram D domain) (b : ActiveRun) (same : q ≡ p) (g : TurnGoesOn ns new code limit a b) (kept : Keeps a b) where
     abbrev later : List Turn
     later = turns_of new code limit (active_of b)
 
@@ -241,10 +241,10 @@ module _ (ns : ZonedNamespace) (slots : List (Option LoadedProgram)) (runs : Lis
 
     programs_same : map loaded_slot (set slots a.command.slot (Some q)) ≡ map loaded_slot slots
     programs_same =
-        map-set_same loaded_slot slots a.command.slot (Some q) None (ap (λ (x : LoadedProgram). loaded_slot (Some x)) same ∙ ap loaded_slot (sym loaded))
+        map-set_same loaded_slot slots a.command.slot (Some q) None (ap (λ (x : LoadedProgram D domain). loaded_slot (Some x)) same ∙ ap loaded_slot (sym loaded))
 
     prepared_same : q.prepared ≡ p.prepared
-    prepared_same = ap (λ (x : LoadedProgram). x.prepared) same
+    prepared_same = ap (λ (x : LoadedProgram D domain). x.prepared) same
 
     abbrev sees : ℕ → ℕ → RunCommand → ℕ → List Turn → Place
     sees queue cid command size turns = record {
@@ -276,7 +276,7 @@ module _ (ns : ZonedNamespace) (slots : List (Option LoadedProgram)) (runs : Lis
 
   -- ---- a turn that ends it
 
-  module _ (new : ZonedNamespace) (q : LoadedProgram) (b : ActiveRun) (answer : Answer) (same : q ≡ record p { result = b.scratch })
+  module _ (new : ZonedNamespace) (q : LoadedProgram D domain) (b : ActiveRun) (answer : Answer) (same : q ≡ record p { result = b.scratch })
       (e : HasEnded ns new code limit a b answer) (kept : Keeps a b) where
     abbrev last : Turn
     last = record {
@@ -287,7 +287,7 @@ module _ (ns : ZonedNamespace) (slots : List (Option LoadedProgram)) (runs : Lis
     programs_end : slots_left s place last.ending ≡ map loaded_slot (set slots a.command.slot (Some q))
     programs_end =
         ap (λ (o : Option Loaded). set (map loaded_slot slots) a.command.slot (keeping o (Some b.scratch))) slot_is
-        ∙ ap (λ (x : LoadedProgram). set (map loaded_slot slots) a.command.slot (loaded_slot (Some x))) (sym same)
+        ∙ ap (λ (x : LoadedProgram D domain). set (map loaded_slot slots) a.command.slot (loaded_slot (Some x))) (sym same)
         ∙ sym (map-set loaded_slot slots a.command.slot (Some q))
 
     completion_told : complete_reply b.queue b.cid answer ≡ (turn_reply k place last.ending).reply
@@ -298,53 +298,54 @@ module _ (ns : ZonedNamespace) (slots : List (Option LoadedProgram)) (runs : Lis
 
     ends_turned : IsTurned s k new (set slots a.command.slot (Some q)) (set runs k None) (complete_reply b.queue b.cid answer)
     ends_turned =
-        is_turned new q None last [] e.turns e.namespace (ap (λ (x : LoadedProgram). x.prepared) same) programs_end
+        is_turned new q None last [] e.turns e.namespace (ap (λ (x : LoadedProgram D domain). x.prepared) same) programs_end
         (complete_reply b.queue b.cid answer) completion_told refl tt
 
   -- ---- what its program and its run are afterwards
 
-  given_more : (new : ZonedNamespace) (q : Option LoadedProgram) (b : ActiveRun) → SlotTurned ns new (Some p) q a b None
+  given_more : (new : ZonedNamespace) (q : Option (LoadedProgram D domain)) (b : ActiveRun) → SlotTurned ns new (Some p) q a b None
       → IsTurned s k new (set slots a.command.slot q) (set runs k (Some b)) (reply.Pending k)
   given_more new None b done = absurd done
   given_more new (Some q) b done = goes_turned new q b done.0 done.1 done.2 done.3
 
-  given_last : (new : ZonedNamespace) (q : Option LoadedProgram) (b : ActiveRun) (answer : Answer) → SlotTurned ns new (Some p) q a b (Some answer)
+  given_last : (new : ZonedNamespace) (q : Option (LoadedProgram D domain)) (b : ActiveRun) (answer : Answer) → SlotTurned ns new (Some p) q a b (Some answer)
       → IsTurned s k new (set slots a.command.slot q) (set runs k None) (complete_reply b.queue b.cid answer)
   given_last new None b answer done = absurd done
   given_last new (Some q) b answer done = ends_turned new q b answer done.0 done.1 done.2
 
 -- ---- at any place
 
--- the run at a place fits, with the program of its slot
-pub fits_at : (ns : ZonedNamespace) (slots : List (Option LoadedProgram)) (runs : List (Option ActiveRun)) (k : ℕ) (place : Option ActiveRun)
-    → IsReady ns slots runs → IsReached interval_judge (device_state ns slots runs) → get_or runs k None ≡ place → FitsAt ns slots place
-fits_at ns slots runs k None ready reached at = tt
-fits_at ns slots runs k (Some a) ready reached at =
-    let own = ready.running k a at in fits_in ns slots runs ready k a at own.program own.loaded reached
+module _ {D : Type 0} {domain : Ghosts D} where
+  -- the run at a place fits, with the program of its slot
+  pub fits_at : (judge : Judge) → IsSoundJudge judge → (ns : ZonedNamespace) (slots : List (Option (LoadedProgram D domain))) (runs : List (Option ActiveRun)) (k : ℕ) (place : Option ActiveRun)
+      → IsReady ns slots runs → IsReached judge (device_state ns slots runs) → get_or runs k None ≡ place → FitsAt ns slots place
+  fits_at judge judges ns slots runs k None ready reached at = tt
+  fits_at judge judges ns slots runs k (Some a) ready reached at =
+      let own = ready.running k a at in fits_in ns slots runs ready k a at own.program own.loaded judge judges reached
 
--- no run is at a place that there isn't
-pub idles_past : (ns : ZonedNamespace) (slots : List (Option LoadedProgram)) (runs : List (Option ActiveRun)) (s : State) (k : ℕ) → device_state ns slots runs ≡ s
-    → length runs ≤ k → turned s k ≡ idle s
-idles_past ns slots runs s k view past =
-    let free = place_is ns slots runs k ∙ ap (λ (o : Option ActiveRun). seen ns (map loaded_slot slots) (running o)) (get_or_past runs k None past) in
-    ap (turned_at s k) (ap (λ (t : State). place_at t k) (sym view) ∙ free)
+  -- no run is at a place that there isn't
+  pub idles_past : (ns : ZonedNamespace) (slots : List (Option (LoadedProgram D domain))) (runs : List (Option ActiveRun)) (s : State) (k : ℕ) → device_state ns slots runs ≡ s
+      → length runs ≤ k → turned s k ≡ idle s
+  idles_past ns slots runs s k view past =
+      let free = place_is ns slots runs k ∙ ap (λ (o : Option ActiveRun). seen ns (map loaded_slot slots) (running o)) (get_or_past runs k None past) in
+      ap (turned_at s k) (ap (λ (t : State). place_at t k) (sym view) ∙ free)
 
--- no run is there
-idles : (ns : ZonedNamespace) (slots : List (Option LoadedProgram)) (runs : List (Option ActiveRun)) (k : ℕ) → IsReady ns slots runs
-    → get_or runs k None ≡ None → IsTurned (device_state ns slots runs) k ns slots runs reply.Idle
-idles ns slots runs k ready none =
-    let s = device_state ns slots runs in
-    let free : place_at s k ≡ None = place_is ns slots runs k ∙ ap (λ (o : Option ActiveRun). seen ns (map loaded_slot slots) (running o)) none in
-    let comes : turned s k ≡ idle s = ap (λ (o : Option Place). turned_at s k o) free in
-    record { reply = sym (ap (λ (h : Happening). h.reply.reply) comes); state = sym (ap (λ (h : Happening). h.state) comes); ready = ready }
+  -- no run is there
+  idles : (ns : ZonedNamespace) (slots : List (Option (LoadedProgram D domain))) (runs : List (Option ActiveRun)) (k : ℕ) → IsReady ns slots runs
+      → get_or runs k None ≡ None → IsTurned (device_state ns slots runs) k ns slots runs reply.Idle
+  idles ns slots runs k ready none =
+      let s = device_state ns slots runs in
+      let free : place_at s k ≡ None = place_is ns slots runs k ∙ ap (λ (o : Option ActiveRun). seen ns (map loaded_slot slots) (running o)) none in
+      let comes : turned s k ≡ idle s = ap (λ (o : Option Place). turned_at s k o) free in
+      record { reply = sym (ap (λ (h : Happening). h.reply.reply) comes); state = sym (ap (λ (h : Happening). h.state) comes); ready = ready }
 
-pub idles_there : (ns : ZonedNamespace) (slots : List (Option LoadedProgram)) (runs : List (Option ActiveRun)) (k : ℕ) (o : Option ActiveRun) → IsReady ns slots runs
-    → get_or runs k None ≡ o → o ≡ None → IsTurned (device_state ns slots runs) k ns slots (set runs k o) reply.Idle
-idles_there ns slots runs k o ready at none =
-    subst (λ (xs : List (Option ActiveRun)). IsTurned (device_state ns slots runs) k ns slots xs reply.Idle)
-    (sym (ap (set runs k) (sym at) ∙ set-get_or runs k None)) (idles ns slots runs k ready (at ∙ none))
+  pub idles_there : (ns : ZonedNamespace) (slots : List (Option (LoadedProgram D domain))) (runs : List (Option ActiveRun)) (k : ℕ) (o : Option ActiveRun) → IsReady ns slots runs
+      → get_or runs k None ≡ o → o ≡ None → IsTurned (device_state ns slots runs) k ns slots (set runs k o) reply.Idle
+  idles_there ns slots runs k o ready at none =
+      subst (λ (xs : List (Option ActiveRun)). IsTurned (device_state ns slots runs) k ns slots xs reply.Idle)
+      (sym (ap (set runs k) (sym at) ∙ set-get_or runs k None)) (idles ns slots runs k ready (at ∙ none))
 
-module _ (ns new : ZonedNamespace) (slots : List (Option LoadedProgram)) (k slot : ℕ) (a b : ActiveRun) (default q : Option LoadedProgram) (is_slot : slot ≡ a.command.slot)
+module _ {D : Type 0} {domain : Ghosts D} (ns new : ZonedNamespace) (slots : List (Option (LoadedProgram D domain))) (k slot : ℕ) (a b : ActiveRun) (default q : Option (LoadedProgram D domain)) (is_slot : slot ≡ a.command.slot)
     (within : slot < length slots) (runs : List (Option ActiveRun)) (at : get_or runs k None ≡ Some a) (ready : IsReady ns slots runs) where
   abbrev own : IsRunning ns slots a
   own = ready.running k a at
@@ -359,10 +360,10 @@ module _ (ns new : ZonedNamespace) (slots : List (Option LoadedProgram)) (k slot
   more_there turn =
       subst (λ (n : ℕ). Comes n (Some b) (reply.Pending k)) (sym is_slot)
       (given_more ns slots runs ready k a at own.program own.loaded new q b
-      (subst (λ (o : Option LoadedProgram). SlotTurned ns new o q a b None) in_slot turn))
+      (subst (λ (o : Option (LoadedProgram D domain)). SlotTurned ns new o q a b None) in_slot turn))
 
   pub last_there : (answer : Answer) → SlotTurned ns new (get_or slots slot default) q a b (Some answer) → Comes slot None (complete_reply b.queue b.cid answer)
   last_there answer turn =
       subst (λ (n : ℕ). Comes n None (complete_reply b.queue b.cid answer)) (sym is_slot)
       (given_last ns slots runs ready k a at own.program own.loaded new q b answer
-      (subst (λ (o : Option LoadedProgram). SlotTurned ns new o q a b (Some answer)) in_slot turn))
+      (subst (λ (o : Option (LoadedProgram D domain)). SlotTurned ns new o q a b (Some answer)) in_slot turn))

@@ -1,20 +1,20 @@
 -- A device of what was kept.
-use Rattle.std.proofs.Common.{◌≡◌, ◌<◌, ◌≤◌, ℕ, List, length, map, get_or, Option, Some, None, option_map, IfSome, refl, ap, sym, subst, ◌∙◌, arith}
+use Rattle.std.proofs.Common.{◌≡◌, ◌<◌, ℕ, List, length, map, get_or, Option, Some, None, IfSome, refl, ap, sym, subst, ◌∙◌, arith}
 use Rattle.std.proofs.Math.ListN.{get_or-map}
 use Rattle.std.proofs.lemmas.List.{ext_get_or, length-map}
 use Rattle.zone_resources.specs.declared.holds.TheConstants.{RUNS}
 use Rattle.nvme_entry.specs.declared.program_slot.TheConstants.{PROGRAM_SLOTS}
-use Rattle.nvme_entry.specs.declared.command.RunCommand.{RunCommand}
 use Rattle.image_store.specs.Namespace.{ZonedNamespace}
+use Rattle.word_domain.specs.declared.domain.Domain.{Ghosts}
 use Rattle.device_meaning.specs.Admission.{Loaded, destination_zone}
-use Rattle.device_meaning.specs.State.{State}
+use Rattle.device_meaning.specs.Judging.{Judge, judge_by}
 use Rattle.device_meaning.specs.View.{Active, seen}
 use Rattle.kept_device.specs.Kept.{SavedProgram, place_told, slot_told}
 use Rattle.kept_device.specs.declared.kept.KeptProgram.{KeptProgram}
 use Rattle.kept_device.specs.declared.kept.KeptRun.{KeptRun}
 use Rattle.runner.specs.DeviceState.{active_of, device_state, loaded_slot, running}
 use Rattle.runner.specs.Keeping.{slot_again}
-use Rattle.runner.specs.Restored.{CanAllGoOn, CanGoOn, IsOfBytes, IsRestored, TellNone}
+use Rattle.runner.specs.Restored.{CanAllGoOn, CanGoOn, IsOfBytes, IsRestoredBy, TellNoneBy}
 use Rattle.runner.specs.declared.active_run.ActiveRun.{ActiveRun}
 use Rattle.runner.specs.declared.loaded_program.LoadedProgram.{LoadedProgram}
 use Rattle.runner.specs.steps.LoadingAgain.{AreAgain, AreNotAgain}
@@ -37,10 +37,10 @@ there_by runs k a (Some active) at is = record { active = active; at = at; is = 
 pub is_there : (runs : List (Option ActiveRun)) (k : ℕ) (a : Active) → get_or (map running runs) k None ≡ Some a → IsThere runs k a
 is_there runs k a at = there_by runs k a (get_or runs k None) refl (sym (get_or-map running runs k None) ∙ at)
 
-module _ (ns : ZonedNamespace) (programs : List (Option KeptProgram)) (slots : List (Option LoadedProgram)) (are : AreAgain ns.block programs slots PROGRAM_SLOTS) where
-  slots_are : (k : ℕ) → k < PROGRAM_SLOTS → slot_again ns.block (get_or (map slot_told programs) k None) ≡ Some (get_or (map loaded_slot slots) k None)
+module _ {D : Type 0} {domain : Ghosts D} (ns : ZonedNamespace) (programs : List (Option KeptProgram)) (slots : List (Option (LoadedProgram D domain))) (are : AreAgain ns.block programs slots PROGRAM_SLOTS) where
+  slots_are : (k : ℕ) → k < PROGRAM_SLOTS → slot_again (judge_by domain.operations) ns.block (get_or (map slot_told programs) k None) ≡ Some (get_or (map loaded_slot slots) k None)
   slots_are k less =
-      ap (slot_again ns.block) (get_or-map slot_told programs k None) ∙ are.each k less ∙ ap (λ (o : Option Loaded). Some o) (sym (get_or-map loaded_slot slots k None))
+      ap (slot_again (judge_by domain.operations) ns.block) (get_or-map slot_told programs k None) ∙ are.each k less ∙ ap (λ (o : Option Loaded). Some o) (sym (get_or-map loaded_slot slots k None))
 
   slot_number : length (map loaded_slot slots) ≡ PROGRAM_SLOTS
   slot_number = length-map slots loaded_slot ∙ are.number
@@ -52,7 +52,7 @@ module _ (ns : ZonedNamespace) (programs : List (Option KeptProgram)) (slots : L
 
   module _ (kept : List (Option KeptRun)) (number : length kept ≡ RUNS) where
     -- where its runs can't go on, no device is told
-    pub stuck_tells_none : AreStuck ns slots kept → TellNone ns (map slot_told programs) (map place_told kept)
+    pub stuck_tells_none : AreStuck ns slots kept → TellNoneBy (judge_by domain.operations) ns (map slot_told programs) (map place_told kept)
     stuck_tells_none stuck s is =
         let same : s.slots ≡ map loaded_slot slots =
         ext_get_or None s.slots (map loaded_slot slots) (is.slot_number ∙ sym slot_number)
@@ -93,7 +93,7 @@ module _ (ns : ZonedNamespace) (programs : List (Option KeptProgram)) (slots : L
       }
 
       -- the device that is told
-      pub restored_there : IsRestored ns (map slot_told programs) (map place_told kept) (device_state ns slots runs)
+      pub restored_there : IsRestoredBy (judge_by domain.operations) ns (map slot_told programs) (map place_told kept) (device_state ns slots runs)
       restored_there = record {
         namespace = refl;
         program_number = length-map programs slot_told ∙ programs_number;
@@ -105,9 +105,9 @@ module _ (ns : ZonedNamespace) (programs : List (Option KeptProgram)) (slots : L
       }
 
 -- where a program isn't accepted, no device is told
-pub refused_tells_none : (ns : ZonedNamespace) (programs : List (Option KeptProgram)) (runs : List (Option Active)) → AreNotAgain ns.block programs
-    → TellNone ns (map slot_told programs) runs
-refused_tells_none ns programs runs refused s is =
-    let none = ap (slot_again ns.block) (get_or-map slot_told programs refused.slot None) ∙ refused.refused in
+pub refused_tells_none : (judge : Judge) (ns : ZonedNamespace) (programs : List (Option KeptProgram)) (runs : List (Option Active)) → AreNotAgain judge ns.block programs
+    → TellNoneBy judge ns (map slot_told programs) runs
+refused_tells_none judge ns programs runs refused s is =
+    let none = ap (slot_again judge ns.block) (get_or-map slot_told programs refused.slot None) ∙ refused.refused in
     let some = is.slots refused.slot refused.inside in
     cc (none, some)

@@ -4,7 +4,8 @@ use Rattle.std.specs.Prelude.{is_some}
 use Rattle.std.proofs.lemmas.List.{length-take, take_at, nil_from_length}
 use Rattle.std.proofs.lemmas.List.Quantifiers.{position-Some}
 use Rattle.std.proofs.lemmas.List.Sums.{fold-append, sum_by-cons}
-use Rattle.device_meaning.specs.Judging.{interval_judge}
+use Rattle.word_domain.specs.declared.domain.Domain.{Ghosts}
+use Rattle.device_meaning.specs.Judging.{IsSoundJudge, Judge}
 use Rattle.nvme_entry.specs.declared.command.TheConstants.{MOST_BLOCKS}
 use Rattle.image_store.specs.Namespace.{ZonedNamespace, zone_at}
 use Rattle.zns_commands.specs.Address.{zone_number}
@@ -20,33 +21,33 @@ use Rattle.runner.specs.steps.Ready.{FitsNamespace}
 use Rattle.device_meaning.specs.Reached.{IsReached}
 use Rattle.runner.specs.declared.active_run.ActiveRun.{ActiveRun}
 use Rattle.runner.specs.declared.loaded_program.LoadedProgram.{LoadedProgram}
-use Rattle.runner.proofs.Reached.{sound}
 
 -- ---- fewer turns are left
 
-pub turn_less : (s : State) (run : ℕ) → IsReached interval_judge s → lowest_run s ≡ Some run → turns_left (turned s run).state.places + 1 ≤ turns_left s.places
-turn_less s run reached low = turns_leave_fewer interval_judge sound s run reached ((position-Some is_some s.places run None low).1)
+pub turn_less : (judge : Judge) (sound : IsSoundJudge judge) (s : State) (run : ℕ) → IsReached judge s → lowest_run s ≡ Some run → turns_left (turned s run).state.places + 1 ≤ turns_left s.places
+turn_less judge sound s run reached low = turns_leave_fewer judge sound s run reached ((position-Some is_some s.places run None low).1)
 
--- a run has at most as many turns left as it has source blocks
-few_of : (ns : ZonedNamespace) (slots : List (Option LoadedProgram)) (a : ActiveRun) → FitsNamespace ns a
-    → turns_left (seen ns (map loaded_slot slots) (Some (active_of a)) ∷ []) ≤ MOST_BLOCKS
-few_of ns slots a fits =
-    let b = active_of a in
-    let few = rest_is_few (task_of ns (get_or (map loaded_slot slots) a.command.slot None) a.command) b.so_far (to_come ns b) in
-    let blocks = drop (a.command.lba % ns.size + a.index) (zone_at ns (zone_number ns a.command.lba)).blocks in
-    let left = length-take (a.command.blocks - a.index) blocks in
-    omega (arith, few, left, fits.most)
+module _ {D : Type 0} {domain : Ghosts D} where
+  -- a run has at most as many turns left as it has source blocks
+  few_of : (ns : ZonedNamespace) (slots : List (Option (LoadedProgram D domain))) (a : ActiveRun) → FitsNamespace ns a
+      → turns_left (seen ns (map loaded_slot slots) (Some (active_of a)) ∷ []) ≤ MOST_BLOCKS
+  few_of ns slots a fits =
+      let b = active_of a in
+      let few = rest_is_few (task_of ns (get_or (map loaded_slot slots) a.command.slot None) a.command) b.so_far (to_come ns b) in
+      let blocks = drop (a.command.lba % ns.size + a.index) (zone_at ns (zone_number ns a.command.lba)).blocks in
+      let left = length-take (a.command.blocks - a.index) blocks in
+      omega (arith, few, left, fits.most)
 
-pub few_left : (ns : ZonedNamespace) (slots : List (Option LoadedProgram)) (runs : List (Option ActiveRun))
-    → ((k : ℕ) (a : ActiveRun) → get_or runs k None ≡ Some a → FitsNamespace ns a)
-    → turns_left (device_state ns slots runs).places ≤ MOST_BLOCKS * length runs
-few_left ns slots [] fit = omega arith
-few_left ns slots (None ∷ runs) fit = let rest = few_left ns slots runs (λ k. fit (suc k)) in omega (arith, rest)
-few_left ns slots (Some a ∷ runs) fit =
-    let rest = few_left ns slots runs (λ k. fit (suc k)) in
-    let first = few_of ns slots a (fit 0 a refl) in
-    let all = sum_by-cons turns_left_at (seen ns (map loaded_slot slots) (Some (active_of a))) (device_state ns slots runs).places in
-    omega (arith, rest, first, all)
+  pub few_left : (ns : ZonedNamespace) (slots : List (Option (LoadedProgram D domain))) (runs : List (Option ActiveRun))
+      → ((k : ℕ) (a : ActiveRun) → get_or runs k None ≡ Some a → FitsNamespace ns a)
+      → turns_left (device_state ns slots runs).places ≤ MOST_BLOCKS * length runs
+  few_left ns slots [] fit = omega arith
+  few_left ns slots (None ∷ runs) fit = let rest = few_left ns slots runs (λ k. fit (suc k)) in omega (arith, rest)
+  few_left ns slots (Some a ∷ runs) fit =
+      let rest = few_left ns slots runs (λ k. fit (suc k)) in
+      let first = few_of ns slots a (fit 0 a refl) in
+      let all = sum_by-cons turns_left_at (seen ns (map loaded_slot slots) (Some (active_of a))) (device_state ns slots runs).places in
+      omega (arith, rest, first, all)
 
 -- ---- turns, one more
 
@@ -85,10 +86,10 @@ module _ {T : Type 0} (took : T → T → List ReplyWithData → Type 0) (joins 
       turns_replies-append d.runs (run ∷ []) old
       ∙ ap (λ (x : ReplyWithData). replies_to_turns d.runs old ++ x ∷ []) (sym (replied ∙ ap (λ (s : State). (turned s run).reply) d.state))
 
-  module _ (d : IsDraining old now (took first then) done) (reached : IsReached interval_judge now) (low : lowest_run now ≡ Some run) (step : new ≡ (turned now run).state) where
+  module _ (d : IsDraining old now (took first then) done) (judge : Judge) (sound : IsSoundJudge judge) (reached : IsReached judge now) (low : lowest_run now ≡ Some run) (step : new ≡ (turned now run).state) where
     more_few : done + 1 + turns_left new.places ≤ turns_left old.places
     more_few =
-        let less = turn_less now run reached low in
+        let less = turn_less judge sound now run reached low in
         let left = ap (λ (s : State). turns_left s.places) step in omega (arith, d.few, less, left)
 
     pub drained_more : reply ≡ (turned now run).reply → took then after (reply ∷ []) → IsDraining old new (took first after) (done + 1)

@@ -2,6 +2,7 @@
 use Rattle.std.proofs.Common.{◌≡◌, ℕ, zero, suc, List, [], ◌∷◌, map, get_or, Option, Some, None, refl, ap, ◌∙◌}
 use Rattle.image_store.specs.declared.geometry.ZoneBlock.{ZoneBlock}
 use Rattle.image_store.specs.Namespace.{ZonedNamespace}
+use Rattle.word_domain.specs.declared.domain.Domain.{Ghosts}
 use Rattle.device_meaning.specs.Admission.{Loaded}
 use Rattle.device_meaning.specs.State.{Place, destination_of, holds_at, source_of}
 use Rattle.device_meaning.specs.View.{seen}
@@ -36,12 +37,13 @@ module _ (ns : ZonedNamespace) (slots : List (Option Loaded)) where
       ap (λ (zone : Option ℕ). zone ∷ map held runs) (same r (fit zero))
       ∙ ap (λ (zones : List (Option ℕ)). of (seen ns slots (running r)) ∷ zones) (held_are held of same runs (λ k. fit (suc k)))
 
-pub holds_are : (ns : ZonedNamespace) (slots : List (Option LoadedProgram)) (runs : List (Option ActiveRun)) → IsReady ns slots runs
-    → held_by runs ≡ holds_at (device_state ns slots runs)
-holds_are ns slots runs ready =
-    let fit : AllFit ns runs = λ k a at. (ready.running k a at).fits in
-    let seen_slots = map loaded_slot slots in
-    ap (λ (held : List (Option ℕ)). record { sources = held; destinations = map destination_held runs })
-    (held_are ns seen_slots source_held source_of (source_is ns seen_slots) runs fit)
-    ∙ ap (λ (held : List (Option ℕ)). record { sources = map source_of (device_state ns slots runs).places; destinations = held })
-    (held_are ns seen_slots destination_held destination_of (destination_is ns seen_slots) runs fit)
+module _ {D : Type 0} {domain : Ghosts D} where
+  pub holds_are : (ns : ZonedNamespace) (slots : List (Option (LoadedProgram D domain))) (runs : List (Option ActiveRun)) → IsReady ns slots runs
+      → held_by runs ≡ holds_at (device_state ns slots runs)
+  holds_are ns slots runs ready =
+      let fit : AllFit ns runs = λ k a at. (ready.running k a at).fits in
+      let seen_slots = map loaded_slot slots in
+      ap (λ (held : List (Option ℕ)). record { sources = held; destinations = map destination_held runs })
+      (held_are ns seen_slots source_held source_of (source_is ns seen_slots) runs fit)
+      ∙ ap (λ (held : List (Option ℕ)). record { sources = map source_of (device_state ns slots runs).places; destinations = held })
+      (held_are ns seen_slots destination_held destination_of (destination_is ns seen_slots) runs fit)

@@ -8,39 +8,38 @@ use Rattle.zone_resources.proofs.Proved.{there}
 use Rattle.nvme_entry.specs.declared.program_slot.TheConstants.{PROGRAM_SLOTS}
 use Rattle.program_interface.specs.RunSizes.{Sizes}
 use Rattle.emit_append.specs.Need.{need_behind}
+use Rattle.word_domain.specs.declared.domain.Domain.{Ghosts}
 use Rattle.verifier.specs.Verified.{sizes_of}
 use Rattle.image_store.specs.Namespace.{ZonedNamespace, zone_at}
 use Rattle.image_store.specs.declared.geometry.ZoneBlock.{ZoneBlock}
+use Rattle.device_meaning.proofs.Proved.{states_are_sound}
 use Rattle.device_meaning.specs.Admission.{Loaded, destination_zone, granted_sizes, sizes_in}
-use Rattle.device_meaning.specs.Judging.{interval_judge}
+use Rattle.device_meaning.specs.Judging.{IsSoundJudge, judge_by}
 use Rattle.device_meaning.specs.Reached.{IsReached}
-use Rattle.device_meaning.specs.State.{State}
 use Rattle.device_meaning.specs.View.{Active, place_of}
-use Rattle.kept_device.specs.Kept.{SavedProgram}
-use Rattle.runner.specs.DeviceState.{active_of, device_state, loaded_of, loaded_slot, running}
+use Rattle.runner.specs.DeviceState.{active_of, device_state, loaded_slot, running}
 use Rattle.runner.specs.Keeping.{KeepsAgain, saved_slot, slot_again, loaded_again, saved_of}
-use Rattle.runner.specs.Restored.{CanAllGoOn, CanGoOn, IsRestored}
+use Rattle.runner.specs.Restored.{CanGoOn, IsRestoredBy}
 use Rattle.runner.specs.declared.active_run.ActiveRun.{ActiveRun}
 use Rattle.runner.specs.declared.loaded_program.LoadedProgram.{LoadedProgram}
 use Rattle.runner.specs.steps.Ready.{AreWritten, IsReady}
 use Rattle.runner.specs.steps.RunsKept.{IsOfRun}
 use Rattle.runner.proofs.DevicesAgain.{IsThere, is_there}
-use Rattle.runner.proofs.Reached.{reached_is_sound}
 use Rattle.runner.proofs.Staying.{placed_at}
 
-module _ (ns : ZonedNamespace) (slots : List (Option LoadedProgram)) (runs : List (Option ActiveRun)) (ready : IsReady ns slots runs)
-    (reached : IsReached interval_judge (device_state ns slots runs)) (slot_number : length slots ≡ PROGRAM_SLOTS) (run_number : length runs ≡ RUNS)
+module _ {D : Type 0} {domain : Ghosts D} (ns : ZonedNamespace) (slots : List (Option (LoadedProgram D domain))) (runs : List (Option ActiveRun)) (ready : IsReady ns slots runs)
+    (sound : IsSoundJudge (judge_by domain.operations)) (reached : IsReached (judge_by domain.operations) (device_state ns slots runs)) (slot_number : length slots ≡ PROGRAM_SLOTS) (run_number : length runs ≡ RUNS)
     (again : (k : ℕ) → k < PROGRAM_SLOTS → IfSome (get_or slots k None) KeepsAgain) (are : (k : ℕ) → k < RUNS → IfSome (get_or runs k None) IsOfRun) where
   -- a slot
-  slot_by : (k : ℕ) (o : Option LoadedProgram) → get_or slots k None ≡ o → IfSome o KeepsAgain → slot_again ns.block (saved_slot o) ≡ Some (loaded_slot o)
+  slot_by : (k : ℕ) (o : Option (LoadedProgram D domain)) → get_or slots k None ≡ o → IfSome o KeepsAgain → slot_again (judge_by domain.operations) ns.block (saved_slot o) ≡ Some (loaded_slot o)
   slot_by k None at keeps = refl
   slot_by k (Some p) at keeps =
-      ap (λ (block : ℕ). option_map (λ (l : Loaded). Some l) (loaded_again block (saved_of p))) (sym (ready.programs k p at))
+      ap (λ (block : ℕ). option_map (λ (l : Loaded). Some l) (loaded_again (judge_by domain.operations) block (saved_of p))) (sym (ready.programs k p at))
       ∙ ap (option_map (λ (l : Loaded). Some l)) keeps
 
-  slots_again : (k : ℕ) → k < PROGRAM_SLOTS → slot_again ns.block (get_or (map saved_slot slots) k None) ≡ Some (get_or (map loaded_slot slots) k None)
+  slots_again : (k : ℕ) → k < PROGRAM_SLOTS → slot_again (judge_by domain.operations) ns.block (get_or (map saved_slot slots) k None) ≡ Some (get_or (map loaded_slot slots) k None)
   slots_again k less =
-      ap (slot_again ns.block) (get_or-map saved_slot slots k None)
+      ap (slot_again (judge_by domain.operations) ns.block) (get_or-map saved_slot slots k None)
       ∙ slot_by k (get_or slots k None) refl (again k less)
       ∙ ap (λ (o : Option Loaded). Some o) (sym (get_or-map loaded_slot slots k None))
 
@@ -53,7 +52,7 @@ module _ (ns : ZonedNamespace) (slots : List (Option LoadedProgram)) (runs : Lis
       let inside : k < RUNS = omega (arith, there runs k a at, run_number) in
       let bytes : IsOfRun a = subst (λ (o : Option ActiveRun). IfSome o IsOfRun) at (are k inside) in
       let slot = get_or-map loaded_slot slots a.command.slot None ∙ ap loaded_slot is.loaded in
-      let room = (reached_is_sound (device_state ns slots runs) reached).rooms k (place_of ns (map loaded_slot slots) (active_of a)) (placed_at ns slots runs k a at) in
+      let room = (states_are_sound (judge_by domain.operations) sound (device_state ns slots runs) reached).rooms k (place_of ns (map loaded_slot slots) (active_of a)) (placed_at ns slots runs k a at) in
       record {
         begun = record {
           loaded = ap is_some slot;
@@ -76,7 +75,7 @@ module _ (ns : ZonedNamespace) (slots : List (Option LoadedProgram)) (runs : Lis
   destination_of : (k : ℕ) (a : Active) (is : IsThere runs k a) → is.active.destination ≡ destination_zone ns a.command
   destination_of k a is = (ready.running k is.active is.at).fits.destination ∙ ap (λ (x : Active). destination_zone ns x.command) is.is
 
-  pub kept_tells : IsRestored ns (map saved_slot slots) (map running runs) (device_state ns slots runs)
+  pub kept_tells : IsRestoredBy (judge_by domain.operations) ns (map saved_slot slots) (map running runs) (device_state ns slots runs)
   kept_tells = record {
     namespace = refl;
     program_number = length-map slots saved_slot ∙ slot_number;

@@ -1,5 +1,5 @@
 -- The runs of a device that were kept, and go on.
-use Rattle.std.proofs.Common.{◌≡◌, ◌≢◌, ◌<◌, ◌+◌, ℕ, zero, suc, Bool, true, false, List, [], ◌∷◌, length, map, set, get_or, replicate, Option, Some, None, IfSome, refl, ap, sym, subst, ◌∙◌, inl, inr, arith, get_or-set_other, get_or-set_same}
+use Rattle.std.proofs.Common.{◌≡◌, ◌<◌, ◌+◌, ℕ, zero, suc, Bool, true, false, List, [], ◌∷◌, map, set, get_or, replicate, Option, Some, None, IfSome, refl, ap, sym, subst, ◌∙◌, inl, inr, arith, get_or-set_other, get_or-set_same}
 use Rattle.std.specs.Prelude.{◌⊎◌, ◌==◌, ◌||◌, IsSomeAnd}
 use Rattle.std.specs.List.{list_any}
 use Rattle.std.proofs.Math.ListN.{get_or-map}
@@ -10,12 +10,13 @@ use Rattle.zone_resources.specs.declared.holds.TheConstants.{RUNS}
 use Rattle.zone_resources.proofs.Proved.{runs_name_zones}
 use Rattle.image_store.specs.Namespace.{ZonedNamespace}
 use Rattle.accepted_programs.proofs.Proved.{none_known, set_known}
+use Rattle.word_domain.specs.declared.domain.Domain.{Ghosts}
 use Rattle.device_meaning.specs.Admission.{destination_zone}
 use Rattle.device_meaning.specs.View.{Active}
 use Rattle.kept_device.specs.Kept.{place_told}
 use Rattle.kept_device.specs.declared.kept.KeptRun.{KeptRun}
 use Rattle.runner.specs.DeviceState.{active_of, loaded_slot, running}
-use Rattle.runner.specs.Restored.{CanAllGoOn, CanGoOn}
+use Rattle.runner.specs.Restored.{CanGoOn}
 use Rattle.runner.specs.declared.active_run.ActiveRun.{ActiveRun}
 use Rattle.runner.specs.declared.loaded_program.LoadedProgram.{LoadedProgram}
 use Rattle.runner.specs.steps.ActiveRuns.{destination_held, held_by}
@@ -43,7 +44,7 @@ held_by_one (None ∷ runs) z held =
     record { run = suc rest.run; other = rest.other; there = rest.there; same = rest.same }
 held_by_one (Some a ∷ runs) z held = held_by_next runs a z (a.destination == z) refl held (λ more. held_by_one runs z more)
 
-module _ (ns : ZonedNamespace) (slots : List (Option LoadedProgram)) (kept : List (Option KeptRun)) where
+module _ {D : Type 0} {domain : Ghosts D} (ns : ZonedNamespace) (slots : List (Option (LoadedProgram D domain))) (kept : List (Option KeptRun)) where
   pub none_going : AreGoing ns slots kept (replicate RUNS None) 0
   none_going = record {
     number = length-replicate {A = Option ActiveRun} RUNS None;
@@ -117,9 +118,10 @@ module _ (ns : ZonedNamespace) (slots : List (Option LoadedProgram)) (kept : Lis
             let same = can.apart j n b a there (told_at n ∙ at) (sym fits.destination ∙ beside.same) in
             omega (arith, before, same)
 
--- a run whose zone is that of one of these
-pub beside_one : (ns : ZonedNamespace) (slots : List (Option LoadedProgram)) (runs : List (Option ActiveRun)) (a : Active) (z : ℕ) → z ≡ destination_zone ns a.command
-    → is_destination (held_by runs) z ≡ true → IsBesideOne ns slots runs a
-beside_one ns slots runs a z is held =
-    let one = held_by_one runs z held in
-    record { run = one.run; other = one.other; there = one.there; same = one.same ∙ is }
+module _ {D : Type 0} {domain : Ghosts D} where
+  -- a run whose zone is that of one of these
+  pub beside_one : (ns : ZonedNamespace) (slots : List (Option (LoadedProgram D domain))) (runs : List (Option ActiveRun)) (a : Active) (z : ℕ) → z ≡ destination_zone ns a.command
+      → is_destination (held_by runs) z ≡ true → IsBesideOne ns slots runs a
+  beside_one ns slots runs a z is held =
+      let one = held_by_one runs z held in
+      record { run = one.run; other = one.other; there = one.there; same = one.same ∙ is }

@@ -1,5 +1,5 @@
 -- Where runs that were kept go on, and where they can't.
-use Rattle.std.proofs.Common.{◌≡◌, ◌≢◌, ◌<◌, ◌≤◌, ◌+◌, ◌-◌, ◌*◌, ◌/◌, ℕ, Bool, true, false, cond, List, length, map, get_or, Option, Some, None, option_map, refl, ap, sym, subst, ◌∙◌, inl, inr, arith}
+use Rattle.std.proofs.Common.{◌≡◌, ◌≤◌, ◌+◌, ◌-◌, ◌*◌, ◌/◌, ℕ, Bool, true, false, cond, List, length, map, get_or, Option, Some, None, option_map, refl, ap, sym, subst, ◌∙◌, inl, inr, arith}
 use Rattle.std.specs.Prelude.{is_some, nat_le, nat_lt}
 use Rattle.std.proofs.Math.ListN.{get_or-map}
 use Rattle.std.proofs.Math.Nat.{div-lt_iff_lt-mul}
@@ -13,6 +13,7 @@ use Rattle.image_store.specs.declared.geometry.ZoneBlock.{ZoneBlock}
 use Rattle.zns_commands.specs.Address.{zone_block_in, zone_number}
 use Rattle.program_interface.specs.RunSizes.{Sizes}
 use Rattle.emit_append.specs.Need.{need_behind}
+use Rattle.word_domain.specs.declared.domain.Domain.{Ghosts}
 use Rattle.verifier.specs.Verified.{sizes_of}
 use Rattle.device_meaning.specs.Admission.{granted_sizes, sizes_in}
 use Rattle.device_meaning.specs.View.{Active}
@@ -62,11 +63,11 @@ unopened_outside ns lba size capacity none (inr full) =
 
 -- ---- what the tests tell
 
-module _ (ns : ZonedNamespace) (slots : List (Option LoadedProgram)) (a : Active) where
+module _ {D : Type 0} {domain : Ghosts D} (ns : ZonedNamespace) (slots : List (Option (LoadedProgram D domain))) (a : Active) where
   abbrev slot_is : get_or (map loaded_slot slots) a.command.slot None ≡ loaded_slot (get_or slots a.command.slot None)
   slot_is = get_or-map loaded_slot slots a.command.slot None
 
-  by_slot : (o : Option LoadedProgram) → None ≡ option_map (λ p. sizes_of p.prepared) o → is_some (loaded_slot o) ≡ true → ⊥
+  by_slot : (o : Option (LoadedProgram D domain)) → None ≡ option_map (λ p. sizes_of p.prepared) o → is_some (loaded_slot o) ≡ true → ⊥
   by_slot None none there = cc
   by_slot (Some p) none there = cc
 
@@ -74,14 +75,14 @@ module _ (ns : ZonedNamespace) (slots : List (Option LoadedProgram)) (a : Active
   pub not_there : None ≡ option_map (λ p. sizes_of p.prepared) (get_or slots a.command.slot None) → CanGoOn ns (map loaded_slot slots) a → ⊥
   not_there none can = by_slot (get_or slots a.command.slot None) none (ap is_some (sym slot_is) ∙ can.begun.loaded)
 
-  by_sizes : (o : Option LoadedProgram) (sizes : Sizes) → Some sizes ≡ option_map (λ p. sizes_of p.prepared) o
-      → (p : LoadedProgram) × (o ≡ Some p) × (sizes ≡ sizes_of p.prepared)
+  by_sizes : (o : Option (LoadedProgram D domain)) (sizes : Sizes) → Some sizes ≡ option_map (λ p. sizes_of p.prepared) o
+      → (p : LoadedProgram D domain) × (o ≡ Some p) × (sizes ≡ sizes_of p.prepared)
   by_sizes None sizes some = absurd cc
   by_sizes (Some p) sizes some = (p, refl, cc)
 
   -- or it is, for these sizes
   pub there_for : (sizes : Sizes) → Some sizes ≡ option_map (λ p. sizes_of p.prepared) (get_or slots a.command.slot None)
-      → (p : LoadedProgram) × (get_or slots a.command.slot None ≡ Some p) × (sizes ≡ sizes_of p.prepared)
+      → (p : LoadedProgram D domain) × (get_or slots a.command.slot None ≡ Some p) × (sizes ≡ sizes_of p.prepared)
   there_for sizes some = by_sizes (get_or slots a.command.slot None) sizes some
 
   -- one that can go on counts what one can
@@ -98,7 +99,7 @@ module _ (ns : ZonedNamespace) (slots : List (Option LoadedProgram)) (a : Active
       → CanGoOn ns (map loaded_slot slots) a → ⊥
   other_than source destination from to same can = can.begun.other (sym (ap (λ (b : ZoneBlock). b.zone) from.is) ∙ same ∙ to.is)
 
-  module _ (p : LoadedProgram) (loaded : get_or slots a.command.slot None ≡ Some p) (accepted : IsForBlocks ns p) where
+  module _ (p : LoadedProgram D domain) (loaded : get_or slots a.command.slot None ≡ Some p) (accepted : IsForBlocks ns p) where
     -- the sizes that its program is granted
     pub granted : sizes_in ns (get_or (map loaded_slot slots) a.command.slot None) ≡ granted_sizes ns (sizes_of p.prepared).limit
     granted = ap (sizes_in ns) (slot_is ∙ ap loaded_slot loaded)
@@ -120,7 +121,7 @@ module _ (ns : ZonedNamespace) (slots : List (Option LoadedProgram)) (a : Active
 
 -- ---- the run that goes on
 
-module _ (ns : ZonedNamespace) (slots : List (Option LoadedProgram)) (p : LoadedProgram) (source : ZoneBlock) (destination : ℕ) (active : ActiveRun)
+module _ {D : Type 0} {domain : Ghosts D} (ns : ZonedNamespace) (slots : List (Option (LoadedProgram D domain))) (p : LoadedProgram D domain) (source : ZoneBlock) (destination : ℕ) (active : ActiveRun)
     (passed : HasPassed ns slots p source destination (active_of active)) (from : active.source ≡ source) (to : active.destination ≡ destination)
     (block : active.packer.block ≡ ns.block) where
   abbrev a : Active
@@ -176,10 +177,11 @@ module _ (ns : ZonedNamespace) (slots : List (Option LoadedProgram)) (p : Loaded
     };
   }
 
--- the same, of what was kept
-pub again : (ns : ZonedNamespace) (slots : List (Option LoadedProgram)) (p : LoadedProgram) (source : ZoneBlock) (destination : ℕ) (active : ActiveRun) (a : Active)
-    → active_of active ≡ a → HasPassed ns slots p source destination a → active.source ≡ source → active.destination ≡ destination → active.packer.block ≡ ns.block
-    → IsAgain ns slots a active
-again ns slots p source destination active a seen passed from to block =
-    subst (λ (x : Active). IsAgain ns slots x active) seen
-    (is_again ns slots p source destination active (subst (HasPassed ns slots p source destination) (sym seen) passed) from to block)
+module _ {D : Type 0} {domain : Ghosts D} where
+  -- the same, of what was kept
+  pub again : (ns : ZonedNamespace) (slots : List (Option (LoadedProgram D domain))) (p : LoadedProgram D domain) (source : ZoneBlock) (destination : ℕ) (active : ActiveRun) (a : Active)
+      → active_of active ≡ a → HasPassed ns slots p source destination a → active.source ≡ source → active.destination ≡ destination → active.packer.block ≡ ns.block
+      → IsAgain ns slots a active
+  again ns slots p source destination active a seen passed from to block =
+      subst (λ (x : Active). IsAgain ns slots x active) seen
+      (is_again ns slots p source destination active (subst (HasPassed ns slots p source destination) (sym seen) passed) from to block)

@@ -12,8 +12,9 @@ use Rattle.accepted_programs.proofs.Proved.{set_known}
 use Rattle.accepted_programs.specs.declared.reason.Refusal.{Refusal}
 use Rattle.ebpf_decode.specs.declared.fault.Fault.{Fault}
 use Rattle.instruction_set.specs.declared.instruction.Instruction.{Instruction}
-use Rattle.interval_domain.specs.Intervals.{intervals}
-use Rattle.device_meaning.specs.Judging.{accepted_unless, interval_judge, judged_by}
+use Rattle.word_domain.specs.Domain.{Operations}
+use Rattle.device_meaning.specs.Judging.{Judge, accepted_unless, judge_by, judged_by}
+use Rattle.word_domain.specs.declared.domain.Domain.{Ghosts}
 use Rattle.verifier.specs.Verified.{program_of, sizes_of}
 use Rattle.image_store.specs.Namespace.{ZonedNamespace, zone_at}
 use Rattle.zns_commands.specs.Answer.{refused_answer, success_answer}
@@ -36,17 +37,18 @@ use Rattle.runner.proofs.Staying.{Stays, keeps_source, placed_at, places_stay}
 
 -- ---- which slots are used
 
-pub used_is : (ns : ZonedNamespace) (slots : List (Option LoadedProgram)) (runs : List (Option ActiveRun)) (slot : ℕ)
-    → in_use (device_state ns slots runs) slot ≡ list_any (uses_slot slot) runs
-used_is ns slots [] slot = refl
-used_is ns slots (None ∷ runs) slot = used_is ns slots runs slot
-used_is ns slots (Some a ∷ runs) slot = ap (λ (b : Bool). (a.command.slot == slot) || b) (used_is ns slots runs slot)
+module _ {D : Type 0} {domain : Ghosts D} where
+  pub used_is : (ns : ZonedNamespace) (slots : List (Option (LoadedProgram D domain))) (runs : List (Option ActiveRun)) (slot : ℕ)
+      → in_use (device_state ns slots runs) slot ≡ list_any (uses_slot slot) runs
+  used_is ns slots [] slot = refl
+  used_is ns slots (None ∷ runs) slot = used_is ns slots runs slot
+  used_is ns slots (Some a ∷ runs) slot = ap (λ (b : Bool). (a.command.slot == slot) || b) (used_is ns slots runs slot)
 
 -- ---- the program is put there
 
-module _ (ns : ZonedNamespace) (slots : List (Option LoadedProgram)) (runs : List (Option ActiveRun)) (load : LoadCommand) (input : List ℕ)
-    (new : LoadedProgram) (ready : IsReady ns slots runs)
-    (loadable : IsLoadable load input (device_state ns slots runs) (program_of new.prepared) (sizes_of new.prepared)) where
+module _ {D : Type 0} {domain : Ghosts D} (ns : ZonedNamespace) (slots : List (Option (LoadedProgram D domain))) (runs : List (Option ActiveRun)) (load : LoadCommand) (input : List ℕ)
+    (new : LoadedProgram D domain) (ready : IsReady ns slots runs)
+    (loadable : IsLoadable domain.operations load input (device_state ns slots runs) (program_of new.prepared) (sizes_of new.prepared)) where
   abbrev s : State
   s = device_state ns slots runs
 
@@ -75,13 +77,13 @@ module _ (ns : ZonedNamespace) (slots : List (Option LoadedProgram)) (runs : Lis
       (ap (λ (sizes : Sizes). sizes.limit) loadable.accepted.kept_is)
       ∙ ap (λ (result : List ℕ). seen_with (set s.slots load.slot (Some (loaded load.limit result))) s.places) blank
 
-  pub loads : new.result ≡ no_scratch → HasLoaded load input s (device_state ns (set slots load.slot (Some new)) runs) (success_answer 0 0)
+  pub loads : new.result ≡ no_scratch → HasLoaded (judge_by domain.operations) load input s (device_state ns (set slots load.slot (Some new)) runs) (success_answer 0 0)
   loads blank = record {
     starved = false;
     happening = λ queue entry.
         let sub = submission_of queue entry input in
-        ap (λ (why : Option Status). load_unless interval_judge why false sub s load) loadable.checks
-        ∙ ap (λ (read : Result (List (Option Instruction)) Fault). judged sub s load (judged_by intervals (sizes_for s load) read))
+        ap (λ (why : Option Status). load_unless (judge_by domain.operations) why false sub s load) loadable.checks
+        ∙ ap (λ (read : Result (List (Option Instruction)) Fault). judged sub s load (judged_by domain.operations (sizes_for s load) read))
         loadable.accepted.spelled
         ∙ ap (λ (why : Option Refusal). judged sub s load (accepted_unless (program_of new.prepared) why)) loadable.accepted.accepted
         ∙ ap (λ (t : State). completed sub SUCCESS 0 0 [] t) (sym (put blank));
@@ -109,19 +111,19 @@ module _ (ns : ZonedNamespace) (slots : List (Option LoadedProgram)) (runs : Lis
 
 -- ---- or it is refused
 
-pub refuses_checked : (load : LoadCommand) (input : List ℕ) (s : State) (status : Status) → Some status ≡ first_failed (load_checks s load input)
-    → HasLoaded load input s s (refused_answer status)
-refuses_checked load input s status why = record {
+pub refuses_checked : (judge : Judge) (load : LoadCommand) (input : List ℕ) (s : State) (status : Status) → Some status ≡ first_failed (load_checks s load input)
+    → HasLoaded judge load input s s (refused_answer status)
+refuses_checked judge load input s status why = record {
   starved = false;
   happening = λ queue entry.
-      ap (λ (o : Option Status). load_unless interval_judge o false (submission_of queue entry input) s load) (sym why);
+      ap (λ (o : Option Status). load_unless judge o false (submission_of queue entry input) s load) (sym why);
 }
 
-pub refuses_read : (load : LoadCommand) (input : List ℕ) (s : State) (sizes : Sizes) (answer : Answer) → None ≡ first_failed (load_checks s load input)
-    → sizes ≡ sizes_for s load → IsNotAccepted input sizes answer → HasLoaded load input s s answer
-refuses_read load input s sizes answer why same refused = record {
+pub refuses_read : {D : Type 0} (operations : Operations D) (load : LoadCommand) (input : List ℕ) (s : State) (sizes : Sizes) (answer : Answer) → None ≡ first_failed (load_checks s load input)
+    → sizes ≡ sizes_for s load → IsNotAccepted operations input sizes answer → HasLoaded (judge_by operations) load input s s answer
+refuses_read operations load input s sizes answer why same refused = record {
   starved = refused.starved;
   happening = λ queue entry.
-      ap (λ (o : Option Status). load_unless interval_judge o refused.starved (submission_of queue entry input) s load) (sym why)
+      ap (λ (o : Option Status). load_unless (judge_by operations) o refused.starved (submission_of queue entry input) s load) (sym why)
       ∙ refused.happening queue entry s load (sym same);
 }

@@ -1,10 +1,11 @@
 -- Devices without a program or a run.
-use Rattle.std.proofs.Common.{◌≡◌, ◌≢◌, ℕ, zero, suc, Bool, true, false, List, [], ◌∷◌, length, map, replicate, Option, Some, None, option_map, refl, sym, subst, ◌∙◌, ap}
+use Rattle.std.proofs.Common.{◌≡◌, ◌≢◌, ℕ, Bool, true, false, List, [], ◌∷◌, length, map, replicate, Option, Some, None, option_map, refl, sym, subst, ◌∙◌, ap}
 use Rattle.std.specs.Prelude.{is_some, not}
 use Rattle.std.specs.List.{list_any}
 use Rattle.nvme_entry.specs.declared.program_slot.TheConstants.{PROGRAM_SLOTS}
 use Rattle.zone_resources.specs.declared.holds.TheConstants.{RUNS}
 use Rattle.image_store.specs.Namespace.{ZonedNamespace}
+use Rattle.word_domain.specs.declared.domain.Domain.{Ghosts}
 use Rattle.device_meaning.specs.Admission.{Loaded}
 use Rattle.device_meaning.specs.State.{Place, State, new_state}
 use Rattle.device_meaning.specs.View.{Active, place_of, seen}
@@ -24,7 +25,7 @@ some_seen f [] = refl
 some_seen f (None ∷ xs) = some_seen f xs
 some_seen f (Some x ∷ xs) = refl
 
-module _ (ns : ZonedNamespace) (slots : List (Option LoadedProgram)) (runs : List (Option ActiveRun)) where
+module _ {D : Type 0} {domain : Ghosts D} (ns : ZonedNamespace) (slots : List (Option (LoadedProgram D domain))) (runs : List (Option ActiveRun)) where
   -- such a device is as a new one
   pub bare_is_new : length slots ≡ PROGRAM_SLOTS → length runs ≡ RUNS → list_any is_some slots ≡ false → list_any is_some runs ≡ false
       → device_state ns slots runs ≡ new_state ns

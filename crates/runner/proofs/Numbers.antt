@@ -4,6 +4,7 @@ use Rattle.std.specs.Prelude.{not, nat_lt, is_none, is_some, option_map, positio
 use Rattle.std.specs.List.{position_or_len}
 use Rattle.std.proofs.lemmas.List.{length-map}
 use Rattle.image_store.specs.Namespace.{ZonedNamespace}
+use Rattle.word_domain.specs.declared.domain.Domain.{Ghosts}
 use Rattle.device_meaning.specs.Draining.{lowest_run}
 use Rattle.device_meaning.specs.State.{free_place}
 use Rattle.device_meaning.specs.View.{place_of, seen}
@@ -34,7 +35,7 @@ module _ {X Y : Type 0} (f : X → Y) where
   mapped_some None = refl
   mapped_some (Some x) = refl
 
-module _ (ns : ZonedNamespace) (slots : List (Option LoadedProgram)) (runs : List (Option ActiveRun)) where
+module _ {D : Type 0} {domain : Ghosts D} (ns : ZonedNamespace) (slots : List (Option (LoadedProgram D domain))) (runs : List (Option ActiveRun)) where
   pub free_is : free_place (device_state ns slots runs) ≡ position is_none runs
   free_is =
       position_mapped (seen ns (map loaded_slot slots)) is_none is_none (mapped_none (place_of ns (map loaded_slot slots))) (map running runs)

@@ -11,6 +11,7 @@ use Rattle.zone_resources.specs.Holds.{is_destination, names}
 use Rattle.zone_resources.specs.declared.holds.Holds.{Holds}
 use Rattle.zone_resources.proofs.Proved.{runs_name_zones}
 use Rattle.emit_append.specs.Need.{need}
+use Rattle.word_domain.specs.declared.domain.Domain.{Ghosts}
 use Rattle.verifier.specs.Verified.{sizes_of}
 use Rattle.image_store.specs.Namespace.{ZonedNamespace, zone_at}
 use Rattle.device_meaning.specs.Admission.{Loaded, granted_sizes, sizes_in}
@@ -40,7 +41,7 @@ pub refuses : (s : State) (command : RunCommand) (input : List ℕ) (status : St
 refuses s command input status fails queue entry =
     ap (λ (why : Option Status). start_by why (free_place s) (submission_of queue entry input) s command) (sym fails)
 
-module _ (ns : ZonedNamespace) (slots : List (Option LoadedProgram)) (runs : List (Option ActiveRun)) where
+module _ {D : Type 0} {domain : Ghosts D} (ns : ZonedNamespace) (slots : List (Option (LoadedProgram D domain))) (runs : List (Option ActiveRun)) where
   -- a run put at a place, seen
   placed : (run : ℕ) (a : ActiveRun)
       → device_state ns slots (set runs run (Some a)) ≡ with_place (device_state ns slots runs) run (Some (place_of ns (map loaded_slot slots) (active_of a)))

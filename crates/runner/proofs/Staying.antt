@@ -7,6 +7,7 @@ use Rattle.image_store.specs.declared.geometry.ZoneBlock.{ZoneBlock}
 use Rattle.emit_append.specs.Need.{need_behind}
 use Rattle.zns_commands.specs.Address.{zone_number}
 use Rattle.zns_commands.specs.Left.{Grows}
+use Rattle.word_domain.specs.declared.domain.Domain.{Ghosts}
 use Rattle.device_meaning.specs.Admission.{SameProgram}
 use Rattle.device_meaning.specs.State.{Place, place_at}
 use Rattle.device_meaning.specs.View.{KeepsSource, place_of, seen}
@@ -16,10 +17,11 @@ use Rattle.runner.specs.steps.Ready.{FitsNamespace, HasRoomLeft}
 use Rattle.runner.specs.declared.active_run.ActiveRun.{ActiveRun}
 use Rattle.runner.specs.declared.loaded_program.LoadedProgram.{LoadedProgram}
 
--- what a run needs to be seen as before: its source blocks and its program
-pub record Stays (ns later : ZonedNamespace) (slots slots' : List (Option LoadedProgram)) (a : ActiveRun) : Type 0 where
-  pub source : KeepsSource ns later (active_of a)
-  pub program : SameProgram (get_or (map loaded_slot slots) a.command.slot None) (get_or (map loaded_slot slots') a.command.slot None)
+module _ {D : Type 0} {domain : Ghosts D} where
+  -- what a run needs to be seen as before: its source blocks and its program
+  pub record Stays (ns later : ZonedNamespace) (slots slots' : List (Option (LoadedProgram D domain))) (a : ActiveRun) : Type 0 where
+    pub source : KeepsSource ns later (active_of a)
+    pub program : SameProgram (get_or (map loaded_slot slots) a.command.slot None) (get_or (map loaded_slot slots') a.command.slot None)
 
 -- ---- a run
 
@@ -76,19 +78,20 @@ grows_there ns later a fits grows =
 
 -- ---- all runs
 
--- what is seen at a place
-pub place_is : (ns : ZonedNamespace) (slots : List (Option LoadedProgram)) (runs : List (Option ActiveRun)) (k : ℕ)
-    → place_at (device_state ns slots runs) k ≡ seen ns (map loaded_slot slots) (running (get_or runs k None))
-place_is ns slots runs k =
-    get_or-map (seen ns (map loaded_slot slots)) (map running runs) k None
-    ∙ ap (seen ns (map loaded_slot slots)) (get_or-map running runs k None)
+module _ {D : Type 0} {domain : Ghosts D} where
+  -- what is seen at a place
+  pub place_is : (ns : ZonedNamespace) (slots : List (Option (LoadedProgram D domain))) (runs : List (Option ActiveRun)) (k : ℕ)
+      → place_at (device_state ns slots runs) k ≡ seen ns (map loaded_slot slots) (running (get_or runs k None))
+  place_is ns slots runs k =
+      get_or-map (seen ns (map loaded_slot slots)) (map running runs) k None
+      ∙ ap (seen ns (map loaded_slot slots)) (get_or-map running runs k None)
 
--- the place of a run
-pub placed_at : (ns : ZonedNamespace) (slots : List (Option LoadedProgram)) (runs : List (Option ActiveRun)) (k : ℕ) (a : ActiveRun)
-    → get_or runs k None ≡ Some a → place_at (device_state ns slots runs) k ≡ Some (place_of ns (map loaded_slot slots) (active_of a))
-placed_at ns slots runs k a at = place_is ns slots runs k ∙ ap (λ (o : Option ActiveRun). seen ns (map loaded_slot slots) (running o)) at
+  -- the place of a run
+  pub placed_at : (ns : ZonedNamespace) (slots : List (Option (LoadedProgram D domain))) (runs : List (Option ActiveRun)) (k : ℕ) (a : ActiveRun)
+      → get_or runs k None ≡ Some a → place_at (device_state ns slots runs) k ≡ Some (place_of ns (map loaded_slot slots) (active_of a))
+  placed_at ns slots runs k a at = place_is ns slots runs k ∙ ap (λ (o : Option ActiveRun). seen ns (map loaded_slot slots) (running o)) at
 
-module _ (ns later : ZonedNamespace) (slots slots' : List (Option LoadedProgram)) where
+module _ {D : Type 0} {domain : Ghosts D} (ns later : ZonedNamespace) (slots slots' : List (Option (LoadedProgram D domain))) where
   abbrev StayAll : List (Option ActiveRun) → Type 0
   StayAll runs = (k : ℕ) (a : ActiveRun) → get_or runs k None ≡ Some a → Stays ns later slots slots' a
 

@@ -10,7 +10,7 @@ use Rattle.emit_append.specs.Need.{need_behind}
 use Rattle.device_meaning.specs.Admission.{Loaded, destination_zone, sizes_in}
 use Rattle.device_meaning.specs.Beginning.{MayBegin, WasBegun, destination_in}
 use Rattle.device_meaning.specs.BlockRuns.{AreScratch}
-use Rattle.device_meaning.specs.Judging.{interval_judge}
+use Rattle.device_meaning.specs.Judging.{Judge, interval_judge}
 use Rattle.device_meaning.specs.State.{State}
 use Rattle.device_meaning.specs.View.{Active, seen}
 use Rattle.kept_device.specs.Kept.{SavedProgram}
@@ -32,35 +32,44 @@ pub record CanAllGoOn (ns : ZonedNamespace) (slots : List (Option Loaded)) (runs
   pub apart : (j k : ℕ) (a b : Active) → get_or runs j None ≡ Some a → get_or runs k None ≡ Some b
       → destination_zone ns a.command ≡ destination_zone ns b.command → j ≡ k
 
--- What was kept tells this state: the namespace; in each slot the program that is made of its bytes, accepted again; at each place the run,
--- which can go on; and no two of these append to one zone.
-pub record IsRestored (ns : ZonedNamespace) (programs : List (Option SavedProgram)) (runs : List (Option Active)) (s : State) : Type 0 where
-  pub namespace : s.namespace ≡ ns
-  pub program_number : length programs ≡ PROGRAM_SLOTS
-  pub slot_number : length s.slots ≡ PROGRAM_SLOTS
-  pub slots : (k : ℕ) → k < PROGRAM_SLOTS → slot_again ns.block (get_or programs k None) ≡ Some (get_or s.slots k None)
-  pub place_number : length runs ≡ RUNS
-  pub places : s.places ≡ map (seen ns s.slots) runs
-  pub runs_go : CanAllGoOn ns s.slots runs
-
--- it tells none
-abbrev pub TellNone : ZonedNamespace → List (Option SavedProgram) → List (Option Active) → Type 0
-TellNone ns programs runs = (s : State) → IsRestored ns programs runs s → ⊥
-
--- It tells no other.
-abbrev pub OneIsRestored : Type 0
-OneIsRestored =
-    (ns : ZonedNamespace) (programs : List (Option SavedProgram)) (runs : List (Option Active)) (s t : State)
-    → IsRestored ns programs runs s → IsRestored ns programs runs t → s ≡ t
-
 -- what was kept of a program is bytes
 pub record IsOfBytes (p : SavedProgram) : Type 0 where
   pub bytes : AreBytes p.bytes
   pub result : AreScratch p.result
 
--- A device may begin in it.
-abbrev pub RestoredMayBegin : Type 0
-RestoredMayBegin =
-    (ns : ZonedNamespace) (programs : List (Option SavedProgram)) (runs : List (Option Active)) (s : State) → IsNamespace ns
-    → ((k : ℕ) (p : SavedProgram) → k < PROGRAM_SLOTS → get_or programs k None ≡ Some p → IsOfBytes p) → IsRestored ns programs runs s
-    → MayBegin interval_judge s
+-- By a judge of programs.
+module _ (judge : Judge) where
+  -- What was kept tells this state: the namespace; in each slot the program that is made of its bytes, accepted again; at each place the run,
+  -- which can go on; and no two of these append to one zone.
+  pub record IsRestoredBy (ns : ZonedNamespace) (programs : List (Option SavedProgram)) (runs : List (Option Active)) (s : State) : Type 0 where
+    pub namespace : s.namespace ≡ ns
+    pub program_number : length programs ≡ PROGRAM_SLOTS
+    pub slot_number : length s.slots ≡ PROGRAM_SLOTS
+    pub slots : (k : ℕ) → k < PROGRAM_SLOTS → slot_again judge ns.block (get_or programs k None) ≡ Some (get_or s.slots k None)
+    pub place_number : length runs ≡ RUNS
+    pub places : s.places ≡ map (seen ns s.slots) runs
+    pub runs_go : CanAllGoOn ns s.slots runs
+
+  -- it tells none
+  abbrev pub TellNoneBy : ZonedNamespace → List (Option SavedProgram) → List (Option Active) → Type 0
+  TellNoneBy ns programs runs = (s : State) → IsRestoredBy ns programs runs s → ⊥
+
+  -- It tells no other.
+  abbrev pub OneIsRestored : Type 0
+  OneIsRestored =
+      (ns : ZonedNamespace) (programs : List (Option SavedProgram)) (runs : List (Option Active)) (s t : State)
+      → IsRestoredBy ns programs runs s → IsRestoredBy ns programs runs t → s ≡ t
+
+  -- A device may begin in it.
+  abbrev pub RestoredMayBegin : Type 0
+  RestoredMayBegin =
+      (ns : ZonedNamespace) (programs : List (Option SavedProgram)) (runs : List (Option Active)) (s : State) → IsNamespace ns
+      → ((k : ℕ) (p : SavedProgram) → k < PROGRAM_SLOTS → get_or programs k None ≡ Some p → IsOfBytes p) → IsRestoredBy ns programs runs s
+      → MayBegin judge s
+
+-- by the judge of the device
+abbrev pub IsRestored : ZonedNamespace → List (Option SavedProgram) → List (Option Active) → State → Type 0
+IsRestored = IsRestoredBy interval_judge
+
+abbrev pub TellNone : ZonedNamespace → List (Option SavedProgram) → List (Option Active) → Type 0
+TellNone = TellNoneBy interval_judge

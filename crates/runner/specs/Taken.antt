@@ -4,12 +4,16 @@ use Rattle.std.specs.declared.alloc.Global.{Global}
 use Rattle.device_events.specs.Replies.{ReplyWithData}
 use Rattle.device_events.specs.declared.event.Event.TheVariants as event
 use Rattle.device_meaning.specs.Events.{HasHappened}
-use Rattle.device_meaning.specs.Judging.{interval_judge}
+use Rattle.device_meaning.specs.Judging.{Judge, interval_judge}
 use Rattle.device_meaning.specs.State.{State}
 
 -- an event happened that is just the submission of this entry to this queue, with this data beside it
-pub record HasTaken (queue : ℕ) (entry input : List ℕ) (old new : State) (reply : ReplyWithData) : Type 0 where
+pub record HasTakenBy (judge : Judge) (queue : ℕ) (entry input : List ℕ) (old new : State) (reply : ReplyWithData) : Type 0 where
   -- the data as an event has it
   pub carried : Vec ℕ Global
   pub bytes : carried.items ≡ input
-  pub happened : HasHappened interval_judge (event.Submit queue entry carried) old new reply
+  pub happened : HasHappened judge (event.Submit queue entry carried) old new reply
+
+-- by the judge of the device
+abbrev pub HasTaken : ℕ → List ℕ → List ℕ → State → State → ReplyWithData → Type 0
+HasTaken = HasTakenBy interval_judge

@@ -15,6 +15,7 @@ use crate::device_state::DeviceState;
 use emit_append::blocks_needed;
 use image_store::ZoneBlock;
 use nvme_entry::{BlockCount, RunCommand, Status};
+use word_domain::Domain;
 use zns_commands::{
     Holds, Namespace, check_readable, check_transfer, check_within_zone, first_block, lowest,
 };
@@ -34,8 +35,8 @@ struct Admitted {
 /// # Errors
 ///
 /// The status of the first check that fails. Nothing is started then.
-pub fn start(
-    state: &mut DeviceState,
+pub fn start<D: Domain>(
+    state: &mut DeviceState<D>,
     queue: u16,
     cid: u16,
     command: &RunCommand,
@@ -59,7 +60,11 @@ pub fn start(
 }
 
 /// Tests a run.
-fn admit(state: &DeviceState, command: &RunCommand, input: &[u8]) -> Result<Admitted, Status>
+fn admit<D: Domain>(
+    state: &DeviceState<D>,
+    command: &RunCommand,
+    input: &[u8],
+) -> Result<Admitted, Status>
     ensures why { result_err result ≡ refusal_by state.now command.now input.now }
     ensures admission { IfOk result (IsAdmission state.now command.now) }
     ensures inside { IfOk result (λ admitted. admitted.run < RUNS) }

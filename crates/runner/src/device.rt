@@ -1,7 +1,7 @@
 //! The device, to which events happen.
 
 ghost use Rattle.std.specs.Prelude.{◌≡◌, ◌≢◌, true, false, ◌≤◌, ◌<◌, ◌+◌, ◌*◌, ◌^◌, length, map, take, drop, OnOk, IfErr, IfOk, IfSome, MatchOption};
-ghost use Rattle.device_meaning.specs.Judging.{interval_judge};
+ghost use Rattle.device_meaning.specs.Judging.{judge_by};
 ghost use Rattle.nvme_entry.specs.declared.command.TheConstants.{MOST_BLOCKS};
 ghost use Rattle.device_events.specs.Replies.{data_length};
 ghost use Rattle.device_meaning.specs.Draining.{HasDrained, HasStoppedDraining, lowest_run, turns_left};
@@ -12,8 +12,8 @@ ghost use Rattle.common_definitions.specs.Failures.{CountsFailure};
 ghost use Rattle.nvme_entry.specs.declared.program_slot.TheConstants.{PROGRAM_SLOTS};
 ghost use Rattle.zone_resources.specs.declared.holds.TheConstants.{RUNS};
 ghost use Rattle.kept_device.specs.Kept.{place_told, slot_told};
-ghost use Rattle.runner.specs.Restored.{IsRestored, TellNone};
-ghost use Rattle.runner.specs.Taken.{HasTaken};
+ghost use Rattle.runner.specs.Restored.{IsRestoredBy, TellNoneBy};
+ghost use Rattle.runner.specs.Taken.{HasTakenBy};
 ghost use Rattle.runner.specs.steps.ServedOne.{HasServedOne};
 
 use crate::device_state::DeviceState;
@@ -21,13 +21,16 @@ use crate::restoring::{KeptDevice, kept_of, state_again};
 use crate::submission::{Submission, submit};
 use crate::turn::turn;
 use device_events::{Event, NotTaken, Out, Reply};
+use device_meaning::laws::domains_judge_soundly;
+use interval_domain::Intervals;
 use kept_device::{KeptProgram, KeptRun};
 use nvme_entry::MOST_TRANSFER;
 use program_interface::LARGEST_BLOCK;
 use std::alloc::{AllocError, Global};
 use std::marker::Model;
 use verified_run::{Stack, StepCount};
-use zns_commands::Image;
+use word_domain::Domain;
+use zns_commands::{Image, Namespace};
 use zone_resources::RUNS;
 
 /// A reply was refused.
@@ -39,10 +42,10 @@ pub struct Stopped {
 
 /// A device with one namespace, slots for programs, and places for active runs. A clause sees its state.
 #[derive(Drop)]
-pub struct Device {
+pub struct Device<D: Domain = Intervals> {
     /// What a Load takes its memory from.
     alloc: Global,
-    state: DeviceState,
+    state: DeviceState<D>,
     /// The stack of a turn's program.
     stack: Stack,
     /// Where a turn's program emits to.
@@ -51,8 +54,8 @@ pub struct Device {
     count: StepCount,
 }
 
-impl Model for Device {
-    ghost use Rattle.device_meaning.specs.Judging.{interval_judge};
+impl<D: Domain> Model for Device<D> {
+    ghost use Rattle.device_meaning.specs.Judging.{judge_by};
     ghost use Rattle.device_meaning.specs.Reached.{IsReached};
     ghost use Rattle.device_meaning.specs.State.{State};
 
@@ -60,18 +63,40 @@ impl Model for Device {
 
     ghost view = { λ d. d.state };
 
-    ghost invariant = { λ d. IsReached interval_judge d.state };
+    ghost invariant = { λ d. IsReached (judge_by D.operations) d.state };
 }
 
-impl Device {
+impl<D: Domain> Device<D> {
     /// A device with the namespace of an image, without a program or a run, in a state that events leave.
-    pub fn new(alloc: Global, image: Image) -> Device
+    pub fn new(alloc: Global, image: Image) -> Device<D>
         ensures value { result ≡ new_state image }
-        ensures reached { IsReached interval_judge result }
+        ensures reached { IsReached (judge_by D.operations) result }
+    {
+        let state = DeviceState::new(Namespace::new(image));
+        Device::begun(alloc, state)
+    }
+
+    /// A device with the namespace of this one, without a program or a run, whose Load judges over another domain. It is in a state that
+    /// events leave.
+    pub fn renewed<E: Domain>(self) -> Device<E>
+        ensures value { result ≡ new_state self.namespace }
+        ensures reached { IsReached (judge_by E.operations) result }
+    {
+        let Device { alloc, state, .. } = self;
+        let DeviceState { namespace, .. } = state;
+        let new = DeviceState::new(namespace);
+        Device::begun(alloc, new)
+    }
+
+    /// A device in a state that events leave, which has yet to do its first event.
+    fn begun(alloc: Global, state: DeviceState<D>) -> Device<D>
+        requires { IsReached (judge_by D.operations) state }
+        ensures value { result ≡ state }
+        ensures reached { IsReached (judge_by D.operations) result }
     {
         Device {
             alloc,
-            state: DeviceState::new(image),
+            state,
             stack: Stack::new(),
             group: [0; LARGEST_BLOCK],
             count: StepCount::new(),
@@ -89,23 +114,19 @@ impl Device {
         image: Image,
         programs: &[Option<KeptProgram>],
         runs: &[Option<KeptRun>],
-    ) -> Result<Option<Device>, AllocError>
+    ) -> Result<Option<Device<D>>, AllocError>
         requires programs { length programs.now ≡ PROGRAM_SLOTS }
         requires runs { length runs.now ≡ RUNS }
         ensures restored { IfOk result (λ found. MatchOption found
-            (TellNone image (map slot_told programs.now) (map place_told runs.now)) (IsRestored image (map slot_told programs.now) (map place_told runs.now))) }
-        ensures reached { IfOk result (λ found. IfSome found (IsReached interval_judge)) }
+            (TellNoneBy (judge_by D.operations) image (map slot_told programs.now) (map place_told runs.now))
+            (IsRestoredBy (judge_by D.operations) image (map slot_told programs.now) (map place_told runs.now))) }
+        ensures reached { IfOk result (λ found. IfSome found (IsReached (judge_by D.operations))) }
     {
+        domains_judge_soundly::<D>();
         let Some(state) = state_again(alloc, image, programs, runs)? else {
             return Ok(None);
         };
-        Ok(Some(Device {
-            alloc,
-            state,
-            stack: Stack::new(),
-            group: [0; LARGEST_BLOCK],
-            count: StepCount::new(),
-        }))
+        Ok(Some(Device::begun(alloc, state)))
     }
 
     /// What is kept of the device beside its namespace. With that it tells the same device.
@@ -114,8 +135,8 @@ impl Device {
     ///
     /// No memory.
     pub fn kept(&self, alloc: Global) -> Result<KeptDevice, AllocError>
-        ensures { IfOk result (λ kept.
-            IsRestored self.now.namespace (map slot_told kept.programs.items) (map place_told kept.runs.items) self.now) }
+        ensures { IfOk result (λ kept. IsRestoredBy (judge_by D.operations)
+            self.now.namespace (map slot_told kept.programs.items) (map place_told kept.runs.items) self.now) }
     {
         kept_of(alloc, &self.state)
     }
@@ -123,7 +144,7 @@ impl Device {
     /// The namespace as an image. The device is in a state that events leave.
     pub fn image(&self) -> &Image
         ensures value { result.now ≡ self.now.namespace }
-        ensures reached { IsReached interval_judge self.now }
+        ensures reached { IsReached (judge_by D.operations) self.now }
     {
         self.state.namespace().image()
     }
@@ -141,10 +162,11 @@ impl Device {
     /// transfer; what lies behind it stays. The device is then in a state that events leave.
     pub fn apply(&mut self, event: &Event, output: &mut [u8]) -> Reply
         requires { MOST_TRANSFER ≤ length output.old }
-        ensures happened { HasHappened interval_judge event.now self.old self.new (record { reply = result; bytes = take (data_length result) output.new }) }
+        ensures happened { HasHappened (judge_by D.operations) event.now self.old self.new
+            (record { reply = result; bytes = take (data_length result) output.new }) }
         ensures rest { drop (data_length result) output.new ≡ drop (data_length result) output.old }
         ensures within { data_length result ≤ length output.new }
-        ensures reached { IsReached interval_judge self.new }
+        ensures reached { IsReached (judge_by D.operations) self.new }
     {
         match event {
             Event::Submit {
@@ -170,11 +192,11 @@ impl Device {
     /// data where it lies. `output` is as there. The device is then in a state that events leave.
     pub fn submit(&mut self, queue: u16, entry: &[u8; 64], input: &[u8], output: &mut [u8]) -> Reply
         requires { MOST_TRANSFER ≤ length output.old }
-        ensures submitted { HasTaken queue entry.now input.now self.old self.new
+        ensures submitted { HasTakenBy (judge_by D.operations) queue entry.now input.now self.old self.new
             (record { reply = result; bytes = take (data_length result) output.new }) }
         ensures rest { drop (data_length result) output.new ≡ drop (data_length result) output.old }
         ensures within { data_length result ≤ length output.new }
-        ensures reached { IsReached interval_judge self.new }
+        ensures reached { IsReached (judge_by D.operations) self.new }
     {
         let submission = Submission::new(queue, entry, input);
         submit(self.alloc, &mut self.state, &submission, output)
@@ -193,9 +215,9 @@ impl Device {
     ) -> Result<(), NotTaken>
         requires room { MOST_TRANSFER ≤ length output.old }
         requires counts { O.refusals out.old + 1 < 2 ^ 64 }
-        ensures served { HasServedOne event.now self.old self.new (O.took out.old out.new) result }
+        ensures served { HasServedOne (judge_by D.operations) event.now self.old self.new (O.took out.old out.new) result }
         ensures refused { CountsFailure (O.refusals out.old) (O.refusals out.new) result }
-        ensures reached { IsReached interval_judge self.new }
+        ensures reached { IsReached (judge_by D.operations) self.new }
     {
         let reply = self.apply(event, output);
         out.take(reply, &output[..reply.data_length()])
@@ -216,10 +238,11 @@ impl Device {
     ) -> Result<(), Stopped>
         requires room { MOST_TRANSFER ≤ length output.old }
         requires counts { O.refusals out.old + 1 < 2 ^ 64 }
-        ensures served { OnOk result (HasServed interval_judge events.now self.old self.new (O.took out.old out.new)) }
-        ensures stopped { IfErr result (λ stopped. HasStopped interval_judge events.now self.old self.new (O.took out.old out.new) stopped.done) }
+        ensures served { OnOk result (HasServed (judge_by D.operations) events.now self.old self.new (O.took out.old out.new)) }
+        ensures stopped { IfErr result (λ stopped.
+            HasStopped (judge_by D.operations) events.now self.old self.new (O.took out.old out.new) stopped.done) }
         ensures refused { CountsFailure (O.refusals out.old) (O.refusals out.new) result }
-        ensures reached { IsReached interval_judge self.new }
+        ensures reached { IsReached (judge_by D.operations) self.new }
     {
         for (index, event) in events.iter().enumerate() {
             match self.serve_one(event, output, out) {
@@ -235,7 +258,7 @@ impl Device {
     /// The number of the run that a turn is given next, where all runs are to end: the lowest.
     pub fn lowest_run(&self) -> Option<u8>
         ensures lowest { result ≡ lowest_run self.now }
-        ensures reached { IsReached interval_judge self.now }
+        ensures reached { IsReached (judge_by D.operations) self.now }
         ensures few { turns_left self.now.places ≤ MOST_BLOCKS * RUNS }
     {
         self.state.lowest_run()
@@ -254,8 +277,9 @@ impl Device {
         ensures drained { OnOk result (HasDrained self.old self.new (O.took out.old out.new)) }
         ensures stopped { IfErr result (λ stopped. HasStoppedDraining self.old self.new (O.took out.old out.new) stopped.done) }
         ensures refused { CountsFailure (O.refusals out.old) (O.refusals out.new) result }
-        ensures reached { IsReached interval_judge self.new }
+        ensures reached { IsReached (judge_by D.operations) self.new }
     {
+        domains_judge_soundly::<D>();
         let mut done = 0;
         while let Some(run) = self.lowest_run() {
             done += 1;

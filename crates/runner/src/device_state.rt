@@ -16,22 +16,23 @@ use device_events::Reply;
 use nvme_entry::{PROGRAM_SLOTS, ProgramSlot};
 use program_interface::RunSizes;
 use std::marker::Model;
-use zns_commands::{FaultRefused, FaultState, Holds, Image, Namespace};
+use word_domain::Domain;
+use zns_commands::{FaultRefused, FaultState, Holds, Namespace};
 use zone_resources::RUNS;
 
 /// A namespace, slots for programs, and places for active runs. The programs are for the namespace's blocks, and each
 /// run can go on. A clause sees the state that they are.
 #[derive(Drop)]
-pub struct DeviceState {
+pub struct DeviceState<D: Domain> {
     /// The namespace.
     pub namespace: Namespace,
     /// The programs in their slots.
-    pub slots: [Option<LoadedProgram>; PROGRAM_SLOTS],
+    pub slots: [Option<LoadedProgram<D>>; PROGRAM_SLOTS],
     /// The active runs at their places.
     pub runs: [Option<ActiveRun>; RUNS],
 }
 
-impl Model for DeviceState {
+impl<D: Domain> Model for DeviceState<D> {
     ghost use Rattle.device_meaning.specs.State.{State};
     ghost use Rattle.runner.specs.DeviceState.{device_state};
     ghost use Rattle.runner.specs.steps.Ready.{IsReady};
@@ -43,13 +44,12 @@ impl Model for DeviceState {
     ghost invariant = { λ d. IsReady d.namespace d.slots d.runs };
 }
 
-impl DeviceState {
-    /// The namespace of an image, without a program or a run.
-    pub fn new(image: Image) -> DeviceState
-        ensures value { result ≡ new_state image }
-        ensures sound { IsNamespace image }
+impl<D: Domain> DeviceState<D> {
+    /// A namespace, without a program or a run.
+    pub fn new(namespace: Namespace) -> DeviceState<D>
+        ensures value { result ≡ new_state namespace }
+        ensures sound { IsNamespace namespace }
     {
-        let namespace = Namespace::new(image);
         // Brings in what holds of each namespace.
         let _ = namespace.geometry();
         DeviceState {

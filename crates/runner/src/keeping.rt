@@ -4,7 +4,7 @@ ghost use Rattle.std.specs.Prelude.{◌≡◌, Some, None, option_map, option_an
 ghost use Rattle.common_definitions.specs.Bytes.{AreBytes};
 ghost use Rattle.program_interface.specs.declared.area.TheConstants.{SCRATCH_BYTES};
 ghost use Rattle.verifier.specs.Verified.{program_of, sizes_of};
-ghost use Rattle.device_meaning.specs.Judging.{interval_judge};
+ghost use Rattle.device_meaning.specs.Judging.{judge_by};
 ghost use Rattle.kept_device.specs.Kept.{program_told};
 ghost use Rattle.runner.specs.DeviceState.{loaded_of};
 ghost use Rattle.runner.specs.Keeping.{KeepsAgain, loaded_again, saved_of};
@@ -15,19 +15,22 @@ use crate::kept_run::{pending_of, scratch_of};
 use crate::loaded_program::LoadedProgram;
 use ebpf_decode::laws::spelled_is_decoded;
 use ebpf_decode::{DecodeFault, decode, encode};
-use interval_domain::Intervals;
 use kept_device::KeptProgram;
 use program_interface::{BlockSize, RunSizes};
 use std::alloc::{AllocError, Global};
 use verified_run::Prepared;
 use verifier::{Verified, VerifyFault, verify};
+use word_domain::Domain;
 
 /// What is kept of a program. It would be loaded again.
 ///
 /// # Errors
 ///
 /// No memory.
-pub fn kept_program(alloc: Global, loaded: &LoadedProgram) -> Result<KeptProgram, AllocError>
+pub fn kept_program<D: Domain>(
+    alloc: Global,
+    loaded: &LoadedProgram<D>,
+) -> Result<KeptProgram, AllocError>
     ensures told { IfOk result (λ kept. program_told kept ≡ saved_of loaded.now) }
     ensures again { KeepsAgain loaded.now }
 {
@@ -49,12 +52,12 @@ pub fn kept_program(alloc: Global, loaded: &LoadedProgram) -> Result<KeptProgram
 /// # Errors
 ///
 /// No memory.
-pub fn program_again(
+pub fn program_again<D: Domain>(
     alloc: Global,
     kept: &KeptProgram,
     block: BlockSize,
-) -> Result<Option<LoadedProgram>, AllocError>
-    ensures again { IfOk result (λ found. option_map loaded_of found ≡ loaded_again block (program_told kept.now)) }
+) -> Result<Option<LoadedProgram<D>>, AllocError>
+    ensures again { IfOk result (λ found. option_map loaded_of found ≡ loaded_again (judge_by D.operations) block (program_told kept.now)) }
     ensures block { IfOk result (λ found. IfSome found (λ p. (sizes_of p.prepared).block ≡ block)) }
     ensures bytes { AreBytes kept.now.bytes.items }
     ensures long { length kept.now.result ≡ SCRATCH_BYTES }
@@ -79,20 +82,20 @@ pub fn program_again(
 /// # Errors
 ///
 /// No memory.
-fn verified_again(
+fn verified_again<D: Domain>(
     alloc: Global,
     bytes: &[u8],
     sizes: RunSizes,
-) -> Result<Option<Prepared<Verified<Intervals>>>, AllocError>
+) -> Result<Option<Prepared<Verified<D>>>, AllocError>
     ensures { IfOk result (λ found. MatchOption found
-        (IsRefused bytes.now sizes) (λ v. IsAccepted bytes.now sizes (program_of v) (sizes_of v))) }
+        (IsRefused (judge_by D.operations) bytes.now sizes) (λ v. IsAccepted D.operations bytes.now sizes (program_of v) (sizes_of v))) }
 {
     let program = match decode(alloc, bytes) {
         Ok(program) => program,
         Err(DecodeFault::Memory) => return Err(AllocError),
         Err(DecodeFault::Fault(_)) => return Ok(None),
     };
-    let verified = match verify::<Intervals>(alloc, program, sizes) {
+    let verified = match verify::<D>(alloc, program, sizes) {
         Ok(verified) => verified,
         Err(VerifyFault::Memory) => return Err(AllocError),
         Err(VerifyFault::Refused(_)) => return Ok(None),

@@ -2,6 +2,7 @@
 
 ghost use Rattle.std.specs.Prelude.{◌≡◌, ◌<◌, ℕ, Some, None, IfOk, IfSome, OnOk, MatchOption, get_or, length, map};
 ghost use Rattle.nvme_entry.specs.declared.program_slot.TheConstants.{PROGRAM_SLOTS};
+ghost use Rattle.device_meaning.specs.Judging.{judge_by};
 ghost use Rattle.verifier.specs.Verified.{sizes_of};
 ghost use Rattle.kept_device.specs.Kept.{slot_told};
 ghost use Rattle.runner.specs.DeviceState.{loaded_slot};
@@ -15,15 +16,16 @@ use kept_device::KeptProgram;
 use nvme_entry::PROGRAM_SLOTS;
 use program_interface::BlockSize;
 use std::alloc::{AllocError, Global};
+use word_domain::Domain;
 
 /// What is kept of slots.
 ///
 /// # Errors
 ///
 /// No memory.
-pub fn kept_slots(
+pub fn kept_slots<D: Domain>(
     alloc: Global,
-    slots: &[Option<LoadedProgram>; PROGRAM_SLOTS],
+    slots: &[Option<LoadedProgram<D>>; PROGRAM_SLOTS],
 ) -> Result<Vec<Option<KeptProgram>>, AllocError>
     ensures told { IfOk result (λ kept. map slot_told kept.items ≡ map saved_slot slots.now) }
     ensures again { OnOk result ((k : ℕ) → k < PROGRAM_SLOTS → IfSome (get_or slots.now k None) KeepsAgain) }
@@ -41,7 +43,10 @@ pub fn kept_slots(
 /// # Errors
 ///
 /// No memory.
-fn kept_slot(alloc: Global, slot: &Option<LoadedProgram>) -> Result<Option<KeptProgram>, AllocError>
+fn kept_slot<D: Domain>(
+    alloc: Global,
+    slot: &Option<LoadedProgram<D>>,
+) -> Result<Option<KeptProgram>, AllocError>
     ensures told { IfOk result (λ kept. slot_told kept ≡ saved_slot slot.now) }
     ensures again { IfSome slot.now KeepsAgain }
 {
@@ -56,14 +61,14 @@ fn kept_slot(alloc: Global, slot: &Option<LoadedProgram>) -> Result<Option<KeptP
 /// # Errors
 ///
 /// No memory.
-pub fn slots_again(
+pub fn slots_again<D: Domain>(
     alloc: Global,
     kept: &[Option<KeptProgram>],
     block: BlockSize,
-) -> Result<Option<[Option<LoadedProgram>; PROGRAM_SLOTS]>, AllocError>
+) -> Result<Option<[Option<LoadedProgram<D>>; PROGRAM_SLOTS]>, AllocError>
     requires { length kept.now ≡ PROGRAM_SLOTS }
     ensures { IfOk result (λ found. MatchOption found
-        (AreNotAgain block kept.now) (λ slots. AreAgain block kept.now slots PROGRAM_SLOTS)) }
+        (AreNotAgain (judge_by D.operations) block kept.now) (λ slots. AreAgain block kept.now slots PROGRAM_SLOTS)) }
 {
     let mut slots = [None, None, None, None, None, None, None, None];
     for k in 0..PROGRAM_SLOTS {
@@ -80,13 +85,14 @@ pub fn slots_again(
 /// # Errors
 ///
 /// No memory.
-fn slot_again(
+fn slot_again<D: Domain>(
     alloc: Global,
     kept: &Option<KeptProgram>,
     block: BlockSize,
-) -> Result<Option<Option<LoadedProgram>>, AllocError>
+) -> Result<Option<Option<LoadedProgram<D>>>, AllocError>
     ensures again { IfOk result (λ found. MatchOption found
-        (slot_again block (slot_told kept.now) ≡ None) (λ slot. slot_again block (slot_told kept.now) ≡ Some (loaded_slot slot))) }
+        (slot_again (judge_by D.operations) block (slot_told kept.now) ≡ None)
+        (λ slot. slot_again (judge_by D.operations) block (slot_told kept.now) ≡ Some (loaded_slot slot))) }
     ensures sizes { IfOk result (λ found. IfSome found (λ slot. IfSome slot (λ p. (sizes_of p.prepared).block ≡ block))) }
     ensures bytes { IfSome (slot_told kept.now) IsOfBytes }
 {

@@ -3,6 +3,7 @@
 ghost use Rattle.std.specs.Prelude.{◌≡◌, ◌<◌, IfOk, IfErr};
 ghost use Rattle.std.specs.Result.{result_err};
 ghost use Rattle.common_definitions.specs.Checks.{first_failed};
+ghost use Rattle.device_meaning.specs.Judging.{judge_by};
 ghost use Rattle.device_meaning.specs.Happenings.{load_checks, sizes_for};
 ghost use Rattle.runner.specs.steps.Answered.{HasLoaded};
 ghost use Rattle.runner.specs.steps.Loading.{refused_program, IsAccepted, IsLoadable, IsNotAccepted};
@@ -11,17 +12,22 @@ ghost use Rattle.verifier.specs.Verified.{program_of, sizes_of};
 use crate::device_state::DeviceState;
 use crate::loaded_program::LoadedProgram;
 use ebpf_decode::{DecodeFault, decode};
-use interval_domain::Intervals;
 use nvme_entry::{LoadCommand, Status};
 use program_interface::{MOST_SLOTS, RunSizes};
 use std::alloc::Global;
 use verified_run::Prepared;
 use verifier::{Verified, VerifyFault, verify};
+use word_domain::Domain;
 use zns_commands::{Answer, check_transfer};
 
 /// Puts a program into a slot, without a result. Where it is refused, the slot is as it was.
-pub fn load(alloc: Global, state: &mut DeviceState, command: &LoadCommand, input: &[u8]) -> Answer
-    ensures loaded { HasLoaded command.now input.now state.old state.new result }
+pub fn load<D: Domain>(
+    alloc: Global,
+    state: &mut DeviceState<D>,
+    command: &LoadCommand,
+    input: &[u8],
+) -> Answer
+    ensures loaded { HasLoaded (judge_by D.operations) command.now input.now state.old state.new result }
     ensures no_data { result.length ≡ 0 }
 {
     match try_load(alloc, state, command, input) {
@@ -34,14 +40,14 @@ pub fn load(alloc: Global, state: &mut DeviceState, command: &LoadCommand, input
 }
 
 /// The program of a Load, or the answer that refuses it.
-fn try_load(
+fn try_load<D: Domain>(
     alloc: Global,
-    state: &DeviceState,
+    state: &DeviceState<D>,
     command: &LoadCommand,
     input: &[u8],
-) -> Result<Prepared<Verified<Intervals>>, Answer>
-    ensures ok { IfOk result (λ v. IsLoadable command.now input.now state.now (program_of v) (sizes_of v)) }
-    ensures err { IfErr result (HasLoaded command.now input.now state.now state.now) }
+) -> Result<Prepared<Verified<D>>, Answer>
+    ensures ok { IfOk result (λ v. IsLoadable D.operations command.now input.now state.now (program_of v) (sizes_of v)) }
+    ensures err { IfErr result (HasLoaded (judge_by D.operations) command.now input.now state.now state.now) }
     ensures no_data { IfErr result (λ answer. answer.length ≡ 0) }
 {
     match check_load(state, command, input) {
@@ -51,7 +57,11 @@ fn try_load(
 }
 
 /// The sizes of the runs that a Load asks for, or the status that refuses it.
-fn check_load(state: &DeviceState, command: &LoadCommand, input: &[u8]) -> Result<RunSizes, Status>
+fn check_load<D: Domain>(
+    state: &DeviceState<D>,
+    command: &LoadCommand,
+    input: &[u8],
+) -> Result<RunSizes, Status>
     ensures why { result_err result ≡ first_failed (load_checks state.now command.now input.now) }
     ensures sizes { IfOk result (λ sizes. sizes ≡ sizes_for state.now command.now) }
 {
@@ -68,20 +78,20 @@ fn check_load(state: &DeviceState, command: &LoadCommand, input: &[u8]) -> Resul
 
 /// The program that bytes spell, with its superinstructions, where it is accepted for runs of these sizes, or the
 /// answer that refuses it.
-fn read_program(
+fn read_program<D: Domain>(
     alloc: Global,
     bytes: &[u8],
     sizes: RunSizes,
-) -> Result<Prepared<Verified<Intervals>>, Answer>
-    ensures ok { IfOk result (λ v. IsAccepted bytes.now sizes (program_of v) (sizes_of v)) }
-    ensures err { IfErr result (IsNotAccepted bytes.now sizes) }
+) -> Result<Prepared<Verified<D>>, Answer>
+    ensures ok { IfOk result (λ v. IsAccepted D.operations bytes.now sizes (program_of v) (sizes_of v)) }
+    ensures err { IfErr result (IsNotAccepted D.operations bytes.now sizes) }
 {
     let program = match decode(alloc, bytes) {
         Ok(program) => program,
         Err(DecodeFault::Memory) => return Err(Answer::refused(Status::WANT_OF_MEMORY)),
         Err(DecodeFault::Fault(fault)) => return Err(refuse(fault.slot, fault.kind.number())),
     };
-    let verified = match verify::<Intervals>(alloc, program, sizes) {
+    let verified = match verify::<D>(alloc, program, sizes) {
         Ok(verified) => verified,
         Err(VerifyFault::Memory) => return Err(Answer::refused(Status::WANT_OF_MEMORY)),
         Err(VerifyFault::Refused(refusal)) => {

@@ -3,23 +3,23 @@
 ghost use Rattle.std.specs.Prelude.{◌≡◌};
 ghost use Rattle.device_meaning.specs.BlockRuns.{no_scratch};
 
-use interval_domain::Intervals;
 use program_interface::SCRATCH_BYTES;
 use verified_run::Prepared;
 use verifier::Verified;
+use word_domain::Domain;
 
 /// The program of a slot, and its result.
 #[derive(Drop)]
-pub struct LoadedProgram {
+pub struct LoadedProgram<D: Domain> {
     /// The accepted program, ready to run.
-    pub prepared: Prepared<Verified<Intervals>>,
+    pub prepared: Prepared<Verified<D>>,
     /// The scratch bytes that its last successful run left, zeros before one did.
     pub result: [u8; SCRATCH_BYTES],
 }
 
-impl LoadedProgram {
+impl<D: Domain> LoadedProgram<D> {
     /// A program without a result as yet.
-    pub fn new(prepared: Prepared<Verified<Intervals>>) -> LoadedProgram
+    pub fn new(prepared: Prepared<Verified<D>>) -> LoadedProgram<D>
         ensures prepared { result.prepared ≡ prepared }
         ensures result { result.result ≡ no_scratch }
     {

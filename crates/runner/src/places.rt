@@ -8,6 +8,7 @@ ghost use Rattle.runner.specs.steps.Loading.{uses_slot};
 use crate::active_run::ActiveRun;
 use crate::loaded_program::LoadedProgram;
 use nvme_entry::{PROGRAM_SLOTS, ProgramSlot};
+use word_domain::Domain;
 use zns_commands::Holds;
 use zone_resources::RUNS;
 
@@ -20,7 +21,7 @@ pub fn count(runs: &[Option<ActiveRun>; RUNS]) -> usize
 }
 
 /// Is a program in one of the slots?
-pub fn any_loaded(slots: &[Option<LoadedProgram>; PROGRAM_SLOTS]) -> bool
+pub fn any_loaded<D: Domain>(slots: &[Option<LoadedProgram<D>>; PROGRAM_SLOTS]) -> bool
     ensures value { result ≡ list_any is_some slots.now }
     ensures slots { length slots.now ≡ PROGRAM_SLOTS }
 {

@@ -4,17 +4,19 @@ ghost use Rattle.std.specs.Prelude.{◌≡◌, ◌<◌, ℕ, Some, None, IfOk, M
 ghost use Rattle.nvme_entry.specs.declared.program_slot.TheConstants.{PROGRAM_SLOTS};
 ghost use Rattle.zone_resources.specs.declared.holds.TheConstants.{RUNS};
 ghost use Rattle.image_store.specs.Namespace.{IsNamespace};
-ghost use Rattle.device_meaning.specs.Judging.{interval_judge};
+ghost use Rattle.device_meaning.specs.Judging.{judge_by};
 ghost use Rattle.device_meaning.specs.Reached.{IsReached};
 ghost use Rattle.kept_device.specs.Kept.{SavedProgram, place_told, slot_told};
-ghost use Rattle.runner.specs.Restored.{IsOfBytes, IsRestored, TellNone};
+ghost use Rattle.runner.specs.Restored.{IsOfBytes, IsRestoredBy, TellNoneBy};
 
 use crate::device_state::DeviceState;
 use crate::kept_runs::kept_runs;
 use crate::kept_slots::{kept_slots, slots_again};
 use crate::runs_again::runs_again;
+use device_meaning::laws::domains_judge_soundly;
 use kept_device::{KeptProgram, KeptRun};
 use std::alloc::{AllocError, Global};
+use word_domain::Domain;
 use zns_commands::{Image, Namespace};
 
 /// What is kept of a device beside its namespace.
@@ -31,11 +33,12 @@ pub struct KeptDevice {
 /// # Errors
 ///
 /// No memory.
-pub fn kept_of(alloc: Global, state: &DeviceState) -> Result<KeptDevice, AllocError>
-    requires reached { IsReached interval_judge state.now }
-    ensures { IfOk result (λ kept.
-        IsRestored state.now.namespace (map slot_told kept.programs.items) (map place_told kept.runs.items) state.now) }
+pub fn kept_of<D: Domain>(alloc: Global, state: &DeviceState<D>) -> Result<KeptDevice, AllocError>
+    requires reached { IsReached (judge_by D.operations) state.now }
+    ensures { IfOk result (λ kept. IsRestoredBy (judge_by D.operations)
+        state.now.namespace (map slot_told kept.programs.items) (map place_told kept.runs.items) state.now) }
 {
+    domains_judge_soundly::<D>();
     let programs = kept_slots(alloc, &state.slots)?;
     let runs = kept_runs(alloc, &state.runs)?;
     Ok(KeptDevice { programs, runs })
@@ -46,16 +49,17 @@ pub fn kept_of(alloc: Global, state: &DeviceState) -> Result<KeptDevice, AllocEr
 /// # Errors
 ///
 /// No memory.
-pub fn state_again(
+pub fn state_again<D: Domain>(
     alloc: Global,
     image: Image,
     programs: &[Option<KeptProgram>],
     runs: &[Option<KeptRun>],
-) -> Result<Option<DeviceState>, AllocError>
+) -> Result<Option<DeviceState<D>>, AllocError>
     requires programs { length programs.now ≡ PROGRAM_SLOTS }
     requires runs { length runs.now ≡ RUNS }
     ensures restored { IfOk result (λ found. MatchOption found
-        (TellNone image (map slot_told programs.now) (map place_told runs.now)) (IsRestored image (map slot_told programs.now) (map place_told runs.now))) }
+        (TellNoneBy (judge_by D.operations) image (map slot_told programs.now) (map place_told runs.now))
+        (IsRestoredBy (judge_by D.operations) image (map slot_told programs.now) (map place_told runs.now))) }
     ensures bytes { IfOk result (λ found. OnSome found
         ((k : ℕ) (p : SavedProgram) → k < PROGRAM_SLOTS → get_or (map slot_told programs.now) k None ≡ Some p → IsOfBytes p)) }
     ensures sound { IsNamespace image }

@@ -6,11 +6,12 @@ ghost use Rattle.runner.specs.steps.Answered.{GivesResult};
 use crate::device_state::DeviceState;
 use nvme_entry::{ProgramSlot, Status, put_front};
 use program_interface::SCRATCH_BYTES;
+use word_domain::Domain;
 use zns_commands::{Answer, check_transfer};
 
 /// Gives the result of a slot's program.
-pub fn give_result(
-    state: &DeviceState,
+pub fn give_result<D: Domain>(
+    state: &DeviceState<D>,
     slot: ProgramSlot,
     input: &[u8],
     output: &mut [u8],

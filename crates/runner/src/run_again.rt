@@ -9,8 +9,7 @@ ghost use Rattle.nvme_entry.specs.declared.command.TheConstants.{MOST_BLOCKS};
 ghost use Rattle.kept_device.specs.Kept.{run_told};
 ghost use Rattle.runner.specs.DeviceState.{active_of, loaded_slot};
 ghost use Rattle.runner.specs.Restored.{CanGoOn};
-ghost use Rattle.runner.specs.declared.loaded_program.LoadedProgram.{LoadedProgram};
-ghost use Rattle.runner.specs.steps.Ready.{IsForBlocks};
+ghost use Rattle.runner.specs.steps.Ready.{AreForBlocks};
 ghost use Rattle.runner.specs.steps.RunningAgain.{CountsFit, IsAgain};
 ghost use Rattle.verifier.specs.Verified.{sizes_of};
 
@@ -22,15 +21,16 @@ use image_store::ZoneBlock;
 use kept_device::KeptRun;
 use nvme_entry::{PROGRAM_SLOTS, ProgramSlot};
 use program_interface::{BlockSize, LARGEST_BLOCK, RunSizes};
+use word_domain::Domain;
 use zns_commands::Namespace;
 
 /// A run that was kept, as an active one; `None` where it can't go on.
-pub fn run_again(
+pub fn run_again<D: Domain>(
     namespace: &Namespace,
-    slots: &[Option<LoadedProgram>; PROGRAM_SLOTS],
+    slots: &[Option<LoadedProgram<D>>; PROGRAM_SLOTS],
     kept: &KeptRun,
 ) -> Option<ActiveRun>
-    requires { (k : ℕ) (p : LoadedProgram) → get_or slots.now k None ≡ Some p → IsForBlocks namespace.now p }
+    requires { AreForBlocks namespace.now slots.now }
     ensures { MatchOption result
         (CanGoOn namespace.now (map loaded_slot slots.now) (run_told kept.now) → ⊥)
         (IsAgain namespace.now slots.now (run_told kept.now)) }
@@ -58,7 +58,10 @@ pub fn run_again(
 }
 
 /// The sizes that the program of a slot was accepted for, where there is one.
-fn sizes_in(slots: &[Option<LoadedProgram>; PROGRAM_SLOTS], slot: ProgramSlot) -> Option<RunSizes>
+fn sizes_in<D: Domain>(
+    slots: &[Option<LoadedProgram<D>>; PROGRAM_SLOTS],
+    slot: ProgramSlot,
+) -> Option<RunSizes>
     ensures { result ≡ option_map (λ p. sizes_of p.prepared) (get_or slots.now slot None) }
 {
     match &slots[slot.index()] {

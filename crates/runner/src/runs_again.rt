@@ -3,8 +3,7 @@
 ghost use Rattle.std.specs.Prelude.{◌≡◌, ℕ, Some, None, MatchOption, MatchBool, false, get_or, length};
 ghost use Rattle.zone_resources.specs.declared.holds.TheConstants.{RUNS};
 ghost use Rattle.runner.specs.DeviceState.{active_of};
-ghost use Rattle.runner.specs.declared.loaded_program.LoadedProgram.{LoadedProgram};
-ghost use Rattle.runner.specs.steps.Ready.{IsForBlocks};
+ghost use Rattle.runner.specs.steps.Ready.{AreForBlocks};
 ghost use Rattle.runner.specs.steps.RunsAgain.{AreGoing, AreStuck, IsPlaceAgain, IsStuck};
 
 use crate::active_run::ActiveRun;
@@ -13,17 +12,18 @@ use crate::places;
 use crate::run_again::run_again;
 use kept_device::KeptRun;
 use nvme_entry::PROGRAM_SLOTS;
+use word_domain::Domain;
 use zns_commands::Namespace;
 use zone_resources::RUNS;
 
 /// Runs that were kept, as active ones; `None` where one can't go on, or two append to one zone.
-pub fn runs_again(
+pub fn runs_again<D: Domain>(
     namespace: &Namespace,
-    slots: &[Option<LoadedProgram>; PROGRAM_SLOTS],
+    slots: &[Option<LoadedProgram<D>>; PROGRAM_SLOTS],
     kept: &[Option<KeptRun>],
 ) -> Option<[Option<ActiveRun>; RUNS]>
     requires number { length kept.now ≡ RUNS }
-    requires programs { (k : ℕ) (p : LoadedProgram) → get_or slots.now k None ≡ Some p → IsForBlocks namespace.now p }
+    requires programs { AreForBlocks namespace.now slots.now }
     ensures { MatchOption result
         (AreStuck namespace.now slots.now kept.now) (λ runs. AreGoing namespace.now slots.now kept.now runs RUNS) }
 {
@@ -38,13 +38,13 @@ pub fn runs_again(
 }
 
 /// A place whose run was kept, beside those of these; `None` where that can't go on, or appends to the zone of one of them.
-fn place_again(
+fn place_again<D: Domain>(
     namespace: &Namespace,
-    slots: &[Option<LoadedProgram>; PROGRAM_SLOTS],
+    slots: &[Option<LoadedProgram<D>>; PROGRAM_SLOTS],
     runs: &[Option<ActiveRun>; RUNS],
     kept: &Option<KeptRun>,
 ) -> Option<Option<ActiveRun>>
-    requires programs { (k : ℕ) (p : LoadedProgram) → get_or slots.now k None ≡ Some p → IsForBlocks namespace.now p }
+    requires programs { AreForBlocks namespace.now slots.now }
     ensures { MatchOption result
         (IsStuck namespace.now slots.now runs.now kept.now) (IsPlaceAgain namespace.now slots.now runs.now kept.now) }
 {

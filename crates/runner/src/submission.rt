@@ -5,6 +5,7 @@ ghost use Rattle.common_definitions.specs.Bytes.{AreBytes};
 ghost use Rattle.nvme_entry.specs.Entry.{decoded, identifier_of};
 ghost use Rattle.nvme_entry.specs.declared.command.Command.TheVariants as commands;
 ghost use Rattle.device_events.specs.Replies.{data_length, without_data};
+ghost use Rattle.device_meaning.specs.Judging.{judge_by};
 ghost use Rattle.runner.specs.steps.Answered.{HasExecuted, HasSubmitted, complete_reply, with_data};
 
 use crate::admission::start;
@@ -15,6 +16,7 @@ use crate::results::give_result;
 use device_events::Reply;
 use nvme_entry::{Command, Entry, MOST_TRANSFER, RunCommand, StandardCommand};
 use std::alloc::Global;
+use word_domain::Domain;
 use zns_commands::Answer;
 
 /// An entry that a host submits to a queue, with the data that stands beside it.
@@ -50,14 +52,15 @@ impl<'a> Submission<'a> {
 }
 
 /// Does the command of an entry. The data of the reply lies at the front of `output`.
-pub fn submit(
+pub fn submit<D: Domain>(
     alloc: Global,
-    state: &mut DeviceState,
+    state: &mut DeviceState<D>,
     submission: &Submission<'_>,
     output: &mut [u8],
 ) -> Reply
     requires room { MOST_TRANSFER ≤ length output.old }
-    ensures submitted { HasSubmitted submission.now (decoded submission.now.entry.now) state.old state.new (with_data result output.new) }
+    ensures submitted { HasSubmitted (judge_by D.operations)
+        submission.now (decoded submission.now.entry.now) state.old state.new (with_data result output.new) }
     ensures rest { drop (data_length result) output.new ≡ drop (data_length result) output.old }
     ensures within { data_length result ≤ length output.new }
 {
@@ -68,15 +71,15 @@ pub fn submit(
 }
 
 /// Does the command that an entry names.
-fn perform(
+fn perform<D: Domain>(
     alloc: Global,
-    state: &mut DeviceState,
+    state: &mut DeviceState<D>,
     command: Command,
     submission: &Submission<'_>,
     output: &mut [u8],
 ) -> Reply
     requires room { MOST_TRANSFER ≤ length output.old }
-    ensures submitted { HasSubmitted submission.now (Ok command) state.old state.new (with_data result output.new) }
+    ensures submitted { HasSubmitted (judge_by D.operations) submission.now (Ok command) state.old state.new (with_data result output.new) }
     ensures rest { drop (data_length result) output.new ≡ drop (data_length result) output.old }
     ensures within { data_length result ≤ length output.new }
 {
@@ -92,8 +95,8 @@ fn perform(
 }
 
 /// Executes a standard command, which leaves the active runs what they use.
-fn execute(
-    state: &mut DeviceState,
+fn execute<D: Domain>(
+    state: &mut DeviceState<D>,
     command: &StandardCommand,
     input: &[u8],
     output: &mut [u8],
@@ -108,8 +111,13 @@ fn execute(
 }
 
 /// Starts a run, where it is admitted.
-fn run(state: &mut DeviceState, command: &RunCommand, submission: &Submission<'_>) -> Reply
-    ensures submitted { HasSubmitted submission.now (Ok (commands.Run command.now)) state.old state.new (without_data result) }
+fn run<D: Domain>(
+    state: &mut DeviceState<D>,
+    command: &RunCommand,
+    submission: &Submission<'_>,
+) -> Reply
+    ensures submitted { HasSubmitted (judge_by D.operations)
+        submission.now (Ok (commands.Run command.now)) state.old state.new (without_data result) }
     ensures no_data { data_length result ≡ 0 }
 {
     let cid = Entry::cid(submission.entry);

@@ -1,7 +1,7 @@
 //! Turns.
 
 ghost use Rattle.std.specs.Prelude.{◌≡◌, ◌<◌, ◌≤◌, ◌+◌, ◌^◌, [], ◌∷◌, get_or, length, None, IsNone};
-ghost use Rattle.device_meaning.specs.Judging.{interval_judge};
+ghost use Rattle.device_meaning.specs.Judging.{judge_by};
 ghost use Rattle.program_interface.specs.declared.block_size.TheConstants.{LARGEST_BLOCK};
 ghost use Rattle.emit_append.specs.Packer.{after_put, given_by_finish, given_by_put, new_packer};
 ghost use Rattle.common_definitions.specs.Bytes.{padded};
@@ -18,10 +18,12 @@ use crate::device_state::DeviceState;
 use crate::loaded_program::LoadedProgram;
 use crate::places;
 use device_events::Reply;
+use device_meaning::laws::domains_judge_soundly;
 use nvme_entry::{PROGRAM_SLOTS, Status};
 use program_interface::{Context, LARGEST_BLOCK};
 use program_meaning::TrapFree;
 use verified_run::{Exit, Prepared, Stack, StepCount};
+use word_domain::Domain;
 use zns_commands::{Answer, Namespace};
 
 /// The block that a run reads next.
@@ -152,9 +154,9 @@ fn advance<V: TrapFree + Drop>(
 
 /// A turn of a run by the program of its slot, which has the run's scratch bytes as its result once the run
 /// has ended.
-fn advance_by_slot(
+fn advance_by_slot<D: Domain>(
     namespace: &mut Namespace,
-    slot: &mut Option<LoadedProgram>,
+    slot: &mut Option<LoadedProgram<D>>,
     active: &mut ActiveRun,
     stack: &mut Stack,
     group: &mut [u8; LARGEST_BLOCK],
@@ -173,9 +175,9 @@ fn advance_by_slot(
 }
 
 /// Gives the run at a place a turn, where there is one. The place is free once the run has ended.
-fn turn_place(
+fn turn_place<D: Domain>(
     namespace: &mut Namespace,
-    slots: &mut [Option<LoadedProgram>; PROGRAM_SLOTS],
+    slots: &mut [Option<LoadedProgram<D>>; PROGRAM_SLOTS],
     place: &mut Option<ActiveRun>,
     stack: &mut Stack,
     group: &mut [u8; LARGEST_BLOCK],
@@ -201,18 +203,19 @@ fn turn_place(
 }
 
 /// Gives a run a turn.
-pub fn turn(
-    state: &mut DeviceState,
+pub fn turn<D: Domain>(
+    state: &mut DeviceState<D>,
     stack: &mut Stack,
     group: &mut [u8; LARGEST_BLOCK],
     count: &mut StepCount,
     run: u8,
 ) -> Reply
-    requires reached { IsReached interval_judge state.old }
+    requires reached { IsReached (judge_by D.operations) state.old }
     ensures reply { result ≡ (turned state.old run).reply.reply }
     ensures state { state.new ≡ (turned state.old run).state }
     ensures no_data { data_length result ≡ 0 }
 {
+    domains_judge_soundly::<D>();
     let place = usize::from(run);
     if place >= places::count(&state.runs) {
         return Reply::Idle;

@@ -6,7 +6,7 @@ use Rattle.nvme_entry.specs.declared.command.Command.{Command}
 use Rattle.nvme_entry.specs.declared.command.LoadCommand.{LoadCommand}
 use Rattle.nvme_entry.specs.declared.command.RunCommand.{RunCommand}
 use Rattle.nvme_entry.specs.declared.command.StandardCommand.{StandardCommand}
-use Rattle.device_meaning.specs.Judging.{interval_judge}
+use Rattle.device_meaning.specs.Judging.{Judge}
 use Rattle.zns_commands.specs.Meaning.{meaning}
 use Rattle.zns_commands.specs.declared.answer.Answer.{Answer}
 use Rattle.device_meaning.specs.EventReplies.{Happening, Submission, completed, completion_reply, refused, submission_of}
@@ -42,11 +42,11 @@ HasExecuted asked input old new answer bytes =
 
 -- a Load of these bytes was answered so, whatever its queue and its entry, and led from one state to the
 -- other; memory may have been refused to it
-pub record HasLoaded (load : LoadCommand) (input : List ℕ) (old new : State) (answer : Answer) : Type 0 where
+pub record HasLoaded (judge : Judge) (load : LoadCommand) (input : List ℕ) (old new : State) (answer : Answer) : Type 0 where
   pub starved : Bool
   pub happening : (queue : ℕ) (entry : List ℕ)
       → let sub = submission_of queue entry input in
-      loading interval_judge starved sub old load ≡ answered sub answer [] new
+      loading judge starved sub old load ≡ answered sub answer [] new
 
 -- a Result with this data beside it was answered so, and changes nothing
 abbrev pub GivesResult : ℕ → List ℕ → State → Answer → List ℕ → Type 0
@@ -70,6 +70,6 @@ Refuses command input s status =
     starting sub s command ≡ refused sub status s
 
 -- an entry that asks for this led from one state to the other, with this reply
-pub record HasSubmitted (given : GivenSubmission) (asked : Result Command Status) (old new : State) (reply : ReplyWithData) : Type 0 where
+pub record HasSubmitted (judge : Judge) (given : GivenSubmission) (asked : Result Command Status) (old new : State) (reply : ReplyWithData) : Type 0 where
   pub starved : Bool
-  pub happening : submitted interval_judge starved (as_submission given) old asked ≡ record { reply = reply; state = new }
+  pub happening : submitted judge starved (as_submission given) old asked ≡ record { reply = reply; state = new }

@@ -6,8 +6,8 @@ use Rattle.nvme_entry.specs.declared.command.LoadCommand.{LoadCommand}
 use Rattle.ebpf_decode.specs.Reading.{decoded_program}
 use Rattle.instruction_set.specs.declared.instruction.Instruction.{Instruction}
 use Rattle.program_interface.specs.RunSizes.{Sizes}
-use Rattle.interval_domain.specs.Intervals.{intervals}
-use Rattle.device_meaning.specs.Judging.{interval_judge}
+use Rattle.word_domain.specs.Domain.{Operations}
+use Rattle.device_meaning.specs.Judging.{judge_by}
 use Rattle.accepted_programs.specs.Accepted.{refusal}
 use Rattle.zns_commands.specs.declared.answer.Answer.{Answer}
 use Rattle.device_meaning.specs.EventReplies.{submission_of}
@@ -21,24 +21,25 @@ abbrev pub uses_slot : ℕ → Option ActiveRun → Bool
 uses_slot slot None = false
 uses_slot slot (Some a) = a.command.slot == slot
 
--- these bytes spell a program that is accepted, and is kept with the sizes that it is accepted for
-pub record IsAccepted (bytes : List ℕ) (sizes : Sizes) (program : List (Option Instruction)) (kept : Sizes) : Type 0 where
-  pub spelled : decoded_program bytes ≡ Ok program
-  pub accepted : refusal intervals program sizes ≡ None
-  pub kept_is : kept ≡ sizes
+module _ {D : Type 0} (operations : Operations D) where
+  -- these bytes spell a program that is accepted, and is kept with the sizes that it is accepted for
+  pub record IsAccepted (bytes : List ℕ) (sizes : Sizes) (program : List (Option Instruction)) (kept : Sizes) : Type 0 where
+    pub spelled : decoded_program bytes ≡ Ok program
+    pub accepted : refusal operations program sizes ≡ None
+    pub kept_is : kept ≡ sizes
 
--- a Load of these bytes that no check refuses is answered so, and changes nothing; memory may have been refused to it
-pub record IsNotAccepted (bytes : List ℕ) (sizes : Sizes) (answer : Answer) : Type 0 where
-  pub starved : Bool
-  pub happening : (queue : ℕ) (entry : List ℕ) (s : State) (load : LoadCommand) → sizes_for s load ≡ sizes
-      → let sub = submission_of queue entry bytes in
-      load_unless interval_judge None starved sub s load ≡ answered sub answer [] s
-  pub no_data : answer.length ≡ 0
+  -- a Load of these bytes that no check refuses is answered so, and changes nothing; memory may have been refused to it
+  pub record IsNotAccepted (bytes : List ℕ) (sizes : Sizes) (answer : Answer) : Type 0 where
+    pub starved : Bool
+    pub happening : (queue : ℕ) (entry : List ℕ) (s : State) (load : LoadCommand) → sizes_for s load ≡ sizes
+        → let sub = submission_of queue entry bytes in
+        load_unless (judge_by operations) None starved sub s load ≡ answered sub answer [] s
+    pub no_data : answer.length ≡ 0
 
--- a Load that no check refuses, whose program is accepted for the sizes that it asks for
-pub record IsLoadable (load : LoadCommand) (input : List ℕ) (s : State) (program : List (Option Instruction)) (kept : Sizes) : Type 0 where
-  pub checks : first_failed (load_checks s load input) ≡ None
-  pub accepted : IsAccepted input (sizes_for s load) program kept
+  -- a Load that no check refuses, whose program is accepted for the sizes that it asks for
+  pub record IsLoadable (load : LoadCommand) (input : List ℕ) (s : State) (program : List (Option Instruction)) (kept : Sizes) : Type 0 where
+    pub checks : first_failed (load_checks s load input) ≡ None
+    pub accepted : IsAccepted input (sizes_for s load) program kept
 
 -- the answer to a program that is refused
 abbrev pub refused_program : ℕ → ℕ → Answer

@@ -9,6 +9,7 @@ use Rattle.image_store.specs.declared.geometry.ZoneBlock.{ZoneBlock}
 use Rattle.zns_commands.specs.Address.{zone_block_in, zone_number, zone_offset}
 use Rattle.nvme_entry.specs.declared.command.TheConstants.{MOST_BLOCKS}
 use Rattle.emit_append.specs.Need.{need_behind}
+use Rattle.word_domain.specs.declared.domain.Domain.{Ghosts}
 use Rattle.verifier.specs.Verified.{sizes_of}
 use Rattle.device_meaning.specs.Admission.{granted_sizes}
 use Rattle.device_meaning.specs.BlockRuns.{AreScratch}
@@ -47,22 +48,23 @@ pub record CountsFit (block : ℕ) (a : Active) : Type 0 where
   pub appended : a.so_far.appended ≤ a.so_far.index
   pub pending : length a.so_far.pending ≤ block
 
--- the active run that goes on is the one that was kept
-pub record IsAgain (ns : ZonedNamespace) (slots : List (Option LoadedProgram)) (a : Active) (active : ActiveRun) : Type 0 where
-  pub seen : active_of active ≡ a
-  pub can : CanGoOn ns (map loaded_slot slots) a
-  pub running : IsRunning ns slots active
+module _ {D : Type 0} {domain : Ghosts D} where
+  -- the active run that goes on is the one that was kept
+  pub record IsAgain (ns : ZonedNamespace) (slots : List (Option (LoadedProgram D domain))) (a : Active) (active : ActiveRun) : Type 0 where
+    pub seen : active_of active ≡ a
+    pub can : CanGoOn ns (map loaded_slot slots) a
+    pub running : IsRunning ns slots active
 
--- what the tests of a run that was kept have found
-pub record HasPassed (ns : ZonedNamespace) (slots : List (Option LoadedProgram)) (p : LoadedProgram) (source : ZoneBlock) (destination : ℕ) (a : Active) : Type 0 where
-  pub loaded : get_or slots a.command.slot None ≡ Some p
-  pub accepted : IsForBlocks ns p
-  pub counts : CountsFit ns.block a
-  pub source_is : IsSource ns a.command source
-  pub destination_is : IsDestination ns a.command destination
-  pub other : source.zone ≢ destination
-  pub scratch : AreScratch a.so_far.scratch
-  pub bytes : AreBytes a.so_far.pending
-  pub most : a.command.blocks ≤ MOST_BLOCKS
-  pub room : length (zone_at ns destination).blocks
-      + need_behind (length a.so_far.pending) (a.command.blocks - a.so_far.index) (granted_sizes ns (sizes_of p.prepared).limit) ≤ ns.capacity
+  -- what the tests of a run that was kept have found
+  pub record HasPassed (ns : ZonedNamespace) (slots : List (Option (LoadedProgram D domain))) (p : LoadedProgram D domain) (source : ZoneBlock) (destination : ℕ) (a : Active) : Type 0 where
+    pub loaded : get_or slots a.command.slot None ≡ Some p
+    pub accepted : IsForBlocks ns p
+    pub counts : CountsFit ns.block a
+    pub source_is : IsSource ns a.command source
+    pub destination_is : IsDestination ns a.command destination
+    pub other : source.zone ≢ destination
+    pub scratch : AreScratch a.so_far.scratch
+    pub bytes : AreBytes a.so_far.pending
+    pub most : a.command.blocks ≤ MOST_BLOCKS
+    pub room : length (zone_at ns destination).blocks
+        + need_behind (length a.so_far.pending) (a.command.blocks - a.so_far.index) (granted_sizes ns (sizes_of p.prepared).limit) ≤ ns.capacity

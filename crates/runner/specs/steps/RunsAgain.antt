@@ -3,6 +3,7 @@ use Rattle.std.specs.Prelude.{ℕ, false, ◌≡◌, ◌<◌, ◌⊎◌, List, l
 use Rattle.zone_resources.specs.Holds.{is_destination}
 use Rattle.zone_resources.specs.declared.holds.TheConstants.{RUNS}
 use Rattle.image_store.specs.Namespace.{ZonedNamespace}
+use Rattle.word_domain.specs.declared.domain.Domain.{Ghosts}
 use Rattle.device_meaning.specs.Admission.{destination_zone}
 use Rattle.device_meaning.specs.View.{Active}
 use Rattle.kept_device.specs.Kept.{place_told}
@@ -14,7 +15,7 @@ use Rattle.runner.specs.declared.loaded_program.LoadedProgram.{LoadedProgram}
 use Rattle.runner.specs.steps.ActiveRuns.{held_by}
 use Rattle.runner.specs.steps.RunningAgain.{IsAgain}
 
-module _ (ns : ZonedNamespace) (slots : List (Option LoadedProgram)) where
+module _ {D : Type 0} {domain : Ghosts D} (ns : ZonedNamespace) (slots : List (Option (LoadedProgram D domain))) where
   -- a run goes on, and appends to a zone that none of these does
   pub record GoesOnBeside (runs : List (Option ActiveRun)) (a : ActiveRun) : Type 0 where
     pub again : IsAgain ns slots (active_of a) a

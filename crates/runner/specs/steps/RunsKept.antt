@@ -1,5 +1,5 @@
 -- What holds of the bytes of an active run.
-use Rattle.std.specs.Prelude.{ℕ, ◌≤◌, length}
+use Rattle.std.specs.Prelude.{◌≤◌, length}
 use Rattle.common_definitions.specs.Bytes.{AreBytes}
 use Rattle.device_meaning.specs.BlockRuns.{AreScratch}
 use Rattle.runner.specs.declared.active_run.ActiveRun.{ActiveRun}

@@ -4,6 +4,7 @@ use Rattle.zone_state.specs.State.{is_open}
 use Rattle.instruction_set.specs.declared.instruction.Instruction.{Instruction}
 use Rattle.program_meaning.specs.BlockRun.{BlockRun}
 use Rattle.emit_append.specs.Packer.{PackerState}
+use Rattle.word_domain.specs.declared.domain.Domain.{Ghosts}
 use Rattle.verifier.specs.Verified.{program_of, sizes_of}
 use Rattle.image_store.specs.Namespace.{ZonedNamespace, zone_at}
 use Rattle.zns_commands.specs.Address.{zone_offset}
@@ -37,16 +38,6 @@ next_block ns a = get_or (zone_at ns (source_zone ns a.command)).blocks (zone_of
 -- the block run of its program on that block
 abbrev pub next_block_run : ZonedNamespace → List (Option Instruction) → ℕ → Active → BlockRun
 next_block_run ns program limit a = block_run (task_by ns program limit a.command) a.so_far.index a.so_far.scratch (next_block ns a)
-
--- the steps of the one block run of a turn of a run, by the program of its slot
-abbrev pub steps_by : ZonedNamespace → Option LoadedProgram → ActiveRun → ℕ
-steps_by ns None a = 0
-steps_by ns (Some p) a = (next_block_run ns (program_of p.prepared) (sizes_of p.prepared).limit (active_of a)).steps
-
--- the steps of a turn of the run at a place, if one is there
-abbrev pub steps_of_turn : ZonedNamespace → List (Option LoadedProgram) → Option ActiveRun → ℕ
-steps_of_turn ns slots None = 0
-steps_of_turn ns slots (Some a) = steps_by ns (get_or slots a.command.slot None) a
 
 -- the program has run on the block that a run reads next, and of the run changed the scratch bytes alone
 pub record HasRunNext (ns : ZonedNamespace) (program : List (Option Instruction)) (limit : ℕ) (old new : ActiveRun)
@@ -101,30 +92,41 @@ pub record Keeps (a b : ActiveRun) : Type 0 where
   pub cid : b.cid ≡ a.cid
   pub command : b.command ≡ a.command
 
--- a run that fits, with the program of its slot
-abbrev pub FitsIn : ZonedNamespace → Option LoadedProgram → ActiveRun → Type 0
-FitsIn ns slot a = IsSomeAnd slot (λ p. IsForBlocks ns p × FitsOn ns (program_of p.prepared) (sizes_of p.prepared).limit a)
+module _ {D : Type 0} {domain : Ghosts D} where
+  -- the steps of the one block run of a turn of a run, by the program of its slot
+  abbrev pub steps_by : ZonedNamespace → Option (LoadedProgram D domain) → ActiveRun → ℕ
+  steps_by ns None a = 0
+  steps_by ns (Some p) a = (next_block_run ns (program_of p.prepared) (sizes_of p.prepared).limit (active_of a)).steps
 
--- a turn of a run, by the program of a slot, which has the scratch bytes as its result once the run has ended
-abbrev pub SlotTurned : ZonedNamespace → ZonedNamespace → Option LoadedProgram → Option LoadedProgram → ActiveRun → ActiveRun → Option Answer → Type 0
-SlotTurned old new (Some p) (Some q) a b None =
-    (q ≡ p) × TurnGoesOn old new (program_of p.prepared) (sizes_of p.prepared).limit a b × Keeps a b × FitsNamespace new b
-SlotTurned old new (Some p) (Some q) a b (Some answer) =
-    (q ≡ record p { result = b.scratch }) × HasEnded old new (program_of p.prepared) (sizes_of p.prepared).limit a b answer × Keeps a b
-SlotTurned old new _ _ a b answer = ⊥
+  -- the steps of a turn of the run at a place, if one is there
+  abbrev pub steps_of_turn : ZonedNamespace → List (Option (LoadedProgram D domain)) → Option ActiveRun → ℕ
+  steps_of_turn ns slots None = 0
+  steps_of_turn ns slots (Some a) = steps_by ns (get_or slots a.command.slot None) a
 
--- a place at which no run is, or one that fits
-abbrev pub FitsAt : ZonedNamespace → List (Option LoadedProgram) → Option ActiveRun → Type 0
-FitsAt ns slots place = IfSome place (λ a. FitsIn ns (get_or slots a.command.slot None) a)
+  -- a run that fits, with the program of its slot
+  abbrev pub FitsIn : ZonedNamespace → Option (LoadedProgram D domain) → ActiveRun → Type 0
+  FitsIn ns slot a = IsSomeAnd slot (λ p. IsForBlocks ns p × FitsOn ns (program_of p.prepared) (sizes_of p.prepared).limit a)
 
--- what a turn in a state comes to
-pub record IsTurned (s : State) (run : ℕ) (ns : ZonedNamespace) (slots : List (Option LoadedProgram)) (runs : List (Option ActiveRun)) (given : Reply) : Type 0 where
-  pub reply : given ≡ (turned s run).reply.reply
-  pub state : device_state ns slots runs ≡ (turned s run).state
-  pub ready : IsReady ns slots runs
+  -- a turn of a run, by the program of a slot, which has the scratch bytes as its result once the run has ended
+  abbrev pub SlotTurned : ZonedNamespace → ZonedNamespace → Option (LoadedProgram D domain) → Option (LoadedProgram D domain) → ActiveRun → ActiveRun → Option Answer → Type 0
+  SlotTurned old new (Some p) (Some q) a b None =
+      (q ≡ p) × TurnGoesOn old new (program_of p.prepared) (sizes_of p.prepared).limit a b × Keeps a b × FitsNamespace new b
+  SlotTurned old new (Some p) (Some q) a b (Some answer) =
+      (q ≡ record p { result = b.scratch }) × HasEnded old new (program_of p.prepared) (sizes_of p.prepared).limit a b answer × Keeps a b
+  SlotTurned old new _ _ a b answer = ⊥
 
--- a turn at a place, whatever the other places hold
-abbrev pub PlaceTurned : ZonedNamespace → ZonedNamespace → List (Option LoadedProgram) → List (Option LoadedProgram) → ℕ → Option ActiveRun → Option ActiveRun → Reply → Type 0
-PlaceTurned old new slots slots' run place place' given =
-    (runs : List (Option ActiveRun)) → get_or runs run None ≡ place → IsReady old slots runs
-    → IsTurned (device_state old slots runs) run new slots' (set runs run place') given
+  -- a place at which no run is, or one that fits
+  abbrev pub FitsAt : ZonedNamespace → List (Option (LoadedProgram D domain)) → Option ActiveRun → Type 0
+  FitsAt ns slots place = IfSome place (λ a. FitsIn ns (get_or slots a.command.slot None) a)
+
+  -- what a turn in a state comes to
+  pub record IsTurned (s : State) (run : ℕ) (ns : ZonedNamespace) (slots : List (Option (LoadedProgram D domain))) (runs : List (Option ActiveRun)) (given : Reply) : Type 0 where
+    pub reply : given ≡ (turned s run).reply.reply
+    pub state : device_state ns slots runs ≡ (turned s run).state
+    pub ready : IsReady ns slots runs
+
+  -- a turn at a place, whatever the other places hold
+  abbrev pub PlaceTurned : ZonedNamespace → ZonedNamespace → List (Option (LoadedProgram D domain)) → List (Option (LoadedProgram D domain)) → ℕ → Option ActiveRun → Option ActiveRun → Reply → Type 0
+  PlaceTurned old new slots slots' run place place' given =
+      (runs : List (Option ActiveRun)) → get_or runs run None ≡ place → IsReady old slots runs
+      → IsTurned (device_state old slots runs) run new slots' (set runs run place') given

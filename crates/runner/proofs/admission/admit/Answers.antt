@@ -9,7 +9,7 @@ use Rattle.runner.proofs.Admissions.{destination_decides, granted_there}
 use Rattle.runner.proofs.admission.admit.Goals as goal
 
 pub returns-in_err-check_destination-clause-why : goal.returns-in_err-check_destination-clause-why
-returns-in_err-check_destination-clause-why c =
+returns-in_err-check_destination-clause-why g c =
     let ns = c.namespace-namespace.ensures in
     let decides = destination_decides c.args.state.now c.args.command.now c.args.input.now c.in-Some.sizes c.in_ok-source.source c.in_ok-source.destination
     c.in-Some-free_place.run' c.blocks_needed-blocks.result c.holds.result (sym (ap (λ (n : ℕ). n == 0) c.in_ok-check_transfer.ensures.whole)) c.in-Some.ensures
@@ -20,7 +20,7 @@ returns-in_err-check_destination-clause-why c =
     rw (p.1, p.2) (rw ns at c.in_err-check_destination.ensures.why ∙ decides)
 
 pub returns-clause-why : goal.returns-clause-why
-returns-clause-why c =
+returns-clause-why g c =
     let ns = c.namespace-namespace.ensures in
     let decides = destination_decides c.args.state.now c.args.command.now c.args.input.now c.in-Some.sizes c.in_ok-source.source c.in_ok-source.destination
     c.in-Some-free_place.run' c.blocks_needed-blocks.result c.holds.result (sym (ap (λ (n : ℕ). n == 0) c.in_ok-check_transfer.ensures.whole)) c.in-Some.ensures
@@ -30,7 +30,7 @@ returns-clause-why c =
     rw ns at c.in_ok-check_destination.ensures.why ∙ decides
 
 pub returns-clause-admission : goal.returns-clause-admission
-returns-clause-admission c =
+returns-clause-admission g c =
     let ns = c.namespace-namespace.ensures in
     let granted = granted_there c.args.state.now.namespace _ c.in-Some.sizes c.in-Some.ensures in
     record {

@@ -1,5 +1,5 @@
-use Rattle.std.proofs.Common.{◌≡◌, None, rules, sym, ap, ◌∙◌, arith}
-use Rattle.image_store.specs.Geometry.{Shape, zone_block_of}
+use Rattle.std.proofs.Common.{◌≡◌, None, rules, arith}
+use Rattle.image_store.specs.Geometry.{zone_block_of}
 use Rattle.image_store.specs.Namespace.{shape}
 use Rattle.runner.proofs.KeptRuns.{unwritten_outside}
 use Rattle.runner.proofs.kept_run.source_again.Goals as goal

@@ -4,7 +4,7 @@ use Rattle.program_interface.specs.declared.area.TheConstants.{SCRATCH_BYTES}
 use Rattle.runner.proofs.results.give_result.Goals as goal
 
 pub returns-in-Some-clause-rest : goal.returns-in-Some-clause-rest
-returns-in-Some-clause-rest c =
+returns-in-Some-clause-rest g c =
     let kept = c.in-Some.loaded.result in
     let size : length kept ≡ SCRATCH_BYTES = search rules in
     let behind = drop (length kept) c.args.output.now in

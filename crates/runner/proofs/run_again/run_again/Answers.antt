@@ -1,5 +1,4 @@
-use Rattle.std.proofs.Common.{rules, ◌≡◌, ◌≤◌, ◌+◌, ◌-◌, ℕ, true, false, length, map, get_or, None, sym, ap, subst, ◌∙◌, arith}
-use Rattle.std.specs.Prelude.{nat_le}
+use Rattle.std.proofs.Common.{rules, ◌≡◌, ◌≤◌, ◌+◌, ◌-◌, ℕ, true, false, length, sym, ap, subst, ◌∙◌}
 use Rattle.std.proofs.lemmas.Bool.{leb-true}
 use Rattle.program_interface.specs.RunSizes.{Sizes}
 use Rattle.emit_append.specs.Need.{need_behind}
@@ -11,7 +10,7 @@ use Rattle.runner.proofs.KeptRuns.{again, no_room, sizes_are, there_for}
 use Rattle.runner.proofs.run_again.run_again.Goals as goal
 
 pub has_room-requires-clause-counts : goal.has_room-requires-clause-counts
-has_room-requires-clause-counts c =
+has_room-requires-clause-counts g c =
     let ns = c.args.namespace.now in
     let a = run_told c.args.kept.now in
     let p = there_for ns c.args.slots.now a c.in-Some.sizes c.in-Some.ensures in
@@ -20,7 +19,7 @@ has_room-requires-clause-counts c =
     subst (λ (b : ℕ). CountsFit b a) (block ∙ sym (ap (λ (s : Sizes). s.block) p.2 ∙ c.requires a.command.slot p.0 p.1)) (c.counts_fit.ensures.yes fits)
 
 pub returns-then-not-has_room : goal.returns-then-not-has_room
-returns-then-not-has_room c =
+returns-then-not-has_room g c =
     let ns = c.args.namespace.now in
     let a = run_told c.args.kept.now in
     let p = there_for ns c.args.slots.now a c.in-Some.sizes c.in-Some.ensures in
@@ -29,7 +28,7 @@ returns-then-not-has_room c =
     c.in-Some-destination_again.ensures (sym c.has_room.ensures ∙ full)
 
 pub returns : goal.returns
-returns c =
+returns g c =
     let ns = c.args.namespace.now in
     let a = run_told c.args.kept.now in
     let destination = c.in-Some-destination_again.destination in

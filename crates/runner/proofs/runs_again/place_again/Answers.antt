@@ -9,7 +9,7 @@ use Rattle.runner.proofs.KeptRunLists.{beside_one}
 use Rattle.runner.proofs.runs_again.place_again.Goals as goal
 
 pub returns-then-is_destination : goal.returns-then-is_destination
-returns-then-is_destination c =
+returns-then-is_destination g c =
     let ns = c.args.namespace.now in
     let a = run_told c.in-Some.kept in
     let z = c.in-Some-run_again.run'.destination in

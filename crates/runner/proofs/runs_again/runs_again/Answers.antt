@@ -6,7 +6,7 @@ use Rattle.runner.proofs.KeptRunLists.{one_is_stuck, one_more_goes}
 use Rattle.runner.proofs.runs_again.runs_again.Goals as goal
 
 pub returns-in-None : goal.returns-in-None
-returns-in-None c =
+returns-in-None g c =
     let ns = c.args.namespace.now in
     let slots = c.args.slots.now in
     let kept = c.args.kept.now in
@@ -16,7 +16,7 @@ returns-in-None c =
     (subst (λ (o : Option KeptRun). IsStuck ns slots c.loop-k.runs o) here c.in-None.ensures)
 
 pub loop-k-preserved : goal.loop-k-preserved
-loop-k-preserved c =
+loop-k-preserved g c =
     let ns = c.args.namespace.now in
     let slots = c.args.slots.now in
     let kept = c.args.kept.now in

@@ -3,17 +3,17 @@ use Rattle.runner.proofs.DeviceTurns.{idles_there, last_there, more_there}
 use Rattle.runner.proofs.turn.turn_place.Goals as goal
 
 pub returns-in_default-clause-turned : goal.returns-in_default-clause-turned
-returns-in_default-clause-turned c = λ runs at ready.
+returns-in_default-clause-turned g c = λ runs at ready.
     idles_there c.args.namespace.now c.args.slots.now runs c.args.run c.args.place.now ready at c.in_default.is
 
 pub returns-in_default-advance_by_slot-clause-turned : goal.returns-in_default-advance_by_slot-clause-turned
-returns-in_default-advance_by_slot-clause-turned c = λ runs at ready.
+returns-in_default-advance_by_slot-clause-turned g c = λ runs at ready.
     more_there c.args.namespace.now c.advance_by_slot.new.namespace c.args.slots.now c.args.run c.index-slot.result c.in-Some.active
     c.advance_by_slot.new.active c.index-slots-slot.result c.advance_by_slot.new.slot c.index-slot.ensures.value (omega arith) runs (at ∙ c.in-Some.is) ready
     c.in_default-advance_by_slot.ensures.turned
 
 pub returns-clause-turned : goal.returns-clause-turned
-returns-clause-turned c = λ runs at ready.
+returns-clause-turned g c = λ runs at ready.
     rw c.complete-reply.ensures
     (last_there c.args.namespace.now c.advance_by_slot.new.namespace c.args.slots.now c.args.run c.index-slot.result c.in-Some.active
     c.advance_by_slot.new.active c.index-slots-slot.result c.advance_by_slot.new.slot c.index-slot.ensures.value (omega arith) runs (at ∙ c.in-Some.is) ready

@@ -2,6 +2,7 @@ use Rattle.std.proofs.Common.{◌*◌, inl, inr, refl, ap, sym, ◌∙◌, arith
 use Rattle.nvme_entry.specs.declared.command.TheConstants.{MOST_BLOCKS}
 use Rattle.zone_resources.specs.declared.holds.TheConstants.{RUNS}
 use Rattle.device_meaning.specs.Draining.{turns_left}
+use Rattle.device_meaning.specs.Judging.{judge_by}
 use Rattle.device_meaning.specs.State.{State}
 use Rattle.runner.proofs.Drains.{drained_more, drained_none, drained_stops, few_at_first, turn_less}
 use Rattle.runner.proofs.device.Device.drain.Goals as goal
@@ -10,7 +11,7 @@ pub loop-run-smaller : goal.loop-run-smaller
 loop-run-smaller g c =
     let now = c.loop-run.self in
     let low = sym c.lowest_run.ensures.lowest ∙ c.in-Some.is in
-    let less = turn_less now c.in-Some.run' c.lowest_run.ensures.reached low in
+    let less = turn_less (judge_by g.D.Domain.operations) c.domains_judge_soundly.ensures now c.in-Some.run' c.lowest_run.ensures.reached low in
     let left = ap (λ (s : State). turns_left s.places) c.in-Ok.ensures.served.happened.state in
     omega (arith, less, left)
 
@@ -29,7 +30,7 @@ loop-run-preserved g c =
     let one = c.in-Ok.ensures.served in
     record {
       draining = drained_more out.took g.met.O.Out.joins c.args.self.now c.loop-run.self c.serve_one.new.self c.args.out.now c.loop-run.out
-          c.serve_one.new.out c.loop-run.done c.in-Some.run' one.reply inv.draining c.lowest_run.ensures.reached low one.happened.state
+          c.serve_one.new.out c.loop-run.done c.in-Some.run' one.reply inv.draining (judge_by g.D.Domain.operations) c.domains_judge_soundly.ensures c.lowest_run.ensures.reached low one.happened.state
           one.happened.replied one.taken;
       few = inr (few_at_first c.args.self.now c.loop-run.self (out.took c.args.out.now c.loop-run.out) c.loop-run.done (MOST_BLOCKS * RUNS) inv.draining inv.few
           c.lowest_run.ensures.few);
@@ -41,4 +42,4 @@ returns-in-Err-clause-stopped g c =
     let low = sym c.lowest_run.ensures.lowest ∙ c.in-Some.is in
     let one = c.in-Err.ensures.served in
     drained_stops g.O.Out.took g.met.O.Out.joins c.args.self.now c.loop-run.self c.serve_one.new.self c.args.out.now c.loop-run.out c.serve_one.new.out
-    c.loop-run.done c.in-Some.run' one.reply c.loop-run.invariant.draining c.lowest_run.ensures.reached low one.happened.state one.refused
+    c.loop-run.done c.in-Some.run' one.reply c.loop-run.invariant.draining (judge_by g.D.Domain.operations) c.domains_judge_soundly.ensures c.lowest_run.ensures.reached low one.happened.state one.refused

@@ -8,13 +8,13 @@ use Rattle.runner.proofs.device_state.DeviceState.fault.Goals as goal
 use Rattle.runner.proofs.device_state.DeviceState.fault.Goals.{in-Ok, in-Err}
 
 pub invariant_of-self : goal.invariant_of-self
-invariant_of-self c =
+invariant_of-self g c =
     let d = c.self.inside in
     (fault_leaves d.namespace c.fault.new.self d.slots d.runs c.holds-holds.result c.args.zone c.args.state c.self.invariant
     (c.holds-holds.ensures ∙ ap holds_at (sym c.self.view_is)) c.fault.ensures.state).0
 
 pub returns-clause-reply : goal.returns-clause-reply
-returns-clause-reply c =
+returns-clause-reply g c =
     let d = c.self.inside in
     let answer = c.fault.ensures.refusal
     ∙ ap (λ (h : Holds). zone_fault_refusal d.namespace h c.args.zone c.args.state) (c.holds-holds.ensures ∙ ap holds_at (sym c.self.view_is))
@@ -25,7 +25,7 @@ returns-clause-reply c =
     ]
 
 pub returns-clause-state : goal.returns-clause-state
-returns-clause-state c =
+returns-clause-state g c =
     let d = c.self.inside in
     let left = fault_leaves d.namespace c.fault.new.self d.slots d.runs c.holds-holds.result c.args.zone c.args.state c.self.invariant
     (c.holds-holds.ensures ∙ ap holds_at (sym c.self.view_is)) c.fault.ensures.state in

@@ -6,7 +6,7 @@ use Rattle.runner.proofs.MayBeThere.{read_at}
 use Rattle.runner.proofs.device_state.DeviceState.sizes.Goals as goal
 
 pub returns-in-Some : goal.returns-in-Some
-returns-in-Some c =
+returns-in-Some g c =
     let d = c.self.inside in
     let inside : c.index.result < length d.slots = omega arith in
     let at = read_at d.slots c.index.result c.args.slot c.index-self-index.result c.in-Some.loaded c.index.ensures.value inside c.in-Some.is in

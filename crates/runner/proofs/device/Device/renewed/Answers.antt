@@ -1,0 +1,12 @@
+use Rattle.std.proofs.Common.{arith, sym, subst}
+use Rattle.device_meaning.specs.Judging.{judge_by}
+use Rattle.device_meaning.specs.Reached.{IsReached}
+use Rattle.device_meaning.proofs.Proved.{new_is_reached}
+use Rattle.runner.proofs.device.Device.renewed.Goals as goal
+
+pub begun-requires : goal.begun-requires
+begun-requires g c =
+    let judge = judge_by g.E.Domain.operations in (
+      omega arith,
+      (omega arith, subst (IsReached judge) (sym c.new-new.ensures.value) (new_is_reached judge _ c.new-new.ensures.sound)),
+    )
