@@ -1,0 +1,17 @@
+mod AddressesTell
+mod CellRows
+mod ChecksPass
+mod ComputedNear
+mod EdgesNear
+mod EdgesWithin
+mod FactsNear
+mod JoinsNear
+mod NearFacts
+mod MovedNear
+mod PointersNear
+mod RangesNear
+mod Rows
+mod SlotsNear
+mod StoresNear
+mod Telling
+mod WordsComputed
