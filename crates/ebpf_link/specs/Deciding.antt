@@ -29,10 +29,9 @@ Decides facts (Branch width relation dst source distance) answer = (x y : ℕ)
     → is_taken width relation x y ≡ answer
 Decides facts _ answer = ⊥
 
--- what is known along an edge of a compare, by the rules of a verifier to which no sum of registers is known, if there is such an edge
+-- what is known along an edge of a compare, by the rules of a verifier, if there is such an edge
 abbrev pub edge : Facts Fact → Instruction → Bool → Option (Facts Fact)
-edge facts (Branch width relation dst source distance) taken =
-    along intervals taken width relation dst source (record facts { sum = None })
+edge facts (Branch width relation dst source distance) taken = along intervals taken width relation dst source facts
 edge facts _ taken = Some facts
 
 -- where the rules have no such edge, no two words that are known of the operands take it

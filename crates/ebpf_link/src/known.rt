@@ -120,7 +120,7 @@ pub(crate) fn compared(width: Width, known: &Known, source: Source) -> Intervals
     }
 }
 
-/// Narrows what is known to what it is along an edge of a compare, and forgets sums of registers. False where there is no such edge.
+/// Narrows what is known to what it is along an edge of a compare. False where there is no such edge.
 pub(crate) fn narrow(known: &mut Known, branch: &Instruction, taken: bool) -> bool
     ensures { edge known.old.facts branch.now taken ≡ (if result then Some known.new.facts else None) }
 {
@@ -134,7 +134,8 @@ pub(crate) fn narrow(known: &mut Known, branch: &Instruction, taken: bool) -> bo
     else {
         return true;
     };
-    known.facts.sum = None;
+    // intervals track no sums
+    known.facts.fit = None;
     let same = source == Source::Register(dst);
     let second = compared(width, known, source);
     match Intervals::refine(width, relation, taken, known.get(dst), second, same) {

@@ -1,7 +1,8 @@
 //! What is laid out of a slot.
 
-ghost use Rattle.std.specs.Prelude.{IfSome};
+ghost use Rattle.std.specs.Prelude.{IfSome, true, ◌≡◌, ◌≤◌};
 ghost use Rattle.ebpf_link.specs.Deciding.{IsOpposite};
+ghost use Rattle.ebpf_link.specs.Masks.{AddsNoBits, IsIdle, IsMaskOver};
 
 use crate::constants::{number_in_place, with_number};
 use crate::deciding::decided;
@@ -107,17 +108,33 @@ fn as_unsigned(known: &Known, branch: &Instruction) -> Instruction {
     *branch
 }
 
+/// Is it an OR or XOR? These set no bit above the highest ones of their operands.
+fn adds_no_bits(operation: Operation) -> bool
+    ensures { result ≡ true → AddsNoBits operation }
+{
+    match operation {
+        Operation::Or => true,
+        Operation::Xor => true,
+        _ => false,
+    }
+}
+
 /// The mask that an OR or XOR leaves as it is, where both operands are small.
-fn idle_mask(known: &Known, instruction: &Instruction) -> Option<(Width, Register, i32)> {
+fn idle_mask(known: &Known, instruction: &Instruction) -> Option<(Width, Register, i32)>
+    ensures { IfSome result (λ mask. IsIdle known.now.facts instruction.now mask.0 mask.1 mask.2) }
+{
     let Instruction::Arithmetic {
         width,
-        operation: Operation::Or | Operation::Xor,
+        operation,
         dst,
         source,
     } = *instruction
     else {
         return None;
     };
+    if !adds_no_bits(operation) {
+        return None;
+    }
     let first = known.get(dst).bounds();
     let second = source_fact(known, source).bounds();
     let both_known = first.low == first.high && second.low == second.high;
@@ -125,18 +142,21 @@ fn idle_mask(known: &Known, instruction: &Instruction) -> Option<(Width, Registe
     if both_known || most > u64::from(ONES) {
         return None;
     }
-    Some((width, dst, mask_over(most)))
+    Some((width, dst, mask_over(most) as i32))
 }
 
 /// The least number of ones alone that isn't less than a small one.
-fn mask_over(most: u64) -> i32 {
-    let mut mask = 0;
+fn mask_over(most: u64) -> u32
+    requires { most ≤ 0xfffff }
+    ensures { IsMaskOver most result }
+{
+    let mut mask = ONES;
     for cut in 0..20u32 {
         if u64::from(ONES >> cut) >= most {
             mask = ONES >> cut;
         }
     }
-    mask.min(ONES) as i32
+    mask
 }
 
 /// An instruction in place of another one that does the same, by which more is known or that reads less.
