@@ -1,12 +1,13 @@
 -- Why `exec` ends before its work is done.
 use Rattle.std.proofs.Common.{◌≡◌, ℕ, List, Option, Err, IfSome, subst, ◌∙◌, inl, inr}
 use Rattle.std.specs.Borrow.{Bor}
+use Rattle.clap.specs.declared.parser.matches.ArgMatches.{ArgMatches}
 use Rattle.event_text.specs.CommandFile.{events_in, refused_line}
 use Rattle.event_text.specs.declared.command_file.ParseFault.{ParseFault}
 use Rattle.event_text.specs.declared.command_file.ParseFault.TheVariants.{Line, Memory}
 use Rattle.command_files.specs.UserTold.{IsUnread, told_of_commands}
 use Rattle.command_files.specs.declared.failure.Failure.{Failure}
-use Rattle.command_files.specs.declared.failure.Failure.TheVariants.{CannotPrint, CannotRead, CannotWrite, LineRefused, NoMemory}
+use Rattle.command_files.specs.declared.failure.Failure.TheVariants.{CannotPrint, CannotRead, CannotWrite, LineRefused, NoMemory, NotInRange}
 use Rattle.command_files.proofs.Proved.{read_holds, same_name, unread_holds}
 use Rattle.command_images.specs.UserTold.{IsUnheld, ReplacingFails}
 use Rattle.command_exec.specs.UserTold.{ExecFails, PrintsNothing}
@@ -17,23 +18,24 @@ pub saving_of_changes : (path : Bor (List ℕ)) (failure : Failure) → IsUnheld
 saving_of_changes path CannotPrint is = tt
 saving_of_changes path _ is = is
 
-module _ (reads : Type 0) (contents : List ℕ → Option (List ℕ)) (path commands : List ℕ) where
+module _ (matches : ArgMatches) (reads : Type 0) (contents : List ℕ → Option (List ℕ)) (path commands : List ℕ) where
   -- the image isn't loaded
-  pub exec_of_loading : (image : List ℕ) → image ≡ path → (failure : Failure) → ReplacingFails reads (contents image) image failure → ExecFails reads contents path commands failure
+  pub exec_of_loading : (image : List ℕ) → image ≡ path → (failure : Failure) → ReplacingFails reads (contents image) image failure → ExecFails matches reads contents path commands failure
   exec_of_loading image is_named CannotPrint is = tt
   exec_of_loading image is_named (CannotWrite told cause) is = is ∙ is_named
   exec_of_loading image is_named (CannotRead told cause) is = inl (is ∙ is_named)
   exec_of_loading image is_named (LineRefused told number fault) is = absurd is
+  exec_of_loading image is_named (NotInRange option word least most) is = absurd is
   exec_of_loading image is_named failure is = subst (λ (p : List ℕ). ReplacingFails reads (contents p) p failure) is_named is
 
   -- the command file isn't read
-  pub exec_of_reading : (file : Bor (List ℕ)) → file.now ≡ commands → (failure : Failure) → IsUnread file failure → ExecFails reads contents path commands failure
-  exec_of_reading file is_named = unread_holds file (ExecFails reads contents path commands) (λ told cause is. inr (same_name is is_named)) tt
+  pub exec_of_reading : (file : Bor (List ℕ)) → file.now ≡ commands → (failure : Failure) → IsUnread file failure → ExecFails matches reads contents path commands failure
+  exec_of_reading file is_named = unread_holds file (ExecFails matches reads contents path commands) (λ told cause is. inr (same_name is is_named)) tt
 
   -- it is read and is none: what was read is what the file held, since contents stayed the same
   pub exec_of_commands : (file : Bor (List ℕ)) → file.now ≡ commands → (then : List ℕ → Option (List ℕ)) → then ≡ contents
       → (read slice : List ℕ) → slice ≡ read → IfSome (then file.now) (λ bytes. read ≡ bytes)
-      → (fault : ParseFault) → IfSome (refused_line fault) (λ number. events_in slice ≡ Err number) → ExecFails reads contents path commands (told_of_commands file fault)
+      → (fault : ParseFault) → IfSome (refused_line fault) (λ number. events_in slice ≡ Err number) → ExecFails matches reads contents path commands (told_of_commands file fault)
   exec_of_commands file is_named then same read slice slice_is file_is (Line number fault) refused = (
     is_named,
     read_holds contents file.now commands read slice (λ bytes. events_in bytes ≡ Err number) is_named slice_is
@@ -42,7 +44,7 @@ module _ (reads : Type 0) (contents : List ℕ → Option (List ℕ)) (path comm
   exec_of_commands file is_named then same read slice slice_is file_is Memory refused = tt
 
   -- the events aren't all done and saved
-  pub exec_of_saving : (image : Bor (List ℕ)) → image.now ≡ path → (failure : Failure) → SavingFails image failure → ExecFails reads contents path commands failure
+  pub exec_of_saving : (image : Bor (List ℕ)) → image.now ≡ path → (failure : Failure) → SavingFails image failure → ExecFails matches reads contents path commands failure
   exec_of_saving image is_named CannotPrint is = tt
   exec_of_saving image is_named (CannotWrite told cause) is = same_name is is_named
   exec_of_saving image is_named (CannotRead told cause) is = inl (same_name is is_named)

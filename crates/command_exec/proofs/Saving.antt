@@ -3,7 +3,7 @@ use Rattle.std.proofs.Common.{◌≡◌, ℕ, List, map, Option, Result, Ok, Err
 use Rattle.clap.specs.declared.parser.matches.ArgMatches.{ArgMatches}
 use Rattle.image_store.specs.Namespace.{ZonedNamespace}
 use Rattle.image_text.specs.Text.{text}
-use Rattle.device_meaning.specs.Judging.{interval_judge}
+use Rattle.device_meaning.specs.Judging.{Judge}
 use Rattle.device_events.specs.Printed.{Printed}
 use Rattle.common_definitions.specs.Failures.{CountsFailure}
 use Rattle.device_events.specs.Replies.{Joins, ReplyWithData}
@@ -24,7 +24,7 @@ use Rattle.command_files.specs.Surroundings.{Surroundings}
 use Rattle.command_files.proofs.Proved.{leaves_behind, leaves_weaker, read_holds}
 use Rattle.command_images.specs.Devices.{TellNamespace}
 use Rattle.command_images.specs.Images.{HasText, image_of}
-use Rattle.command_exec.specs.Executed.{AreExecuted, AreInFiles, AreLeft, DoesAll, Executes, ExecutesFirst, HasBegun, HasDone, InEvents, InTurns, SavesAll, SavesFirst, commands_of}
+use Rattle.command_exec.specs.Executed.{AreExecutedBy, AreInFiles, AreLeft, DoesAll, ExecutesBy, ExecutesFirstBy, HasBegun, HasDone, InEvents, InTurns, SavesAll, SavesFirst, commands_of}
 
 pub on_err : {T E fact : Type 0} (result : Result T E) → fact → OnErr result fact
 on_err (Ok value) holds = tt
@@ -35,9 +35,9 @@ took_joins : Joins Took
 took_joins a b c first later early late = (late.0 ∙ early.0, prints_in_parts reply_line a.1 b.1 c.1 first later early.1 late.1)
 
 -- events, of which the reply to the last was refused
-pub stops_in_events : (events : List Event) (old new : State) (took : List ReplyWithData → Type 0) (done : ℕ)
-    → HasStopped interval_judge events old new took done → HasBegun events old new
-stops_in_events events old new took done stopped = InEvents done (record {
+pub stops_in_events : (judge : Judge) (events : List Event) (old new : State) (took : List ReplyWithData → Type 0) (done : ℕ)
+    → HasStopped judge events old new took done → HasBegun judge events old new
+stops_in_events judge events old new took done stopped = InEvents done (record {
   some = stopped.some;
   within = stopped.within;
   occurrences = stopped.occurrences;
@@ -46,13 +46,13 @@ stops_in_events events old new took done stopped = InEvents done (record {
   replies = tt;
 })
 
-module _ (events : List Event) (old between new : State) (before then after : ℕ × Printed) (served : HasServed interval_judge events old between (Took before then)) where
+module _ (judge : Judge) (events : List Event) (old between new : State) (before then after : ℕ × Printed) (served : HasServed judge events old between (Took before then)) where
   -- a drain, behind events that were all done
   pub serves_and_drains : (result : Result (Unit {0}) Stopped) → then.1.refusals ≡ before.1.refusals → CountsFailure then.1.refusals after.1.refusals result
-      → OnOk result (HasDrained between new (Took then after)) → OnOk result (DoesAll events old new before.1.bytes after.1.bytes)
+      → OnOk result (HasDrained between new (Took then after)) → OnOk result (DoesAll judge events old new before.1.bytes after.1.bytes)
   serves_and_drains (Err error) none count drained = tt
   serves_and_drains (Ok done) none count drained =
-      let did = served_and_drained interval_judge Took took_joins events old between new before then after served drained in
+      let did = served_and_drained judge Took took_joins events old between new before then after served drained in
       record {
         occurrences = did.occurrences;
         are = did.are;
@@ -65,7 +65,7 @@ module _ (events : List Event) (old between new : State) (before then after : �
 
   -- one that stops
   pub stops_in_turns : (result : Result (Unit {0}) Stopped) → IfErr result (λ stopped. HasStoppedDraining between new (Took then after) stopped.done)
-      → OnErr result (HasBegun events old new)
+      → OnErr result (HasBegun judge events old new)
   stops_in_turns (Ok done) stopped = tt
   stops_in_turns (Err error) stopped = InTurns between error.done
       (record { occurrences = served.occurrences; are = served.are; state = served.state; replies = tt })
@@ -86,34 +86,34 @@ module _ (events : List Event) (old between new : State) (before then after : �
   same_writer (Err error) drained stopped = stopped.replies.0 ∙ served.replies.0
 
 -- a device began with a namespace; its writer held so much before the lines were printed, and so much it holds now
-pub prints_all : (events : List Event) (namespace : ZonedNamespace) (old left : State) (held before holds after : Option (List ℕ))
-    → old ≡ new_state namespace → held ≡ before → holds ≡ after → DoesAll events old left held holds → DoesAll events (new_state namespace) left before after
-prints_all events namespace old left held before holds after begins first last did =
-    subst (λ (s : State). DoesAll events s left before after) begins
-    (subst (λ (bytes : Option (List ℕ)). DoesAll events old left bytes after) first
-    (subst (λ (bytes : Option (List ℕ)). DoesAll events old left held bytes) last did))
+pub prints_all : (judge : Judge) (events : List Event) (namespace : ZonedNamespace) (old left : State) (held before holds after : Option (List ℕ))
+    → old ≡ new_state namespace → held ≡ before → holds ≡ after → DoesAll judge events old left held holds → DoesAll judge events (new_state namespace) left before after
+prints_all judge events namespace old left held before holds after begins first last did =
+    subst (λ (s : State). DoesAll judge events s left before after) begins
+    (subst (λ (bytes : Option (List ℕ)). DoesAll judge events old left bytes after) first
+    (subst (λ (bytes : Option (List ℕ)). DoesAll judge events old left held bytes) last did))
 
 -- the namespace is saved that a device shows
-module _ (here : Surroundings) (events : List Event) (namespace shown : ZonedNamespace) (path : List ℕ) (left : State)
+module _ (judge : Judge) (here : Surroundings) (events : List Event) (namespace shown : ZonedNamespace) (path : List ℕ) (left : State)
     (saved : HasText here path (text shown)) (shows : shown ≡ left.namespace) where
   meant : HasText here path (text left.namespace)
   meant = subst (λ (ns : ZonedNamespace). HasText here path (text ns)) shows saved
 
-  pub saves_all : (printed printed_after : Option (List ℕ)) → DoesAll events (new_state namespace) left printed printed_after
-      → SavesAll here events namespace path printed printed_after
+  pub saves_all : (printed printed_after : Option (List ℕ)) → DoesAll judge events (new_state namespace) left printed printed_after
+      → SavesAll judge here events namespace path printed printed_after
   saves_all printed printed_after did = record { left = left; served_and_drained = did; saved = meant }
 
-  pub saves_first : (old : State) → old ≡ new_state namespace → HasBegun events old left → SavesFirst here events namespace path
+  pub saves_first : (old : State) → old ≡ new_state namespace → HasBegun judge events old left → SavesFirst judge here events namespace path
   saves_first old begins begun = record {
     left = left;
-    begun = subst (λ (s : State). HasBegun events s left) begins begun;
+    begun = subst (λ (s : State). HasBegun judge events s left) begins begun;
     saved = meant;
   }
 
 -- what was done, whether or not its lines were printed
-done_somehow : {T E : Type 0} (result : Result T E) (events : List Event) (old new : State) (printed printed_after : Option (List ℕ))
-    → OnOk result (DoesAll events old new printed printed_after) → OnErr result (HasBegun events old new) → HasDone events old new
-done_somehow (Ok done) events old new printed printed_after did begun = inl (record {
+done_somehow : {T E : Type 0} (judge : Judge) (result : Result T E) (events : List Event) (old new : State) (printed printed_after : Option (List ℕ))
+    → OnOk result (DoesAll judge events old new printed printed_after) → OnErr result (HasBegun judge events old new) → HasDone judge events old new
+done_somehow judge (Ok done) events old new printed printed_after did begun = inl (record {
   occurrences = did.occurrences;
   are = did.are;
   runs = did.runs;
@@ -122,22 +122,22 @@ done_somehow (Ok done) events old new printed printed_after did begun = inl (rec
   replies = tt;
   none_left = did.none_left;
 })
-done_somehow (Err error) events old new printed printed_after did begun = inr begun
+done_somehow judge (Err error) events old new printed printed_after did begun = inr begun
 
 -- an image that a device shows behind them
-pub shown_is_left : {T E : Type 0} (result : Result T E) (writes : Type 0) (events : List Event) (namespace shown : ZonedNamespace) (old left : State)
+pub shown_is_left : {T E : Type 0} (judge : Judge) (result : Result T E) (writes : Type 0) (events : List Event) (namespace shown : ZonedNamespace) (old left : State)
     (printed printed_after : Option (List ℕ)) → old ≡ new_state namespace → shown ≡ left.namespace
-    → OnOk result (DoesAll events old left printed printed_after) → OnErr result (HasBegun events old left)
-    → (bytes : List ℕ) → AreWritten writes (text shown) bytes → AreLeft writes events namespace bytes
-shown_is_left result writes events namespace shown old left printed printed_after begins shows did begun bytes written = record {
+    → OnOk result (DoesAll judge events old left printed printed_after) → OnErr result (HasBegun judge events old left)
+    → (bytes : List ℕ) → AreWritten writes (text shown) bytes → AreLeft judge writes events namespace bytes
+shown_is_left judge result writes events namespace shown old left printed printed_after begins shows did begun bytes written = record {
   left = left;
-  done = subst (λ (s : State). HasDone events s left) begins (done_somehow result events old left printed printed_after did begun);
+  done = subst (λ (s : State). HasDone judge events s left) begins (done_somehow judge result events old left printed printed_after did begun);
   written = λ writes. written writes ∙ ap (λ (ns : ZonedNamespace). text ns) shows;
 }
 
 -- an image was loaded, and then a command file was read, of the files that the command line names; the contents of files
 -- stayed the same, and no file was made
-module _ (reads writes : Type 0) (contents then : List ℕ → Option (List ℕ)) (path commands : List ℕ) (matches : ArgMatches) (file slice : List ℕ)
+module _ (judge : Judge) (reads writes : Type 0) (contents then : List ℕ → Option (List ℕ)) (path commands : List ℕ) (matches : ArgMatches) (file slice : List ℕ)
     (namespace : ZonedNamespace) (events : List Event) (before loaded after : Option (List Made)) (same : then ≡ contents)
     (is_named : path ≡ image_of matches) (are_named : commands ≡ commands_of matches) (kept : loaded ≡ before)
     (file_is : IfSome (then commands) (λ bytes. file ≡ bytes)) (slice_is : slice ≡ file) (events_are : events_in slice ≡ Ok (map told_of events)) where
@@ -155,40 +155,40 @@ module _ (reads writes : Type 0) (contents then : List ℕ → Option (List ℕ)
   -- what `run` does of them is what the command does of the files
   pub executes : {T E : Type 0} (held : List ℕ → Option (List ℕ)) (given : List Event) (printed printed_after : Option (List ℕ)) (result : Result T E)
       → (reads → TellNamespace (contents path) namespace) → held ≡ contents
-      → OnOk result (SavesAll (from_there held loaded) given namespace path printed printed_after) → given ≡ events
-      → OnOk result (Executes (from_there contents before) matches printed printed_after)
+      → OnOk result (SavesAll judge (from_there held loaded) given namespace path printed printed_after) → given ≡ events
+      → OnOk result (ExecutesBy judge (from_there contents before) matches printed printed_after)
   executes held given printed printed_after (Err error) namespace_is held_is saves are = tt
   executes held given printed printed_after (Ok done) namespace_is held_is saves are = record {
     namespace = namespace;
     events = events;
     in_files = in_both namespace_is;
-    saves = subst (λ (p : List ℕ). SavesAll (from_there contents before) events namespace p printed printed_after) is_named
-        (subst (λ (c : List ℕ → Option (List ℕ)). SavesAll (from_there c before) events namespace path printed printed_after) held_is
-        (subst (λ (made : Option (List Made)). SavesAll (from_there held made) events namespace path printed printed_after) kept
-        (subst (λ (list : List Event). SavesAll (from_there held loaded) list namespace path printed printed_after) are saves)));
+    saves = subst (λ (p : List ℕ). SavesAll judge (from_there contents before) events namespace p printed printed_after) is_named
+        (subst (λ (c : List ℕ → Option (List ℕ)). SavesAll judge (from_there c before) events namespace path printed printed_after) held_is
+        (subst (λ (made : Option (List Made)). SavesAll judge (from_there held made) events namespace path printed printed_after) kept
+        (subst (λ (list : List Event). SavesAll judge (from_there held loaded) list namespace path printed printed_after) are saves)));
   }
 
   pub executes_first : (held : List ℕ → Option (List ℕ)) (given : List Event) → (reads → TellNamespace (contents path) namespace) → held ≡ contents
-      → SavesFirst (from_there held loaded) given namespace path → given ≡ events → ExecutesFirst (from_there contents before) matches
+      → SavesFirst judge (from_there held loaded) given namespace path → given ≡ events → ExecutesFirstBy judge (from_there contents before) matches
   executes_first held given namespace_is held_is saves are = record {
     namespace = namespace;
     events = events;
     in_files = in_both namespace_is;
-    saves = subst (λ (p : List ℕ). SavesFirst (from_there contents before) events namespace p) is_named
-        (subst (λ (c : List ℕ → Option (List ℕ)). SavesFirst (from_there c before) events namespace path) held_is
-        (subst (λ (made : Option (List Made)). SavesFirst (from_there held made) events namespace path) kept
-        (subst (λ (list : List Event). SavesFirst (from_there held loaded) list namespace path) are saves)));
+    saves = subst (λ (p : List ℕ). SavesFirst judge (from_there contents before) events namespace p) is_named
+        (subst (λ (c : List ℕ → Option (List ℕ)). SavesFirst judge (from_there c before) events namespace path) held_is
+        (subst (λ (made : Option (List Made)). SavesFirst judge (from_there held made) events namespace path) kept
+        (subst (λ (list : List Event). SavesFirst judge (from_there held loaded) list namespace path) are saves)));
   }
 
   -- what `run` may leave in the file is what the command may
   pub executed_leaves : (given : List Event) (tried loaded_tried after_tried : List Attempt) → (reads → TellNamespace (contents path) namespace) → given ≡ events
-      → loaded_tried ≡ tried → LeavesOldOrNew path (AreLeft writes given namespace) loaded_tried after_tried
-      → LeavesOldOrNew (image_of matches) (AreExecuted (from_there contents before) matches) tried after_tried
+      → loaded_tried ≡ tried → LeavesOldOrNew path (AreLeft judge writes given namespace) loaded_tried after_tried
+      → LeavesOldOrNew (image_of matches) (AreExecutedBy judge (from_there contents before) matches) tried after_tried
   executed_leaves given tried loaded_tried after_tried namespace_is are same leaves =
-      leaves_behind path (AreExecuted (from_there contents before) matches) (image_of matches) tried loaded_tried after_tried is_named same
-      (leaves_weaker path (AreLeft writes given namespace) (AreExecuted (from_there contents before) matches) (λ bytes left. record {
+      leaves_behind path (AreExecutedBy judge (from_there contents before) matches) (image_of matches) tried loaded_tried after_tried is_named same
+      (leaves_weaker path (AreLeft judge writes given namespace) (AreExecutedBy judge (from_there contents before) matches) (λ bytes left. record {
         namespace = namespace;
         events = events;
         in_files = in_both namespace_is;
-        left = subst (λ (list : List Event). AreLeft writes list namespace bytes) are left;
+        left = subst (λ (list : List Event). AreLeft judge writes list namespace bytes) are left;
       }) loaded_tried after_tried leaves)

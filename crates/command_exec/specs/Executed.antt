@@ -1,9 +1,9 @@
 -- What `exec` does, prints and saves.
-use Rattle.std.specs.Prelude.{◌≡◌, ◌⊎◌, ℕ, List, map, flat_map, Option, Ok, IfSome}
+use Rattle.std.specs.Prelude.{◌≡◌, ◌⊎◌, ℕ, List, codes, map, flat_map, Option, Some, Ok, IfSome}
 use Rattle.std.specs.Io.KnownBytes.{Appends}
 use Rattle.image_store.specs.Namespace.{ZonedNamespace}
 use Rattle.image_text.specs.Text.{text}
-use Rattle.device_meaning.specs.Judging.{interval_judge}
+use Rattle.device_meaning.specs.Judging.{Judge, judge_by}
 use Rattle.device_events.specs.Replies.{ReplyWithData}
 use Rattle.device_meaning.specs.Draining.{HasStoppedDraining}
 use Rattle.device_meaning.specs.Events.{HasServed, HasStopped}
@@ -14,11 +14,13 @@ use Rattle.device_events.specs.ToldEvents.{told_of}
 use Rattle.event_text.specs.CommandFile.{events_in}
 use Rattle.event_text.specs.Lines.{reply_line}
 use Rattle.clap.specs.declared.parser.matches.ArgMatches.{ArgMatches}
-use Rattle.command_files.specs.Arguments.{value_of}
+use Rattle.command_files.specs.Arguments.{number_of, value_of}
 use Rattle.command_files.specs.Crash.{AreWritten}
 use Rattle.command_files.specs.Surroundings.{Surroundings}
 use Rattle.command_images.specs.Devices.{TellNamespace}
 use Rattle.command_images.specs.Images.{HasText, image_of}
+use Rattle.command_profile.specs.Profile.{operations_of, profile_number}
+use Rattle.command_profile.specs.declared.profile.Profile.{Profile}
 use Rattle.command_exec.specs.declared.exec.TheConstants.{COMMANDS}
 
 -- the name of the command file that a command line gives
@@ -29,9 +31,11 @@ commands_of matches = value_of matches COMMANDS.now
 abbrev pub HasPrinted : Option (List ℕ) → Option (List ℕ) → List ReplyWithData → Type 0
 HasPrinted before after replies = Appends before after (flat_map reply_line replies)
 
--- the events are done, and the turns behind them, and the line of each reply is printed
-abbrev pub DoesAll : List Event → State → State → Option (List ℕ) → Option (List ℕ) → Type 0
-DoesAll events old new printed printed_after = HasServedAndDrained interval_judge events old new (HasPrinted printed printed_after)
+-- the image file's bytes stand for a device that has a namespace and nothing else, where these and what is read of them are told, and
+-- the command file's for some events, where these are told
+pub record AreInFiles (here : Surroundings) (matches : ArgMatches) (namespace : ZonedNamespace) (events : List Event) : Type 0 where
+  pub namespace_is : here.reads → TellNamespace (here.contents (image_of matches)) namespace
+  pub events_are : IfSome (here.contents (commands_of matches)) (λ bytes. events_in bytes ≡ Ok (map told_of events))
 
 -- nothing is said of what was printed
 abbrev pub Untold : List ReplyWithData → Type 0
@@ -39,58 +43,75 @@ Untold replies = Unit {0}
 
 -- the first of some events were done, one or more; or all of them, and then the first of the turns behind them, one or
 -- more
-pub data HasBegun (events : List Event) (old new : State) : Type 0 where
-  InEvents : (done : ℕ) (stopped : HasStopped interval_judge events old new Untold done) → HasBegun events old new
-  InTurns : (between : State) (done : ℕ) (served : HasServed interval_judge events old between Untold)
-      (stopped : HasStoppedDraining between new Untold done) → HasBegun events old new
+pub data HasBegun (judge : Judge) (events : List Event) (old new : State) : Type 0 where
+  InEvents : (done : ℕ) (stopped : HasStopped judge events old new Untold done) → HasBegun judge events old new
+  InTurns : (between : State) (done : ℕ) (served : HasServed judge events old between Untold)
+      (stopped : HasStoppedDraining between new Untold done) → HasBegun judge events old new
 
--- all were done, with the turns behind them; or the first of these, one or more
-abbrev pub HasDone : List Event → State → State → Type 0
-HasDone events old new = HasServedAndDrained interval_judge events old new Untold ⊎ HasBegun events old new
+module _ (judge : Judge) where
+  -- the events are done, and the turns behind them, and the line of each reply is printed
+  abbrev pub DoesAll : List Event → State → State → Option (List ℕ) → Option (List ℕ) → Type 0
+  DoesAll events old new printed printed_after = HasServedAndDrained judge events old new (HasPrinted printed printed_after)
 
--- these bytes are an image of the namespace that they leave, where what is written of it is told
-pub record AreLeft (writes : Type 0) (events : List Event) (namespace : ZonedNamespace) (bytes : List ℕ) : Type 0 where
-  pub left : State
-  pub done : HasDone events (new_state namespace) left
-  pub written : AreWritten writes (text left.namespace) bytes
+  -- all were done, with the turns behind them; or the first of these, one or more
+  abbrev pub HasDone : List Event → State → State → Type 0
+  HasDone events old new = HasServedAndDrained judge events old new Untold ⊎ HasBegun judge events old new
 
--- all is done on a namespace, and the file has the text of the namespace that is left
-pub record SavesAll (here : Surroundings) (events : List Event) (namespace : ZonedNamespace) (path : List ℕ)
-    (printed printed_after : Option (List ℕ)) : Type 0 where
-  pub left : State
-  pub served_and_drained : DoesAll events (new_state namespace) left printed printed_after
-  pub saved : HasText here path (text left.namespace)
+  -- these bytes are an image of the namespace that they leave, where what is written of it is told
+  pub record AreLeft (writes : Type 0) (events : List Event) (namespace : ZonedNamespace) (bytes : List ℕ) : Type 0 where
+    pub left : State
+    pub done : HasDone events (new_state namespace) left
+    pub written : AreWritten writes (text left.namespace) bytes
 
--- the file has the text of the namespace that the first of these leave. How many is not said: standard output doesn't tell
--- what it took
-pub record SavesFirst (here : Surroundings) (events : List Event) (namespace : ZonedNamespace) (path : List ℕ) : Type 0 where
-  pub left : State
-  pub begun : HasBegun events (new_state namespace) left
-  pub saved : HasText here path (text left.namespace)
+  -- all is done on a namespace, and the file has the text of the namespace that is left
+  pub record SavesAll (here : Surroundings) (events : List Event) (namespace : ZonedNamespace) (path : List ℕ)
+      (printed printed_after : Option (List ℕ)) : Type 0 where
+    pub left : State
+    pub served_and_drained : DoesAll events (new_state namespace) left printed printed_after
+    pub saved : HasText here path (text left.namespace)
 
--- the image file's bytes stand for a device that has a namespace and nothing else, where these and what is read of them are told, and
--- the command file's for some events, where these are told
-pub record AreInFiles (here : Surroundings) (matches : ArgMatches) (namespace : ZonedNamespace) (events : List Event) : Type 0 where
-  pub namespace_is : here.reads → TellNamespace (here.contents (image_of matches)) namespace
-  pub events_are : IfSome (here.contents (commands_of matches)) (λ bytes. events_in bytes ≡ Ok (map told_of events))
+  -- the file has the text of the namespace that the first of these leave. How many is not said: standard output doesn't tell
+  -- what it took
+  pub record SavesFirst (here : Surroundings) (events : List Event) (namespace : ZonedNamespace) (path : List ℕ) : Type 0 where
+    pub left : State
+    pub begun : HasBegun judge events (new_state namespace) left
+    pub saved : HasText here path (text left.namespace)
 
--- the events of the command file are done on the namespace of the image file
-pub record Executes (here : Surroundings) (matches : ArgMatches) (printed printed_after : Option (List ℕ)) : Type 0 where
-  pub namespace : ZonedNamespace
-  pub events : List Event
-  pub in_files : AreInFiles here matches namespace events
-  pub saves : SavesAll here events namespace (image_of matches) printed printed_after
+  -- the events of the command file are done on the namespace of the image file
+  pub record ExecutesBy (here : Surroundings) (matches : ArgMatches) (printed printed_after : Option (List ℕ)) : Type 0 where
+    pub namespace : ZonedNamespace
+    pub events : List Event
+    pub in_files : AreInFiles here matches namespace events
+    pub saves : SavesAll here events namespace (image_of matches) printed printed_after
 
--- the first of them are
-pub record ExecutesFirst (here : Surroundings) (matches : ArgMatches) : Type 0 where
-  pub namespace : ZonedNamespace
-  pub events : List Event
-  pub in_files : AreInFiles here matches namespace events
-  pub saves : SavesFirst here events namespace (image_of matches)
+  -- the first of them are
+  pub record ExecutesFirstBy (here : Surroundings) (matches : ArgMatches) : Type 0 where
+    pub namespace : ZonedNamespace
+    pub events : List Event
+    pub in_files : AreInFiles here matches namespace events
+    pub saves : SavesFirst here events namespace (image_of matches)
 
--- these bytes are an image of what all of them, or the first of them, leave
-pub record AreExecuted (here : Surroundings) (matches : ArgMatches) (bytes : List ℕ) : Type 0 where
-  pub namespace : ZonedNamespace
-  pub events : List Event
-  pub in_files : AreInFiles here matches namespace events
-  pub left : AreLeft here.writes events namespace bytes
+  -- these bytes are an image of what all of them, or the first of them, leave
+  pub record AreExecutedBy (here : Surroundings) (matches : ArgMatches) (bytes : List ℕ) : Type 0 where
+    pub namespace : ZonedNamespace
+    pub events : List Event
+    pub in_files : AreInFiles here matches namespace events
+    pub left : AreLeft here.writes events namespace bytes
+
+-- the words ask for a profile, and this holds of the judge by it
+pub record IsByProfile (matches : ArgMatches) (Holds : Judge → Type 0) : Type 0 where
+  pub profile : Profile
+  pub asked : number_of matches (codes "profile") ≡ Some (profile_number profile)
+  pub holds : Holds (judge_by (operations_of profile))
+
+-- all is done, where Load judges by the profile that is asked for
+abbrev pub Executes : Surroundings → ArgMatches → Option (List ℕ) → Option (List ℕ) → Type 0
+Executes here matches printed printed_after = IsByProfile matches (λ judge. ExecutesBy judge here matches printed printed_after)
+
+-- the first of it is
+abbrev pub ExecutesFirst : Surroundings → ArgMatches → Type 0
+ExecutesFirst here matches = IsByProfile matches (λ judge. ExecutesFirstBy judge here matches)
+
+-- these bytes are an image of what all of it, or the first of it, leaves
+abbrev pub AreExecuted : Surroundings → ArgMatches → List ℕ → Type 0
+AreExecuted here matches bytes = IsByProfile matches (λ judge. AreExecutedBy judge here matches bytes)

@@ -1,32 +1,40 @@
 //! The command `exec`: the events of a command file, run on an image.
 
 ghost use Rattle.std.specs.Prelude.{◌≡◌, ◌≢◌, ◌≤◌, ◌<◌, ◌+◌, ◌^◌, length, OnOk, OnErr, IfErr, Some};
+ghost use Rattle.device_meaning.specs.Judging.{judge_by};
 ghost use Rattle.device_meaning.specs.State.{new_state};
 ghost use Rattle.command_files.specs.Crash.{LeavesOldOrNew};
 ghost use Rattle.command_files.specs.Made.{KeepsModes, KeepsOthers, MakesAtMost};
 ghost use Rattle.command_files.specs.Surroundings.{around};
 ghost use Rattle.command_images.specs.Images.{image_of};
-ghost use Rattle.command_exec.specs.Executed.{AreExecuted, AreLeft, DoesAll, Executes, ExecutesFirst, HasBegun, SavesAll, SavesFirst, commands_of};
+ghost use Rattle.command_exec.specs.Executed.{AreExecuted, AreExecutedBy, AreLeft, DoesAll, Executes, ExecutesBy, ExecutesFirst, ExecutesFirstBy, HasBegun, SavesAll, SavesFirst, commands_of};
 ghost use Rattle.command_exec.specs.UserTold.{ExecFails, PrintsNothing};
 ghost use Rattle.command_exec.specs.steps.Told.{SavingFails};
 
 use crate::fail::Refused;
 use crate::watched::{Refusals, Watched};
+use address_domain::Addresses;
 use clap::{Arg, ArgMatches, Command};
 use command_files::arguments::{and_argument, required};
 use command_files::{Failure, Files, read};
 use command_images::device_file;
 use command_images::image_file::{self, IMAGE};
+use command_profile::{Profile, profile_asked, profile_option};
 use event_text::{Lines, event_lines};
+use interval_domain::Intervals;
 use runner::{Device, Event, Stopped};
 use std::alloc::{AllocError, Global};
 use std::io::Write;
+use word_domain::Domain;
 use zns_commands::MOST_TRANSFER;
 
 /// The command's name.
 pub const NAME: &str = "exec";
 
 pub(crate) const COMMANDS: &str = "COMMANDS";
+
+const PROFILE_HELP: &str =
+    "The profile by which Load judges: 2, or 3, which knows more of addresses and sums";
 
 const LONG_ABOUT: &str = "\
 Runs the events of a command file on an image, one after another. Then it gives turns to the runs that \
@@ -54,7 +62,9 @@ What is printed, which `explain` says in words:
   done                        a fault was taken
   refused                     a fault was refused
 
-IMAGE may be a journal too, which `serve --durable` makes of an image: the events in it are done again first, and an image takes its \
+Load judges programs by profile 2. With --profile 3 it takes those that `verify --profile 3` accepts.
+
+IMAGE may be a journal too, which `serve --durable` makes of an image: the events in it are done again first, by profile 2 as they were done, and an image takes its \
 place. Where its device has a program or a run, which no image keeps, it is refused (`device refused`), and no event happens.
 
 Where a line cannot be printed, no later event happens and no later turn is given, and the image is \
@@ -86,7 +96,8 @@ pub fn subcommand<'a>(alloc: Global) -> Result<Command<'a>, AllocError> {
         .long_about(LONG_ABOUT)
         .after_help(EXAMPLE);
     let command = and_argument(Ok(command), image);
-    and_argument(command, commands)
+    let command = and_argument(command, commands);
+    and_argument(command, profile_option(alloc, PROFILE_HELP))
 }
 
 /// Does the events of the command file on the namespace of the image file, and then the turns that end all runs; prints
@@ -100,7 +111,7 @@ pub fn subcommand<'a>(alloc: Global) -> Result<Command<'a>, AllocError> {
 ///
 /// # Errors
 ///
-/// A file can't be read or is refused, the image can't be written, standard output fails, or memory is wanting.
+/// There is no such profile, a file can't be read or is refused, the image can't be written, standard output fails, or memory is wanting.
 pub fn exec<'a, F: Files, O: Write>(
     alloc: Global,
     matches: &ArgMatches<'a>,
@@ -112,7 +123,8 @@ pub fn exec<'a, F: Files, O: Write>(
     ensures stopped { let here = around F.Files F.Reader.tells F.Writer.tells files.old files.new in
         result ≡ Err Failure.CannotPrint → ExecutesFirst here matches.now }
     ensures quiet { IfErr result (PrintsNothing (image_of matches.now) (O.contents out.old) (O.contents out.new)) }
-    ensures failed { IfErr result (ExecFails F.Reader.tells (F.contents files.old) (image_of matches.now) (commands_of matches.now)) }
+    ensures failed { IfErr result
+        (ExecFails matches.now F.Reader.tells (F.contents files.old) (image_of matches.now) (commands_of matches.now)) }
     ensures made { OnOk result (MakesAtMost (image_of matches.now) (F.made files.old) (F.made files.new)) }
     ensures one { result ≡ Err Failure.CannotPrint → MakesAtMost (image_of matches.now) (F.made files.old) (F.made files.new) }
     ensures others { OnOk result (KeepsOthers (image_of matches.now) (F.contents files.old) (F.contents files.new)) }
@@ -124,8 +136,41 @@ pub fn exec<'a, F: Files, O: Write>(
         LeavesOldOrNew (image_of matches.now) (AreExecuted here matches.now) (F.tried files.old) (F.tried files.new) }
     ensures modes { OnOk result (KeepsModes (F.modes files.old) (F.modes files.new)) }
 {
+    let profile = profile_asked(matches)?;
+    match profile {
+        Profile::Two => exec_by::<Intervals, F, O>(alloc, matches, files, out),
+        Profile::Three => exec_by::<Addresses, F, O>(alloc, matches, files, out),
+    }
+}
+
+/// Does what [`exec`] does, where Load judges over this domain.
+fn exec_by<'a, D: Domain, F: Files, O: Write>(
+    alloc: Global,
+    matches: &ArgMatches<'a>,
+    files: &mut F,
+    out: &mut O,
+) -> Result<Option<Refused>, Failure<'a>>
+    ensures executed { let here = around F.Files F.Reader.tells F.Writer.tells files.old files.new in
+        OnOk result (ExecutesBy (judge_by D.operations) here matches.now (O.contents out.old) (O.contents out.new)) }
+    ensures stopped { let here = around F.Files F.Reader.tells F.Writer.tells files.old files.new in
+        result ≡ Err Failure.CannotPrint → ExecutesFirstBy (judge_by D.operations) here matches.now }
+    ensures quiet { IfErr result (PrintsNothing (image_of matches.now) (O.contents out.old) (O.contents out.new)) }
+    ensures failed { IfErr result
+        (ExecFails matches.now F.Reader.tells (F.contents files.old) (image_of matches.now) (commands_of matches.now)) }
+    ensures made { OnOk result (MakesAtMost (image_of matches.now) (F.made files.old) (F.made files.new)) }
+    ensures one { result ≡ Err Failure.CannotPrint → MakesAtMost (image_of matches.now) (F.made files.old) (F.made files.new) }
+    ensures others { OnOk result (KeepsOthers (image_of matches.now) (F.contents files.old) (F.contents files.new)) }
+    ensures others_stopped { result ≡ Err Failure.CannotPrint
+        → KeepsOthers (image_of matches.now) (F.contents files.old) (F.contents files.new) }
+    ensures kept { IfErr result (λ failure. failure ≢ Failure.CannotPrint → F.made files.new ≡ F.made files.old) }
+    ensures contents { IfErr result (λ failure. failure ≢ Failure.CannotPrint → F.contents files.new ≡ F.contents files.old) }
+    ensures crash { let here = around F.Files F.Reader.tells F.Writer.tells files.old files.new in
+        LeavesOldOrNew (image_of matches.now) (AreExecutedBy (judge_by D.operations) here matches.now)
+        (F.tried files.old) (F.tried files.new) }
+    ensures modes { OnOk result (KeepsModes (F.modes files.old) (F.modes files.new)) }
+{
     let path = required(matches, IMAGE);
-    let mut device = device_file::load_to_replace(alloc, path, files)?;
+    let mut device = device_file::load_to_replace::<D, F>(alloc, path, files)?;
     let commands = required(matches, COMMANDS);
     let file = read(commands, files)?;
     match event_text::parse(alloc, file.as_slice()) {
@@ -147,9 +192,9 @@ pub fn exec<'a, F: Files, O: Write>(
 
 /// Runs the events on a device and then the turns that are left, prints a line for each, and saves the image as they left it:
 /// all of them, or where standard output fails, those that were done by then. Of the events the numbers are their lines.
-fn run<'a, F: Files, O: Write>(
+fn run<'a, D: Domain, F: Files, O: Write>(
     alloc: Global,
-    device: &mut Device,
+    device: &mut Device<D>,
     events: &[Event],
     numbers: &[usize],
     path: &'a str,
@@ -159,9 +204,10 @@ fn run<'a, F: Files, O: Write>(
     requires held { F.held files.old ≡ Some path.now }
     requires new { device.old ≡ new_state device.old.namespace }
     ensures saved { let here = around F.Files F.Reader.tells F.Writer.tells files.old files.new in
-        OnOk result (SavesAll here events.now device.old.namespace path.now (O.contents out.old) (O.contents out.new)) }
+        OnOk result (SavesAll (judge_by D.operations) here
+        events.now device.old.namespace path.now (O.contents out.old) (O.contents out.new)) }
     ensures stopped { let here = around F.Files F.Reader.tells F.Writer.tells files.old files.new in
-        result ≡ Err Failure.CannotPrint → SavesFirst here events.now device.old.namespace path.now }
+        result ≡ Err Failure.CannotPrint → SavesFirst (judge_by D.operations) here events.now device.old.namespace path.now }
     ensures failed { IfErr result (SavingFails path.entry) }
     ensures made { OnOk result (MakesAtMost path.now (F.made files.old) (F.made files.new)) }
     ensures one { result ≡ Err Failure.CannotPrint → MakesAtMost path.now (F.made files.old) (F.made files.new) }
@@ -169,7 +215,8 @@ fn run<'a, F: Files, O: Write>(
     ensures others_stopped { result ≡ Err Failure.CannotPrint → KeepsOthers path.now (F.contents files.old) (F.contents files.new) }
     ensures kept { IfErr result (λ failure. failure ≢ Failure.CannotPrint → F.made files.new ≡ F.made files.old) }
     ensures contents { IfErr result (λ failure. failure ≢ Failure.CannotPrint → F.contents files.new ≡ F.contents files.old) }
-    ensures crash { LeavesOldOrNew path.now (AreLeft F.Writer.tells events.now device.old.namespace) (F.tried files.old) (F.tried files.new) }
+    ensures crash { LeavesOldOrNew path.now
+        (AreLeft (judge_by D.operations) F.Writer.tells events.now device.old.namespace) (F.tried files.old) (F.tried files.new) }
     ensures modes { OnOk result (KeepsModes (F.modes files.old) (F.modes files.new)) }
 {
     let lines = Lines::new(alloc, out)?;
@@ -197,8 +244,8 @@ fn refused(refusals: Option<Refusals>, numbers: &[usize]) -> Option<Refused> {
 }
 
 /// Does the events, and then gives turns until no run is left.
-fn serve_and_drain<O: Write>(
-    device: &mut Device,
+fn serve_and_drain<D: Domain, O: Write>(
+    device: &mut Device<D>,
     events: &[Event],
     output: &mut [u8],
     lines: &mut Watched<Lines<'_, O>>,
@@ -206,8 +253,9 @@ fn serve_and_drain<O: Write>(
     requires room { MOST_TRANSFER ≤ length output.old }
     requires counts { lines.old.out.refusals + 1 < 2 ^ 64 }
     ensures same_writer { lines.new.out.out.ghost_name ≡ lines.old.out.out.ghost_name }
-    ensures done { OnOk result (DoesAll events.now device.old device.new (O.contents lines.old.out.out.now) (O.contents lines.new.out.out.now)) }
-    ensures stopped { OnErr result (HasBegun events.now device.old device.new) }
+    ensures done { OnOk result (DoesAll (judge_by D.operations)
+        events.now device.old device.new (O.contents lines.old.out.out.now) (O.contents lines.new.out.out.now)) }
+    ensures stopped { OnErr result (HasBegun (judge_by D.operations) events.now device.old device.new) }
 {
     device.serve(events, output, lines)?;
     device.drain(output, lines)

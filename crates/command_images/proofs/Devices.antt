@@ -14,7 +14,7 @@ use Rattle.durable_device.specs.Kept.{RefusesBytes, StandsFor, StandsForIt}
 use Rattle.durable_device.specs.Machine.{IsDeviceBase, next_state}
 use Rattle.command_files.specs.Made.{AreAsTold}
 use Rattle.command_files.specs.declared.failure.Failure.{Failure}
-use Rattle.command_images.specs.Devices.{AreDamaged, IsNoImage, StandForNone, TellDevice}
+use Rattle.command_images.specs.Devices.{AreDamaged, IsNoImage, StandForNone, TellDevice, TellNamespace}
 use Rattle.command_images.specs.UserTold.{LoadingDeviceFails}
 use Rattle.command_images.specs.steps.Told.{RefusesJournal, told_of_image, told_of_journal}
 
@@ -30,6 +30,12 @@ tells_image (Some bytes) read image s told loaded new =
       read = ap namespace_in (sym told) ∙ loaded ∙ ap (λ (ns : ZonedNamespace). Ok ns) (sym same);
       new = new ∙ ap new_state (sym same);
     })
+
+-- which has its namespace and nothing else
+pub tells_namespace : (contents : Option (List ℕ)) (read : List ℕ) (image : ZonedNamespace) (s : State) → AreAsTold contents read
+    → namespace_in read ≡ Ok image → s ≡ new_state image → TellNamespace contents s.namespace
+tells_namespace contents read image s told loaded new =
+    subst (TellDevice contents) (new ∙ ap new_state (sym (ap (λ (t : State). t.namespace) new))) (tells_image contents read image s told loaded new)
 
 -- a journal was done again
 pub tells_journal : (contents : Option (List ℕ)) (read : List ℕ) (s : State) → AreAsTold contents read

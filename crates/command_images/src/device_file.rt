@@ -7,7 +7,7 @@ ghost use Rattle.command_files.specs.Made.{AreAsTold};
 ghost use Rattle.command_files.specs.UserTold.{IsUnread};
 ghost use Rattle.command_images.specs.Devices.{IsNoImage, TellDevice, TellNamespace};
 ghost use Rattle.command_images.specs.UserTold.{LoadingDeviceFails, ReplacingFails};
-ghost use Rattle.command_images.specs.steps.Told.{RefusesJournal, told_of_journal};
+ghost use Rattle.command_images.specs.steps.Told.{RefusesJournal, RefusesMore, told_of_journal};
 
 use crate::image_file;
 use command_files::{Failure, Files, cannot_read, read};
@@ -17,6 +17,7 @@ use image_store::Image;
 use image_text::{ImageText, LoadFault};
 use runner::Device;
 use std::alloc::{AllocError, Global};
+use word_domain::Domain;
 
 /// The device that a file stands for: that of an image, without a program or a run; or that of a journal, to which the events in it
 /// happened again. Where the file's bytes are known, it is the one that they stand for, or else is told what is wrong with them. Each
@@ -51,18 +52,18 @@ pub fn load<'a, F: Files>(
 }
 
 /// The device of a file that is to be replaced by an image, as of [`load`]: its name is held from before the file is read on. The
-/// device has neither a program nor a run.
+/// device has neither a program nor a run, so that its Load may judge over any domain.
 ///
 /// # Errors
 ///
 /// Another command holds the file, or it is no ordinary one; those of [`load`]; or the device has a program or a run, which no image
 /// keeps.
-#[tactic(auto, using(crate::proofs::Making::replace_of_loading, crate::proofs::Making::replace_of_holding))]
-pub fn load_to_replace<'a, F: Files>(
+#[tactic(auto, using(crate::proofs::Making::replace_of_holding))]
+pub fn load_to_replace<'a, D: Domain, F: Files>(
     alloc: Global,
     path: &'a str,
     files: &mut F,
-) -> Result<Box<Device>, Failure<'a>>
+) -> Result<Box<Device<D>>, Failure<'a>>
     ensures made { F.made files.new ≡ F.made files.old }
     ensures contents { F.contents files.new ≡ F.contents files.old }
     ensures modes { F.modes files.new ≡ F.modes files.old }
@@ -75,39 +76,55 @@ pub fn load_to_replace<'a, F: Files>(
     ensures not_printing { result ≢ Err Failure.CannotPrint }
 {
     image_file::hold(path, files)?;
-    let device = load_held(alloc, path, files)?;
-    if device.is_new() {
-        Ok(device)
-    } else {
-        Err(Failure::DeviceRefused { path })
-    }
+    load_held(alloc, path, files)
 }
 
-/// The device that the file stands for whose name is held, as of [`load`].
-#[tactic(auto, using(crate::proofs::Devices::tells_image, crate::proofs::Devices::fails_as_image))]
-fn load_held<'a, F: Files>(
+/// The device that the file stands for whose name is held, as of [`load`], where that has neither a program nor a run.
+#[tactic(auto, using(crate::proofs::Devices::tells_namespace, crate::proofs::Devices::fails_as_image, crate::proofs::Making::replace_of_loading))]
+fn load_held<'a, D: Domain, F: Files>(
     alloc: Global,
     path: &'a str,
     files: &mut F,
-) -> Result<Box<Device>, Failure<'a>>
+) -> Result<Box<Device<D>>, Failure<'a>>
     requires { F.held files.old ≡ Some path.now }
     ensures made { F.made files.new ≡ F.made files.old }
     ensures contents { F.contents files.new ≡ F.contents files.old }
     ensures modes { F.modes files.new ≡ F.modes files.old }
     ensures tried { F.tried files.new ≡ F.tried files.old }
     ensures held { F.held files.new ≡ F.held files.old }
-    ensures device { F.Reader.tells → IfOk result (λ device. TellDevice (F.contents files.old path.now) device.value) }
-    ensures failed { IfErr result (LoadingDeviceFails F.Reader.tells (F.contents files.old path.now) path.now) }
+    ensures new { IfOk result (λ device. device.value ≡ new_state device.value.namespace) }
+    ensures namespace { F.Reader.tells
+        → IfOk result (λ device. TellNamespace (F.contents files.old path.now) device.value.namespace) }
+    ensures failed { IfErr result (ReplacingFails F.Reader.tells (F.contents files.old path.now) path.now) }
     ensures not_printing { result ≢ Err Failure.CannotPrint }
 {
     match files.open_held(path) {
         Ok(mut file) => match Image::load(alloc, &mut file) {
             Ok(image) => Ok(boxed(alloc, image)?),
-            Err(LoadFault::Magic) => load_held_journal(alloc, path, files),
+            Err(LoadFault::Magic) => {
+                let device = load_held_journal(alloc, path, files)?;
+                renewed(alloc, path, device)
+            }
             Err(fault) => Err(image_file::refused(path, fault)),
         },
         Err(fault) => Err(cannot_read(path, fault)),
     }
+}
+
+/// A device with the namespace of a journal's device, where that has nothing else.
+fn renewed<'a, D: Domain>(
+    alloc: Global,
+    path: &'a str,
+    device: Box<Device>,
+) -> Result<Box<Device<D>>, Failure<'a>>
+    ensures new { IfOk result (λ new. new.value ≡ new_state device.value.namespace) }
+    ensures same { IfOk result (λ new. new.value ≡ device.value) }
+    ensures refused { IfErr result (RefusesMore path.entry device.value) }
+{
+    if !device.is_new() {
+        return Err(Failure::DeviceRefused { path });
+    }
+    Ok(on_heap(alloc, Box::into_inner(device).renewed())?)
 }
 
 /// The device of a file that begins as no image: that of its journal.
@@ -202,8 +219,15 @@ fn journal_refused<'a>(path: &'a str, fault: Fault) -> Failure<'a>
 /// The device of an image that was loaded.
 // The device stands in this frame until it is on the heap.
 #[inline(never)]
-fn boxed(alloc: Global, image: Image) -> Result<Box<Device>, AllocError>
+fn boxed<D: Domain>(alloc: Global, image: Image) -> Result<Box<Device<D>>, AllocError>
     ensures { IfOk result (λ device. device.value ≡ new_state image) }
 {
-    Ok(Box::new(alloc, Device::new(alloc, image))?)
+    on_heap(alloc, Device::new(alloc, image))
+}
+
+/// The device on the heap.
+fn on_heap<D: Domain>(alloc: Global, device: Device<D>) -> Result<Box<Device<D>>, AllocError>
+    ensures { IfOk result (λ boxed. boxed.value ≡ device) }
+{
+    Ok(Box::new(alloc, device)?)
 }

@@ -12,6 +12,7 @@ use crate::image_file::{self, IMAGE};
 use clap::{Arg, ArgMatches, Command};
 use command_files::arguments::required;
 use command_files::{Failure, Files};
+use runner::Device;
 use std::alloc::{AllocError, Global};
 
 /// The command's name.
@@ -74,6 +75,6 @@ pub fn upgrade<'a, F: Files>(
     ensures modes { OnOk result (KeepsModes (F.modes files.old) (F.modes files.new)) }
 {
     let path = required(matches, IMAGE);
-    let device = device_file::load_to_replace(alloc, path, files)?;
+    let device: Box<Device> = device_file::load_to_replace(alloc, path, files)?;
     image_file::save(device.image(), path, files)
 }

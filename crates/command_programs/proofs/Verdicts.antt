@@ -15,10 +15,11 @@ use Rattle.program_interface.specs.RunSizes.{Sizes, sizes_with}
 use Rattle.word_domain.specs.Domain.{Operations}
 use Rattle.command_files.specs.Arguments.{number_of}
 use Rattle.command_files.specs.Lines.{GrowsAround}
-use Rattle.command_programs.specs.Asked.{IsLimit, Spell, profile_number}
+use Rattle.command_programs.specs.Asked.{IsLimit, Spell}
+use Rattle.command_profile.specs.Profile.{operations_of, profile_number}
 use Rattle.command_programs.specs.MakesProgram.{program_file_of}
-use Rattle.command_programs.specs.Printed.{Judges, PrintsAcceptance, SaysAccepted, form_of, operations_of}
-use Rattle.command_programs.specs.declared.profile.Profile.{Profile}
+use Rattle.command_programs.specs.Printed.{Judges, PrintsAcceptance, SaysAccepted, form_of}
+use Rattle.command_profile.specs.declared.profile.Profile.{Profile}
 use Rattle.command_programs.specs.declared.verify.Form.{Form}
 
 -- a line, and some words behind it

@@ -6,8 +6,6 @@ use Rattle.ebpf_decode.specs.Reading.{decoded_program}
 use Rattle.instruction_set.specs.declared.instruction.Instruction.{Instruction}
 use Rattle.program_interface.specs.RunSizes.{Sizes, sizes_with}
 use Rattle.command_files.specs.Arguments.{number_of, value_of}
-use Rattle.command_programs.specs.declared.profile.Profile.{Profile}
-use Rattle.command_programs.specs.declared.profile.Profile.TheVariants.{Two, Three}
 
 -- is this flag set?
 abbrev pub is_set : ArgMatches → List ℕ → Bool
@@ -27,8 +25,3 @@ pub record AsksForSizes (matches : ArgMatches) (block : ℕ) (sizes : Sizes) : T
   pub limit : ℕ
   pub limited : IsLimit matches (first_value (found_of matches) (codes "emit")) limit
   pub fits : sizes_with block limit ≡ Some sizes
-
--- the number of a profile
-abbrev pub profile_number : Profile → ℕ
-profile_number Two = 2
-profile_number Three = 3

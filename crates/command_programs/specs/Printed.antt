@@ -12,16 +12,14 @@ use Rattle.ebpf_asm.specs.Listing.{listing, listing_with_slots}
 use Rattle.emit_append.specs.Unpacking.{unpacked}
 use Rattle.instruction_set.specs.Program.{instruction_count}
 use Rattle.instruction_set.specs.declared.instruction.Instruction.{Instruction}
-use Rattle.address_domain.specs.Addresses.{addresses}
-use Rattle.interval_domain.specs.Intervals.{intervals}
 use Rattle.interval_domain.specs.declared.fact.Fact.{Fact}
 use Rattle.program_interface.specs.RunSizes.{Sizes}
 use Rattle.word_domain.specs.Domain.{Operations}
 use Rattle.command_files.specs.Arguments.{number_of, value_of}
 use Rattle.command_files.specs.Lines.{GrowsAround}
-use Rattle.command_programs.specs.Asked.{AsksForSizes, Spell, is_set, profile_number}
-use Rattle.command_programs.specs.declared.profile.Profile.{Profile}
-use Rattle.command_programs.specs.declared.profile.Profile.TheVariants.{Two, Three}
+use Rattle.command_programs.specs.Asked.{AsksForSizes, Spell, is_set}
+use Rattle.command_profile.specs.Profile.{operations_of, profile_number}
+use Rattle.command_profile.specs.declared.profile.Profile.{Profile}
 use Rattle.command_programs.specs.declared.unpack.TheConstants.{FILE}
 use Rattle.command_programs.specs.declared.verify.Form.{Form}
 use Rattle.command_programs.specs.declared.verify.Form.TheVariants.{Json, Line, Worded}
@@ -114,11 +112,6 @@ abbrev pub PrintsFirstRefusal : Form → ℕ → Refusal → Option (List ℕ) �
 PrintsFirstRefusal Line instructions first before after = Appends before after (refused_line first)
 PrintsFirstRefusal (Worded explained facts) instructions first before after = GrowsAround (refused_line first) [] before after
 PrintsFirstRefusal Json instructions first before after = GrowsAround (refused_front instructions first) (codes "}\n") before after
-
--- the operations by which a profile judges
-abbrev pub operations_of : Profile → Operations Fact
-operations_of Two = intervals
-operations_of Three = addresses
 
 module _ {D : Type 0} (operations : Operations D) (program : List (Option Instruction)) (sizes : Sizes) (form : Form) (before after : Option (List ℕ)) where
   -- the program is accepted, and this is printed

@@ -5,7 +5,6 @@ pub mod asm;
 pub mod disasm;
 mod flags;
 mod printing;
-mod profile;
 mod program;
 mod refusal_fields;
 mod refusal_lines;

@@ -6,13 +6,13 @@ ghost use Rattle.clap.specs.Matches.{found_of, first_value};
 ghost use Rattle.instruction_set.specs.Program.{instruction_count};
 ghost use Rattle.program_interface.specs.RunSizes.{sizes_with};
 ghost use Rattle.command_files.specs.Arguments.{number_of};
+ghost use Rattle.command_profile.specs.Profile.{operations_of};
 ghost use Rattle.command_programs.specs.Asked.{IsLimit};
 ghost use Rattle.command_programs.specs.MakesProgram.{program_file_of};
-ghost use Rattle.command_programs.specs.Printed.{PrintsAcceptance, PrintsAccepted, PrintsFirstRefusal, PrintsRefused, SaysAccepted, SaysRefused, form_of, operations_of, place_fields, refused_line};
+ghost use Rattle.command_programs.specs.Printed.{PrintsAcceptance, PrintsAccepted, PrintsFirstRefusal, PrintsRefused, SaysAccepted, SaysRefused, form_of, place_fields, refused_line};
 
 use crate::flags::{JSON, is_set, json_flag};
 use crate::printing::print;
-use crate::profile::{Profile, profile_asked, profile_option};
 use crate::program::program_in_file;
 use crate::refused_instruction::RefusedInstruction;
 use crate::sizes::{limit, run_sizes};
@@ -25,6 +25,7 @@ use command_files::arguments::{
     program_argument, required,
 };
 use command_files::{Counted, Failure, Files, printed};
+use command_profile::{Profile, profile_asked, profile_option};
 use ebpf_asm::instruction_text;
 use instruction_set::Program;
 use interval_domain::Intervals;
@@ -56,6 +57,9 @@ pub enum Form {
     /// As one JSON object.
     Json,
 }
+
+const PROFILE_HELP: &str =
+    "The profile to judge by: 2, as Load does, or 3, which knows more of addresses and sums";
 
 const LONG_ABOUT: &str = "\
 Says whether a program is accepted for a block size and a limit of what it may emit for a block:
@@ -89,7 +93,7 @@ can be emitted from R1 on, or null; of 10 `emitted`, by the group before, `recor
 
 Load judges by profile 2. With --profile 3 more is known: addresses are numbers too, so that two can be compared and subtracted, and an \
 emit whose address and length have a sum that was compared ends where that does. What is accepted never traps, by either, but Load takes \
-only what is accepted by profile 2.";
+only what is accepted by profile 2, except by `exec --profile 3`.";
 
 const EXAMPLE: &str = "\
 Example: the program of `asm --help`, with a limit that is too low.
@@ -142,7 +146,7 @@ pub fn subcommand<'a>(alloc: Global) -> Result<Command<'a>, AllocError> {
     let command = and_argument(Ok(command), program_argument(alloc));
     let command = and_argument(command, block_option(alloc));
     let command = and_argument(command, emit_option(alloc));
-    let command = and_argument(command, profile_option(alloc));
+    let command = and_argument(command, profile_option(alloc, PROFILE_HELP));
     let command = and_argument(command, explain);
     let command = and_argument(command, facts);
     and_argument(command, json_flag(alloc))

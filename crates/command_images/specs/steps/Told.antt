@@ -1,14 +1,15 @@
 -- The failures that faults of loading become.
-use Rattle.std.specs.Prelude.{◌≡◌, ℕ, List}
+use Rattle.std.specs.Prelude.{◌≡◌, ◌≢◌, ℕ, List}
 use Rattle.std.specs.Borrow.{Bor}
 use Rattle.image_text.specs.declared.fault.LoadFault.{LoadFault}
 use Rattle.image_text.specs.declared.fault.LoadFault.TheVariants.{Magic, Stream, Memory}
+use Rattle.device_meaning.specs.State.{State, new_state}
 use Rattle.durable_machine.specs.declared.fault.Fault.{Fault}
 use Rattle.durable_machine.specs.declared.fault.Fault.TheVariants.{Damaged, OfFile, Unreadable}
 use Rattle.durable_device.specs.Kept.{RefusesBytes}
 use Rattle.command_files.specs.declared.failure.Failure.{Failure}
 use Rattle.command_files.specs.declared.file_cause.FileCause.TheVariants.{Other}
-use Rattle.command_files.specs.declared.failure.Failure.TheVariants.{CannotRead, ImageRefused, JournalRefused, NoMemory}
+use Rattle.command_files.specs.declared.failure.Failure.TheVariants.{CannotRead, DeviceRefused, ImageRefused, JournalRefused, NoMemory}
 
 -- the fault, but where the stream or memory failed, which says nothing of the file
 abbrev pub told_of_image : Bor (List ℕ) → LoadFault → Failure
@@ -27,3 +28,9 @@ pub record RefusesJournal (path : Bor (List ℕ)) (bytes : List ℕ) (failure : 
   pub fault : Fault
   pub refused : RefusesBytes bytes fault
   pub told : failure ≡ told_of_journal path fault
+
+-- a device is refused that has more than a namespace, or memory is wanting, and nothing else
+abbrev pub RefusesMore : Bor (List ℕ) → State → Failure → Type 0
+RefusesMore path s (DeviceRefused told) = (told ≡ path) × (s ≢ new_state s.namespace)
+RefusesMore path s NoMemory = Unit {0}
+RefusesMore path s _ = ⊥

@@ -1,6 +1,8 @@
-//! Programs that are accepted by profile 3 alone, and like ones that are refused by both, with what `verify` says of them.
+//! Programs that are accepted by profile 3 alone, and like ones that are refused by both, with what `verify` says of them, and what
+//! `exec` does with one.
 
-use super::scenes::{Act, Scene, play};
+use super::scenes::{Act, EXEC, Scene, play};
+use super::stage::Parts;
 use std::test::Fail;
 
 /// Behind the jump R3 is at most 199 bytes into the block.
@@ -194,6 +196,65 @@ const UNKNOWN: &[Act] = &[
     ),
 ];
 
+/// The record begins at byte 4, and has 3 bytes.
+const RECORD: Parts = &[(b"\x02\x02..abc", 1), (b"\0", 505)];
+
+/// The block of one group.
+const READ: Parts = &[
+    (b"cpl 1 00000000000000000000010001000000 0300616263", 1),
+    (b"00", 507),
+    (b"\n", 1),
+];
+
+/// By itself `exec` judges by profile 2, and what isn't loaded doesn't run. That the words name a profile is seen before the image is read.
+const RUNS: &[Act] = &[
+    Act::Start(b""),
+    Act::Text("text", FITTING),
+    Act::Prints("zscli asm text made", ""),
+    Act::Put("record", RECORD),
+    Act::Adds("zscli entry append --lba 0 --data record --cid 1"),
+    Act::Adds("zscli entry open --lba 8 --cid 2"),
+    Act::Adds("zscli entry load --slot 0 --program made --emit 258 --cid 3"),
+    Act::Adds("zscli entry run --slot 0 --from 0 --blocks 1 --to 8 --cid 4"),
+    Act::Prints(
+        EXEC,
+        "\
+cpl 1 00000000000000000000010001000000
+cpl 1 00000000000000000000010002000000
+cpl 1 0a00000009000000000001000300840f
+cpl 1 0000000000000000000001000400820f
+",
+    ),
+    Act::Prints(
+        "zscli exec image events --profile 2",
+        "\
+cpl 1 01000000000000000000010001000000
+cpl 1 00000000000000000000010002000000
+cpl 1 0a00000009000000000001000300840f
+cpl 1 0000000000000000000001000400820f
+",
+    ),
+    Act::Prints(
+        "zscli exec image events --profile 3",
+        "\
+cpl 1 02000000000000000000010001000000
+cpl 1 00000000000000000000010002000000
+cpl 1 00000000000000000000010003000000
+pending 0
+cpl 1 01000000010000000000010004000000
+",
+    ),
+    Act::Put("events", &[]),
+    Act::Adds("zscli entry read --lba 8 --blocks 1 --cid 1"),
+    Act::AddsTo("replies", EXEC),
+    Act::Has("replies", READ),
+    Act::Ends(
+        "zscli exec gone events --profile 1",
+        2,
+        "error: '1' for --profile is not a number from 2 to 3\n",
+    ),
+];
+
 const SCENES: &[Scene] = &[
     Scene {
         name: "compares of addresses",
@@ -206,6 +267,10 @@ const SCENES: &[Scene] = &[
     Scene {
         name: "what both refuse",
         acts: REFUSED,
+    },
+    Scene {
+        name: "runs by profile 3",
+        acts: RUNS,
     },
     Scene {
         name: "no such profile",

@@ -1,5 +1,6 @@
 use Rattle.std.proofs.Common.{ap, sym, ◌∙◌, rules}
 use Rattle.std.proofs.lemmas.Result.{err_from_is_err_and}
+use Rattle.device_meaning.specs.Judging.{judge_by}
 use Rattle.event_text.specs.declared.lines.Lines.{Lines}
 use Rattle.image_text.specs.Text.{text}
 use Rattle.command_files.specs.Crash.{AreWritten}
@@ -15,16 +16,16 @@ returns-in-Ok-clause-saved g c =
     let contents = g.O.Write.contents in
     let writer = c.into_writer-out.ensures.same_writer ∙ ap (λ (lines : Lines _). lines.out.ghost_name) c.into_out-lines.ensures
     ∙ c.serve_and_drain-done.ensures.same_writer ∙ ap (λ (lines : Lines _). lines.out.ghost_name) c.new-watched.ensures ∙ c.in_ok-lines.ensures.same_writer.0 in
-    saves_all (around g.F.Files g.F.Reader.Source.tells g.F.Writer.Sink.tells c.args.files.now c.save_changes.new.files) c.args.events.now c.args.device.now.namespace c.image.result.now c.args.path.now
+    saves_all (judge_by g.D.Domain.operations) (around g.F.Files g.F.Reader.Source.tells g.F.Writer.Sink.tells c.args.files.now c.save_changes.new.files) c.args.events.now c.args.device.now.namespace c.image.result.now c.args.path.now
     c.serve_and_drain-done.new.device c.in_ok-save_changes.ensures.saved c.image.ensures.value _ _
-    (prints_all c.args.events.now c.args.device.now.namespace c.args.device.now c.serve_and_drain-done.new.device
+    (prints_all (judge_by g.D.Domain.operations) c.args.events.now c.args.device.now.namespace c.args.device.now c.serve_and_drain-done.new.device
     (contents c.new-watched.result.out.out.now) _ (contents c.serve_and_drain-done.new.lines.out.out.now) _ c.requires.new
     (ap (λ (lines : Lines _). contents lines.out.now) c.new-watched.ensures ∙ ap contents c.in_ok-lines.ensures.same_writer.1)
     (ap (λ (lines : Lines _). contents lines.out.now) (sym c.into_out-lines.ensures) ∙ ap contents (sym c.into_writer-out.ensures.value ∙ search rules)) c.in-Ok.ensures.done)
 
 pub returns-clause-stopped : goal.returns-clause-stopped
 returns-clause-stopped g c = λ _.
-    saves_first (around g.F.Files g.F.Reader.Source.tells g.F.Writer.Sink.tells c.args.files.now c.save_changes.new.files) c.args.events.now c.args.device.now.namespace c.image.result.now c.args.path.now
+    saves_first (judge_by g.D.Domain.operations) (around g.F.Files g.F.Reader.Source.tells g.F.Writer.Sink.tells c.args.files.now c.save_changes.new.files) c.args.events.now c.args.device.now.namespace c.image.result.now c.args.path.now
     c.serve_and_drain-done.new.device c.in_ok-save_changes.ensures.saved c.image.ensures.value
     c.args.device.now c.requires.new c.in-Err.ensures.stopped
 
@@ -42,8 +43,8 @@ returns-clause-others_stopped g c = λ _. c.in_ok-save_changes.ensures.others
 pub returns-in-Ok-clause-crash : goal.returns-in-Ok-clause-crash
 returns-in-Ok-clause-crash g c =
     let writes = g.F.Writer.Sink.tells in
-    leaves_weaker c.args.path.now (AreWritten writes (text c.image.result.now)) (AreLeft writes c.args.events.now c.args.device.now.namespace)
-    (shown_is_left c.serve_and_drain-done.result writes c.args.events.now c.args.device.now.namespace c.image.result.now c.args.device.now c.serve_and_drain-done.new.device
+    leaves_weaker c.args.path.now (AreWritten writes (text c.image.result.now)) (AreLeft (judge_by g.D.Domain.operations) writes c.args.events.now c.args.device.now.namespace)
+    (shown_is_left (judge_by g.D.Domain.operations) c.serve_and_drain-done.result writes c.args.events.now c.args.device.now.namespace c.image.result.now c.args.device.now c.serve_and_drain-done.new.device
     (g.O.Write.contents c.new-watched.result.out.out.now) (g.O.Write.contents c.serve_and_drain-done.new.lines.out.out.now) c.requires.new c.image.ensures.value
     c.serve_and_drain-done.ensures.done c.serve_and_drain-done.ensures.stopped)
     _ _ c.save_changes.ensures.crash
@@ -51,8 +52,8 @@ returns-in-Ok-clause-crash g c =
 pub returns-clause-crash : goal.returns-clause-crash
 returns-clause-crash g c =
     let writes = g.F.Writer.Sink.tells in
-    leaves_weaker c.args.path.now (AreWritten writes (text c.image.result.now)) (AreLeft writes c.args.events.now c.args.device.now.namespace)
-    (shown_is_left c.serve_and_drain-done.result writes c.args.events.now c.args.device.now.namespace c.image.result.now c.args.device.now c.serve_and_drain-done.new.device
+    leaves_weaker c.args.path.now (AreWritten writes (text c.image.result.now)) (AreLeft (judge_by g.D.Domain.operations) writes c.args.events.now c.args.device.now.namespace)
+    (shown_is_left (judge_by g.D.Domain.operations) c.serve_and_drain-done.result writes c.args.events.now c.args.device.now.namespace c.image.result.now c.args.device.now c.serve_and_drain-done.new.device
     (g.O.Write.contents c.new-watched.result.out.out.now) (g.O.Write.contents c.serve_and_drain-done.new.lines.out.out.now) c.requires.new c.image.ensures.value
     c.serve_and_drain-done.ensures.done c.serve_and_drain-done.ensures.stopped)
     _ _ c.save_changes.ensures.crash
@@ -60,8 +61,8 @@ returns-clause-crash g c =
 pub returns-in_err-save_changes-clause-crash : goal.returns-in_err-save_changes-clause-crash
 returns-in_err-save_changes-clause-crash g c =
     let writes = g.F.Writer.Sink.tells in
-    leaves_weaker c.args.path.now (AreWritten writes (text c.image.result.now)) (AreLeft writes c.args.events.now c.args.device.now.namespace)
-    (shown_is_left c.serve_and_drain-done.result writes c.args.events.now c.args.device.now.namespace c.image.result.now c.args.device.now c.serve_and_drain-done.new.device
+    leaves_weaker c.args.path.now (AreWritten writes (text c.image.result.now)) (AreLeft (judge_by g.D.Domain.operations) writes c.args.events.now c.args.device.now.namespace)
+    (shown_is_left (judge_by g.D.Domain.operations) c.serve_and_drain-done.result writes c.args.events.now c.args.device.now.namespace c.image.result.now c.args.device.now c.serve_and_drain-done.new.device
     (g.O.Write.contents c.new-watched.result.out.out.now) (g.O.Write.contents c.serve_and_drain-done.new.lines.out.out.now) c.requires.new c.image.ensures.value
     c.serve_and_drain-done.ensures.done c.serve_and_drain-done.ensures.stopped)
     _ _ c.save_changes.ensures.crash

@@ -1,17 +1,18 @@
 use Rattle.std.proofs.Common.{◌∙◌, rules, subst, sym}
 use Rattle.std.proofs.lemmas.Result.{err_from_is_err_and, IfErr-weaker, on_ok_weaker}
 use Rattle.command_files.proofs.Proved.{leaves_as_before, others_kept}
+use Rattle.device_meaning.specs.Judging.{judge_by}
 use Rattle.device_meaning.specs.State.{State}
 use Rattle.command_images.specs.Devices.{TellNamespace}
 use Rattle.command_images.specs.Images.{image_of}
 use Rattle.command_exec.specs.Executed.{commands_of}
 use Rattle.command_exec.proofs.Failing.{quiet, quiet_of_saving, exec_of_commands, exec_of_loading, exec_of_reading, exec_of_saving}
 use Rattle.command_exec.proofs.Saving.{executed_leaves, executes, executes_first}
-use Rattle.command_exec.proofs.exec.exec.Goals as goal
+use Rattle.command_exec.proofs.exec.exec_by.Goals as goal
 
 pub returns-in-Ok-clause-executed : goal.returns-in-Ok-clause-executed
 returns-in-Ok-clause-executed g c =
-    executes g.F.Reader.Source.tells g.F.Writer.Sink.tells (g.F.Files.contents c.args.files.now) (g.F.Files.contents c.load_to_replace.new.files)
+    executes (judge_by g.D.Domain.operations) g.F.Reader.Source.tells g.F.Writer.Sink.tells (g.F.Files.contents c.args.files.now) (g.F.Files.contents c.load_to_replace.new.files)
     c.required-path.result.now c.required-commands.result.now c.args.matches.now
     c.in_ok-file.file.items c.as_slice.result.now c.deref_mut.result.now.namespace c.in-Ok.events.items
     (g.F.Files.made c.args.files.now) (g.F.Files.made c.read.new.files) (g.F.Files.made c.run.new.files)
@@ -21,7 +22,7 @@ returns-in-Ok-clause-executed g c =
 
 pub returns-in-Ok-clause-stopped : goal.returns-in-Ok-clause-stopped
 returns-in-Ok-clause-stopped g c = λ stops.
-    executes_first g.F.Reader.Source.tells g.F.Writer.Sink.tells (g.F.Files.contents c.args.files.now) (g.F.Files.contents c.load_to_replace.new.files)
+    executes_first (judge_by g.D.Domain.operations) g.F.Reader.Source.tells g.F.Writer.Sink.tells (g.F.Files.contents c.args.files.now) (g.F.Files.contents c.load_to_replace.new.files)
     c.required-path.result.now c.required-commands.result.now c.args.matches.now
     c.in_ok-file.file.items c.as_slice.result.now c.deref_mut.result.now.namespace c.in-Ok.events.items
     (g.F.Files.made c.args.files.now) (g.F.Files.made c.read.new.files) (g.F.Files.made c.run.new.files)
@@ -32,25 +33,25 @@ returns-in-Ok-clause-stopped g c = λ stops.
 pub returns-in_err-device-clause-failed : goal.returns-in_err-device-clause-failed
 returns-in_err-device-clause-failed g c =
     let p = err_from_is_err_and c.from_residual.result c.from_residual.ensures.1 in
-    rw (p.1, p.2) (exec_of_loading g.F.Reader.Source.tells (g.F.Files.contents c.args.files.now) (image_of c.args.matches.now) (commands_of c.args.matches.now)
+    rw (p.1, p.2) (exec_of_loading c.args.matches.now g.F.Reader.Source.tells (g.F.Files.contents c.args.files.now) (image_of c.args.matches.now) (commands_of c.args.matches.now)
     c.required-path.result.now c.required-path.ensures c.in_err-device.field-0.0 c.in_err-device.ensures.failed)
 
 pub returns-in_err-file-clause-failed : goal.returns-in_err-file-clause-failed
 returns-in_err-file-clause-failed g c =
     let p = err_from_is_err_and c.from_residual-in_err-file.result c.from_residual-in_err-file.ensures.1 in
-    rw (p.1, p.2) (exec_of_reading g.F.Reader.Source.tells (g.F.Files.contents c.args.files.now) (image_of c.args.matches.now) (commands_of c.args.matches.now)
+    rw (p.1, p.2) (exec_of_reading c.args.matches.now g.F.Reader.Source.tells (g.F.Files.contents c.args.files.now) (image_of c.args.matches.now) (commands_of c.args.matches.now)
     c.required-commands.result c.required-commands.ensures c.in_err-file.field-0.0 c.in_err-file.ensures.unread)
 
 pub returns-clause-failed : goal.returns-clause-failed
 returns-clause-failed g c =
-    rw c.of_commands.ensures.told (exec_of_commands g.F.Reader.Source.tells (g.F.Files.contents c.args.files.now) (image_of c.args.matches.now) (commands_of c.args.matches.now)
+    rw c.of_commands.ensures.told (exec_of_commands c.args.matches.now g.F.Reader.Source.tells (g.F.Files.contents c.args.files.now) (image_of c.args.matches.now) (commands_of c.args.matches.now)
     c.required-commands.result c.required-commands.ensures (g.F.Files.contents c.load_to_replace.new.files) c.load_to_replace.ensures.contents
     c.in_ok-file.file.items c.as_slice.result.now c.as_slice.ensures.value c.in_ok-file.ensures.bytes c.in-Err.fault c.in-Err.ensures)
 
 pub returns-in-Ok-clause-failed : goal.returns-in-Ok-clause-failed
 returns-in-Ok-clause-failed g c =
     IfErr-weaker c.run.result _ _
-    (exec_of_saving g.F.Reader.Source.tells (g.F.Files.contents c.args.files.now) (image_of c.args.matches.now) (commands_of c.args.matches.now)
+    (exec_of_saving c.args.matches.now g.F.Reader.Source.tells (g.F.Files.contents c.args.files.now) (image_of c.args.matches.now) (commands_of c.args.matches.now)
     c.required-path.result c.required-path.ensures) c.run.ensures.failed
 
 pub returns-in-Ok-clause-others : goal.returns-in-Ok-clause-others
@@ -94,7 +95,7 @@ returns-in_err-numbers-in-Ok-clause-crash g c = leaves_as_before (image_of c.arg
 
 pub returns-in-Ok-clause-crash : goal.returns-in-Ok-clause-crash
 returns-in-Ok-clause-crash g c =
-    executed_leaves g.F.Reader.Source.tells g.F.Writer.Sink.tells (g.F.Files.contents c.args.files.now) (g.F.Files.contents c.load_to_replace.new.files)
+    executed_leaves (judge_by g.D.Domain.operations) g.F.Reader.Source.tells g.F.Writer.Sink.tells (g.F.Files.contents c.args.files.now) (g.F.Files.contents c.load_to_replace.new.files)
     c.required-path.result.now c.required-commands.result.now c.args.matches.now
     c.in_ok-file.file.items c.as_slice.result.now c.deref_mut.result.now.namespace c.in-Ok.events.items
     (g.F.Files.made c.args.files.now) (g.F.Files.made c.read.new.files) (g.F.Files.made c.run.new.files)

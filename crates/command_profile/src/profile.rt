@@ -2,8 +2,7 @@
 
 ghost use Rattle.std.specs.Prelude.{◌≡◌, codes, IfErr, IfOk, Some};
 ghost use Rattle.command_files.specs.Arguments.{number_of};
-ghost use Rattle.command_programs.specs.Asked.{profile_number};
-ghost use Rattle.command_programs.specs.steps.Profile.{IsToldOfProfile};
+ghost use Rattle.command_profile.specs.Profile.{IsToldOfProfile, profile_number};
 
 use clap::{Arg, ArgMatches};
 use command_files::Failure;
@@ -12,7 +11,7 @@ use std::alloc::Global;
 use text_lines::decimal;
 
 /// The option that [`profile_option`] describes.
-pub(crate) const PROFILE: &str = "profile";
+pub const PROFILE: &str = "profile";
 
 /// A profile: by what is known of words it is judged which programs are accepted.
 #[derive(Clone, Copy)]
@@ -24,15 +23,17 @@ pub enum Profile {
 }
 
 /// The option that gives the number of a profile, 2 where it isn't given.
-pub(crate) fn profile_option<'a>(alloc: Global) -> Arg<'a> {
-    option(alloc, PROFILE, "P").default_value("2").help(
-        "The profile to judge by: 2, as Load does, or 3, which knows more of addresses and sums",
-    )
+pub fn profile_option<'a>(alloc: Global, help: &'a str) -> Arg<'a> {
+    option(alloc, PROFILE, "P").default_value("2").help(help)
 }
 
 /// The profile whose number the option spells. Where it spells no other number than 2 and 3, the option, its word, and these two
 /// are told.
-pub(crate) fn profile_asked<'a>(matches: &ArgMatches<'a>) -> Result<Profile, Failure<'a>>
+///
+/// # Errors
+///
+/// [`Failure::NotInRange`] where the word spells neither.
+pub fn profile_asked<'a>(matches: &ArgMatches<'a>) -> Result<Profile, Failure<'a>>
     ensures asked { IfOk result (λ profile. number_of matches.now (codes "profile") ≡ Some (profile_number profile)) }
     ensures told { IfErr result (IsToldOfProfile matches.now) }
 {
