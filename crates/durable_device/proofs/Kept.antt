@@ -5,7 +5,6 @@ use Rattle.std.specs.declared.alloc.Global.{Global}
 use Rattle.std.proofs.lemmas.List.{drop_at, length-map, map-append, take_at}
 use Rattle.common_definitions.specs.Bytes.{AreBytes}
 use Rattle.common_definitions.proofs.Proved.{all_take, front_fit, rest_fit}
-use Rattle.image_store.specs.Namespace.{ZonedNamespace}
 use Rattle.image_text.proofs.Proved.{loaded_texts_are_namespaces}
 use Rattle.image_base.specs.Base.{IsBaseOf, Told}
 use Rattle.image_base.proofs.Proved.{one_base}

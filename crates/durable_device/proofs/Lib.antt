@@ -1,4 +1,5 @@
 mod Again
+mod ComingAgain
 mod Bytes
 mod Frames
 mod Kept

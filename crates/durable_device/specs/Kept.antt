@@ -1,7 +1,7 @@
 -- What a file stands for, and what of a device is kept in it.
 use Rattle.std.specs.Prelude.{ℕ, List}
 use Rattle.stored_file.specs.File.{FileState}
-use Rattle.durable_machine.specs.Files.{IsDurable, IsItsState, IsOldOrStands, IsState, AlwaysKeepsState}
+use Rattle.durable_machine.specs.Files.{IsDurable, IsInBase, IsItsState, IsOldOrStands, IsState, AlwaysKeepsState}
 use Rattle.durable_machine.specs.Refused.{IsRefused, Refuses}
 use Rattle.durable_machine.specs.declared.fault.Fault.{Fault}
 use Rattle.device_meaning.specs.State.{State}
@@ -26,6 +26,10 @@ IsOldOrStandsFor = IsOldOrStands IsDeviceBase next_state
 -- the device is in the state that the file stands for, which is at rest, with its gate at this offset, and all of it on the disk
 abbrev pub IsKept : State → ℕ → FileState → Type 0
 IsKept = IsDurable IsDeviceBase next_state
+
+-- and the base alone stands for the device: the journal behind it is empty
+abbrev pub IsKeptInBase : State → ℕ → FileState → Type 0
+IsKeptInBase = IsInBase IsDeviceBase next_state
 
 -- a file is refused for what it has, and nothing of it changes; or memory was wanting, or the disk has failed
 abbrev pub RefusesFile : FileState → FileState → Fault → Type 0

@@ -1,6 +1,7 @@
 pub mod FrameEvents
 pub mod Changing
 pub mod Machine
+pub mod Again
 pub mod Kept
 pub mod Serving
 pub mod Laws

@@ -1,5 +1,5 @@
 -- What sections spell of a device.
-use Rattle.std.specs.Prelude.{◌≡◌, ℕ, List, map, take, drop, Option}
+use Rattle.std.specs.Prelude.{ℕ, List, map, take, drop, Option}
 use Rattle.nvme_entry.specs.declared.program_slot.TheConstants.{PROGRAM_SLOTS}
 use Rattle.device_meaning.specs.View.{Active}
 use Rattle.kept_device.specs.Kept.{SavedProgram, place_told, slot_told}

@@ -27,7 +27,7 @@ pub(crate) fn may_change(event: &FrameEvent<'_>, reply: &Reply) -> bool
 }
 
 /// Whether an entry asks for what may change a device.
-fn asks_change(entry: &[u8; 64]) -> bool
+pub fn asks_change(entry: &[u8; 64]) -> bool
     ensures { result ≡ asks_change (decoded entry.now) }
 {
     match Entry::decode(entry) {
@@ -53,7 +53,7 @@ fn is_change(command: &StandardCommand) -> bool
 }
 
 /// Whether a reply is a completion whose status isn't success.
-fn is_refusal(reply: &Reply) -> bool
+pub fn is_refusal(reply: &Reply) -> bool
     ensures { result ≡ is_refusal reply.now }
 {
     match reply {

@@ -9,7 +9,7 @@ ghost use Rattle.durable_machine.specs.Files.{joined};
 ghost use Rattle.device_meaning.specs.Judging.{interval_judge};
 ghost use Rattle.device_meaning.specs.Reached.{IsReached};
 ghost use Rattle.device_meaning.specs.State.{new_state};
-ghost use Rattle.durable_device.specs.Kept.{AlwaysStandsForIt, IsKept, IsOldOrStandsFor, RefusesFile, StandsFor, StandsForIt};
+ghost use Rattle.durable_device.specs.Kept.{AlwaysStandsForIt, IsKept, IsKeptInBase, IsOldOrStandsFor, RefusesFile, StandsFor, StandsForIt};
 ghost use Rattle.durable_device.specs.Machine.{IsDeviceBase};
 ghost use Rattle.durable_device.specs.Serving.{HasServed, HaveServed, IsAfterSome, IsBeforeOrAfter, Leads};
 
@@ -72,6 +72,8 @@ impl<F: StoredFile + Drop> DurableDevice<F> {
         ensures new { IfOk result (λ device. device.store.machine ≡ new_state image) }
         ensures kept { IfOk result (λ device.
             IsKept device.store.machine device.store.journal.gate (F.told device.store.journal.file)) }
+        ensures in_base { IfOk result (λ device.
+            IsKeptInBase device.store.machine device.store.journal.gate (F.told device.store.journal.file)) }
 
         // A crash at any moment leaves what it might have left before, or a file that stands for the device.
         ensures any_moment { IfOk result (λ device. LeavesOnly (F.told file) (F.told device.store.journal.file)
@@ -163,6 +165,8 @@ impl<F: StoredFile + Drop> DurableDevice<F> {
         ensures same { self.new.store.machine ≡ self.old.store.machine }
         ensures kept { OnOk result
             (IsKept self.new.store.machine self.new.store.journal.gate (F.told self.new.store.journal.file)) }
+        ensures in_base { OnOk result
+            (IsKeptInBase self.new.store.machine self.new.store.journal.gate (F.told self.new.store.journal.file)) }
         ensures any_moment { LeavesOnly (F.told self.old.store.journal.file) (F.told self.new.store.journal.file)
             (λ c. StandsFor c self.old.store.machine) }
 

@@ -1,5 +1,6 @@
 //! What is kept of a device, as laws: these functions do nothing.
 
+ghost use Rattle.durable_device.specs.Again.{ChangesComeAgain};
 ghost use Rattle.durable_device.specs.Kept.{IsKept};
 ghost use Rattle.durable_device.specs.Laws.{ComesBack, FilesAreReached, FirstBatchesComeBack, FramesTellEvents};
 
@@ -9,6 +10,12 @@ use stored_file::StoredFile;
 /// The frame of an event tells it, and bytes tell no event but the one whose frame they are.
 pub fn frames_tell_events()
     ensures { FramesTellEvents }
+{}
+
+/// An event that may have changed a device comes to the same once more, where memory is given, by its frame; and any other changed
+/// nothing.
+pub fn changes_come_again()
+    ensures { ChangesComeAgain }
 {}
 
 /// What a file stands for is the device after the events in it, from that on for which its base stands; and it is in a state that

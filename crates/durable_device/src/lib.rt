@@ -10,6 +10,7 @@ pub mod laws;
 mod reading;
 mod sections;
 
+pub use changes::{asks_change, is_refusal};
 pub use durable_device::DurableDevice;
 pub use frame_device::{FrameDevice, Given};
 pub use reading::device_in;

@@ -9,12 +9,17 @@ ghost use Rattle.kept_device.specs.Kept.{place_told, slot_told};
 ghost use Rattle.durable_device.specs.Machine.{SpellPrograms, SpellRuns};
 ghost use Rattle.durable_device.specs.Spelled.{SpellKept, SpellNoPrograms, SpellNoRuns, SpellNothingKept};
 
+use image_base::SECTIONS;
 use kept_device::{
     KeptProgram, KeptRun, SectionFault, program_section, read_program, read_run, run_section,
 };
 use nvme_entry::PROGRAM_SLOTS;
 use runner::KeptDevice;
 use std::alloc::{AllocError, Global};
+use zone_resources::RUNS;
+
+// One for each slot, and one for each place of a run.
+const _: () = prove!(SECTIONS == PROGRAM_SLOTS + RUNS);
 
 /// What the sections of a base spell.
 ///

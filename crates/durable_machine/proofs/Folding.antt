@@ -3,7 +3,7 @@ use Rattle.std.proofs.Common.{◌≡◌, arith, ◌+◌, ◌-◌, ◌≤◌, ℕ
 use Rattle.std.proofs.lemmas.List.{append-nil, take_all, length-replicate, replicate-append-replicate}
 use Rattle.stored_file.specs.File.{FileState, IsOnDisk}
 use Rattle.event_journal.proofs.Steps.{at_rest}
-use Rattle.durable_machine.specs.Files.{IsFront, IsState, IsDurable, whole_sectors}
+use Rattle.durable_machine.specs.Files.{IsFront, IsState, IsDurable, IsInBase, whole_sectors}
 use Rattle.durable_machine.proofs.Files.{is_before}
 
 -- a base, and zeros up to a length and one byte and some bytes more
@@ -33,12 +33,10 @@ module _ {S : Type 0} (loads : List ℕ → S → Type 0) (next : S → Bool →
   begins : IsFront loads next (base ++ replicate {A = ℕ} (front - length base) 0) s
   begins = record { base = base; padding = replicate {A = ℕ} (front - length base) 0; loaded = loaded; parts = refl; size = length-padded ∙ size }
 
-  pub folded : (file : FileState) → file.seen ≡ bytes → IsOnDisk file → IsDurable loads next s front file
-  folded file sees durable = record {
+  pub based : (file : FileState) → file.seen ≡ bytes → IsOnDisk file → IsInBase loads next s front file
+  based file sees durable = record {
     front = base ++ replicate {A = ℕ} (front - length base) 0;
-    first = s;
     begins = begins;
-    batches = [];
     rests = record {
       whole = omega (arith, length-padded, size);
       frames = [];
@@ -49,8 +47,12 @@ module _ {S : Type 0} (loads : List ℕ → S → Type 0) (next : S → Bool →
       ends = sym length-padded ∙ ap length (sym (append-nil (base ++ replicate {A = ℕ} (front - length base) 0)));
       durable = durable;
     };
-    leads = refl;
   }
+
+  pub folded : (file : FileState) → file.seen ≡ bytes → IsOnDisk file → IsDurable loads next s front file
+  folded file sees durable =
+      let is = based file sees durable in
+      record { front = is.front; first = s; begins = is.begins; batches = []; rests = is.rests; leads = refl }
 
   -- such a file stands for the machine
   pub folded_state : (c : List ℕ) → c ≡ bytes → IsState loads next c s

@@ -52,6 +52,12 @@ module _ {S : Type 0} (loads : List ℕ → S → Type 0) (next : S → Bool →
   abbrev pub IsOldOrStands : FileState → S → List ℕ → Type 0
   IsOldOrStands old s file = MayLeave old file ⊎ IsState file s
 
+  -- the base alone stands for the machine: no batch stands behind it, but a closed gate at this offset, and all of the file is on the disk
+  pub record IsInBase (machine : S) (gate : ℕ) (file : FileState) : Type 0 where
+    pub front : List ℕ
+    pub begins : IsFront front machine
+    pub rests : IsAt front [] gate file
+
   -- the machine is in the state that the file stands for, which is at rest, with its gate at this offset, and all of it on the disk
   pub record IsDurable (machine : S) (gate : ℕ) (file : FileState) : Type 0 where
     pub front : List ℕ

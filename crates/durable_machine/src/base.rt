@@ -3,7 +3,7 @@
 ghost use Rattle.std.specs.Prelude.{IfOk};
 ghost use Rattle.stored_file.specs.File.{LeavesOnly};
 ghost use Rattle.stored_file.specs.Cause.{HasCause};
-ghost use Rattle.durable_machine.specs.Files.{IsDurable, IsOldOrStands};
+ghost use Rattle.durable_machine.specs.Files.{IsDurable, IsInBase, IsOldOrStands};
 
 use crate::Machine;
 use crate::sectors::in_sectors;
@@ -21,6 +21,7 @@ pub(crate) fn put_base<M: Machine, F: StoredFile>(
     file: &mut F,
 ) -> Result<usize, FileError>
     requires stands { M.loads base.items machine.now }
+    ensures in_base { IfOk result (λ gate. IsInBase M.loads M.next machine.now gate (F.told file.new)) }
     ensures durable { IfOk result (λ gate. IsDurable M.loads M.next machine.now gate (F.told file.new)) }
     ensures any_moment { LeavesOnly (F.told file.old) (F.told file.new)
         (IsOldOrStands M.loads M.next (F.told file.old) machine.now) }

@@ -6,7 +6,7 @@ ghost use Rattle.stored_file.specs.Cause.{HasCause};
 ghost use Rattle.stored_file.specs.declared.stored_file.FileError.TheVariants.{Failed};
 ghost use Rattle.event_journal.specs.Events.{spelled};
 ghost use Rattle.durable_machine.specs.Runs.{HasRun};
-ghost use Rattle.durable_machine.specs.Files.{IsState, IsItsState, AlwaysKeepsState, IsDurable, IsOldOrStands, joined};
+ghost use Rattle.durable_machine.specs.Files.{IsState, IsItsState, AlwaysKeepsState, IsDurable, IsInBase, IsOldOrStands, joined};
 ghost use Rattle.durable_machine.specs.Refused.{Refuses};
 ghost use Rattle.durable_machine.specs.Batches.{
   IsBeforeOrAfter,
@@ -141,6 +141,8 @@ impl<M: Machine + Drop, F: StoredFile + Drop> Durable<M, F> {
         ensures same { IfOk result (λ store. store.machine ≡ machine) }
         ensures durable { IfOk result (λ store.
             IsDurable M.loads M.next store.machine store.journal.gate (F.told store.journal.file)) }
+        ensures in_base { IfOk result (λ store.
+            IsInBase M.loads M.next store.machine store.journal.gate (F.told store.journal.file)) }
 
         // A crash at any moment leaves what it might have left before, or a file that stands for the machine.
         ensures any_moment { IfOk result (λ store. LeavesOnly (F.told file) (F.told store.journal.file)
@@ -173,6 +175,8 @@ impl<M: Machine + Drop, F: StoredFile + Drop> Durable<M, F> {
         ensures same { self.new.machine ≡ self.old.machine }
         ensures acknowledged { OnOk result
             (IsDurable M.loads M.next self.new.machine self.new.journal.gate (F.told self.new.journal.file)) }
+        ensures in_base { OnOk result
+            (IsInBase M.loads M.next self.new.machine self.new.journal.gate (F.told self.new.journal.file)) }
         ensures any_moment { LeavesOnly (F.told self.old.journal.file) (F.told self.new.journal.file)
             (λ c. IsState M.loads M.next c self.old.machine) }
         ensures cause { HasCause (F.told self.old.journal.file) (F.told self.new.journal.file) result }

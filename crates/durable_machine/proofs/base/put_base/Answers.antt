@@ -1,7 +1,7 @@
 use Rattle.std.proofs.Common.{rules, ◌≡◌, ⊎_elim, inl, inr, length, vec_len, ◌∙◌, ap}
 use Rattle.stored_file.proofs.Moments.{started, goes_on}
 use Rattle.durable_machine.specs.Files.{IsOldOrStands, whole_sectors}
-use Rattle.durable_machine.proofs.Folding.{folded, folded_state}
+use Rattle.durable_machine.proofs.Folding.{based, folded, folded_state}
 use Rattle.durable_machine.proofs.base.put_base.Goals as goal
 
 pub returns-in_err-resize-clause-any_moment : goal.returns-in_err-resize-clause-any_moment
@@ -38,4 +38,11 @@ returns-clause-durable g c =
     let counted : vec_len c.args.base ≡ length c.args.base.items = search rules in
     let size : c.in_sectors-front.result ≡ whole_sectors (length c.args.base.items) = c.in_sectors-front.ensures ∙ ap whole_sectors (search rules) in
     folded g.M.Machine.loads g.M.Machine.next c.args.base.items c.deref.result.now c.args.machine.now c.requires.stands c.in_sectors-front.result (vec_len c.args.base) size counted (c.deref.ensures.value ∙ c.in_ok-resize.ensures.items)
+    (g.F.StoredFile.told c.replace.new.self) c.in_ok-replace.ensures.replaced c.in_ok-replace.ensures.durable
+
+pub returns-clause-in_base : goal.returns-clause-in_base
+returns-clause-in_base g c =
+    let counted : vec_len c.args.base ≡ length c.args.base.items = search rules in
+    let size : c.in_sectors-front.result ≡ whole_sectors (length c.args.base.items) = c.in_sectors-front.ensures ∙ ap whole_sectors (search rules) in
+    based g.M.Machine.loads g.M.Machine.next c.args.base.items c.deref.result.now c.args.machine.now c.requires.stands c.in_sectors-front.result (vec_len c.args.base) size counted (c.deref.ensures.value ∙ c.in_ok-resize.ensures.items)
     (g.F.StoredFile.told c.replace.new.self) c.in_ok-replace.ensures.replaced c.in_ok-replace.ensures.durable

@@ -1,4 +1,4 @@
-use Rattle.std.proofs.Common.{rules, List, Option, map, subst, sym}
+use Rattle.std.proofs.Common.{rules, map}
 use Rattle.durable_machine.specs.Bases.{BeginsBase}
 use Rattle.durable_machine.specs.Batches.{bytes_of}
 use Rattle.image_base.specs.Base.{IsBaseOf}
