@@ -1,11 +1,12 @@
 -- The commands that are pending are those of the device's active runs.
-use Rattle.std.proofs.Common.{◌≡◌, ℕ, Bool, List, ◌∷◌, map, set, Option, None, Some, refl, ap, sym, subst, ◌∙◌, inl, inr}
+use Rattle.std.proofs.Common.{◌≡◌, ℕ, Bool, List, ◌∷◌, map, set, get_or, Option, None, Some, refl, ap, sym, subst, ◌∙◌, inl, inr}
 use Rattle.std.proofs.Math.Seq.{map-set_same}
-use Rattle.std.proofs.lemmas.List.{map-set}
+use Rattle.std.proofs.lemmas.List.{map-set, set-get_or}
 use Rattle.std.specs.Option.{option_map}
 use Rattle.device_events.specs.Replies.{ReplyWithData}
 use Rattle.device_events.specs.ToldEvents as told
 use Rattle.device_events.specs.declared.reply.Reply.{Reply}
+use Rattle.device_events.specs.declared.reply.Reply.TheVariants as reply
 use Rattle.device_meaning.specs.EventReplies.{Happening, Submission, submission_of}
 use Rattle.device_meaning.specs.Happenings.{admitted_place, happens, take_turn, turned}
 use Rattle.device_meaning.specs.Judging.{interval_judge}
@@ -15,10 +16,11 @@ use Rattle.device_meaning.proofs.Proved.{HoldsOfEach, of_entry, of_turn}
 use Rattle.tcp_connection.specs.Executing.{Execution}
 use Rattle.tcp_queues.specs.Commands.{given_to_device}
 use Rattle.tcp_target.specs.Target.{TargetState}
-use Rattle.tcp_device.specs.Deeds.{Closed, Deed, Does, Opened, Received, Sent, Served, Ticked, Turned}
+use Rattle.tcp_device.specs.Deeds.{Closed, Deed, Does, Opened, Received, Resumed, Sent, Served, Ticked, Turned}
 use Rattle.tcp_device.specs.Laws.{Agrees, RunsHaveTheirCommands, command_of}
-use Rattle.tcp_device.specs.Served.{ServesGiven, TurnsGiven, freed_by, kept_by, next_run}
+use Rattle.tcp_device.specs.Served.{ResumesGiven, ServesGiven, TurnsGiven, freed_by, kept_by, next_run}
 use Rattle.tcp_device.specs.State.{CommandOfRun, ServedState, with_target}
+use Rattle.tcp_device.proofs.TheirRuns.{none_pending, stay_theirs}
 
 -- the commands of runs
 abbrev commands : List (Option Place) → List (Option CommandOfRun)
@@ -97,6 +99,21 @@ module _ (old new : ServedState) where
       ∙ ap (λ (r : ReplyWithData). freed_by r.reply run old.pending) done.happened.replied
       ∙ turn_frees old.device run old.pending agree ∙ ap (λ (s : State). commands s.places) (sym done.happened.state)
 
+  -- a run whose command came over no connection has none that is freed
+  free_of_none : (r : Reply) (run : ℕ) → get_or old.pending run None ≡ None → freed_by r run old.pending ≡ old.pending
+  free_of_none (reply.Complete queue completion length) run none = subst (λ (x : Option CommandOfRun). set old.pending run x ≡ old.pending) none (set-get_or old.pending run None)
+  free_of_none (reply.Pending number) run none = refl
+  free_of_none reply.Idle run none = refl
+  free_of_none reply.FaultTaken run none = refl
+  free_of_none reply.FaultRefused run none = refl
+
+  resumes : (command : Option CommandOfRun) (run : ℕ) → get_or old.pending run None ≡ command → ResumesGiven command run old new → Agrees old → Agrees new
+  resumes None run none done agree =
+      ap (λ (s : ServedState). s.pending) done.rest
+      ∙ sym (free_of_none (turned old.device run).reply.reply run none)
+      ∙ turn_frees old.device run old.pending agree ∙ ap (λ (s : State). commands s.places) (sym done.happened.state)
+  resumes (Some command) run some done agree = subst Agrees (sym done) agree
+
 stay : (deed : Deed) (old new : ServedState) → Does deed old new → Agrees old → Agrees new
 stay Opened old new done agree = subst Agrees (sym done) agree
 stay (Received number piece) old new done agree = subst Agrees (sym done) agree
@@ -105,6 +122,12 @@ stay (Closed number) old new done agree = subst Agrees (sym done) agree
 stay (Ticked milliseconds) old new done agree = subst Agrees (sym done) agree
 stay (Served number) old new done agree = serves old new (given_to_device number old.target.queues) number done agree
 stay Turned old new done agree = turns old new (next_run old) done agree
+stay (Resumed run) old new done agree = resumes old new (get_or old.pending run None) run refl done agree
 
 pub runs_have_their_commands : RunsHaveTheirCommands
-runs_have_their_commands = record { begin = λ namespace subsystem format. refl; stay = stay }
+runs_have_their_commands = record {
+  begin = λ device subsystem format run command is. absurd (none_pending run command is);
+  stay = stay_theirs;
+  begin_all = λ namespace subsystem format. refl;
+  stay_all = stay;
+}

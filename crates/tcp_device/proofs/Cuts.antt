@@ -1,5 +1,5 @@
 -- Deeds that differ only in how what comes is cut into pieces.
-use Rattle.std.proofs.Common.{◌≡◌, ◌≢◌, ℕ, ◌+◌, List, ◌∷◌, ◌++◌, refl, sym, ap, subst, ◌∙◌}
+use Rattle.std.proofs.Common.{◌≡◌, ◌≢◌, ℕ, List, ◌∷◌, ◌++◌, refl, sym, ap, subst, ◌∙◌}
 use Rattle.tcp_receiver.specs.declared.expected.Progress.{Progress}
 use Rattle.tcp_receiver.specs.declared.expected.Progress.TheVariants.{Partial, Whole, Failed}
 use Rattle.tcp_places.specs.Pieces.{JoinsAt}

@@ -1,5 +1,6 @@
 -- What is done with a served target as events of its device.
 use Rattle.std.proofs.Common.{◌≡◌, ℕ, List, [], ◌∷◌, ◌++◌, map, Option, None, Some, refl, ap, sym, ◌∙◌}
+use Rattle.std.specs.Prelude.{slice_index_or}
 use Rattle.std.proofs.lemmas.List.{map-append}
 use Rattle.device_events.specs.Replies.{ReplyWithData}
 use Rattle.device_events.specs.ToldEvents.{ToldEvent, told_of}
@@ -11,10 +12,10 @@ use Rattle.device_meaning.specs.State.{State}
 use Rattle.device_meaning.proofs.Proved.{events_in_parts}
 use Rattle.tcp_connection.specs.Executing.{Execution}
 use Rattle.tcp_queues.specs.Commands.{given_to_device}
-use Rattle.tcp_device.specs.Deeds.{Closed, Deed, Does, Opened, Received, Sent, Served, Ticked, Turned, events_in, events_of, replies_in, replies_of, submission_replies, submissions, turn_replies, turns}
+use Rattle.tcp_device.specs.Deeds.{Closed, Deed, Does, Opened, Received, Resumed, Sent, Served, Ticked, Turned, events_in, events_of, replies_in, replies_of, resumption_replies, resumptions, submission_replies, submissions, turn_replies, turns}
 use Rattle.tcp_device.specs.Laws.{DeedsAreEvents}
-use Rattle.tcp_device.specs.Served.{ServesGiven, TurnsGiven, next_run}
-use Rattle.tcp_device.specs.State.{ServedState}
+use Rattle.tcp_device.specs.Served.{ResumesGiven, ServesGiven, TurnsGiven, next_run}
+use Rattle.tcp_device.specs.State.{CommandOfRun, ServedState}
 
 -- a device did these events, with these replies
 abbrev Did : List Event → List ReplyWithData → State → State → Type 0
@@ -62,6 +63,11 @@ turned : (run : Option ℕ) (old new : ServedState) (done : TurnsGiven run old n
 turned None old new done = left old new (ap (λ (s : ServedState). s.device) done)
 turned (Some run) old new done = one (event.Turn run) old.device new.device done.reply done.happened
 
+resumed : (command : Option CommandOfRun) (run : ℕ) (old new : ServedState) (done : ResumesGiven command run old new)
+    → Did (resumptions command run old new done) (resumption_replies command run old new done) old.device new.device
+resumed None run old new done = one (event.Turn run) old.device new.device done.reply done.happened
+resumed (Some command) run old new done = left old new (ap (λ (s : ServedState). s.device) done)
+
 did : (deed : Deed) (old new : ServedState) (done : Does deed old new) → Did (events_in deed old new done) (replies_in deed old new done) old.device new.device
 did Opened old new done = left old new (ap (λ (s : ServedState). s.device) done)
 did (Received number piece) old new done = left old new (ap (λ (s : ServedState). s.device) done)
@@ -70,6 +76,7 @@ did (Closed number) old new done = left old new (ap (λ (s : ServedState). s.dev
 did (Ticked milliseconds) old new done = left old new (ap (λ (s : ServedState). s.device) done)
 did (Served number) old new done = served (given_to_device number old.target.queues) number old new done
 did Turned old new done = turned (next_run old) old new done
+did (Resumed run) old new done = resumed (slice_index_or old.pending run None) run old new done
 
 pub deeds_are_events : DeedsAreEvents
 deeds_are_events [] old new done = left old new (ap (λ (s : ServedState). s.device) done)

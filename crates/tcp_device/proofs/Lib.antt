@@ -1,5 +1,6 @@
 mod Told
 mod Happened
+mod TheirRuns
 mod Agreeing
 mod Room
 mod Given

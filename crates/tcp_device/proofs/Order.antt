@@ -1,5 +1,6 @@
 -- The device gets the commands of a connection in the order of their capsules.
 use Rattle.std.proofs.Common.{◌≡◌, ◌≢◌, ℕ, ◌==◌, Bool, true, false, cond, not, List, [], ◌∷◌, ◌++◌, Option, None, Some, refl, sym, ap, subst, ◌∙◌, append_assoc, append-nil}
+use Rattle.std.specs.Prelude.{slice_index_or}
 use Rattle.std.proofs.lemmas.Bool.{and_parts, eqb-false, eqb-true}
 use Rattle.std.proofs.lemmas.List.{get_or-set_other, map-append}
 use Rattle.std.proofs.lemmas.List.Elements.{filter-append}
@@ -23,11 +24,11 @@ use Rattle.tcp_target.specs.Target.{TargetState, ticked, with_queues}
 use Rattle.tcp_target.proofs.Order.{MovesAt, ends_run, executes, hands_over, left_role, receives, same_at, sends, serves, ticks}
 use Rattle.tcp_target.proofs.Fine.{AreFine, begins_fine}
 use Rattle.tcp_target.proofs.Used.{closes_fine, ends_run_fine, executes_fine, hands_over_fine, opens_fine, receives_fine, sends_fine, serves_fine, ticks_fine}
-use Rattle.tcp_device.specs.Deeds.{AreDone, Closed, Deed, Does, Opened, Received, Sent, Served, Ticked, Turned, events_in, events_of, submissions, turns}
+use Rattle.tcp_device.specs.Deeds.{AreDone, Closed, Deed, Does, Opened, Received, Resumed, Sent, Served, Ticked, Turned, events_in, events_of, resumptions, submissions, turns}
 use Rattle.tcp_device.specs.Order.{CommandsAreInOrder, Departure, HasQueue, came_by, came_on, departure, entries, given, place_of, submitted_by, submitted_to, went_by, went_on}
 use Rattle.tcp_device.specs.Outcome.{outcome_in}
-use Rattle.tcp_device.specs.Served.{ServesGiven, TurnsGiven, completed_by, ended_by, ended_with as ended_run, next_run}
-use Rattle.tcp_device.specs.State.{CommandOfRun, ServedState, begun}
+use Rattle.tcp_device.specs.Served.{ResumesGiven, ServesGiven, TurnsGiven, completed_by, ended_by, ended_with as ended_run, next_run}
+use Rattle.tcp_device.specs.State.{CommandOfRun, ServedState, begun_on}
 use Rattle.tcp_device.proofs.Reached.{Stays, ready_given, reached}
 
 -- ---- what is submitted is what is given
@@ -67,6 +68,11 @@ turn_submits : (number : ℕ) (run : Option ℕ) (old new : ServedState) (done :
 turn_submits number None old new done = refl
 turn_submits number (Some run) old new done = refl
 
+resumption_submits : (number : ℕ) (command : Option CommandOfRun) (run : ℕ) (old new : ServedState) (done : ResumesGiven command run old new)
+    → submitted_to number (resumptions command run old new done) ≡ []
+resumption_submits number None run old new done = refl
+resumption_submits number (Some command) run old new done = refl
+
 submits : (number : ℕ) (deed : Deed) (old new : ServedState) (done : Does deed old new)
     → submitted_to number (events_in deed old new done) ≡ entries (given (went_by number deed old))
 submits number Opened old new done = refl
@@ -76,6 +82,7 @@ submits number (Closed n) old new done = refl
 submits number (Ticked milliseconds) old new done = refl
 submits number (Served n) old new done = submits_if number n old new (n == number) refl done
 submits number Turned old new done = turn_submits number (next_run old) old new done
+submits number (Resumed run) old new done = resumption_submits number (slice_index_or old.pending run None) run old new done
 
 all_submitted : (number : ℕ) (deeds : List Deed) (old new : ServedState) (done : AreDone deeds old new)
     → submitted_to number (events_of deeds old new done) ≡ entries (given (went_on number deeds old new done))
@@ -215,6 +222,12 @@ module _ (law : ConnectionsStay) (number : ℕ) where
     turns_given None done = by [] [] old.target (ap (λ (s : ServedState). s.target) done) (same_at number old.target old.target held refl)
     turns_given (Some run) done = by [] [] _ (ap (λ (s : ServedState). s.target) done.rest) (ends done.reply.reply _ old.target held)
 
+    resumes_given : (command : Option CommandOfRun) (run : ℕ) → ResumesGiven command run old new → MovesAt number [] [] old.target new.target
+    resumes_given None run done =
+        by [] [] old.target (ap (λ (s : ServedState). s.target) done.rest) (same_at number old.target old.target held refl)
+    resumes_given (Some command) run done =
+        by [] [] old.target (ap (λ (s : ServedState). s.target) done) (same_at number old.target old.target held refl)
+
     -- a number that a host has is not free
     opens : (n : Option ℕ) → free_number old.target.queues ≡ n → MovesAt number [] [] old.target (with_queues (opened_at n old.target.queues) old.target)
     opens None is = same_at number old.target old.target held refl
@@ -261,6 +274,7 @@ module _ (law : ConnectionsStay) (number : ℕ) where
         (sym (went_as n (ready_at (place_of n old)) old.target.queues (n == number)))
         (serves_given n id queue role (given_to_device n old.target.queues) refl done)
     does Turned id queue done role still = turns_given (next_run old) done
+    does (Resumed run) id queue done role still = resumes_given (slice_index_or old.pending run None) run done
 
   -- ---- all deeds
 
@@ -307,8 +321,8 @@ stay_fine = record {
 }
 
 pub commands_are_in_order : ConnectionsStay → CommandsAreInOrder
-commands_are_in_order law namespace subsystem format before deeds old new first done number id queue has =
-    let fine : AreFine old.target.queues = reached (λ t. AreFine t.queues) stay_fine before (begun namespace subsystem format) old first begins_fine in
+commands_are_in_order law device subsystem format before deeds old new first done number id queue has =
+    let fine : AreFine old.target.queues = reached (λ t. AreFine t.queues) stay_fine before (begun_on device subsystem format) old first begins_fine in
     let used = (fine number).io id queue (role_first law number id queue deeds old new done has) in
     let all = do_all law number id queue deeds old new done used.is_open has in
     record { order = (all.moves.keeps used.entries).order; submitted = all_submitted number deeds old new done }

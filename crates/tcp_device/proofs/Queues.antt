@@ -1,7 +1,7 @@
 -- Each queue has a connection of its own, in every state that a served target comes to.
 use Rattle.tcp_target.specs.Apart.{HasQueuesApart, QueuesStayApart}
 use Rattle.tcp_device.specs.Laws.{QueuesAreApart}
-use Rattle.tcp_device.specs.State.{begun}
+use Rattle.tcp_device.specs.State.{begun_on}
 use Rattle.tcp_device.proofs.Reached.{Stays, reached}
 
 stay_apart : QueuesStayApart → Stays HasQueuesApart
@@ -18,5 +18,5 @@ stay_apart law = record {
 }
 
 pub queues_are_apart : QueuesStayApart → QueuesAreApart
-queues_are_apart law namespace subsystem format deeds new done =
-    reached HasQueuesApart (stay_apart law) deeds (begun namespace subsystem format) new done (law.begins subsystem format)
+queues_are_apart law device subsystem format deeds new done =
+    reached HasQueuesApart (stay_apart law) deeds (begun_on device subsystem format) new done (law.begins subsystem format)

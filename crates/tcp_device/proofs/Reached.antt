@@ -1,5 +1,6 @@
 -- What holds of a target from its beginning on, whatever is done with it and the device behind it.
 use Rattle.std.proofs.Common.{◌≡◌, ℕ, true, false, cond, List, [], ◌∷◌, Option, None, Some, refl, ap, sym, subst}
+use Rattle.std.specs.Prelude.{slice_index_or}
 use Rattle.device_events.specs.declared.reply.Reply.{Reply}
 use Rattle.device_events.specs.declared.reply.Reply.TheVariants as reply
 use Rattle.tcp_connection.specs.declared.queue.Outcome.{Outcome}
@@ -10,9 +11,9 @@ use Rattle.tcp_queues.specs.Queues.{QueuesState, place_at}
 use Rattle.tcp_target.specs.Commands.{served}
 use Rattle.tcp_target.specs.Events.{closed, executed, handed_over, opened, received, run_ended, sent}
 use Rattle.tcp_target.specs.Target.{TargetState, ticked}
-use Rattle.tcp_device.specs.Deeds.{AreDone, Closed, Deed, Does, Opened, Received, Sent, Served, Ticked, Turned}
+use Rattle.tcp_device.specs.Deeds.{AreDone, Closed, Deed, Does, Opened, Received, Resumed, Sent, Served, Ticked, Turned}
 use Rattle.tcp_device.specs.Outcome.{outcome_in}
-use Rattle.tcp_device.specs.Served.{ServesGiven, TurnsGiven, completed_by, ended_by, ended_with, next_run}
+use Rattle.tcp_device.specs.Served.{ResumesGiven, ServesGiven, TurnsGiven, completed_by, ended_by, ended_with, next_run}
 use Rattle.tcp_device.specs.State.{CommandOfRun, ServedState}
 
 -- the entry that goes to the device is that of the command which is ready
@@ -74,6 +75,10 @@ module _ (P : TargetState → Type 0) (stays : Stays P) where
     turns None done so = by _ (ap (λ (s : ServedState). s.target) done) so
     turns (Some run) done so = by _ (ap (λ (s : ServedState). s.target) done.rest) (ends done.reply.reply _ old.target so)
 
+    resumes : (command : Option CommandOfRun) (run : ℕ) → ResumesGiven command run old new → P old.target → P new.target
+    resumes None run done so = by _ (ap (λ (s : ServedState). s.target) done.rest) so
+    resumes (Some command) run done so = by _ (ap (λ (s : ServedState). s.target) done) so
+
     does : (deed : Deed) → Does deed old new → P old.target → P new.target
     does Opened done so = by _ (ap (λ (s : ServedState). s.target) done) (stays.opens old.target so)
     does (Received number piece) done so = by _ (ap (λ (s : ServedState). s.target) done) (stays.receives number piece old.target so)
@@ -82,6 +87,7 @@ module _ (P : TargetState → Type 0) (stays : Stays P) where
     does (Ticked milliseconds) done so = by _ (ap (λ (s : ServedState). s.target) done) (stays.ticks milliseconds old.target so)
     does (Served number) done so = serves number (given_to_device number old.target.queues) refl done so
     does Turned done so = turns (next_run old) done so
+    does (Resumed run) done so = resumes (slice_index_or old.pending run None) run done so
 
   pub reached : (deeds : List Deed) (old new : ServedState) → AreDone deeds old new → P old.target → P new.target
   reached [] old new done so = by old new old.target (ap (λ (s : ServedState). s.target) done) so

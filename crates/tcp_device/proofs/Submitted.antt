@@ -1,14 +1,20 @@
--- An entry that is submitted, and a turn that is given.
-use Rattle.std.proofs.Common.{◌≡◌, ℕ, List, take, Option, Some, ap, subst, ◌∙◌}
+-- An entry that is submitted.
+use Rattle.std.proofs.Common.{◌≡◌, ℕ, List, take, Option, None, Some, refl, ap, subst, ◌∙◌}
+use Rattle.std.specs.Option.{option_map}
 use Rattle.device_events.specs.Replies.{data_length}
 use Rattle.device_events.specs.declared.reply.Reply.{Reply}
 use Rattle.device_meaning.specs.State.{State}
 use Rattle.runner.specs.Taken.{HasTaken}
+use Rattle.tcp_connection.specs.Executing.{Execution}
+use Rattle.tcp_queues.specs.Commands.{connect_data_at, given_to_device}
+use Rattle.tcp_queues.specs.Laws.{GivenAreLive}
 use Rattle.tcp_target.specs.Events.{handed_over}
 use Rattle.tcp_target.specs.Target.{TargetState}
-use Rattle.tcp_device.specs.Served.{Submits, Turns, TurnsGiven, TurnsRun, completed_by, kept_by, next_run}
+use Rattle.tcp_device.specs.Deeds.{DoesWith, Served, reply_in, submission_replies}
+use Rattle.tcp_device.specs.Served.{ServesGiven, Submits, completed_by, kept_by}
 use Rattle.tcp_device.specs.State.{CommandOfRun, ServedState}
 use Rattle.tcp_device.specs.steps.Handing.{Hands}
+use Rattle.tcp_device.proofs.Given.{data_given}
 
 abbrev behind : State → TargetState → List (Option CommandOfRun) → ServedState → ServedState
 behind device target pending s = record { device = device; target = target; pending = pending; next = s.next }
@@ -27,10 +33,10 @@ handed entry input asked output count number device device' reply target between
 }
 
 -- and the commands of runs
-pub submitted : (entry input : List ℕ) (number : ℕ) (old : ServedState) (device : State) (reply : Reply) (after : TargetState) (pending : List (Option CommandOfRun))
-    → Hands entry input number old.device device old.target after reply → pending ≡ kept_by reply number entry old.pending
-    → Submits entry input number old (behind device after pending old)
-submitted entry input number old device reply after pending hands pending_is = record {
+abbrev submits : (entry input : List ℕ) (number : ℕ) (old : ServedState) (device : State) (reply : Reply) (after : TargetState)
+    (pending : List (Option CommandOfRun)) → Hands entry input number old.device device old.target after reply
+    → pending ≡ kept_by reply number entry old.pending → Submits entry input number old (behind device after pending old)
+submits entry input number old device reply after pending hands pending_is = record {
   reply = record { reply = reply; bytes = hands.bytes };
   taken = hands.taken;
   rest =
@@ -38,6 +44,35 @@ submitted entry input number old device reply after pending hands pending_is = r
       ∙ ap (λ (p : List (Option CommandOfRun)). behind device (completed_by reply hands.bytes number entry (handed_over number old.target)) p old) pending_is;
 }
 
--- the run that is next was given a turn
-pub turns_some : (run : ℕ) (old new : ServedState) → Some run ≡ next_run old → TurnsRun run old new → Turns old new
-turns_some run old new is did = subst (λ (o : Option ℕ). TurnsGiven o old new) is did
+module _ (number : ℕ) (old : ServedState) (device : State) (reply : Reply) (after : TargetState) (pending : List (Option CommandOfRun)) where
+  abbrev new : ServedState
+  new = behind device after pending old
+
+  abbrev Entry : Option Execution → List ℕ → Type 0
+  Entry given entry = option_map (λ (e : Execution). e.entry) given ≡ Some entry
+
+  abbrev Serves : Option Execution → Type 0
+  Serves given = (done : ServesGiven given number old new) × (reply_in (submission_replies given number old new done) ≡ reply)
+
+  serves : (entry input : List ℕ) (given : Option Execution) → Entry given entry
+      → ((execution : Execution) → given ≡ Some execution → input ≡ execution.data)
+      → Hands entry input number old.device device old.target after reply → pending ≡ kept_by reply number entry old.pending → Serves given
+  serves entry input None is data_is hands pending_is = absurd (cc)
+  serves entry input (Some execution) is data_is hands pending_is =
+      let entry_is : entry ≡ execution.entry = cc in (
+        submits execution.entry execution.data number old device reply after pending
+            (subst (λ (x : List ℕ). Hands execution.entry x number old.device device old.target after reply) (data_is execution refl)
+            (subst (λ (x : List ℕ). Hands x input number old.device device old.target after reply) entry_is hands))
+            (subst (λ (x : List ℕ). pending ≡ kept_by reply number x old.pending) entry_is pending_is),
+        refl,
+      )
+
+  -- what goes to the device was submitted to it, with its data
+  pub submitted : GivenAreLive → (entry : List ℕ) → Entry (given_to_device number old.target.queues) entry
+      → Hands entry (connect_data_at number old.target.queues) number old.device device old.target after reply
+      → pending ≡ kept_by reply number entry old.pending → DoesWith (Served number) old new reply
+  submitted live entry is hands pending_is =
+      let done : Serves (given_to_device number old.target.queues) =
+      serves entry (connect_data_at number old.target.queues) (given_to_device number old.target.queues) is (data_given live number old.target.queues)
+      hands pending_is in
+      record { does = done.0; replied = done.1 }

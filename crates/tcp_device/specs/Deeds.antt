@@ -1,17 +1,19 @@
 -- All that is done with a served target, and what its device did and replied then.
-use Rattle.std.specs.Prelude.{ℕ, ◌≡◌, List, [], ◌∷◌, ◌++◌, Option, Some, None}
+use Rattle.std.specs.Prelude.{ℕ, ◌≡◌, List, [], ◌∷◌, ◌++◌, Option, Some, None, slice_index_or}
 use Rattle.device_events.specs.Replies.{ReplyWithData}
 use Rattle.device_events.specs.declared.event.Event.{Event}
 use Rattle.device_events.specs.declared.event.Event.TheVariants as event
+use Rattle.device_events.specs.declared.reply.Reply.{Reply}
+use Rattle.device_events.specs.declared.reply.Reply.TheVariants as reply
 use Rattle.tcp_connection.specs.Executing.{Execution}
 use Rattle.tcp_queues.specs.Commands.{given_to_device}
 use Rattle.tcp_target.specs.Events as target
 use Rattle.tcp_target.specs.Target.{ticked}
-use Rattle.tcp_device.specs.Served.{Serves, ServesGiven, Turns, TurnsGiven, next_run}
-use Rattle.tcp_device.specs.State.{ServedState, with_target}
+use Rattle.tcp_device.specs.Served.{Resumes, ResumesGiven, Serves, ServesGiven, Turns, TurnsGiven, next_run}
+use Rattle.tcp_device.specs.State.{CommandOfRun, ServedState, with_target}
 
--- a connection begins; bytes come on one, or were sent on it; one is closed; so many milliseconds go by; a connection is served; or a
--- run is given a turn
+-- a connection begins; bytes come on one, or were sent on it; one is closed; so many milliseconds go by; a connection is served; a run
+-- is given a turn; or one is whose command came over no connection
 pub data Deed : Type 0 where
   Opened : Deed
   Received : (number : ℕ) (piece : List ℕ) → Deed
@@ -20,6 +22,7 @@ pub data Deed : Type 0 where
   Ticked : (milliseconds : ℕ) → Deed
   Served : (number : ℕ) → Deed
   Turned : Deed
+  Resumed : (run : ℕ) → Deed
 
 -- what is left of a state by it
 abbrev pub Does : Deed → ServedState → ServedState → Type 0
@@ -30,6 +33,7 @@ Does (Closed number) old new = new ≡ with_target (target.closed number old.tar
 Does (Ticked milliseconds) old new = new ≡ with_target (ticked milliseconds old.target) old
 Does (Served number) old new = Serves number old new
 Does Turned old new = Turns old new
+Does (Resumed run) old new = Resumes run old new
 
 -- ---- the device's events
 
@@ -42,6 +46,10 @@ abbrev pub turns : (run : Option ℕ) (old new : ServedState) → TurnsGiven run
 turns None old new done = []
 turns (Some run) old new done = event.Turn run ∷ []
 
+abbrev pub resumptions : (command : Option CommandOfRun) (run : ℕ) (old new : ServedState) → ResumesGiven command run old new → List Event
+resumptions None run old new done = event.Turn run ∷ []
+resumptions (Some command) run old new done = []
+
 -- nothing else that is done is an event of the device
 abbrev pub events_in : (deed : Deed) (old new : ServedState) → Does deed old new → List Event
 events_in Opened old new done = []
@@ -51,6 +59,7 @@ events_in (Closed number) old new done = []
 events_in (Ticked milliseconds) old new done = []
 events_in (Served number) old new done = submissions (given_to_device number old.target.queues) number old new done
 events_in Turned old new done = turns (next_run old) old new done
+events_in (Resumed run) old new done = resumptions (slice_index_or old.pending run None) run old new done
 
 -- ---- the device's replies
 
@@ -65,6 +74,11 @@ abbrev pub turn_replies : (run : Option ℕ) (old new : ServedState) → TurnsGi
 turn_replies None old new done = []
 turn_replies (Some run) old new done = done.reply ∷ []
 
+abbrev pub resumption_replies : (command : Option CommandOfRun) (run : ℕ) (old new : ServedState)
+    → ResumesGiven command run old new → List ReplyWithData
+resumption_replies None run old new done = done.reply ∷ []
+resumption_replies (Some command) run old new done = []
+
 abbrev pub replies_in : (deed : Deed) (old new : ServedState) → Does deed old new → List ReplyWithData
 replies_in Opened old new done = []
 replies_in (Received number piece) old new done = []
@@ -73,6 +87,17 @@ replies_in (Closed number) old new done = []
 replies_in (Ticked milliseconds) old new done = []
 replies_in (Served number) old new done = submission_replies (given_to_device number old.target.queues) number old new done
 replies_in Turned old new done = turn_replies (next_run old) old new done
+replies_in (Resumed run) old new done = resumption_replies (slice_index_or old.pending run None) run old new done
+
+-- the device's reply; Idle where it was asked for nothing
+abbrev pub reply_in : List ReplyWithData → Reply
+reply_in [] = reply.Idle
+reply_in (given ∷ later) = given.reply
+
+-- a deed is done, and the device replies this
+pub record DoesWith (deed : Deed) (old new : ServedState) (reply : Reply) : Type 0 where
+  pub does : Does deed old new
+  pub replied : reply_in (replies_in deed old new does) ≡ reply
 
 -- ---- deeds one behind another, of which the last stands first
 

@@ -3,7 +3,7 @@ use Rattle.std.specs.Prelude.{ℕ, ◌≡◌, Bool, ◌==◌, List, [], ◌∷�
 use Rattle.std.specs.List.{filter}
 use Rattle.device_events.specs.declared.event.Event.{Event}
 use Rattle.device_events.specs.declared.event.Event.TheVariants as event
-use Rattle.image_store.specs.Namespace.{ZonedNamespace}
+use Rattle.device_meaning.specs.State.{State}
 use Rattle.tcp_admin.specs.declared.subsystem.NamespaceFormat.{NamespaceFormat}
 use Rattle.tcp_admin.specs.declared.subsystem.Subsystem.{Subsystem}
 use Rattle.tcp_connection.specs.Executing.{Execution}
@@ -14,8 +14,8 @@ use Rattle.tcp_places.specs.Places.{PlaceState, ready_at}
 use Rattle.tcp_places.specs.Order.{brought_at}
 use Rattle.tcp_queues.specs.Commands.{is_for_device}
 use Rattle.tcp_queues.specs.Queues.{QueuesState, place_at}
-use Rattle.tcp_device.specs.Deeds.{AreDone, Closed, Deed, Opened, Received, Sent, Served, Ticked, Turned, events_of}
-use Rattle.tcp_device.specs.State.{ServedState, begun}
+use Rattle.tcp_device.specs.Deeds.{AreDone, Closed, Deed, Opened, Received, Resumed, Sent, Served, Ticked, Turned, events_of}
+use Rattle.tcp_device.specs.State.{ServedState, begun_on}
 
 abbrev pub place_of : ℕ → ServedState → PlaceState
 place_of number s = place_at number s.target.queues
@@ -31,6 +31,7 @@ came_by number (Closed other) s = []
 came_by number (Ticked milliseconds) s = []
 came_by number (Served other) s = []
 came_by number Turned s = []
+came_by number (Resumed run) s = []
 
 abbrev pub came_on : (number : ℕ) (deeds : List Deed) (old new : ServedState) → AreDone deeds old new → List (List ℕ)
 came_on number [] old new done = []
@@ -56,6 +57,7 @@ went_by number (Closed other) s = []
 went_by number (Ticked milliseconds) s = []
 went_by number (Served other) s = if other == number then departure (ready_at (place_of other s)) other s.target.queues else []
 went_by number Turned s = []
+went_by number (Resumed run) s = []
 
 abbrev pub went_on : (number : ℕ) (deeds : List Deed) (old new : ServedState) → AreDone deeds old new → List Departure
 went_on number [] old new done = []
@@ -97,6 +99,6 @@ pub record IsInOrder (number : ℕ) (deeds : List Deed) (old new : ServedState) 
 -- so it is on each connection as long as it has an I/O queue, in every state that deeds lead to from the beginning
 abbrev pub CommandsAreInOrder : Type 0
 CommandsAreInOrder =
-    (namespace : ZonedNamespace) (subsystem : Subsystem) (format : NamespaceFormat) (before deeds : List Deed) (old new : ServedState)
-    → AreDone before (begun namespace subsystem format) old → (done : AreDone deeds old new) (number id queue : ℕ)
+    (device : State) (subsystem : Subsystem) (format : NamespaceFormat) (before deeds : List Deed) (old new : ServedState)
+    → AreDone before (begun_on device subsystem format) old → (done : AreDone deeds old new) (number id queue : ℕ)
     → HasQueue number id queue deeds old new done → IsInOrder number deeds old new done

@@ -126,3 +126,19 @@ TurnsGiven (Some run) old new = TurnsRun run old new
 
 abbrev pub Turns : ServedState → ServedState → Type 0
 Turns old new = TurnsGiven (next_run old) old new
+
+-- ---- runs whose commands came over no connection of this target, as of those that were kept with the device
+
+-- such a run is given a turn; no host is told what that completes
+pub record GoesOn (run : ℕ) (old new : ServedState) : Type 0 where
+  pub reply : ReplyWithData
+  pub happened : HasHappened interval_judge (event.Turn run) old.device new.device reply
+  pub rest : new ≡ record old { device = new.device }
+
+-- where a connection waits for the run, nothing happens
+abbrev pub ResumesGiven : Option CommandOfRun → ℕ → ServedState → ServedState → Type 0
+ResumesGiven None run old new = GoesOn run old new
+ResumesGiven (Some command) run old new = new ≡ old
+
+abbrev pub Resumes : ℕ → ServedState → ServedState → Type 0
+Resumes run old new = ResumesGiven (slice_index_or old.pending run None) run old new

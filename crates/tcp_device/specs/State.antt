@@ -20,14 +20,18 @@ pub record ServedState : Type 0 where
   pub pending : List (Option CommandOfRun)
   pub next : ℕ
 
--- a device with the namespace of an image, and a target without connections
-abbrev pub begun : ZonedNamespace → Subsystem → NamespaceFormat → ServedState
-begun namespace subsystem format = record {
-  device = new_state namespace;
+-- a device, and a target without connections
+abbrev pub begun_on : State → Subsystem → NamespaceFormat → ServedState
+begun_on device subsystem format = record {
+  device = device;
   target = target.begun subsystem format;
   pending = replicate 8 None;
   next = 0;
 }
+
+-- a device with the namespace of an image
+abbrev pub begun : ZonedNamespace → Subsystem → NamespaceFormat → ServedState
+begun namespace subsystem format = begun_on (new_state namespace) subsystem format
 
 abbrev pub with_target : TargetState → ServedState → ServedState
 with_target t s = record s { target = t }

@@ -21,8 +21,8 @@ pub fn queues_are_apart()
     queues_stay_apart();
 }
 
-/// The commands that are pending are those of the device's active runs, by their numbers: so a run that ends completes the command
-/// that started it.
+/// Each command that is pending is that of the device's run of its number: so a run that ends completes the command that started it.
+/// Where no run was kept with the device, the commands that are pending are those of all its active runs.
 pub fn runs_have_their_commands()
     ensures { RunsHaveTheirCommands }
 {}

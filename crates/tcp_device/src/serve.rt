@@ -1,13 +1,14 @@
 //! Commands that are ready on connections.
 
-ghost use Rattle.std.specs.Prelude.{◌≡◌, ◌≤◌, ◌<◌, IsTrue, is_some, length};
+ghost use Rattle.std.specs.Prelude.{◌≡◌, ◌≤◌, ◌<◌, IfSome, IsTrue, Some, is_some, length};
+ghost use Rattle.std.specs.Option.{option_map};
 ghost use Rattle.tcp_pdus.specs.declared.sent.TheConstants.{MOST_DATA};
 ghost use Rattle.tcp_places.specs.Places.{has_room, ready_at};
-ghost use Rattle.tcp_queues.specs.Commands.{connect_data_at};
+ghost use Rattle.tcp_queues.specs.Commands.{connect_data_at, given_to_device};
 ghost use Rattle.tcp_queues.specs.Queues.{place_at};
 ghost use Rattle.tcp_target.specs.Ready.{is_ready};
-ghost use Rattle.tcp_device.specs.Deeds.{Does, Served};
-ghost use Rattle.tcp_device.specs.Served.{Submits, completed_by, kept_by};
+ghost use Rattle.tcp_device.specs.Deeds.{Does, DoesWith, Served};
+ghost use Rattle.tcp_device.specs.Served.{completed_by, kept_by};
 ghost use Rattle.tcp_device.specs.steps.Handing.{Hands};
 
 use crate::outcome::outcome_in;
@@ -29,24 +30,52 @@ impl ServedTarget {
         ensures ready { result ≡ is_ready number self.old.target }
         ensures done { Does (Served number) self.old self.new }
     {
-        given_are_live();
         let is_ready = self.target.is_ready(number);
         match self.target.given_to_device(number) {
-            Some(entry) => self.submit(number, &entry),
+            Some(entry) => {
+                self.submit(number, &entry);
+            }
             None => self.target.serve(number),
         }
         is_ready
     }
 
-    /// Submits the entry that goes to the device next.
-    fn submit(&mut self, number: usize, entry: &[u8; ENTRY_BYTES])
-        requires number { number < MOST_CONNECTIONS }
-        requires ready { IsTrue (is_some (ready_at (place_at number self.old.target.queues))) }
-        ensures { Submits entry.now (connect_data_at number self.old.target.queues) number self.old self.new }
+    /// Is a command ready on a connection?
+    pub fn is_ready(&self, number: usize) -> bool
+        requires { number < MOST_CONNECTIONS }
+        ensures { result ≡ is_ready number self.now.target }
     {
+        self.target.is_ready(number)
+    }
+
+    /// The entry of the command of a connection that goes to the device next; `None` where none does.
+    pub fn given_to_device(&self, number: usize) -> Option<[u8; ENTRY_BYTES]>
+        requires { number < MOST_CONNECTIONS }
+        ensures { result ≡ option_map (λ execution. execution.entry) (given_to_device number self.now.target.queues) }
+    {
+        self.target.given_to_device(number)
+    }
+
+    /// All of its data, where there is such a command.
+    pub fn given_data(&self, number: usize) -> &[u8]
+        requires { number < MOST_CONNECTIONS }
+        ensures { IfSome (given_to_device number self.now.target.queues) (λ execution. result.now ≡ execution.data) }
+    {
+        given_are_live();
+        self.target.given_data(number)
+    }
+
+    /// Submits the entry that goes to the device next, which is to be told, and gives the device's reply: as [`ServedTarget::serve`].
+    pub fn submit(&mut self, number: usize, entry: &[u8; ENTRY_BYTES]) -> Reply
+        requires number { number < MOST_CONNECTIONS }
+        requires given { option_map (λ execution. execution.entry) (given_to_device number self.old.target.queues) ≡ Some entry.now }
+        ensures { DoesWith (Served number) self.old self.new result }
+    {
+        given_are_live();
         let output = self.output.as_mut_slice();
         let reply = hand(&mut self.device, &mut self.target, number, entry, output);
         keep(&mut self.pending, number, entry, reply);
+        reply
     }
 }
 

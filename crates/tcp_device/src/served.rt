@@ -3,7 +3,7 @@
 ghost use Rattle.std.specs.Prelude.{◌≡◌, IfOk};
 ghost use Rattle.image_store.specs.Namespace.{shape};
 ghost use Rattle.tcp_device.specs.Format.{IsFormatOf};
-ghost use Rattle.tcp_device.specs.State.{begun};
+ghost use Rattle.tcp_device.specs.State.{begun, begun_on};
 
 use crate::pending::PendingCommand;
 use nvme_entry::MOST_TRANSFER;
@@ -56,13 +56,38 @@ impl ServedTarget {
         requires format { IsFormatOf (shape image) format }
         ensures { IfOk result (λ served. served ≡ begun image subsystem format) }
     {
+        ServedTarget::on(alloc, Device::new(alloc, image), subsystem, format)
+    }
+
+    /// A target without connections before a device, which tells hosts the format of its namespace. No connection waits for the runs
+    /// that the device has; [`ServedTarget::resume`] gives them turns.
+    ///
+    /// # Errors
+    ///
+    /// No memory for what it keeps.
+    pub fn on(
+        alloc: Global,
+        device: Device,
+        subsystem: Subsystem,
+        format: NamespaceFormat,
+    ) -> Result<ServedTarget, AllocError>
+        requires format { IsFormatOf (shape device.namespace) format }
+        ensures { IfOk result (λ served. served ≡ begun_on device subsystem format) }
+    {
         Ok(ServedTarget {
-            device: Device::new(alloc, image),
+            device,
             target: Target::new(alloc, subsystem, format)?,
             pending: [None; RUNS],
             next: 0,
             output: vec![in alloc; 0; MOST_TRANSFER]?,
         })
+    }
+
+    /// The device.
+    pub fn device(&self) -> &Device
+        ensures { result.now ≡ self.now.device }
+    {
+        &self.device
     }
 
     /// The namespace as an image, as it is now.

@@ -1,8 +1,8 @@
 //! Turns of the device's active runs.
 
-ghost use Rattle.std.specs.Prelude.{◌≡◌, ◌<◌, IsTrue, None, is_some, slice_index_or};
-ghost use Rattle.tcp_device.specs.Deeds.{Does, Turned};
-ghost use Rattle.tcp_device.specs.Served.{TurnsRun, can_go, ended_by, ended_with, freed_by, next_run};
+ghost use Rattle.std.specs.Prelude.{◌≡◌, ◌<◌, IfSome, IsTrue, None, Some, is_some, slice_index_or};
+ghost use Rattle.tcp_device.specs.Deeds.{Does, DoesWith, Resumed, Turned};
+ghost use Rattle.tcp_device.specs.Served.{can_go, ended_by, ended_with, freed_by, next_run};
 
 use crate::outcome::outcome_in;
 use crate::pending::{PendingCommand, can_go, next_run, put_pending};
@@ -18,7 +18,7 @@ impl ServedTarget {
         ensures given { result ≡ is_some (next_run self.old) }
         ensures done { Does Turned self.old self.new }
     {
-        match next_run(&self.target, &self.pending, self.next) {
+        match self.next_run() {
             Some(run) => {
                 self.give_turn(run);
                 true
@@ -27,11 +27,21 @@ impl ServedTarget {
         }
     }
 
-    /// Gives a run a turn.
-    fn give_turn(&mut self, run: usize)
+    /// The number of the run that [`ServedTarget::turn`] gives a turn; `None` where there is no such run.
+    pub fn next_run(&self) -> Option<usize>
+        ensures run { result ≡ next_run self.now }
+        ensures within { IfSome result (λ run. run < RUNS) }
+        ensures goes { IfSome result (λ run. IsTrue (can_go self.now.target (slice_index_or self.now.pending run None))) }
+    {
+        next_run(&self.target, &self.pending, self.next)
+    }
+
+    /// Gives this run the next turn, which is to be the one that is told, and gives the device's reply: as [`ServedTarget::turn`].
+    pub fn give_turn(&mut self, run: usize) -> Reply
+        requires next { next_run self.old ≡ Some run }
         requires within { run < RUNS }
         requires goes { IsTrue (can_go self.old.target (slice_index_or self.old.pending run None)) }
-        ensures { TurnsRun run self.old self.new }
+        ensures { DoesWith Turned self.old self.new result }
     {
         let command = self.pending[run];
         let output = self.output.as_mut_slice();
@@ -39,6 +49,21 @@ impl ServedTarget {
         end(&mut self.target, command, reply);
         free(&mut self.pending, run, reply);
         self.next = (run + 1) % RUNS;
+        reply
+    }
+
+    /// Gives a run a turn whose command came over no connection of this target, as that of a run that was kept with the device, and
+    /// gives the device's reply. What it completes is told to no host. A run for which a connection waits is given none, and the reply
+    /// is [`Reply::Idle`], as where there is no run.
+    pub fn resume(&mut self, run: usize) -> Reply
+        requires within { run < RUNS }
+        ensures { DoesWith (Resumed run) self.old self.new result }
+    {
+        if self.pending[run].is_some() {
+            return Reply::Idle;
+        }
+        let output = self.output.as_mut_slice();
+        self.device.apply(&Event::Turn { run: run as u8 }, output)
     }
 }
 
