@@ -89,6 +89,10 @@ void target_library_open(unsigned char *target, const unsigned char *image, size
   (void)target, (void)image, (void)image_bytes;
 }
 
+void target_library_open_kept(unsigned char *target, const unsigned char *file, size_t file_bytes) {
+  (void)target, (void)file, (void)file_bytes;
+}
+
 size_t target_library_call(unsigned char *target, uint32_t kind, size_t which, size_t count, const unsigned char *piece,
                            size_t piece_bytes, unsigned char *out, size_t room) {
   struct connection *c = &connections[which];
@@ -103,6 +107,7 @@ size_t target_library_call(unsigned char *target, uint32_t kind, size_t which, s
     c->unsent += count;
     if (c->unsent == c->unsent_end) c->unsent = c->unsent_end = c->out;
     return count;
+  case TARGET_COMMIT: return 1;
   case TARGET_SAVE: return 1;
   default: return 0;
   }

@@ -11,18 +11,20 @@ mkdir -p "$folder"
 parts=$(mktemp -d)
 trap 'rm -rf "$parts"' EXIT
 
-# an archive of a crate and what is C of it: archive CRATE SOURCE NAME [FLAG..]
+# an archive of a crate and what is C of it: archive CRATE NAME SOURCES [FLAG..]
 archive() {
     built=$("$here/../built.sh" "$1")
-    source=$2
-    made=$folder/$3
+    made=$folder/$2
+    sources=$3
     shift 3
     rm -rf "$parts"/*
-    ${CC:-gcc} -std=c11 -O2 -Wall -Wextra -Werror "$@" -c "$here/$source" -o "$parts/${source%.c}.o"
+    for source in $sources; do
+        ${CC:-gcc} -std=c11 -O2 -Wall -Wextra -Werror "$@" -c "$here/$source.c" -o "$parts/$source.o"
+    done
     (cd "$parts" && ar x "$built" && ar x "$kit/c/liblibc_c.a")
     rm -f "$made"
     ar rcs "$made" "$parts"/*.o
 }
 
-archive device_library pifnjarl_device.c libpifnjarl.a "$@"
-archive durable_library pifnjarl_durable.c libpifnjarl_durable.a "$@"
+archive device_library libpifnjarl.a pifnjarl_device "$@"
+archive durable_library libpifnjarl_durable.a 'pifnjarl_durable kept_file' "$@"

@@ -4,21 +4,8 @@
 #include <errno.h>
 #include <fcntl.h>
 #include <stdio.h>
-#include <stdlib.h>
-#include <sys/file.h>
 #include <sys/stat.h>
 #include <unistd.h>
-
-/* Is the file that is open the one at `path`? It may be another, as whoever held it before gives the name to a new file. */
-static bool is_at(int file, const char *path)
-{
-    struct stat held;
-    struct stat there;
-    if (fstat(file, &held) != 0 || stat(path, &there) != 0)
-        return false;
-    errno = EWOULDBLOCK;
-    return held.st_dev == there.st_dev && held.st_ino == there.st_ino;
-}
 
 /* Closes a file, and keeps in errno what failed before. */
 static void close_failed(int file)
@@ -26,39 +13,6 @@ static void close_failed(int file)
     int cause = errno;
     close(file);
     errno = cause;
-}
-
-int image_file_hold(const char *path)
-{
-    int file = open(path, O_RDWR | O_CLOEXEC);
-    if (file < 0)
-        return -1;
-    if (flock(file, LOCK_EX | LOCK_NB) == 0 && is_at(file, path))
-        return file;
-    close_failed(file);
-    return -1;
-}
-
-unsigned char *image_file_read(int file, size_t *count)
-{
-    struct stat about;
-    if (fstat(file, &about) != 0)
-        return NULL;
-    size_t size = (size_t)about.st_size;
-    unsigned char *bytes = malloc(size + 1);
-    size_t done = 0;
-    while (bytes != NULL && done < size) {
-        ssize_t more = pread(file, bytes + done, size - done, (off_t)done);
-        if (more > 0) {
-            done += (size_t)more;
-        } else if (more == 0 || errno != EINTR) {
-            errno = more == 0 ? EIO : errno; /* where it is 0 the file was cut meanwhile */
-            free(bytes);
-            return NULL;
-        }
-    }
-    *count = size;
-    return bytes;
 }
 
 /* Writes bytes to a file, and brings them to the disk. */

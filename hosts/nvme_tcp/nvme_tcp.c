@@ -1,8 +1,10 @@
-/* Serves an image as an NVMe/TCP target: nvme_tcp IMAGE [--listen ADDRESS:PORT]. All that is known of NVMe stands in
+/* Serves an image as an NVMe/TCP target: nvme_tcp IMAGE [--durable] [--listen ADDRESS:PORT]. All that is known of NVMe stands in
    crates/tcp_library: here bytes are moved between sockets and it, in one thread, with a tick each second and turns of runs in
-   between. The image is locked while it is served, and saved upon SIGTERM or SIGINT. */
+   between. The image is locked while it is served. It is saved upon SIGTERM or SIGINT; or with --durable a journal takes its place, and
+   what is sent to hosts answers only what is on the disk. */
 #define _GNU_SOURCE
 #include "image_file.h"
+#include "kept_file.h"
 #include "target_library.h"
 
 #include <arpa/inet.h>
@@ -22,8 +24,9 @@
 #define INCOMING 65536  /* bytes that are read at once */
 #define OUTGOING 262144 /* bytes that are sent at once */
 #define TURNS 32        /* turns between two looks at the sockets */
+#define KEPT_TURNS 1024 /* and as many where these wait for the disk */
 #define SECOND 1000
-#define USAGE "usage: nvme_tcp IMAGE [--listen ADDRESS:PORT]"
+#define USAGE "usage: nvme_tcp IMAGE [--durable] [--listen ADDRESS:PORT]"
 
 /* what is waited for beside connections */
 enum { LISTENER = TARGET_CONNECTIONS, SIGNALS, POLLED };
@@ -36,7 +39,16 @@ struct connection {
     unsigned char bytes[INCOMING];
 };
 
+/* the image, and whether it is kept as a journal, with runs in it that go on */
+struct image {
+    struct kept_file kept;
+    bool is_durable;
+    bool has_runs;
+};
+
 static struct connection connections[TARGET_CONNECTIONS];
+static bool active[TARGET_CONNECTIONS]; /* there may be something to do on it */
+static bool served[TARGET_CONNECTIONS]; /* it is one of those on which something is being done */
 static unsigned char outgoing[OUTGOING];
 
 /* ---- errors */
@@ -63,29 +75,56 @@ static const char *opening_fault(size_t opened)
     case 15: return "it is no image: bytes follow its last block";
     case TARGET_WANT_OF_MEMORY: return "memory is wanting";
     case 18: return "it is no image: the number of its written blocks is wrong";
+    case TARGET_DAMAGED: return "it is a journal that is damaged";
     default: return "it can't be opened";
     }
 }
 
 /* ---- the image */
 
-/* Opens a target on the image in a file, in memory of malloc. */
-static unsigned char *open_target(int file, const char *path)
+static size_t ask_of_call(void *target, enum kept_question question, size_t from, unsigned char *out, size_t room)
+{
+    return target_library_call(target, TARGET_NEXT + question, 0, from, (const unsigned char *)"", 0, out, room);
+}
+
+/* Makes the calls for the file that the target tells. */
+static bool make_calls(unsigned char *target, struct image *image)
+{
+    bool made = kept_file_make_calls(&image->kept, ask_of_call, target);
+    if (!made)
+        complain_of_call("cannot write", image->kept.path);
+    return made;
+}
+
+/* Brings what was done to the disk, where it is kept there. */
+static bool commit(unsigned char *target, struct image *image)
+{
+    errno = ENOMEM;
+    if (!target_commit(target)) {
+        complain_of_call("cannot write", image->kept.path);
+        return false;
+    }
+    return make_calls(target, image);
+}
+
+/* Opens a target on the image that is held, in memory of malloc. */
+static unsigned char *open_target(struct image *image)
 {
     size_t count;
-    unsigned char *image = image_file_read(file, &count);
-    if (image == NULL) {
-        complain_of_call("cannot read", path);
+    unsigned char *bytes = kept_file_read(&image->kept, &count);
+    if (bytes == NULL) {
+        complain_of_call("cannot read", image->kept.path);
         return NULL;
     }
     unsigned char *target = malloc(target_library_handle_bytes());
     if (target != NULL)
-        target_library_open(target, image, count);
-    free(image);
+        (image->is_durable ? target_library_open_kept : target_library_open)(target, bytes, count);
+    free(bytes);
     size_t opened = target == NULL ? TARGET_WANT_OF_MEMORY : target_opened(target);
-    if (opened == TARGET_OPENED)
+    if (opened == TARGET_OPENED && make_calls(target, image))
         return target;
-    complain("cannot serve", path, opening_fault(opened));
+    if (opened != TARGET_OPENED)
+        complain("cannot serve", image->kept.path, opening_fault(opened));
     if (target != NULL)
         target_library_end(target);
     free(target);
@@ -175,17 +214,35 @@ static bool send_host(unsigned char *target, size_t number, bool *happened)
     return true;
 }
 
-/* Does all that there is to do on a connection at which something happened. */
-static void serve_host(unsigned char *target, size_t number, short events)
+/* Does what is to be done on a connection, and says by `active` whether there may be more. */
+static void send_answers(unsigned char *target, size_t number)
 {
-    bool goes_on = (events & ~POLLOUT) == 0 || read_host(&connections[number]);
-    bool happened = true;
-    while (goes_on && happened) {
-        happened = advance(target, number);
-        goes_on = send_host(target, number, &happened);
-    }
-    if (!goes_on)
+    if (!send_host(target, number, &active[number])) {
         drop(target, number);
+        active[number] = false;
+    }
+}
+
+/* Does all that there is to do on the connections at which something may be done: commands of all of them, and then what answers these is
+   sent, once it is on the disk. False where the disk failed. */
+static bool serve_hosts(unsigned char *target, struct image *image)
+{
+    for (bool goes_on = true; goes_on;) {
+        goes_on = false;
+        for (size_t number = 0; number < TARGET_CONNECTIONS; number++)
+            served[number] = active[number];
+        for (size_t number = 0; number < TARGET_CONNECTIONS; number++)
+            if (served[number])
+                active[number] = advance(target, number);
+        if (!commit(target, image))
+            return false;
+        for (size_t number = 0; number < TARGET_CONNECTIONS; number++)
+            if (served[number]) {
+                send_answers(target, number);
+                goes_on |= active[number];
+            }
+    }
+    return true;
 }
 
 /* Closes the connections that are to be closed: once all is sent, or at once. Says whether there was one, since others may be cut off
@@ -251,8 +308,8 @@ static uint64_t now(void)
     return (uint64_t)at.tv_sec * 1000 + (uint64_t)at.tv_nsec / 1000000;
 }
 
-/* Waits for so many milliseconds at most, and serves each connection at which something happens. False where a signal ends it. */
-static bool look(unsigned char *target, struct pollfd *polled, int milliseconds)
+/* Waits for so many milliseconds at most, for something to happen. */
+static bool wait(unsigned char *target, struct pollfd *polled, int milliseconds)
 {
     for (size_t number = 0; number < TARGET_CONNECTIONS; number++) {
         struct connection *c = &connections[number];
@@ -261,73 +318,123 @@ static bool look(unsigned char *target, struct pollfd *polled, int milliseconds)
             events |= POLLOUT;
         polled[number] = (struct pollfd){.fd = c->socket, .events = events};
     }
-    if (poll(polled, POLLED, milliseconds) < 0)
-        return true;
-    for (size_t number = 0; number < TARGET_CONNECTIONS; number++)
-        if (polled[number].fd >= 0 && polled[number].revents != 0)
-            serve_host(target, number, polled[number].revents);
-    while (close_hosts(target))
-        continue;
-    if (polled[LISTENER].revents != 0)
-        accept_hosts(target, polled[LISTENER].fd);
-    return polled[SIGNALS].revents == 0;
+    return poll(polled, POLLED, milliseconds) >= 0;
 }
 
-/* Gives runs turns, a few. Says whether there may be more. */
-static bool give_turns(unsigned char *target)
+/* Reads from each connection at which something happened. */
+static void read_hosts(unsigned char *target, const struct pollfd *polled)
 {
-    for (int given = 0; given < TURNS; given++)
-        if (!target_turn(target))
-            return false;
-    return true;
+    for (size_t number = 0; number < TARGET_CONNECTIONS; number++) {
+        short events = polled[number].revents;
+        active[number] = polled[number].fd >= 0 && events != 0;
+        if (active[number] && (events & ~POLLOUT) != 0 && !read_host(&connections[number])) {
+            drop(target, number);
+            active[number] = false;
+        }
+    }
 }
 
-static void serve(unsigned char *target, int listener, int signals)
+/* Gives a turn to each run that was kept and goes on. Says whether there was one. */
+static bool resume_runs(unsigned char *target)
 {
-    struct pollfd polled[POLLED];
+    bool went = false;
+    for (size_t run = 0; run < TARGET_RUNS; run++)
+        went |= target_resume(target, run);
+    return went;
+}
+
+/* Gives runs turns, a few. Says whether there may be more, or what these came to waits for the disk. */
+static bool give_turns(unsigned char *target, struct image *image)
+{
+    int most = image->is_durable ? KEPT_TURNS : TURNS;
+    bool goes_on = true;
+    bool given = false;
+    for (int turn = 0; goes_on && turn < most; turn++) {
+        image->has_runs = image->has_runs && resume_runs(target);
+        goes_on = target_turn(target) || image->has_runs;
+        given |= goes_on;
+    }
+    return goes_on || (given && image->is_durable);
+}
+
+/* Serves hosts until a signal comes. False where the disk failed. */
+static bool serve(unsigned char *target, struct image *image, int listener, int signals)
+{
+    struct pollfd polled[POLLED] = {0};
     polled[LISTENER] = (struct pollfd){.fd = listener, .events = POLLIN};
     polled[SIGNALS] = (struct pollfd){.fd = signals, .events = POLLIN};
     for (size_t number = 0; number < TARGET_CONNECTIONS; number++)
         connections[number].socket = -1;
     uint64_t last = now();
     bool is_busy = false;
-    while (look(target, polled, is_busy ? 0 : SECOND)) {
-        is_busy = give_turns(target);
+    while (polled[SIGNALS].revents == 0) {
+        if (wait(target, polled, is_busy ? 0 : SECOND)) {
+            read_hosts(target, polled);
+            if (polled[LISTENER].revents != 0)
+                accept_hosts(target, listener);
+        }
+        if (!serve_hosts(target, image))
+            return false;
+        while (close_hosts(target))
+            continue;
+        is_busy = give_turns(target, image);
         uint64_t at = now();
         if (at - last >= SECOND) {
             target_tick(target, (size_t)(at - last));
             last = at;
         }
     }
+    return true;
 }
 
-/* Serves the image at `path` until a signal comes, and saves it. */
-static bool run(const char *path, const char *place, int signals)
+/* Holds the image at `path`. */
+static bool hold(struct image *image, const char *path)
 {
-    int file = image_file_hold(path);
-    if (file < 0) {
-        complain("cannot open", path, errno == EWOULDBLOCK ? "it is in use" : strerror(errno));
+    enum kept_result opened = kept_file_open(&image->kept, path);
+    if (opened != KEPT_OPENED)
+        complain("cannot open", path, opened == KEPT_IN_USE ? "it is in use" : strerror(errno));
+    return opened == KEPT_OPENED;
+}
+
+/* Serves the image at `path` until a signal comes, and saves it where it isn't kept. */
+static bool run(struct image *image, const char *path, const char *place, int signals)
+{
+    if (!hold(image, path))
         return false;
-    }
-    unsigned char *target = open_target(file, path);
+    unsigned char *target = open_target(image);
     if (target == NULL)
         return false;
     int listener = listen_at(place);
     bool listens = listener >= 0 && announce(listener);
     if (!listens)
         complain_of_call("cannot listen at", place);
-    else
-        serve(target, listener, signals);
-    bool saved = !listens || save(target, path);
+    bool done = listens && serve(target, image, listener, signals);
+    bool saved = !listens || image->is_durable || save(target, image->kept.path);
     target_library_end(target);
     free(target);
-    return listens && saved;
+    return done && saved;
+}
+
+/* The words of the command line. False where they are wrong. */
+static bool read_words(int words, char **word, struct image *image, const char **place)
+{
+    for (int next = 2; next < words; next++) {
+        if (strcmp(word[next], "--durable") == 0 && !image->is_durable)
+            image->is_durable = true;
+        else if (strcmp(word[next], "--listen") == 0 && next + 1 < words && *place == NULL)
+            *place = word[++next];
+        else
+            return false;
+    }
+    image->has_runs = image->is_durable;
+    return words >= 2;
 }
 
 int main(int words, char **word)
 {
-    bool has_place = words == 4 && strcmp(word[2], "--listen") == 0;
-    if (words != 2 && !has_place) {
+    struct image image = {.kept.file = -1};
+    const char *place = NULL;
+    if (!read_words(words, word, &image, &place)) {
         fprintf(stderr, "%s\n", USAGE);
         return 2;
     }
@@ -337,13 +444,11 @@ int main(int words, char **word)
     sigaddset(&ends, SIGINT);
     sigprocmask(SIG_BLOCK, &ends, NULL);
     int signals = signalfd(-1, &ends, SFD_CLOEXEC);
-    char *path = realpath(word[1], NULL);
-    if (signals < 0 || path == NULL) {
+    if (signals < 0) {
         complain_of_call("cannot open", word[1]);
-        free(path);
         return 1;
     }
-    bool done = run(path, has_place ? word[3] : "127.0.0.1:4420", signals);
-    free(path);
+    bool done = run(&image, word[1], place == NULL ? "127.0.0.1:4420" : place, signals);
+    kept_file_close(&image.kept);
     return done ? 0 : 1;
 }

@@ -6,13 +6,15 @@ The variable `NVME_TCP_TARGET` names the program, which hosts/nvme_tcp/nvme_tcp.
 from __future__ import annotations
 
 import os
+import resource
 import signal
 import subprocess
 import tempfile
 import unittest
 from contextlib import ExitStack, contextmanager
+from functools import partial
 from pathlib import Path
-from typing import Callable, ClassVar, Dict, Iterator
+from typing import Callable, ClassVar, Dict, Iterator, Optional
 
 from nvme_tcp_connection import Address, Completion, Refused
 from nvme_tcp_host import Host
@@ -46,13 +48,23 @@ def format_image(
     subprocess.run([os.environ["ZSCLI"], "format", str(image), *options], check=True, stdout=subprocess.DEVNULL)
 
 
+def _limit_files(most_bytes: int) -> None:
+    """Has each write fail that makes a file longer than so many bytes."""
+    signal.signal(signal.SIGXFSZ, signal.SIG_IGN)
+    resource.setrlimit(resource.RLIMIT_FSIZE, (most_bytes, most_bytes))
+
+
 class Target:
     """A target that has started: `address` is where it listens."""
 
-    def __init__(self, image: Path, *, is_quiet: bool = False) -> None:
-        """Starts the program on an image, at a port that is free; what it says on standard error is shown unless it is quiet."""
-        words = [os.environ["NVME_TCP_TARGET"], str(image), "--listen", "127.0.0.1:0"]
-        self._program = subprocess.Popen(words, stdout=subprocess.PIPE, stderr=subprocess.DEVNULL if is_quiet else None, text=True)
+    def __init__(self, image: Path, *, is_quiet: bool = False, is_durable: bool = False, most_bytes: Optional[int] = None) -> None:
+        """Starts the program on an image, at a port that is free; what it says on standard error is shown unless it is quiet. Where
+        most bytes are told, no file that it writes may have more."""
+        words = [os.environ["NVME_TCP_TARGET"], str(image), "--listen", "127.0.0.1:0", *(["--durable"] if is_durable else [])]
+        limit = None if most_bytes is None else partial(_limit_files, most_bytes)
+        self._program = subprocess.Popen(
+            words, stdout=subprocess.PIPE, stderr=subprocess.DEVNULL if is_quiet else None, text=True, preexec_fn=limit
+        )
         self.address = self._address()
 
     def __enter__(self) -> Target:
@@ -79,6 +91,11 @@ class Target:
         assert self._program.stdout is not None
         self._program.stdout.close()
         return status
+
+    def wait(self) -> int:
+        """Waits until the program has ended by itself, and gives its exit status."""
+        self._program.wait(timeout=30)
+        return self.stop()
 
     def _address(self) -> Address:
         """Where it listens, as its first line says."""

@@ -13,10 +13,12 @@
 #include <stdint.h>
 
 #define TARGET_CONNECTIONS 40 /* numbers of connections are below it */
+#define TARGET_RUNS 8         /* and those of runs below this */
 
-/* what opening came to: done, or no target: want of memory, or the number of the first fault of the image */
+/* what opening came to: done, or no target: want of memory, a journal that is damaged, or the number of the first fault of the image */
 #define TARGET_OPENED 0
 #define TARGET_WANT_OF_MEMORY 17
+#define TARGET_DAMAGED 40
 
 /* what is to be done with a connection */
 #define TARGET_GOES_ON 0
@@ -34,7 +36,16 @@ enum target_kind {
     TARGET_CLOSE = 7,
     TARGET_TICK = 8,
     TARGET_TURN = 9,
-    TARGET_SAVE = 10
+    TARGET_SAVE = 10,
+    TARGET_COMMIT = 11,
+    TARGET_RESUME = 12,
+    /* what hosts/c/kept_file.h asks of the next call for the file, and tells of it, in the order of enum kept_question */
+    TARGET_NEXT = 13,
+    TARGET_PLACE = 14,
+    TARGET_SIZE = 15,
+    TARGET_BYTES = 16,
+    TARGET_DONE = 17,
+    TARGET_FAILED = 18
 };
 
 /* How many bytes of memory a target needs. */
@@ -43,6 +54,12 @@ size_t target_library_handle_bytes(void);
 /* Opens a target there, on the image that these bytes tell. Where they tell none or memory is wanting, there is no target, and all the
    same it has to be ended. */
 void target_library_open(unsigned char *target, const unsigned char *image, size_t image_bytes);
+
+/* The same, where the device is kept in a file of these bytes, all of which is on the disk: a journal, or an image, in whose place one is
+   put. The library opens no file: it tells which calls are to be made for it, here and behind each commit, and gives nothing to be sent
+   before it is told that all of them are done. They are made in order, each whole, and told as done only where they are; none is made
+   behind one that failed. */
+void target_library_open_kept(unsigned char *target, const unsigned char *bytes, size_t count);
 
 /* Does what is asked for, as the functions below say, and gives the answer. */
 size_t target_library_call(unsigned char *target, uint32_t kind, size_t number, size_t count, const unsigned char *piece,
@@ -124,6 +141,19 @@ static inline void target_tick(unsigned char *target, size_t milliseconds)
 static inline bool target_turn(unsigned char *target)
 {
     return target_ask(target, TARGET_TURN, 0, 0) != 0;
+}
+
+/* Commits what was done, once the calls for it are made; false where the file has to be opened again. Where the device is in memory alone
+   there is nothing to do. */
+static inline bool target_commit(unsigned char *target)
+{
+    return target_ask(target, TARGET_COMMIT, 0, 0) != 0;
+}
+
+/* Gives a run a turn that was kept in the file, and of which no host waits; says whether there was one. */
+static inline bool target_resume(unsigned char *target, size_t run)
+{
+    return target_ask(target, TARGET_RESUME, run, 0) != 0;
 }
 
 /* Gives how many bytes the image has, which are in front of `out` where it has room for all; 0 where memory is wanting. */

@@ -16,4 +16,12 @@ kind_of number =
     else if number == 8 then Some kind.Tick
     else if number == 9 then Some kind.Turn
     else if number == 10 then Some kind.Save
+    else if number == 11 then Some kind.Commit
+    else if number == 12 then Some kind.Resume
+    else if number == 13 then Some kind.Next
+    else if number == 14 then Some kind.Place
+    else if number == 15 then Some kind.Size
+    else if number == 16 then Some kind.Bytes
+    else if number == 17 then Some kind.Done
+    else if number == 18 then Some kind.Failed
     else None

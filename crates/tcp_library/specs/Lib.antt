@@ -1,5 +1,6 @@
 pub mod Kinds
+pub mod Sessions
 pub mod Answers
-pub mod Opening
 pub mod Calls
+pub mod Opening
 pub mod Lying

@@ -2,19 +2,23 @@
 
 ghost use Rattle.std.specs.Prelude.{◌≡◌, ◌<◌, ◌≤◌, ◌++◌, length, take, drop, IfSome, min};
 ghost use Rattle.image_text.specs.Text.{text};
-ghost use Rattle.tcp_device.specs.Deeds.{Opened, Sent, Does};
+ghost use Rattle.tcp_device.specs.Deeds.{Closed, Does, Opened, Sent, Ticked};
 ghost use Rattle.tcp_queues.specs.Queues.{free_number};
-ghost use Rattle.tcp_library.specs.Answers.{Answers, Asked, Saves, as_number, ending_of, milliseconds_of, number_or, sent_of};
+ghost use Rattle.tcp_library.specs.Answers.{Answers, Asked, GoesOnAt, Saves, as_number, call_kind, call_place, ending_of, milliseconds_of, next_bytes, number_or, of_next, sent_of};
+ghost use Rattle.tcp_library.specs.Sessions.{TakesDone, TakesFailed, WillBeKept, waiting_calls};
 
 use crate::kind::Kind;
+use crate::session::Session;
+use handed_file::FileCall;
 use image_text::{Buffer, ImageText};
 use std::alloc::Global;
 use tcp_associations::MOST_CONNECTIONS;
 use tcp_device::ServedTarget;
+use zone_resources::RUNS;
 
 /// Does what a target is asked for, and gives the answer.
 pub fn answer(
-    served: &mut ServedTarget,
+    session: &mut Session,
     alloc: Global,
     kind: Kind,
     number: usize,
@@ -22,27 +26,31 @@ pub fn answer(
     piece: &[u8],
     out: &mut [u8],
 ) -> usize
-    requires { number < MOST_CONNECTIONS }
-    ensures { Answers kind (record { number = number; count = count; piece = piece.now })
-        (record { served = served.old; out = out.old }) (record { served = served.new; out = out.new }) result }
+    requires number { number < MOST_CONNECTIONS }
+    requires kept { WillBeKept session.old }
+    ensures answered { Answers kind (record { number = number; count = count; piece = piece.now })
+        (record { session = session.old; out = out.old }) (record { session = session.new; out = out.new }) result }
+    ensures kept { WillBeKept session.new }
 {
     match kind {
-        Kind::Accept => accept(served),
-        Kind::Receive => served.receive(number, piece),
-        Kind::Serve => as_number(served.serve(number)),
-        Kind::Unsent => put(served.unsent(number), out),
-        Kind::Sent => sent(served, number, count),
-        Kind::Ending => ending(served, number),
-        Kind::Close => {
-            served.close(number);
-            0
-        }
-        Kind::Tick => {
-            served.tick(milliseconds(count));
-            0
-        }
-        Kind::Turn => as_number(served.turn()),
-        Kind::Save => save(served, alloc, out),
+        Kind::Accept => accept(&mut session.served),
+        Kind::Receive => session.served.receive(number, piece),
+        Kind::Serve => as_number(session.serve(number)),
+        Kind::Unsent => put(session.unsent(number), out),
+        Kind::Sent => sent(&mut session.served, number, count),
+        Kind::Ending => ending(&session.served, number),
+        Kind::Close => close(&mut session.served, number),
+        Kind::Tick => tick(&mut session.served, count),
+        Kind::Turn => as_number(session.turn()),
+        Kind::Save => save(session, alloc, out),
+        Kind::Commit => as_number(session.commit(alloc)),
+        Kind::Resume => as_number(resume(session, number)),
+        Kind::Next => kind_of_next(session),
+        Kind::Place => place_of_next(session),
+        Kind::Size => bytes_of_next(session).len(),
+        Kind::Bytes => put(behind(bytes_of_next(session), count), out),
+        Kind::Done => done(session),
+        Kind::Failed => failed(session),
     }
 }
 
@@ -109,10 +117,10 @@ fn milliseconds(count: usize) -> u32
 }
 
 /// Gives how many bytes the image's text has, which are put in front of `out` where it has room for all; 0 where memory is wanting.
-fn save(served: &ServedTarget, alloc: Global, out: &mut [u8]) -> usize
-    ensures { Saves (record { served = served.now; out = out.old }) (record { served = served.now; out = out.new }) result }
+fn save(session: &Session, alloc: Global, out: &mut [u8]) -> usize
+    ensures { Saves (record { session = session.now; out = out.old }) (record { session = session.now; out = out.new }) result }
 {
-    match text_of(alloc, served) {
+    match text_of(alloc, &session.served) {
         Some(bytes) => put_whole(&bytes, out),
         None => 0,
     }
@@ -140,4 +148,94 @@ fn put_whole(bytes: &[u8], out: &mut [u8]) -> usize
         out[..count].copy_from_slice(bytes);
     }
     count
+}
+
+/// Says that a connection is closed.
+fn close(served: &mut ServedTarget, number: usize) -> usize
+    requires { number < MOST_CONNECTIONS }
+    ensures told { result ≡ 0 }
+    ensures state { Does (Closed number) served.old served.new }
+{
+    served.close(number);
+    0
+}
+
+/// Says that so many milliseconds went by.
+fn tick(served: &mut ServedTarget, count: usize) -> usize
+    ensures told { result ≡ 0 }
+    ensures state { Does (Ticked (milliseconds_of count)) served.old served.new }
+{
+    served.tick(milliseconds(count));
+    0
+}
+
+/// Gives a run a turn of whose command no connection waits, where a run may have the number.
+fn resume(session: &mut Session, number: usize) -> bool
+    requires { WillBeKept session.old }
+    ensures resumed { GoesOnAt number session.old session.new result }
+    ensures kept { WillBeKept session.new }
+{
+    number < RUNS && session.resume(number)
+}
+
+/// Which call C is to make next; 0 for none.
+fn kind_of_next(session: &Session) -> usize
+    ensures { result ≡ of_next call_kind session.now.failed (waiting_calls session.now) }
+{
+    match session.next() {
+        Some(FileCall::Write { .. }) => 1,
+        Some(FileCall::Shorten { .. }) => 2,
+        Some(FileCall::Sync) => 3,
+        Some(FileCall::Replace { .. }) => 4,
+        None => 0,
+    }
+}
+
+/// At which offset, or to which length.
+fn place_of_next(session: &Session) -> usize
+    ensures { result ≡ of_next call_place session.now.failed (waiting_calls session.now) }
+{
+    match session.next() {
+        Some(FileCall::Write { at, .. }) => *at,
+        Some(FileCall::Shorten { len }) => *len,
+        Some(FileCall::Sync | FileCall::Replace { .. }) | None => 0,
+    }
+}
+
+/// The bytes that are written by it.
+fn bytes_of_next(session: &Session) -> &[u8]
+    ensures { result.now ≡ next_bytes session.now.failed (waiting_calls session.now) }
+{
+    match session.next() {
+        Some(FileCall::Write { bytes, .. } | FileCall::Replace { bytes }) => bytes.as_slice(),
+        Some(FileCall::Shorten { .. } | FileCall::Sync) | None => &[],
+    }
+}
+
+/// What stands behind so many bytes.
+fn behind(bytes: &[u8], count: usize) -> &[u8]
+    ensures { result.now ≡ drop count bytes.now }
+{
+    &bytes[count.min(bytes.len())..]
+}
+
+/// Takes the next call for done.
+fn done(session: &mut Session) -> usize
+    requires { WillBeKept session.old }
+    ensures told { result ≡ 0 }
+    ensures done { TakesDone session.old session.new }
+    ensures kept { WillBeKept session.new }
+{
+    session.tell_done();
+    0
+}
+
+/// Takes it for failed.
+fn failed(session: &mut Session) -> usize
+    ensures told { result ≡ 0 }
+    ensures failed { TakesFailed session.old session.new }
+    ensures kept { WillBeKept session.new }
+{
+    session.tell_failed();
+    0
 }

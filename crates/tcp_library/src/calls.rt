@@ -1,7 +1,7 @@
 //! What C asks of a handle.
 
 ghost use Rattle.tcp_library.specs.Answers.{Asked};
-ghost use Rattle.tcp_library.specs.Calls.{Calls};
+ghost use Rattle.tcp_library.specs.Calls.{Called, KeepsAll};
 
 use crate::answers::answer;
 use crate::handle::Handle;
@@ -18,7 +18,8 @@ pub fn call(
     piece: &[u8],
     out: &mut [u8],
 ) -> usize
-    ensures { Calls kind (record { number = number; count = count; piece = piece.now })
+    requires { KeepsAll handle.old }
+    ensures { Called kind (record { number = number; count = count; piece = piece.now })
         (record { handle = handle.old; out = out.old }) (record { handle = handle.new; out = out.new }) result }
 {
     if kind == OPENED {
@@ -28,9 +29,9 @@ pub fn call(
         return 0;
     };
     let alloc = handle.alloc;
-    match &mut handle.served {
-        Some(served) if number < MOST_CONNECTIONS => {
-            answer(served, alloc, kind, number, count, piece, out)
+    match &mut handle.session {
+        Some(session) if number < MOST_CONNECTIONS => {
+            answer(session, alloc, kind, number, count, piece, out)
         }
         Some(_) | None => 0,
     }

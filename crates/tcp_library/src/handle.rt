@@ -1,9 +1,11 @@
 //! A target that C holds.
 
-ghost use Rattle.std.specs.Prelude.{◌≡◌, ◌^◌, IfOk};
+ghost use Rattle.std.specs.Prelude.{◌≡◌, ◌^◌, IfOk, None};
 ghost use Rattle.tcp_device.specs.Format.{IsFormatOf};
-ghost use Rattle.tcp_library.specs.Opening.{HasOpened, IsTargetOf};
+ghost use Rattle.tcp_library.specs.Opening.{IsMade, IsMadeKept, IsTargetOf};
 
+use crate::kept::open;
+use crate::session::Session;
 use image_store::{Geometry, Image};
 use image_text::{ImageText, LoadFault};
 use program_interface::BlockSize;
@@ -19,40 +21,60 @@ const NGUID: [u8; 16] = [
     0x0F, 0x2B, 0x6A, 0x34, 0x8C, 0x1D, 0x4E, 0x7A, 0x9B, 0x35, 0x7A, 0x6F, 0x6E, 0x6A, 0x61, 0x72,
 ];
 
+/// What opening came to: there is a target.
+pub const DONE: u32 = 0;
+
 /// What lies in the memory that C brings: a target, or none and why.
 #[derive(Drop)]
 pub struct Handle {
     /// What opening and saving take their memory from.
     pub alloc: Global,
     /// The target with its device, where it was opened.
-    pub served: Option<ServedTarget>,
-    /// 0, or the number of the image's fault or of want of memory, where there is no target.
+    pub session: Option<Session>,
+    /// [`DONE`], or why there is no target, by number.
     pub opened: u32,
 }
 
-/// The target of the image that these bytes tell, or none and why.
+/// The target of the image that these bytes tell, whose device is in memory alone; or none and why.
 pub fn make(alloc: Global, image: &[u8]) -> Handle
-    ensures { HasOpened image.now result.served result.opened }
+    ensures { IsMade image.now result }
 {
     let mut rest = image;
     match Image::load(alloc, &mut rest) {
         Ok(image) => match target_of(alloc, image) {
             Ok(served) => Handle {
                 alloc,
-                served: Some(served),
-                opened: 0,
+                session: Some(Session::in_memory(served)),
+                opened: DONE,
             },
-            Err(_) => Handle {
-                alloc,
-                served: None,
-                opened: u32::from(LoadFault::Memory.number()),
-            },
+            Err(_) => none(alloc, u32::from(LoadFault::Memory.number())),
         },
-        Err(fault) => Handle {
+        Err(fault) => none(alloc, u32::from(fault.number())),
+    }
+}
+
+/// The target of a file of these bytes, a journal or an image, whose device is kept in it; or none and why.
+pub fn make_kept(alloc: Global, bytes: &[u8]) -> Handle
+    ensures { IsMadeKept bytes.now result }
+{
+    match open(alloc, bytes) {
+        Ok(session) => Handle {
             alloc,
-            served: None,
-            opened: u32::from(fault.number()),
+            session: Some(session),
+            opened: DONE,
         },
+        Err(why) => none(alloc, why),
+    }
+}
+
+/// No target.
+fn none(alloc: Global, why: u32) -> Handle
+    ensures { result ≡ record { alloc = alloc; session = None; opened = why } }
+{
+    Handle {
+        alloc,
+        session: None,
+        opened: why,
     }
 }
 
@@ -65,7 +87,7 @@ fn target_of(alloc: Global, image: Image) -> Result<ServedTarget, AllocError>
 }
 
 /// What the target is. The texts are the serial number, the model and the firmware's revision.
-fn subsystem(alloc: Global) -> Result<Subsystem, AllocError> {
+pub(crate) fn subsystem(alloc: Global) -> Result<Subsystem, AllocError> {
     Ok(Subsystem {
         nqn: QualifiedName::new(alloc, NAME)?,
         serial_number: *b"1                   ",
@@ -76,7 +98,7 @@ fn subsystem(alloc: Global) -> Result<Subsystem, AllocError> {
 }
 
 /// What the namespace of an image is like.
-fn format_of(geometry: Geometry) -> NamespaceFormat
+pub(crate) fn format_of(geometry: Geometry) -> NamespaceFormat
     ensures { IsFormatOf geometry result }
 {
     NamespaceFormat {

@@ -29,6 +29,22 @@ pub enum Kind {
     Turn,
     /// For the image as it is now.
     Save,
+    /// To commit what was done, once C has made the calls for it.
+    Commit,
+    /// To give a run a turn of whose command no connection waits.
+    Resume,
+    /// Which call for the file C is to make next.
+    Next,
+    /// At which offset, or to which length.
+    Place,
+    /// Of how many bytes.
+    Size,
+    /// For these bytes.
+    Bytes,
+    /// To take the call for done.
+    Done,
+    /// To take it for failed.
+    Failed,
 }
 
 impl Kind {
@@ -47,6 +63,14 @@ impl Kind {
             8 => Some(Kind::Tick),
             9 => Some(Kind::Turn),
             10 => Some(Kind::Save),
+            11 => Some(Kind::Commit),
+            12 => Some(Kind::Resume),
+            13 => Some(Kind::Next),
+            14 => Some(Kind::Place),
+            15 => Some(Kind::Size),
+            16 => Some(Kind::Bytes),
+            17 => Some(Kind::Done),
+            18 => Some(Kind::Failed),
             _ => None,
         }
     }

@@ -3,15 +3,15 @@
 use Rattle.std.proofs.Common.{ℕ, [], ◌∷◌, ◌++◌, refl, w32, w64}
 use Rattle.std.proofs.raw_atomic.Walks.{proved}
 use base.Fraction.{full_share}
-use base.Logic.{id⊢}
+use base.Logic.{emp, id⊢}
 use base.Fml.{ftrue, fsep, fex, flft, flent}
 use mir.Syntax.{named}
 use mir.Val.{vptr}
 use prog.Wp.{WpFn}
-use contract.Monad.{fact}
+use contract.Monad.{fact, fact_i}
 use contract.Running.{tables}
 use types.SemTy.{Body as Borrowed}
-use types.Kit.{‵, raw, ◌⊛◌, some, later, prop, ◌$◌, ◌∵◌, !, qed, done, move, keep, drop, use1, use2, use3, split, join, fsplit, fjoin, fpack, feq_l, pick, await, regoal, suffices, group}
+use types.Kit.{‵, raw, ◌⊛◌, some, later, prop, ◌$◌, ◌∵◌, !, qed, done, move, keep, drop, use1, use2, use3, split, join, fsplit, fjoin, fpack, fpick, feq_l, pick, await, regoal, suffices, group}
 use types.Run.{enter, of_opd, addr, stop, fld, hop, from, no_more, and_then, returns}
 use types.ByLocal.{alloc_all, pass_all, free_all, look_at, look_in_at, get, get_in, through, sets, lands_as}
 use types.Part.{agg, whole, sub}
@@ -34,7 +34,7 @@ use denote.Triple.Spec.{triple_of}
 use denote.Triple.Table.{framed}
 use denote.Triple.Walked.{Stays, walk_of, stay_dropped, gave_slice, Goes-dropped, Goes-gave_slice, ends_at}
 use Rattle.tcp_library.specs.Answers.{Asked}
-use Rattle.tcp_library.specs.Calls.{Calls, Held}
+use Rattle.tcp_library.specs.Calls.{Called, Held, KeepsAll}
 use Rattle.tcp_library.specs.declared.handle.Handle.{Handle}
 use Rattle.tcp_library.specs.contracts.handle.Handle.{the_row as R}
 use Rattle.tcp_library.specs.contracts.exports.target_library_call as f
@@ -94,8 +94,8 @@ target_library_call_spec 𝓤 𝓛 𝓜 𝓡 wired =
       ),
       h,
     ) in
-    qed 𝓛 (raw (on_entry 𝓛 f.signature κs qs a (y a.0).0.4) ∷ ‵ (lies_at R full_share a.0 h) ∷ []) ∵ move ! (1 ∷ []) $
-    in_a_block ! a.0 (λ p. lies_at R full_share p h) (id⊢ 𝓤 _) (λ b o e.
+    qed 𝓛 (raw (on_entry 𝓛 f.signature κs qs a (y a.0).0.4) ∷ ‵ (fsep (fex (KeepsAll h) (λ _. ftrue)) (lies_at R full_share a.0 h)) ∷ []) ∵ move ! (1 ∷ []) $
+    fsplit ! $ fpick ! (λ kept. drop ! $ in_a_block ! a.0 (λ p. lies_at R full_share p h) (id⊢ 𝓤 _) (λ b o e.
     regoal ! (λ p. prop (WpFn 𝓤 𝓛.H 𝓣.C 𝓣.Λ code.function
     (rawptr_vals p ++ (uint_vals w32 kind ++ (uint_vals w64 number ++ (uint_vals w64 count ++ (shr_slice_vals piece ++ (mut_slice_vals out ++ [])))))) (W.post (y p)))) e refl $
     move ! (1 ∷ []) $ use1 𝓛 ((‵ (flft κ₀ qs.0) ⊛ ‵ (flft κ₁ qs.1.0) ⊛ ‵ ftrue)
@@ -142,14 +142,15 @@ target_library_call_spec 𝓤 𝓛 𝓜 𝓡 wired =
     nothing ! $ move ! (6 ∷ 0 ∷ []) $ join ! $ move ! (6 ∷ 0 ∷ []) $ join ! $ move ! (6 ∷ 0 ∷ []) $ join ! $
     move ! (6 ∷ 0 ∷ []) $ join ! $ move ! (6 ∷ 0 ∷ []) $ join ! $ move ! (1 ∷ 0 ∷ []) $ join ! $
     nothing ! $ move ! (4 ∷ 0 ∷ []) $ join ! $ move ! (4 ∷ 0 ∷ []) $ join ! $ move ! (3 ∷ 0 ∷ []) $ join ! $ join ! $
-    nothing ! $ move ! (1 ∷ 0 ∷ []) $ use2 𝓛 (raw (G.pre z)) (id⊢ 𝓤 _) $
+    nothing ! $ use1 𝓛 (raw (fact 𝓤 (KeepsAll h))) (fact_i 𝓤 (KeepsAll h) (emp 𝓤) kept) $
+    move ! (1 ∷ 0 ∷ []) $ use2 𝓛 (raw (G.pre z)) (id⊢ 𝓤 _) $
     calls_at ! (framed 𝓤 𝓛.H 𝓜 (tables 𝓤 𝓛.H 𝓜 𝓡 𝓡.env)) G (met 𝓤 𝓛 𝓜 𝓡 (code.calls-tcp_library::calls::call 𝓡.env wired)) z
     (and_then ! (get ! refl) (and_then ! (get ! refl) (and_then ! (get ! refl) (and_then ! (get ! refl) (and_then ! (get ! refl) (and_then ! (get ! refl) (no_more !))))))) (λ v.
     let asked : Asked = record { number = number; count = count; piece = piece.now } in
     let before : Held = record { handle = h; out = out.now } in
     use1 𝓛 (later (some (λ (r : ℕ). ((‵ (flft (α ∷ []) full_share) ⊛ ‵ (flft κ₀ qs.0) ⊛ ‵ (flft κ₁ qs.1.0) ⊛ ‵ ftrue) ⊛ ‵ (usize.own_val r (v ∷ []))) ⊛
     some (λ (ws : Lasts g.ended z.0.0 z.0.3). ‵ (lasts g.ended z.0.0 z.0.3 ws) ⊛
-    raw (fact 𝓤 (Calls kind asked before (record { handle = ws.0; out = ws.1.1.1.1.1.0 }) r)))))) (id⊢ 𝓤 _) $
+    raw (fact 𝓤 (Called kind asked before (record { handle = ws.0; out = ws.1.1.1.1.1.0 }) r)))))) (id⊢ 𝓤 _) $
     await ! tt $ pick ! (λ r. split ! $ split ! $ split ! $ lft_end ! tt $ move ! (3 ∷ []) $ pick ! (λ ws. split ! $ move ! (1 ∷ []) $ heard ! _ (λ did.
     let written = ws.1.1.1.1.1.0 in
     fsplit ! $ fsplit ! $
@@ -164,8 +165,8 @@ target_library_call_spec 𝓤 𝓛 𝓜 𝓡 wired =
     returns ! (look_at ! 0 refl) $ free_all ! refl $ keep ! (3 ∷ 0 ∷ 1 ∷ 5 ∷ []) $
     -- [the handle in memory; the result; what is left of output; the two tokens]
     suffices ! _ (ends_at 𝓛 f.ended stayed c (y (block_ptr b o)) v r (tt, (tt, (tt, (tt, (tt, (written, tt)))))) (tt, (tt, (tt, (tt, (tt, (same, tt))))))) $
-    nothing ! $ fpack ! (Calls kind asked before (record { handle = ws.0; out = written }) r) (λ _. ftrue) did $ fjoin ! $
-    fpack ! Handle (λ w. fsep (fex (Calls kind asked before (record { handle = w; out = written }) r) (λ _. ftrue)) (lies_at R full_share (block_ptr b o) w)) ws.0 $
+    nothing ! $ fpack ! (Called kind asked before (record { handle = ws.0; out = written }) r) (λ _. ftrue) did $ fjoin ! $
+    fpack ! Handle (λ w. fsep (fex (Called kind asked before (record { handle = w; out = written }) r) (λ _. ftrue)) (lies_at R full_share (block_ptr b o) w)) ws.0 $
     -- [what is ensured; the result; what is left of output; the two tokens]
     move ! (1 ∷ []) $ nothing ! $ move ! (3 ∷ 0 ∷ []) $ join ! $ nothing ! $ join ! $ nothing ! $ join ! $ nothing ! $ join ! $ nothing ! $ join ! $ nothing ! $ join ! $
-    move ! (3 ∷ []) $ group ! 3 $ done !)))))))))))
+    move ! (3 ∷ []) $ group ! 3 $ done !))))))))))))

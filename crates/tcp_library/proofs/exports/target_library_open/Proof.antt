@@ -29,7 +29,7 @@ use denote.Triple.Table.{framed}
 use denote.Triple.Walked.{Stays, walk_of, stay_dropped, Goes-dropped, ends_at}
 use Rattle.std.specs.contracts.alloc.Global.{the_row as G-row}
 use Rattle.std.proofs.alloc.Global.TheLaws as heap
-use Rattle.tcp_library.specs.Opening.{HasOpened}
+use Rattle.tcp_library.specs.Opening.{IsMade}
 use Rattle.tcp_library.specs.declared.handle.Handle.{Handle}
 use Rattle.tcp_library.specs.contracts.handle.Handle.{the_row as R}
 use Rattle.tcp_library.proofs.handle.Handle.TheLaws as handle
@@ -69,7 +69,7 @@ target_library_open_spec 𝓤 𝓛 𝓜 𝓡 wired =
     calls_at ! (framed 𝓤 𝓛.H 𝓜 (tables 𝓤 𝓛.H 𝓜 𝓡 𝓡.env)) G (met 𝓤 𝓛 𝓜 𝓡 (code.calls-tcp_library::handle::make 𝓡.env wired)) z
     (and_then ! (get ! refl) (and_then ! (get ! refl) (no_more !))) (λ v.
     use1 𝓛 (later (some (λ (r : Handle). ((‵ (flft κ₀ qs.0) ⊛ ‵ ftrue) ⊛ ‵ (R.own_val r (v ∷ []))) ⊛
-    some (λ (ws : Lasts g.ended z.0.0 z.0.3). ‵ (lasts g.ended z.0.0 z.0.3 ws) ⊛ raw (fact 𝓤 (HasOpened req.now r.served r.opened)))))) (id⊢ 𝓤 _) $
+    some (λ (ws : Lasts g.ended z.0.0 z.0.3). ‵ (lasts g.ended z.0.0 z.0.3 ws) ⊛ raw (fact 𝓤 (IsMade req.now r)))))) (id⊢ 𝓤 _) $
     await ! tt $ pick ! (λ r. split ! $ split ! $ move ! (2 ∷ []) $ pick ! (λ ws. split ! $ drop ! $ heard ! _ (λ did. move ! (1 ∷ []) $
     -- [what the handle owns; the token; the room]
     peeks ! R _ (shows 𝓛 R) r (v ∷ []) (λ is. let good = ((handle.the_row_laws.lawful 𝓛).typed r _ is).0 in
@@ -79,6 +79,6 @@ target_library_open_spec 𝓤 𝓛 𝓜 𝓡 wired =
     returns ! (look_at ! 0 refl) $ free_all ! refl $
     move ! (2 ∷ 0 ∷ []) $ use2 𝓛 (‵ (part_at R full_share r b o)) (part_in 𝓛 R refl full_share r b o v) $
     suffices ! _ (ends_at 𝓛 f.ended stayed c (y (block_ptr b o)) vunit tt (tt, (tt, (tt, tt))) (tt, (tt, (tt, tt)))) $
-    nothing ! $ fpack ! (HasOpened req.now r.served r.opened) (λ _. ftrue) did $ fjoin ! $
-    fpack ! Handle (λ w. fsep (fex (HasOpened req.now w.served w.opened) (λ _. ftrue)) (lies_at R full_share (block_ptr b o) w)) r $
+    nothing ! $ fpack ! (IsMade req.now r) (λ _. ftrue) did $ fjoin ! $
+    fpack ! Handle (λ w. fsep (fex (IsMade req.now w) (λ _. ftrue)) (lies_at R full_share (block_ptr b o) w)) r $
     feq_i ! _ (vunit ∷ []) _ refl $ nothing ! $ nothing ! $ join ! $ nothing ! $ join ! $ nothing ! $ join ! $ move ! (3 ∷ []) $ group ! 3 $ done !))))))))

@@ -1,0 +1,94 @@
+-- Events of the device that wait, as the journal has them.
+use Rattle.std.proofs.Common.{◌≡◌, ◌<◌, ◌≤◌, ◌^◌, ◌&&◌, ◌⊎◌, inl, inr, ℕ, Bool, true, false, not, List, [], ◌∷◌, ◌++◌, length, take, refl, sym, ap, subst, ◌∙◌, arith, length-append}
+use Rattle.std.proofs.lemmas.List.{take_at}
+use Rattle.stored_file.specs.File.{FileState}
+use Rattle.nvme_entry.specs.Entry.{decoded, identifier_of}
+use Rattle.event_frames.specs.Frames.{header, request_frame}
+use Rattle.event_frames.specs.Requests as request
+use Rattle.event_journal.specs.Events.{spelled}
+use Rattle.device_events.specs.declared.reply.Reply.{Reply}
+use Rattle.device_events.specs.declared.reply.Reply.TheVariants.{Idle}
+use Rattle.device_events.specs.ToldEvents as told
+use Rattle.device_events.specs.declared.event.Event.TheVariants as event
+use Rattle.device_meaning.specs.State.{State}
+use Rattle.durable_device.specs.Again.{ChangesComeAgain, IsDoneAgain}
+use Rattle.durable_device.specs.Changing.{asks_change, is_idle, is_refusal, may_change}
+use Rattle.durable_device.specs.FrameEvents.{IsFrameOf}
+use Rattle.tcp_durable.specs.Waiting.{IsCommittedBut}
+use Rattle.tcp_durable.proofs.Deeds.{WasSubmitted, WasTurned}
+use Rattle.tcp_durable.proofs.Waiting.{as_before, one_more}
+
+-- what was put behind others is taken back
+pub taken_back : (all waiting more : List ℕ) (n : ℕ) → all ≡ waiting ++ more → n ≡ length waiting → take n all ≡ waiting
+taken_back all waiting more n is count = ap (take n) is ∙ take_at waiting more n (sym count)
+
+both_hold : (a b : Bool) → a ≡ true → b ≡ false → (a && not b) ≡ true
+both_hold true false first second = refl
+both_hold true true first second = absurd (cc)
+both_hold false b first second = absurd (cc)
+
+first_lacks : (a b : Bool) → a ≡ false → (a && not b) ≡ false
+first_lacks false b is = refl
+first_lacks true b is = absurd (cc)
+
+second_lacks : (a b : Bool) → b ≡ true → (a && not b) ≡ false
+second_lacks true true is = refl
+second_lacks false b is = refl
+second_lacks true false is = absurd (cc)
+
+module _ (again : ChangesComeAgain) (waiting : List ℕ) (old new : State) (gate : ℕ) (file : FileState) (reply : Reply)
+    (but : IsCommittedBut waiting old gate file) where
+  module _ (queue : ℕ) (entry input : List ℕ) (identified : identifier_of entry < 2 ^ 16) (was : WasSubmitted queue entry input old new reply) where
+    submitted_again : IsDoneAgain (may_change (told.Submitted queue entry input) reply) (told.Submitted queue entry input) old new
+    submitted_again =
+        subst (λ (r : Reply). IsDoneAgain (may_change (told.Submitted queue entry input) r) (told.Submitted queue entry input) old new) was.replied
+        (subst (λ (l : List ℕ). IsDoneAgain (may_change (told.Submitted queue entry l) was.given.reply) (told.Submitted queue entry l) old new)
+        was.taken.bytes (again (event.Submit queue entry was.taken.carried) old new was.given identified was.taken.happened))
+
+    -- what only reads changes nothing,
+    pub reads : asks_change (decoded entry) ≡ false → IsCommittedBut waiting new gate file
+    reads is = as_before waiting old new gate file but (submitted_again.idle (first_lacks (asks_change (decoded entry)) (is_refusal reply) is))
+
+    -- and what is refused,
+    pub refused : is_refusal reply ≡ true → IsCommittedBut waiting new gate file
+    refused is = as_before waiting old new gate file but (submitted_again.idle (second_lacks (asks_change (decoded entry)) (is_refusal reply) is))
+
+    -- and what else was submitted waits
+    pub changed : asks_change (decoded entry) ≡ true → is_refusal reply ≡ false → queue < 2 ^ 16 → length entry ≡ 64 → length input ≤ 131072
+        → IsCommittedBut (waiting ++ spelled (request_frame (request.Submitted queue entry input) ∷ [])) new gate file
+    changed asks taken_is numbered entry_size input_size =
+        let frame = request_frame (request.Submitted queue entry input) in
+        let is : IsFrameOf (told.Submitted queue entry input) frame = record { fits = (numbered, entry_size, input_size); spelled = refl } in
+        let sized : length frame < 2 ^ 64 =
+        omega (arith, length-append (header 1 0 queue 0 (length input)) (entry ++ input), length-append entry input, entry_size, input_size) in
+        one_more waiting frame old new gate file but sized
+        (submitted_again.again (both_hold (asks_change (decoded entry)) (is_refusal reply) asks taken_is) frame is)
+
+  module _ (run : ℕ) (numbered : run < 2 ^ 8) (was : WasTurned run old new reply) where
+    turned_again : IsDoneAgain (may_change (told.Turned run) reply) (told.Turned run) old new
+    turned_again =
+        subst (λ (r : Reply). IsDoneAgain (may_change (told.Turned run) r) (told.Turned run) old new) was.replied
+        (again (event.Turn run) old new was.given tt was.happened)
+
+    -- where there is no run a turn changes nothing,
+    pub idled : is_idle reply ≡ true → IsCommittedBut waiting new gate file
+    idled is = as_before waiting old new gate file but (turned_again.idle (ap not is))
+
+    -- and else it waits
+    pub turned : is_idle reply ≡ false → IsCommittedBut (waiting ++ spelled (request_frame (request.Turned run) ∷ [])) new gate file
+    turned is =
+        let frame = request_frame (request.Turned run) in
+        one_more waiting frame old new gate file but (omega arith) (turned_again.again (ap not is) frame (record { fits = numbered; spelled = refl }))
+
+  -- a run was to go on of whose command no connection waits
+  module _ (run : ℕ) (numbered : run < 2 ^ 8) where
+    -- where there is none nothing has changed,
+    pub resumed_idle : ((new ≡ old) × (Idle ≡ reply)) ⊎ WasTurned run old new reply → is_idle reply ≡ true → IsCommittedBut waiting new gate file
+    resumed_idle (inl (same, idle)) is = as_before waiting old new gate file but same
+    resumed_idle (inr was) is = idled run numbered was is
+
+    -- and else a turn waits
+    pub resumed : ((new ≡ old) × (Idle ≡ reply)) ⊎ WasTurned run old new reply → is_idle reply ≡ false
+        → IsCommittedBut (waiting ++ spelled (request_frame (request.Turned run) ∷ [])) new gate file
+    resumed (inl (same, idle)) is = let other : true ≡ false = ap is_idle idle ∙ is in absurd (cc)
+    resumed (inr was) is = turned run numbered was is

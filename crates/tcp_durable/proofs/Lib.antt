@@ -1,0 +1,4 @@
+mod Spelled
+mod Waiting
+mod Deeds
+mod Events

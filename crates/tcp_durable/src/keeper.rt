@@ -1,0 +1,274 @@
+//! What keeps the device of a target in a file.
+
+ghost use Rattle.std.specs.Prelude.{◌≡◌, ◌↔◌, ◌⊎◌, ◌<◌, [], true, Some, IfOk, IsTrue, OnErr, OnOk, is_some, slice_index_or, None};
+ghost use Rattle.std.specs.Option.{option_map};
+ghost use Rattle.stored_file.specs.File.{LeavesOnly};
+ghost use Rattle.stored_file.specs.Cause.{HasCause};
+ghost use Rattle.image_store.specs.Namespace.{shape};
+ghost use Rattle.device_meaning.specs.State.{State};
+ghost use Rattle.nvme_entry.specs.Entry.{decoded};
+ghost use Rattle.durable_device.specs.Changing.{asks_change, is_idle};
+ghost use Rattle.durable_device.specs.Kept.{IsKept, StandsFor};
+ghost use Rattle.tcp_queues.specs.Commands.{given_to_device};
+ghost use Rattle.tcp_target.specs.Ready.{is_ready};
+ghost use Rattle.tcp_device.specs.Deeds.{Does, Served, Turned};
+ghost use Rattle.tcp_device.specs.Format.{IsFormatOf};
+ghost use Rattle.tcp_device.specs.Served.{can_go, next_run};
+ghost use Rattle.tcp_device.specs.State.{begun_on};
+ghost use Rattle.tcp_durable.specs.Resuming.{Resumes};
+ghost use Rattle.tcp_durable.specs.Waiting.{IsCommittedBut};
+
+use crate::frames::{add_submission, add_turn};
+use durable_device::laws::changes_come_again;
+use durable_device::{DurableDevice, asks_change, is_refusal};
+use durable_machine::Durable;
+use event_journal::Journal;
+use nvme_entry::Entry;
+use runner::Reply;
+use std::alloc::{AllocError, Global};
+use std::mem;
+use stored_file::{FileError, StoredFile};
+use tcp_admin::{NamespaceFormat, Subsystem};
+use tcp_associations::MOST_CONNECTIONS;
+use tcp_device::ServedTarget;
+use zone_resources::RUNS;
+
+/// The journal of what happened to the device of a target, and what waits for it. What hosts ask for is done at once, and sent to them
+/// once it is committed: all that was done since the last commit is on the disk then, or after a crash none of it. After an `Err` the
+/// file has to be opened again, and nothing may be sent.
+#[derive(Drop)]
+pub struct Keeper<F: StoredFile + Drop> {
+    /// The journal, which has what was committed.
+    pub journal: Journal<F>,
+    /// The events that may have changed the device since then, as the journal spells them.
+    pub waiting: Vec<u8>,
+}
+
+/// A target without connections before a device that is kept, and what keeps it on.
+///
+/// # Errors
+///
+/// No memory for what they keep.
+pub fn target_of<F: StoredFile + Drop>(
+    alloc: Global,
+    device: DurableDevice<F>,
+    subsystem: Subsystem,
+    format: NamespaceFormat,
+) -> Result<(ServedTarget, Keeper<F>), AllocError>
+    requires format { IsFormatOf (shape device.store.machine.namespace) format }
+    requires kept { IsKept device.store.machine device.store.journal.gate (F.told device.store.journal.file) }
+    ensures served { IfOk result (λ made. made.0 ≡ begun_on device.store.machine subsystem format) }
+    ensures journal { IfOk result (λ made. made.1.journal ≡ device.store.journal) }
+    ensures kept { IfOk result (λ made.
+        IsCommittedBut made.1.waiting.items made.0.device made.1.journal.gate (F.told made.1.journal.file)) }
+{
+    let DurableDevice { store } = device;
+    let Durable { machine, journal } = store;
+    let served = ServedTarget::on(
+        alloc,
+        Box::into_inner(machine.into_device()),
+        subsystem,
+        format,
+    )?;
+    let waiting = Vec::new(alloc);
+    Ok((served, Keeper { journal, waiting }))
+}
+
+impl<F: StoredFile + Drop> Keeper<F> {
+    /// Does the command that is ready on a connection, and says whether there is one, as [`ServedTarget::serve`].
+    ///
+    /// # Errors
+    ///
+    /// No memory for the journal. Then the target is as it was.
+    pub fn serve(&mut self, served: &mut ServedTarget, number: usize) -> Result<bool, AllocError>
+        requires number { number < MOST_CONNECTIONS }
+        requires kept { IsCommittedBut self.old.waiting.items served.old.device self.old.journal.gate (F.told self.old.journal.file) }
+        ensures ready { IfOk result (λ ready. ready ≡ is_ready number served.old.target) }
+        ensures done { OnOk result (Does (Served number) served.old served.new) }
+        ensures refused { OnErr result (served.new ≡ served.old) }
+        ensures same { self.new.journal ≡ self.old.journal }
+        ensures kept { OnOk result
+            (IsCommittedBut self.new.waiting.items served.new.device self.new.journal.gate (F.told self.new.journal.file)) }
+    {
+        let is_ready = served.is_ready(number);
+        match served.given_to_device(number) {
+            Some(entry) => self.submit(served, number, &entry)?,
+            None => {
+                served.serve(number);
+            }
+        }
+        Ok(is_ready)
+    }
+
+    /// Submits the entry that goes to the device next.
+    fn submit(
+        &mut self,
+        served: &mut ServedTarget,
+        number: usize,
+        entry: &[u8; 64],
+    ) -> Result<(), AllocError>
+        requires number { number < MOST_CONNECTIONS }
+        requires given { option_map (λ execution. execution.entry) (given_to_device number served.old.target.queues) ≡ Some entry.now }
+        requires kept { IsCommittedBut self.old.waiting.items served.old.device self.old.journal.gate (F.told self.old.journal.file) }
+        ensures done { OnOk result (Does (Served number) served.old served.new) }
+        ensures refused { OnErr result (served.new ≡ served.old) }
+        ensures same { self.new.journal ≡ self.old.journal }
+        ensures kept { OnOk result
+            (IsCommittedBut self.new.waiting.items served.new.device self.new.journal.gate (F.told self.new.journal.file)) }
+    {
+        changes_come_again();
+        let _identifier = Entry::cid(entry);
+        if asks_change(entry) {
+            return self.submit_change(served, number, entry);
+        }
+        served.submit(number, entry);
+        Ok(())
+    }
+
+    /// Submits it, where it may change the device.
+    fn submit_change(
+        &mut self,
+        served: &mut ServedTarget,
+        number: usize,
+        entry: &[u8; 64],
+    ) -> Result<(), AllocError>
+        requires number { number < MOST_CONNECTIONS }
+        requires given { option_map (λ execution. execution.entry) (given_to_device number served.old.target.queues) ≡ Some entry.now }
+        requires asks { asks_change (decoded entry.now) ≡ true }
+        requires kept { IsCommittedBut self.old.waiting.items served.old.device self.old.journal.gate (F.told self.old.journal.file) }
+        ensures done { OnOk result (Does (Served number) served.old served.new) }
+        ensures refused { OnErr result (served.new ≡ served.old) }
+        ensures same { self.new.journal ≡ self.old.journal }
+        ensures kept { OnOk result
+            (IsCommittedBut self.new.waiting.items served.new.device self.new.journal.gate (F.told self.new.journal.file)) }
+    {
+        changes_come_again();
+        let _identifier = Entry::cid(entry);
+        let before = self.waiting.len();
+        let input = served.given_data(number);
+        add_submission(&mut self.waiting, number as u16, entry, input)?;
+        let reply = served.submit(number, entry);
+        if is_refusal(&reply) {
+            self.waiting.truncate(before);
+        }
+        Ok(())
+    }
+
+    /// Gives the next run a turn, and says whether there is one, as [`ServedTarget::turn`].
+    ///
+    /// # Errors
+    ///
+    /// No memory for the journal. Then the target is as it was.
+    pub fn turn(&mut self, served: &mut ServedTarget) -> Result<bool, AllocError>
+        requires kept { IsCommittedBut self.old.waiting.items served.old.device self.old.journal.gate (F.told self.old.journal.file) }
+        ensures given { IfOk result (λ given. given ≡ is_some (next_run served.old)) }
+        ensures done { OnOk result (Does Turned served.old served.new) }
+        ensures refused { OnErr result (served.new ≡ served.old) }
+        ensures same { self.new.journal ≡ self.old.journal }
+        ensures kept { OnOk result
+            (IsCommittedBut self.new.waiting.items served.new.device self.new.journal.gate (F.told self.new.journal.file)) }
+    {
+        match served.next_run() {
+            Some(run) => {
+                self.give_turn(served, run)?;
+                Ok(true)
+            }
+            None => Ok(false),
+        }
+    }
+
+    /// Gives this run the next turn.
+    fn give_turn(&mut self, served: &mut ServedTarget, run: usize) -> Result<(), AllocError>
+        requires next { next_run served.old ≡ Some run }
+        requires within { run < RUNS }
+        requires goes { IsTrue (can_go served.old.target (slice_index_or served.old.pending run None)) }
+        requires kept { IsCommittedBut self.old.waiting.items served.old.device self.old.journal.gate (F.told self.old.journal.file) }
+        ensures done { OnOk result (Does Turned served.old served.new) }
+        ensures refused { OnErr result (served.new ≡ served.old) }
+        ensures same { self.new.journal ≡ self.old.journal }
+        ensures kept { OnOk result
+            (IsCommittedBut self.new.waiting.items served.new.device self.new.journal.gate (F.told self.new.journal.file)) }
+    {
+        changes_come_again();
+        let before = self.waiting.len();
+        add_turn(&mut self.waiting, run as u8)?;
+        let reply = served.give_turn(run);
+        if is_idle(&reply) {
+            self.waiting.truncate(before);
+        }
+        Ok(())
+    }
+
+    /// Gives a run a turn of whose command no connection waits, as of one that was kept in the file, and says whether there was such a
+    /// run: as [`ServedTarget::resume`].
+    ///
+    /// # Errors
+    ///
+    /// No memory for the journal. Then the target is as it was.
+    pub fn resume(&mut self, served: &mut ServedTarget, run: usize) -> Result<bool, AllocError>
+        requires within { run < RUNS }
+        requires kept { IsCommittedBut self.old.waiting.items served.old.device self.old.journal.gate (F.told self.old.journal.file) }
+        ensures done { IfOk result (Resumes run served.old served.new) }
+        ensures refused { OnErr result (served.new ≡ served.old) }
+        ensures same { self.new.journal ≡ self.old.journal }
+        ensures kept { OnOk result
+            (IsCommittedBut self.new.waiting.items served.new.device self.new.journal.gate (F.told self.new.journal.file)) }
+    {
+        changes_come_again();
+        let before = self.waiting.len();
+        add_turn(&mut self.waiting, run as u8)?;
+        let reply = served.resume(run);
+        if is_idle(&reply) {
+            self.waiting.truncate(before);
+            return Ok(false);
+        }
+        Ok(true)
+    }
+
+    /// Commits what was done: from then on each crash leaves a file that stands for the device as it is. Where nothing may have changed
+    /// it since the last commit, the disk isn't waited for.
+    ///
+    /// # Errors
+    ///
+    /// No memory, or the disk's.
+    pub fn commit(&mut self, alloc: Global, served: &ServedTarget) -> Result<(), FileError>
+        requires kept { IsCommittedBut self.old.waiting.items served.now.device self.old.journal.gate (F.told self.old.journal.file) }
+        ensures none { OnOk result (self.new.waiting.items ≡ []) }
+        ensures committed { OnOk result (IsKept served.now.device self.new.journal.gate (F.told self.new.journal.file)) }
+
+        // A crash at any moment of it leaves the device that was committed before, or the one behind all that was done since.
+        ensures any_moment { (before : State) → IsKept before self.old.journal.gate (F.told self.old.journal.file)
+            → LeavesOnly (F.told self.old.journal.file) (F.told self.new.journal.file)
+            (λ c. StandsFor c before ⊎ StandsFor c served.now.device) }
+
+        // It doesn't give up by itself.
+        ensures cause { HasCause (F.told self.old.journal.file) (F.told self.new.journal.file) result }
+    {
+        if self.waiting.is_empty() {
+            return Ok(());
+        }
+        let events = mem::replace(&mut self.waiting, Vec::new(alloc));
+        self.journal.append(events)?;
+        Ok(())
+    }
+
+    /// Is all committed that was done with the target?
+    pub fn is_committed(&self, served: &ServedTarget) -> bool
+        requires { IsCommittedBut self.now.waiting.items served.now.device self.now.journal.gate (F.told self.now.journal.file) }
+        ensures none { IsTrue result ↔ self.now.waiting.items ≡ [] }
+        ensures kept { IsTrue result → IsKept served.now.device self.now.journal.gate (F.told self.now.journal.file) }
+    {
+        self.waiting.is_empty()
+    }
+}
+
+/// Whether a reply says that there is no run.
+fn is_idle(reply: &Reply) -> bool
+    ensures { result ≡ is_idle reply.now }
+{
+    match reply {
+        Reply::Idle => true,
+        Reply::Complete { .. } | Reply::Pending { .. } | Reply::FaultTaken | Reply::FaultRefused =>
+            false,
+    }
+}

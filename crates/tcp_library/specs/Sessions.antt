@@ -1,0 +1,149 @@
+-- A target that C serves, whose device is kept in a file or is in memory alone.
+use Rattle.std.specs.Prelude.{ℕ, ◌≡◌, ◌⊎◌, Bool, true, false, List, [], ◌∷◌, is_some, Option, Some, None}
+use Rattle.stored_file.specs.File.{FileState, LeavesOnly}
+use Rattle.system_file.specs.Calls.{told_of}
+use Rattle.handed_file.specs.Handed.{made_calls, noted, waiting}
+use Rattle.handed_file.specs.Handing.{done_call}
+use Rattle.handed_file.specs.declared.handed_file.FileCall.{FileCall}
+use Rattle.handed_file.specs.declared.handed_file.HandedFile.{HandedFile}
+use Rattle.device_meaning.specs.State.{State}
+use Rattle.durable_device.specs.Kept.{IsKept, StandsFor}
+use Rattle.tcp_device.specs.Deeds.{Deed}
+use Rattle.tcp_device.specs.Deeds as deed
+use Rattle.tcp_durable.specs.Resuming.{Resumes}
+use Rattle.tcp_durable.specs.Waiting.{IsCommittedBut}
+use Rattle.tcp_durable.specs.declared.keeper.Keeper.{Keeper}
+use Rattle.tcp_library.specs.declared.session.Session.{Session}
+
+-- ---- the file
+
+-- what is known of the file once C has made each call that it was handed, as long as none was refused
+abbrev pub promised : Keeper HandedFile → FileState
+promised k = told_of (noted k.journal.file)
+
+-- what is known of it by the calls that C told as done
+abbrev pub told : Keeper HandedFile → FileState
+told k = told_of (made_calls k.journal.file)
+
+-- the calls that C is to make
+abbrev pub calls_of : Option (Keeper HandedFile) → List FileCall
+calls_of None = []
+calls_of (Some k) = waiting k.journal.file
+
+abbrev pub waiting_calls : Session → List FileCall
+waiting_calls s = calls_of s.keeper
+
+-- ---- what is kept
+
+-- what was committed is kept once C has made the calls that it was handed, and the rest waits for a commit
+abbrev pub Keeps : Option (Keeper HandedFile) → State → Type 0
+Keeps None device = Unit {0}
+Keeps (Some k) device = IsCommittedBut k.waiting.items device k.journal.gate (promised k)
+
+-- it is so as long as the file hasn't to be opened again
+abbrev pub WillBeKept : Session → Type 0
+WillBeKept s = s.failed ≡ false → Keeps s.keeper s.served.device
+
+-- all that was done is on the disk, by what C told
+abbrev pub IsOnTheDisk : Option (Keeper HandedFile) → State → Type 0
+IsOnTheDisk None device = Unit {0}
+IsOnTheDisk (Some k) device = IsKept device k.journal.gate (told k)
+
+-- so hosts may be told of it; or the device is to be in memory alone
+pub record MaySend (s : Session) : Type 0 where
+  pub usable : s.failed ≡ false
+  pub kept : IsOnTheDisk s.keeper s.served.device
+
+-- the device is in memory alone
+pub record IsInMemory (s : Session) : Type 0 where
+  pub memory : s.keeper ≡ None
+  pub usable : s.failed ≡ false
+
+-- ---- what is done
+
+-- what keeps the device goes on with the same journal, whatever waits for it
+abbrev pub KeepsOn : Option (Keeper HandedFile) → Option (Keeper HandedFile) → Type 0
+KeepsOn None None = Unit {0}
+KeepsOn (Some old) (Some new) = new.journal ≡ old.journal
+KeepsOn None (Some new) = ⊥
+KeepsOn (Some old) None = ⊥
+
+-- nothing is done, and that is told: the file has to be opened again from now on, or had to already, and then nothing else happens
+-- either. A device that was kept isn't in memory alone
+pub record GivesUp (old new : Session) (answer : Bool) : Type 0 where
+  pub failed : new.failed ≡ true
+  pub served : new.served ≡ old.served
+  pub idle : old.failed ≡ true → new ≡ old
+  pub keeper : is_some new.keeper ≡ is_some old.keeper
+  pub told : answer ≡ false
+
+-- a deed is done, and this is told
+pub record HasDone (d : Deed) (told : Bool) (old new : Session) (answer : Bool) : Type 0 where
+  pub does : deed.Does d old.served new.served
+  pub told_is : answer ≡ told
+  pub keeper : KeepsOn old.keeper new.keeper
+  pub usable : old.failed ≡ false
+  pub rest : new ≡ record old { served = new.served; keeper = new.keeper }
+
+abbrev pub Does : Deed → Bool → Session → Session → Bool → Type 0
+Does d told old new answer = HasDone d told old new answer ⊎ GivesUp old new answer
+
+-- a run of a kept device goes on, and it is told whether there was one that could
+pub record HasResumed (run : ℕ) (old new : Session) (answer : Bool) : Type 0 where
+  pub resumes : Resumes run old.served new.served answer
+  pub keeper : KeepsOn old.keeper new.keeper
+  pub usable : old.failed ≡ false
+  pub rest : new ≡ record old { served = new.served; keeper = new.keeper }
+
+-- a device in memory alone has none
+pub record HasNone (old new : Session) (answer : Bool) : Type 0 where
+  pub memory : old.keeper ≡ None
+  pub same : new ≡ old
+  pub told : answer ≡ false
+
+abbrev pub GoesOn : ℕ → Session → Session → Bool → Type 0
+GoesOn run old new answer = HasResumed run old new answer ⊎ HasNone old new answer ⊎ GivesUp old new answer
+
+-- While C makes the calls for a commit, a crash leaves the device that was committed before or the one that there is now. Once it has
+-- made them, this one is kept
+pub record IsCommitted (old new : Keeper HandedFile) (device : State) : Type 0 where
+  pub kept : IsKept device new.journal.gate (promised new)
+  pub moments : (before : State) → IsKept before old.journal.gate (promised old)
+      → LeavesOnly (promised old) (promised new) (λ c. StandsFor c before ⊎ StandsFor c device)
+
+abbrev pub CommitsBy : Option (Keeper HandedFile) → Option (Keeper HandedFile) → State → Type 0
+CommitsBy None None device = Unit {0}
+CommitsBy (Some old) (Some new) device = IsCommitted old new device
+CommitsBy None (Some new) device = ⊥
+CommitsBy (Some old) None device = ⊥
+
+-- it is committed, and nothing else happens
+pub record HasCommitted (old new : Session) (answer : Bool) : Type 0 where
+  pub commits : CommitsBy old.keeper new.keeper old.served.device
+  pub usable : old.failed ≡ false
+  pub rest : new ≡ record old { keeper = new.keeper }
+  pub told : answer ≡ true
+
+abbrev pub Commits : Session → Session → Bool → Type 0
+Commits old new answer = HasCommitted old new answer ⊎ GivesUp old new answer
+
+-- the next call is noted as done, and it was answered so before
+pub record TakesNext (old new : Keeper HandedFile) : Type 0 where
+  pub done : (call : FileCall) (rest : List FileCall) → waiting old.journal.file ≡ call ∷ rest
+      → (waiting new.journal.file ≡ rest) × (made_calls new.journal.file ≡ done_call call ∷ made_calls old.journal.file)
+  pub same : noted new.journal.file ≡ noted old.journal.file
+  pub rest : new ≡ record old { journal = record old.journal { file = new.journal.file } }
+
+abbrev pub TakesDoneBy : Option (Keeper HandedFile) → Option (Keeper HandedFile) → Type 0
+TakesDoneBy None None = Unit {0}
+TakesDoneBy (Some old) (Some new) = TakesNext old new
+TakesDoneBy None (Some new) = ⊥
+TakesDoneBy (Some old) None = ⊥
+
+pub record TakesDone (old new : Session) : Type 0 where
+  pub rest : new ≡ record old { keeper = new.keeper }
+  pub taken : TakesDoneBy old.keeper new.keeper
+
+-- it has failed, and nothing else happens
+abbrev pub TakesFailed : Session → Session → Type 0
+TakesFailed old new = new ≡ record old { failed = true }

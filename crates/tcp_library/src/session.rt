@@ -1,0 +1,174 @@
+//! A target that C serves.
+
+ghost use Rattle.std.specs.Prelude.{◌≡◌, ◌⊎◌, ◌<◌, [], false, true, None, Some, IfSome, IsNone, IsTrue, is_some};
+ghost use Rattle.tcp_device.specs.Deeds.{Served, Turned};
+ghost use Rattle.tcp_device.specs.Served.{next_run};
+ghost use Rattle.tcp_target.specs.Ready.{is_ready};
+
+use handed_file::{FileCall, HandedFile};
+use std::alloc::Global;
+use tcp_associations::MOST_CONNECTIONS;
+use tcp_device::ServedTarget;
+use tcp_durable::Keeper;
+use zone_resources::RUNS;
+
+/// A target with its device, and what keeps that in a file for which C makes the calls, where it is kept.
+#[derive(Drop)]
+pub struct Session {
+    /// The target.
+    pub served: ServedTarget,
+    /// What keeps its device; `None` where it is in memory alone.
+    pub keeper: Option<Keeper<HandedFile>>,
+    /// Whether the file has to be opened again: then no command is done, and nothing is sent.
+    pub failed: bool,
+}
+
+impl Session {
+    ghost use Rattle.tcp_queues.specs.Queues.{place_at};
+    ghost use Rattle.tcp_library.specs.Answers.{next_of};
+    ghost use Rattle.tcp_library.specs.Sessions.{Commits, Does, GoesOn, IsInMemory, MaySend, TakesDone, TakesFailed, WillBeKept, waiting_calls};
+
+    /// A target whose device is in memory alone.
+    pub fn in_memory(served: ServedTarget) -> Session
+        ensures served { result.served ≡ served }
+        ensures memory { IsInMemory result }
+        ensures kept { WillBeKept result }
+    {
+        Session {
+            served,
+            keeper: None,
+            failed: false,
+        }
+    }
+
+    /// Does the command that is ready on a connection, and says whether there is one.
+    pub fn serve(&mut self, number: usize) -> bool
+        requires number { number < MOST_CONNECTIONS }
+        requires kept { WillBeKept self.old }
+        ensures served { Does (Served number) (is_ready number self.old.served.target) self.old self.new result }
+        ensures kept { WillBeKept self.new }
+    {
+        match &mut self.keeper {
+            _ if self.failed => false,
+            None => self.served.serve(number),
+            Some(keeper) => match keeper.serve(&mut self.served, number) {
+                Ok(is_ready) => is_ready,
+                Err(_) => {
+                    self.failed = true;
+                    false
+                }
+            },
+        }
+    }
+
+    /// Gives the next run a turn, and says whether there is one.
+    pub fn turn(&mut self) -> bool
+        requires kept { WillBeKept self.old }
+        ensures turned { Does Turned (is_some (next_run self.old.served)) self.old self.new result }
+        ensures kept { WillBeKept self.new }
+    {
+        match &mut self.keeper {
+            _ if self.failed => false,
+            None => self.served.turn(),
+            Some(keeper) => match keeper.turn(&mut self.served) {
+                Ok(given) => given,
+                Err(_) => {
+                    self.failed = true;
+                    false
+                }
+            },
+        }
+    }
+
+    /// Gives a run a turn of whose command no connection waits, and says whether there was one.
+    pub fn resume(&mut self, run: usize) -> bool
+        requires run { run < RUNS }
+        requires kept { WillBeKept self.old }
+        ensures resumed { GoesOn run self.old self.new result }
+        ensures kept { WillBeKept self.new }
+    {
+        match &mut self.keeper {
+            Some(keeper) if !self.failed => match keeper.resume(&mut self.served, run) {
+                Ok(went) => went,
+                Err(_) => {
+                    self.failed = true;
+                    false
+                }
+            },
+            Some(_) | None => false,
+        }
+    }
+
+    /// Commits what was done, and says whether that is so once C has made the calls for it; where it isn't, the file has to be opened
+    /// again.
+    pub fn commit(&mut self, alloc: Global) -> bool
+        requires kept { WillBeKept self.old }
+        ensures committed { Commits self.old self.new result }
+        ensures kept { WillBeKept self.new }
+    {
+        match &mut self.keeper {
+            _ if self.failed => false,
+            None => true,
+            Some(keeper) => {
+                self.failed = keeper.commit(alloc, &self.served).is_err();
+                !self.failed
+            }
+        }
+    }
+
+    /// Is all on the disk that was done, by what C told; or is it to be in memory alone?
+    pub fn may_send(&self) -> bool
+        requires { WillBeKept self.now }
+        ensures { IsTrue result → MaySend self.now }
+    {
+        match &self.keeper {
+            _ if self.failed => false,
+            None => true,
+            Some(keeper) => {
+                keeper.journal.file.is_settled() && keeper.is_committed(&self.served)
+            }
+        }
+    }
+
+    /// What is to be sent on a connection, once what it answers is on the disk; nothing before.
+    pub fn unsent(&self, number: usize) -> &[u8]
+        requires number { number < MOST_CONNECTIONS }
+        requires kept { WillBeKept self.now }
+        ensures { (MaySend self.now × (result.now ≡ (place_at number self.now.served.target.queues).unsent)) ⊎ (result.now ≡ []) }
+    {
+        if self.may_send() {
+            self.served.unsent(number)
+        } else {
+            &[]
+        }
+    }
+
+    /// The call that C is to make next for the file.
+    pub fn next(&self) -> Option<&FileCall>
+        ensures none { IsNone result → next_of self.now.failed (waiting_calls self.now) ≡ None }
+        ensures first { IfSome result (λ call. next_of self.now.failed (waiting_calls self.now) ≡ Some call.now) }
+    {
+        match &self.keeper {
+            Some(keeper) if !self.failed => keeper.journal.file.next(),
+            Some(_) | None => None,
+        }
+    }
+
+    /// Takes the next call for done.
+    pub fn tell_done(&mut self)
+        requires { WillBeKept self.old }
+        ensures done { TakesDone self.old self.new }
+        ensures kept { WillBeKept self.new }
+    {
+        if let Some(keeper) = &mut self.keeper {
+            keeper.journal.file.tell_done();
+        }
+    }
+
+    /// Takes it for failed: the file has to be opened again.
+    pub fn tell_failed(&mut self)
+        ensures { TakesFailed self.old self.new }
+    {
+        self.failed = true;
+    }
+}

@@ -1,0 +1,172 @@
+#define _GNU_SOURCE
+#include "kept_file.h"
+
+#include <errno.h>
+#include <fcntl.h>
+#include <stdio.h>
+#include <stdlib.h>
+#include <string.h>
+#include <sys/file.h>
+#include <sys/stat.h>
+#include <unistd.h>
+
+/* ---- opening */
+
+/* Where a path leads, the name of a new file beside it, and its folder. */
+static bool name(struct kept_file *kept, const char *path)
+{
+    kept->path = realpath(path, NULL);
+    if (kept->path == NULL)
+        return false;
+    size_t count = strlen(kept->path) + sizeof ".unfinished";
+    kept->unfinished = malloc(count);
+    kept->folder = strdup(kept->path);
+    if (kept->unfinished == NULL || kept->folder == NULL)
+        return false;
+    snprintf(kept->unfinished, count, "%s.unfinished", kept->path);
+    char *last = strrchr(kept->folder, '/');
+    last[last == kept->folder ? 1 : 0] = 0;
+    return true;
+}
+
+enum kept_result kept_file_open(struct kept_file *kept, const char *path)
+{
+    struct stat held, there;
+    *kept = (struct kept_file){.file = -1};
+    if (!name(kept, path))
+        return KEPT_NOT_OPENED;
+    kept->file = open(kept->path, O_RDWR | O_CLOEXEC);
+    if (kept->file < 0)
+        return KEPT_NOT_OPENED;
+    if (flock(kept->file, LOCK_EX | LOCK_NB) != 0)
+        return KEPT_IN_USE;
+    if (fstat(kept->file, &held) != 0 || stat(kept->path, &there) != 0)
+        return KEPT_NOT_OPENED;
+    /* who held it before may have given the name to a new file */
+    return held.st_dev == there.st_dev && held.st_ino == there.st_ino ? KEPT_OPENED : KEPT_IN_USE;
+}
+
+void kept_file_close(struct kept_file *kept)
+{
+    if (kept->file >= 0)
+        close(kept->file); /* and with it the lock */
+    free(kept->path);
+    free(kept->unfinished);
+    free(kept->folder);
+    *kept = (struct kept_file){.file = -1};
+}
+
+/* Brings a folder to the disk, and with it the names in it. */
+static bool sync_folder(const char *path)
+{
+    int folder = open(path, O_RDONLY | O_DIRECTORY | O_CLOEXEC);
+    bool done = folder >= 0 && fsync(folder) == 0;
+    if (folder >= 0)
+        close(folder);
+    return done;
+}
+
+unsigned char *kept_file_read(struct kept_file *kept, size_t *count)
+{
+    struct stat about;
+    if (fsync(kept->file) != 0 || !sync_folder(kept->folder) || fstat(kept->file, &about) != 0)
+        return NULL;
+    *count = (size_t)about.st_size;
+    unsigned char *bytes = malloc(*count + 1);
+    for (size_t done = 0; bytes != NULL && done < *count;) {
+        ssize_t more = pread(kept->file, bytes + done, *count - done, (off_t)done);
+        if (more > 0) {
+            done += (size_t)more;
+        } else if (more == 0 || errno != EINTR) {
+            errno = more == 0 ? EIO : errno; /* where it is 0 the file was cut meanwhile */
+            free(bytes);
+            return NULL;
+        }
+    }
+    return bytes;
+}
+
+/* ---- calls */
+
+/* a file, and the library that tells the calls for it */
+struct calls {
+    struct kept_file *kept;
+    kept_ask *ask;
+    void *library;
+};
+
+static size_t tell(struct calls *c, enum kept_question question)
+{
+    unsigned char none[1];
+    return c->ask(c->library, question, 0, none, 0);
+}
+
+/* Writes the bytes of the next call to a file from an offset on. */
+static bool write_bytes(struct calls *c, int file, size_t at)
+{
+    unsigned char piece[1 << 16];
+    size_t count = tell(c, KEPT_SIZE);
+    size_t done = 0;
+    while (done < count) {
+        size_t size = c->ask(c->library, KEPT_BYTES, done, piece, sizeof piece);
+        for (size_t written = 0; written < size;) {
+            ssize_t more = pwrite(file, piece + written, size - written, (off_t)(at + done + written));
+            if (more >= 0)
+                written += (size_t)more;
+            else if (errno != EINTR)
+                return false;
+        }
+        done += size;
+    }
+    return true;
+}
+
+/* Puts a new file in the place of the old one, and holds it from the first on. */
+static bool replace(struct calls *c)
+{
+    struct kept_file *kept = c->kept;
+    struct stat before;
+    unlink(kept->unfinished); /* what a program left that was killed: none but the one that holds the file writes it */
+    int file = open(kept->unfinished, O_RDWR | O_CREAT | O_EXCL | O_CLOEXEC, 0600);
+    if (file < 0)
+        return false;
+    if (flock(file, LOCK_EX | LOCK_NB) == 0 && fstat(kept->file, &before) == 0 && fchmod(file, before.st_mode & 07777) == 0 &&
+        write_bytes(c, file, 0) && fsync(file) == 0 && rename(kept->unfinished, kept->path) == 0) {
+        close(kept->file);
+        kept->file = file;
+        return sync_folder(kept->folder);
+    }
+    int cause = errno;
+    unlink(kept->unfinished);
+    close(file);
+    errno = cause;
+    return false;
+}
+
+static bool make(struct calls *c, enum kept_call next)
+{
+    switch (next) {
+    case KEPT_WRITE: return write_bytes(c, c->kept->file, tell(c, KEPT_PLACE));
+    case KEPT_TRUNCATE: return ftruncate(c->kept->file, (off_t)tell(c, KEPT_PLACE)) == 0;
+    case KEPT_SYNC: return fsync(c->kept->file) == 0;
+    case KEPT_REPLACE: return replace(c);
+    case KEPT_NONE: break;
+    }
+    return false;
+}
+
+bool kept_file_make_calls(struct kept_file *kept, kept_ask *ask, void *library)
+{
+    struct calls c = {.kept = kept, .ask = ask, .library = library};
+    enum kept_call next;
+    while ((next = tell(&c, KEPT_NEXT)) != KEPT_NONE) {
+        if (!make(&c, next)) {
+            int cause = errno;
+            tell(&c, KEPT_FAILED);
+            errno = cause;
+            return false;
+        }
+        tell(&c, KEPT_DONE);
+    }
+    return true;
+}

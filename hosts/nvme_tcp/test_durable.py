@@ -1,0 +1,141 @@
+"""Tests of a target whose device is kept: what was answered is there when it is killed, and when its disk fails."""
+
+from __future__ import annotations
+
+import signal
+import tempfile
+import unittest
+from pathlib import Path
+
+from killing import kill_once, numbers
+from nvme_tcp_connection import HostError, Refused
+from nvme_tcp_host import Action, Host, IoQueue
+from target import BLOCK, EMITS_NOTHING, FILTER, ZONE_SIZE, Target, format_image, order
+
+ROUNDS = 5
+SECONDS = 0.2
+
+
+class Kept(unittest.TestCase):
+    """Each test has an image of its own, which targets keep in turn."""
+
+    zone_size = ZONE_SIZE
+
+    def setUp(self) -> None:
+        folder = tempfile.TemporaryDirectory()
+        self.addCleanup(folder.cleanup)
+        self.image = Path(folder.name) / "zoned.img"
+        format_image(self.image, zone_size=self.zone_size)
+
+    def again(self) -> Target:
+        """A target on the image, as it is."""
+        return Target(self.image, is_durable=True)
+
+
+class WhatIsKept(Kept):
+    """What a target has that was killed."""
+
+    def test_blocks_and_zones(self) -> None:
+        with self.again() as target, Host(target.address) as host:
+            queue = host.queue(1)
+            self.assertEqual([queue.append(16, bytes([n]) * BLOCK) for n in range(3)], [16, 17, 18])
+            queue.zone_action(Action.FINISH, 16)
+            zones = queue.report()
+            target.stop(by=signal.SIGKILL)
+        with self.again() as target, Host(target.address) as host:
+            queue = host.queue(1)
+            self.assertEqual(queue.read(16, 3), b"".join(bytes([n]) * BLOCK for n in range(3)))
+            self.assertEqual(queue.report(), zones)
+
+    def test_programs_and_results(self) -> None:
+        with self.again() as target, Host(target.address) as host:
+            queue = host.queue(1)
+            queue.write(0, order(3) + order(1) + order(3))
+            queue.zone_action(Action.OPEN, 16)
+            queue.load(0, FILTER, emit=66)
+            self.assertEqual(queue.run(0, 0, 3, 16, argument=3)[0], 2)
+            result, emitted = queue.result(0), queue.read(16, 1)
+            target.stop(by=signal.SIGKILL)
+        with self.again() as target, Host(target.address) as host:
+            queue = host.queue(1)
+            self.assertEqual((queue.result(0), queue.read(16, 1)), (result, emitted))
+            queue.zone_action(Action.OPEN, 32)
+            self.assertEqual(queue.run(0, 0, 3, 32, argument=3)[0], 2)
+
+    def test_another_target_is_refused(self) -> None:
+        with self.again():
+            with self.assertRaises(AssertionError):
+                Target(self.image, is_durable=True, is_quiet=True)
+
+    def test_a_signal_ends_it(self) -> None:
+        with self.again() as target, Host(target.address) as host:
+            host.queue(1).append(0, bytes(BLOCK))
+            self.assertEqual(target.stop(), 0)
+        with self.again() as target, Host(target.address) as host:
+            self.assertEqual(host.queue(1).report(most=1)[0].write_pointer, 1)
+
+
+class Runs(Kept):
+    """A run that was cut off goes on."""
+
+    zone_size = 4096
+
+    def test_a_run_goes_on(self) -> None:
+        with self.again() as target, Host(target.address) as host:
+            queue = host.queue(1)
+            for _ in range(4096 // 64):
+                queue.append(0, bytes(64 * BLOCK))
+            queue.zone_action(Action.OPEN, 4096)
+            queue.load(0, EMITS_NOTHING, emit=0)
+            queue.submit_run(0, 0, 4096, 4096)
+            host.keep_alive()
+            target.stop(by=signal.SIGKILL)
+        with self.again() as target, Host(target.address) as host:
+            queue = host.queue(1)
+            # a zone that a run writes to takes no action
+            self.assertTrue(any(self.is_finished(queue, 4096) for _ in range(10000)))
+
+    def is_finished(self, queue: IoQueue, zone: int) -> bool:
+        """Finishes a zone, and says whether it could."""
+        try:
+            queue.zone_action(Action.FINISH, zone)
+        except Refused:
+            return False
+        return True
+
+
+class Killed(Kept):
+    """Rounds in which the target is killed while a host appends."""
+
+    zone_size = 16384
+
+    def test_each_acknowledged_block_is_there(self) -> None:
+        before = []
+        for _ in range(ROUNDS):
+            before = kill_once(self.image, before, SECONDS)
+
+
+class FailingDisk(Kept):
+    """A disk on which a file can't grow."""
+
+    zone_size = 4096
+
+    def test_the_target_ends_and_keeps_what_it_answered(self) -> None:
+        with self.again() as target:
+            self.assertEqual(target.stop(), 0)
+        most = self.image.stat().st_size + 40 * 4096
+        answered = 0
+        with Target(self.image, is_durable=True, is_quiet=True, most_bytes=most) as target:
+            host = Host(target.address)
+            queue = host.queue(1)
+            with self.assertRaises((HostError, OSError)):
+                for answered in range(4096):
+                    queue.append(0, (answered + 1).to_bytes(8, "little") * (BLOCK // 8))
+            self.assertEqual(target.wait(), 1)
+            for one in (host.admin, queue):
+                one.connection.shut()
+        self.assertGreater(answered, 0)
+        with self.again() as target, Host(target.address) as host:
+            found = numbers(host.queue(1))
+        self.assertEqual(found[:answered], list(range(1, answered + 1)))
+        self.assertLessEqual(len(found), answered + 1)
