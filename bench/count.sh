@@ -1,5 +1,5 @@
 #!/bin/sh
-# Counts the instructions of the filters of examples/ and of bench/filters, as examples/Makefile makes them for v2 and v3,
+# Counts the instructions of the filters of examples/ and of bench/filters, as clang makes them for v2 and v3,
 # and the pairs of neighbours. Prints shares in thousandths: each program weighs the same.
 set -eu
 cd "$(dirname "$0")/.."
@@ -8,9 +8,9 @@ trap 'rm -r "$work"' EXIT
 for version in v2 v3; do
     mkdir "$work/$version"
     for folder in examples bench/filters; do
-        make -s -f examples/Makefile FROM=$folder TO="$work/$version" CPU=$version
+        make -s -f examples/Makefile FROM=$folder TO="$work/$version" CPU=$version texts
     done
-    for program in "$work/$version"/*.bin; do
+    for program in "$work/$version"/*.text; do
         xxd -p -c 8 "$program"
         echo end
     done

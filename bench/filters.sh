@@ -1,5 +1,5 @@
 #!/bin/sh
-# Runs the filters of examples/ and of bench/filters, as examples/Makefile makes them for v2, over a block of 4096 bytes:
+# Runs the filters of examples/ and of bench/filters, as clang makes them for v2, over a block of 4096 bytes:
 # with every check, over their superinstructions, and in DPDK's interpreter (Debian's libdpdk-dev), which takes no 32-bit compares.
 # Prints the nanoseconds of a block run, the least of several rounds and launches, with their ratios to DPDK's, and the geometric
 # mean of the ratios of the second. A filter that DPDK doesn't load in 5 seconds has no ratio. Then the same of bench/unseen: filters
@@ -14,15 +14,15 @@ rounds=10
 repeats=1000
 mkdir "$work/seen" "$work/unseen"
 for folder in "$here/../examples" "$here/filters"; do
-    make -s -f "$here/../examples/Makefile" FROM="$folder" TO="$work/seen" CPU=v2
+    make -s -f "$here/../examples/Makefile" FROM="$folder" TO="$work/seen" CPU=v2 texts
 done
-make -s -f "$here/../examples/Makefile" FROM="$here/unseen" TO="$work/unseen" CPU=v2
+make -s -f "$here/../examples/Makefile" FROM="$here/unseen" TO="$work/unseen" CPU=v2 texts
 # builds the program where it has to
-(cd "$here/../crates/bench_programs" && rt run -- "$work/seen/filter.bin" "$work/block.bin" 0 0 checked > /dev/null 2>&1)
+(cd "$here/../crates/bench_programs" && rt run -- "$work/seen/filter.text" "$work/block.bin" 0 0 checked > /dev/null 2>&1)
 # times each filter of a folder
 timed() {
-    for file in "$1"/*.bin; do
-        name=$(basename "$file" .bin)
+    for file in "$1"/*.text; do
+        name=$(basename "$file" .text)
         if ! wanted=$("$ours" "$file" "$work/block.bin" 0 0 prepared 2>&1); then
             echo "$name: $wanted"
             continue

@@ -1,7 +1,7 @@
 #!/bin/sh
 # Compares the programs in the tests of filters with what clang makes of this folder's files today, for both versions of the
 # instruction set, and of those of spills/ and refused/; the objects of drafts/; and the filter of the README's test and of
-# pushdown.cmd. Prints the digits of those that aren't there, and then ends with status 1.
+# pushdown.cmd, of which `link` makes just what clang made. Prints the digits of those that aren't there, and then ends with status 1.
 set -eu
 cd "$(dirname "$0")"
 work=$(mktemp -d)
@@ -14,12 +14,12 @@ compare() {
     folder=$2
     shift 2
     tests=$(cat "$@" | tr -d ' \\\n')
-    for program in "$folder"/*.bin; do
+    for program in "$folder"/*.text; do
         digits=$(xxd -p "$program" | tr -d '\n')
         case $tests in
         *"$field:\"$digits\""*) ;;
         *)
-            echo "the $field of $(basename "$program" .bin) is not in the tests:"
+            echo "the $field of $(basename "$program" .text) is not in the tests:"
             echo "$digits" | fold -w 100
             status=1
             ;;
@@ -29,26 +29,26 @@ compare() {
 
 for version in v2 v3; do
     mkdir "$work/$version"
-    make -s TO="$work/$version" CPU=$version
+    make -s TO="$work/$version" CPU=$version texts
     compare $version "$work/$version" ../crates/compiled_filters/src/tests/examples/*.rt
 done
 mkdir "$work/spills" "$work/refused"
-make -s -C spills TO="$work/spills"
+make -s -C spills TO="$work/spills" texts
 compare program "$work/spills" ../crates/compiled_filters/src/tests/spills/*.rt
-make -s -C refused TO="$work/refused"
+make -s -C refused TO="$work/refused" texts
 compare program "$work/refused" ../crates/compiled_filters/src/tests/refused.rt
 for kind in linux sql storage; do
     mkdir "$work/$kind"
     for draft in drafts/$kind/*.c; do
         made=$work/$kind/$(basename "$draft" .c)
-        make -s FROM=drafts/$kind TO="$work/$kind" MADE_FOR="-mcpu=v3 -O2 -fno-addrsig -w" "$made.o"
-        llvm-strip --strip-unneeded -o "$made.bin" "$made.o"
+        make -s FROM=drafts/$kind TO="$work/$kind" MADE_FOR="-mcpu=v3 -O2 -g0 -fno-addrsig -w" "$made.o"
+        llvm-strip --strip-unneeded -o "$made.text" "$made.o"
     done
     compare object "$work/$kind" ../crates/linked_filters/src/tests/$kind.rt
 done
 
 # the README's test has the filter's bytes as Rust escapes them, in lines that a backslash joins
-digits=$(xxd -p "$work/v3/filter.bin" | tr -d '\n')
+digits=$(xxd -p "$work/v3/filter.text" | tr -d '\n')
 escaped=$(echo "$digits" | sed 's/../\\x&/g; s/\\x00/\\0/g')
 readme=$(sed -e ':more' -e '/\\$/{N;s/\\\n//;b more' -e '}' ../crates/zscli/src/tests/readme.rt)
 case $readme in
