@@ -58,8 +58,9 @@ The device's judge decodes the bytes and looks for a reason to refuse the progra
 and it is sound, so that the theorem holds of the device (`device_laws/src/laws.rt`):
 
 {device_laws}
-A device is always in a state that events leave, and does what the definitions say, `runner/src/device.rt`. A clause sees a `Device`
-as a `State`, that of its `DeviceState` (`runner/src/device_state.rt`), whose `view` gives it of the namespace, slots and runs:
+A device is always in a state that events leave, and does what the definitions say, `runner/src/device.rt`. Its type names the domain
+whose facts it judges by: `Device` alone is `Device<Intervals>`, whose `operations` are `intervals`. A clause sees it as a `State`,
+that of its `DeviceState` (`runner/src/device_state.rt`), whose `view` gives it of the namespace, slots and runs:
 
 {device}
 where, in `device_meaning/specs/Events.antt`:
@@ -151,9 +152,9 @@ def text(crates: Path, below: Set[str]) -> str:
     sound = "\n".join(definition(crates, JUDGING, name) for name in ("IsSafeProgram", "IsSoundJudge"))
     judge = "\n".join(definition(crates, JUDGING, name) for name in ("judged_by", "judge_by", "interval_judge"))
     device_law = [*function(device_laws, "judges_soundly"), "", *function(device_laws, "pushdown")]
-    state = members(states, r"impl Model for DeviceState ", {"Value", "view"}) + ["}", ""]
-    model = members(devices, r"impl Model for Device ", {"Value", "view"}) + ["}", ""]
-    device = model + ["impl Device {", *function(devices, "image"), "", *function(devices, "apply"), "}"]
+    state = members(states, r"impl<D: Domain> Model for DeviceState<D> ", {"Value", "view"}) + ["}", ""]
+    model = members(devices, r"impl<D: Domain> Model for Device<D> ", {"Value", "view"}) + ["}", ""]
+    device = model + ["impl<D: Domain> Device<D> {", *function(devices, "image"), "", *function(devices, "apply"), "}"]
     return CODE.format(
         theorem=definition(crates, *THEOREM),
         law=indented(function(laws, "sound_judges_push_down")) + "\n" + definition(crates, *LAW),

@@ -15,7 +15,7 @@ from typing import Dict, Iterator, List, Optional, Tuple, Union
 ROOT = Path(__file__).resolve().parent.parent
 CRATES = (
     *("zscli", "command_files", "command_images", "command_durable", "command_exec", "command_serve"),
-    *("command_programs", "command_link", "command_entry", "command_explain"),
+    *("command_profile", "command_programs", "command_link", "command_entry", "command_explain"),
 )
 TOKEN = re.compile(r'"(?:[^"\\]|\\.)*"|\'\w\'|\w+(?:::\w+)*|[^\w\s]', re.S)
 CONSTANT = re.compile(r'^(?:pub(?:\(crate\))? )?const (\w+): &str =\s+("(?:[^"\\]|\\.)*");', re.M | re.S)
@@ -176,12 +176,12 @@ class Reader:
         return MODULES[self.crate, self.stem].imports.get(name, "")
 
     def nearest(self, owner: str) -> Iterator[Tuple[Tuple[str, str], Module]]:
-        """The files in which a name may stand: of its owner, or this file, those of its crate, and the others."""
+        """The files in which a name may stand: of its owner, a file or a crate, or this file, those of its crate, and the others."""
         stem = owner.rpartition("::")[2]
         own = (self.crate, self.stem)
         order = sorted(MODULES, key=lambda key: (key != own, key[0] != self.crate, key))
         for key in order:
-            if stem == "" or key[1] == stem:
+            if stem in ("", *key):
                 yield key, MODULES[key]
 
 

@@ -16,7 +16,7 @@ _zscli() {
         "zscli zones") commands="" options="--help" ;;
         "zscli report") commands="" options="--json --help" ;;
         "zscli upgrade") commands="" options="--help" ;;
-        "zscli exec") commands="" options="--fail --help" ;;
+        "zscli exec") commands="" options="--profile --fail --help" ;;
         "zscli serve") commands="" options="--frames --drain --durable --help" ;;
         "zscli fold") commands="" options="--help" ;;
         "zscli asm") commands="" options="--help" ;;
