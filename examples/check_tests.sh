@@ -1,6 +1,6 @@
 #!/bin/sh
 # Compares the programs in the tests of filters with what clang makes of this folder's files today, for both versions of the
-# instruction set, and of those of spills/ and refused/; the objects of drafts/; and the filter of the README's test and of
+# instruction set, and of those of spills/ and refused/; the objects of drafts/ and refused/; and the filter of the README's test and of
 # pushdown.cmd, of which `link` makes just what clang made. Prints the digits of those that aren't there, and then ends with status 1.
 set -eu
 cd "$(dirname "$0")"
@@ -46,6 +46,14 @@ for kind in linux sql storage; do
     done
     compare object "$work/$kind" ../crates/linked_filters/src/tests/$kind.rt
 done
+
+mkdir "$work/mended"
+for filter in counts last range signed unbounded; do
+    made=$work/mended/$filter
+    make -s -C refused TO="$work/mended" MADE_FOR="-mcpu=v3 -O2 -g0 -fno-addrsig -w" "$made.o"
+    llvm-strip --strip-unneeded -o "$made.text" "$made.o"
+done
+compare object "$work/mended" ../crates/linked_filters/src/tests/refused.rt
 
 # the README's test has the filter's bytes as Rust escapes them, in lines that a backslash joins
 digits=$(xxd -p "$work/v3/filter.text" | tr -d '\n')

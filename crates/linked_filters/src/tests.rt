@@ -3,6 +3,7 @@
 
 mod entries;
 mod linux;
+mod refused;
 mod sql;
 mod storage;
 

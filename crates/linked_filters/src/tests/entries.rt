@@ -31,7 +31,7 @@ b70000000000000095000000000000006b6579000000000000000000000000000000000000000000
 68010000000000006000000000000000010000000200000008000000000000001800000000000000";
 
 /// The bytes of a block.
-const BLOCK: usize = 512;
+pub(super) const BLOCK: usize = 512;
 
 /// The first bytes of a block, and what it leaves, in hexadecimal.
 struct Row {
@@ -80,14 +80,14 @@ fn linked(alloc: Global) -> Result<Program, Fail> {
 }
 
 /// A block that begins with these bytes.
-fn block_of(alloc: Global, digits: &str) -> Result<Vec<u8>, Fail> {
+pub(super) fn block_of(alloc: Global, digits: &str) -> Result<Vec<u8>, Fail> {
     let mut block = hex::decode(alloc, digits)?;
     block.resize(BLOCK, 0)?;
     Ok(block)
 }
 
 /// How a block run ends; what it emits is put into the group, and what it counts into scratch.
-fn run(
+pub(super) fn run(
     rt: &impl Abort,
     program: &Program,
     block: &[u8],
@@ -95,7 +95,9 @@ fn run(
     group: &mut [u8; BLOCK],
 ) -> (End, usize) {
     let mut stack = [0; STACK_BYTES];
-    let context = [0; CONTEXT_BYTES];
+    let mut context = [0; CONTEXT_BYTES];
+    // the size of the block, in bytes 16 to 19
+    context[17] = 2;
     assert!(rt; block.len() == BLOCK);
     let mut machine = Machine::new(block, &context, scratch, &mut stack);
     assert!(rt; program.at(machine.slot()).is_some());
