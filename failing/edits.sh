@@ -1,16 +1,66 @@
 #!/bin/sh
-# Tries the edits of failing/edits, or of the crates with these names there: bodies that the prover must refuse, as those of
-# crates/NAME/must-fail are, of crates that only print and are long to prove, which the gate doesn't try for its time. Each crate
-# is proved once more for its edits, in some minutes. Its last line for each is that of `rt must-fail`; it ends with status 1 where
-# one isn't refused.
+# Tries the edits of failing/edits: bodies that the prover must refuse, as those of crates/NAME/must-fail are, which the gate
+# leaves out for its time, but for those of one crate.
+#
+#   failing/edits.sh            tries those that are due: of crates that differ from what the record says
+#   failing/edits.sh CRATE..    tries those of these crates
+#   failing/edits.sh --due      prints the crates that are due
+#   failing/edits.sh --turn     prints the crate whose edits the gate tries: the tree chooses it
+#
+# failing/edits/record has for each crate the checksum of its src/ and specs/ (without tests) and of its edits when all of these
+# were refused last. A crate whose edits are all refused is written there; where one isn't, the status is 1. For its edits a
+# crate is proved once more, in some minutes.
 set -eu
 cd "$(dirname "$0")/.."
+record=failing/edits/record
+
+# the checksum of a crate, and of its edits
+sum_of() {
+    {
+        (cd "crates/$1" && find src specs -type f ! -name tests.rt ! -path '*/tests/*' 2> /dev/null | LC_ALL=C sort | xargs sha256sum)
+        (cd "failing/edits/$1" && LC_ALL=C sha256sum ./*.edit)
+    } | sha256sum | cut -c 1-16
+}
+
+crates() {
+    (cd failing/edits && LC_ALL=C ls -d -- */ | tr -d /)
+}
+
+due() {
+    for name in $(crates); do
+        grep -qxF "$name $(sum_of "$name")" "$record" || echo "$name"
+    done
+}
+
+# writes the crate's line of the record
+note() {
+    line="$1 $(sum_of "$1")"
+    {
+        grep -v "^$1 " "$record" || true
+        echo "$line"
+    } | LC_ALL=C sort > "$record.new"
+    mv "$record.new" "$record"
+}
+
+case ${1-} in
+--due)
+    due
+    exit
+    ;;
+--turn)
+    number=$(cat "$record" | sha256sum | cut -c 1-8)
+    count=$(crates | wc -l)
+    crates | sed -n "$((0x$number % count + 1))p"
+    exit
+    ;;
+esac
+if [ $# = 0 ]; then
+    set -- $(due)
+fi
 placed=$(mktemp)
 trap 'xargs -r rm -f < "$placed"; rm -f "$placed"' EXIT
+trap 'exit 1' HUP INT TERM
 wrong=0
-if [ $# = 0 ]; then
-    set -- $(ls failing/edits)
-fi
 for name in "$@"; do
     mkdir -p "crates/$name/must-fail"
     for edit in "failing/edits/$name"/*.edit; do
@@ -18,6 +68,10 @@ for name in "$@"; do
         echo "$to" >> "$placed"
         cp "$edit" "$to"
     done
-    rt must-fail "$name" || wrong=1
+    if rt must-fail "$name"; then
+        note "$name"
+    else
+        wrong=1
+    fi
 done
 exit $wrong

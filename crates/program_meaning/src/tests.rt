@@ -9,7 +9,7 @@ use instruction_set::Operation::{
 use instruction_set::Width::{Bits32, Bits64};
 use instruction_set::{Operation, Relation, SignExtension, Swap, SwapSize, Width};
 use std::process::Abort;
-use vectors::{COUNT, OPERATIONS, PAIRS, RELATIONS, UNARY};
+use vectors::{OPERATIONS, PAIRS, RELATIONS, UNARY};
 
 fn binary(width: Width, operation: Operation) -> Arithmetic {
     Arithmetic::Binary { width, operation }
@@ -77,65 +77,63 @@ fn all_ones_are_the_greatest_word(rt: HostRuntime) {
     assert!(rt; !is_greater);
 }
 
-fn check_operation(
-    rt: &impl Abort,
-    operation: Operation,
-    wide: &[u64; COUNT],
-    narrow: &[u64; COUNT],
-) {
-    for ((x, y), (at_64, at_32)) in PAIRS.iter().zip(wide.iter().zip(narrow)) {
-        let (x, y) = (*x, *y);
-        let made = alu(binary(Bits64, operation), x, y);
-        assert_eq!(rt; made, *at_64, "{operation:?} of {x:x} and {y:x}");
-        let made = alu(binary(Bits32, operation), x, y);
-        assert_eq!(rt; made, *at_32, "32-bit {operation:?} of {x:x} and {y:x}");
+/// Compares what is made of each pair with the words of a list.
+fn check_words(rt: &impl Abort, arithmetic: Arithmetic, words: &str) {
+    let mut compared = 0;
+    for ((x, y), word) in PAIRS.iter().zip(words.split(' ')) {
+        check_spelled(rt, arithmetic, *x, *y, word);
+        compared += 1;
     }
+    assert_eq!(rt; compared, PAIRS.len());
 }
 
-fn check_relation(
-    rt: &impl Abort,
-    relation: Relation,
-    wide: &[bool; COUNT],
-    narrow: &[bool; COUNT],
-) {
-    for ((x, y), (at_64, at_32)) in PAIRS.iter().zip(wide.iter().zip(narrow)) {
-        let (x, y) = (*x, *y);
-        assert_eq!(rt;
-            is_taken(Bits64, relation, x, y),
-            *at_64,
-            "{relation:?} of {x:x} and {y:x}"
-        );
-        assert_eq!(rt;
-            is_taken(Bits32, relation, x, y),
-            *at_32,
-            "32-bit {relation:?} of {x:x} and {y:x}"
-        );
+/// Compares what is made of the first of each pair with the words of a list.
+fn check_unary(rt: &impl Abort, arithmetic: Arithmetic, words: &str) {
+    let mut compared = 0;
+    for ((x, _), word) in PAIRS.iter().zip(words.split(' ')) {
+        check_spelled(rt, arithmetic, *x, *x, word);
+        compared += 1;
     }
+    assert_eq!(rt; compared, PAIRS.len());
 }
 
-fn check_unary(rt: &impl Abort, arithmetic: Arithmetic, words: &[u64; COUNT]) {
-    for ((x, _), word) in PAIRS.iter().zip(words) {
-        assert_eq!(rt; alu(arithmetic, *x, *x), *word, "{arithmetic:?} of {x:x}");
+fn check_spelled(rt: &impl Abort, arithmetic: Arithmetic, x: u64, y: u64, word: &str) {
+    assert_eq!(rt;
+        u64::from_str_radix(word, 16),
+        Ok(alu(arithmetic, x, y)),
+        "{arithmetic:?} of {x:x} and {y:x}"
+    );
+}
+
+/// Compares which pairs a relation holds for with the digits of a list.
+fn check_relation(rt: &impl Abort, width: Width, relation: Relation, holds: &str) {
+    let mut compared = 0;
+    for ((x, y), digit) in PAIRS.iter().zip(holds.bytes()) {
+        assert_eq!(rt;
+            is_taken(width, relation, *x, *y),
+            digit == b'1',
+            "{width:?} {relation:?} of {x:x} and {y:x}"
+        );
+        compared += 1;
     }
+    assert_eq!(rt; compared, PAIRS.len());
 }
 
 #[test]
 fn words_as_gcc_makes_them(rt: HostRuntime) {
-    for (operation, wide, narrow) in &OPERATIONS {
-        check_operation(&rt, *operation, wide, narrow);
+    for (operation, wide, narrow) in OPERATIONS {
+        check_words(&rt, binary(Bits64, *operation), wide);
+        check_words(&rt, binary(Bits32, *operation), narrow);
+    }
+    for (arithmetic, words) in UNARY {
+        check_unary(&rt, *arithmetic, words);
     }
 }
 
 #[test]
 fn relations_as_gcc_tests_them(rt: HostRuntime) {
-    for (relation, wide, narrow) in &RELATIONS {
-        check_relation(&rt, *relation, wide, narrow);
-    }
-}
-
-#[test]
-fn words_of_one_operand_as_gcc_makes_them(rt: HostRuntime) {
-    for (arithmetic, words) in &UNARY {
-        check_unary(&rt, *arithmetic, words);
+    for (relation, wide, narrow) in RELATIONS {
+        check_relation(&rt, Bits64, *relation, wide);
+        check_relation(&rt, Bits32, *relation, narrow);
     }
 }

@@ -35,47 +35,51 @@ BINARY(LessOrEqual, x <= y, x <= y)
 BINARY(SignedLess, a < b, a < b)
 BINARY(SignedLessOrEqual, a <= b, a <= b)
 
-static void words(u64 (*wide)(u64, u64), u64 (*narrow)(u32, u32), int relation) {
+// A list of words in hexadecimal, with a space between them, six on a line.
+static void word(size_t i, u64 word) { printf("%lx%s", word, i + 1 == N ? "\", " : i % 6 == 5 ? " \\\n         " : " "); }
+
+static void words(u64 (*wide)(u64, u64), u64 (*narrow)(u32, u32)) {
+  printf("\"");
+  for (size_t i = 0; i < N; i++) word(i, wide(pairs[i][0], pairs[i][1]));
+  printf("\"");
+  for (size_t i = 0; i < N; i++) word(i, narrow(pairs[i][0], pairs[i][1]));
+}
+
+static void truths(u64 (*wide)(u64, u64), u64 (*narrow)(u32, u32)) {
   for (int half = 0; half < 2; half++) {
-    printf("[");
-    for (size_t i = 0; i < N; i++) {
-      u64 word = half ? narrow(pairs[i][0], pairs[i][1]) : wide(pairs[i][0], pairs[i][1]);
-      if (relation) printf("%s, ", word ? "true" : "false");
-      else printf("0x%lx, ", word);
-    }
-    printf("], ");
+    printf("\"");
+    for (size_t i = 0; i < N; i++) printf("%d", (int)(half ? narrow(pairs[i][0], pairs[i][1]) : wide(pairs[i][0], pairs[i][1])));
+    printf("\", ");
   }
 }
-#define OPERATION(NAME) printf("(Operation::" #NAME ", "); words(NAME##64, NAME##32, 0); printf("),\n");
-#define RELATION(NAME) printf("(Relation::" #NAME ", "); words(NAME##64, NAME##32, 1); printf("),\n");
+#define OPERATION(NAME) printf("(Operation::" #NAME ", "); words(NAME##64, NAME##32); printf("),\n");
+#define RELATION(NAME) printf("(Relation::" #NAME ", "); truths(NAME##64, NAME##32); printf("),\n");
 
 // one-operand operations, on the first word of each pair
 #define UNARY(TEXT, EXPRESSION)                                               \
-  printf("(Arithmetic::" TEXT ", [");                                         \
-  for (size_t i = 0; i < N; i++) { u64 x = pairs[i][0]; printf("0x%lx, ", (u64)(EXPRESSION)); } \
-  printf("]),\n");
+  printf("(Arithmetic::" TEXT ", \"");                                        \
+  for (size_t i = 0; i < N; i++) { u64 x = pairs[i][0]; word(i, (u64)(EXPRESSION)); } \
+  printf("),\n");
 
 int main(void) {
   printf("//! What gcc makes of the operations, printed by `vectors/words.c`.\n\n");
   printf("use crate::word::Arithmetic;\n");
   printf("use instruction_set::{Operation, Relation, SignExtension, Swap, SwapSize, Width};\n\n");
-  printf("/// The number of pairs.\n");
-  printf("pub const COUNT: usize = %zu;\n\n", N);
   printf("/// The words of the destination and the source.\n");
-  printf("pub const PAIRS: [(u64, u64); COUNT] = [\n");
+  printf("pub const PAIRS: &[(u64, u64)] = &[\n");
   for (size_t i = 0; i < N; i++) printf("(0x%lx, 0x%lx),\n", pairs[i][0], pairs[i][1]);
-  printf("];\n\n/// What each operation makes of each pair, at 64 and at 32 bits.\n");
-  printf("pub const OPERATIONS: [(Operation, [u64; COUNT], [u64; COUNT]); 14] = [\n");
+  printf("];\n\n/// What each operation makes of each pair, at 64 and at 32 bits, in hexadecimal.\n");
+  printf("pub const OPERATIONS: &[(Operation, &str, &str)] = &[\n");
   OPERATION(Add) OPERATION(Subtract) OPERATION(Multiply) OPERATION(Divide) OPERATION(SignedDivide)
   OPERATION(Or) OPERATION(And) OPERATION(LeftShift) OPERATION(RightShift) OPERATION(Modulo)
   OPERATION(SignedModulo) OPERATION(Xor) OPERATION(Move) OPERATION(ArithmeticShift)
-  printf("];\n\n/// Whether each relation holds for each pair, at 64 and at 32 bits.\n");
-  printf("pub const RELATIONS: [(Relation, [bool; COUNT], [bool; COUNT]); 11] = [\n");
+  printf("];\n\n/// Whether each relation holds (1) for each pair, at 64 and at 32 bits.\n");
+  printf("pub const RELATIONS: &[(Relation, &str, &str)] = &[\n");
   RELATION(Equal) RELATION(Greater) RELATION(GreaterOrEqual) RELATION(AnyBitSet) RELATION(NotEqual)
   RELATION(SignedGreater) RELATION(SignedGreaterOrEqual) RELATION(Less) RELATION(LessOrEqual)
   RELATION(SignedLess) RELATION(SignedLessOrEqual)
-  printf("];\n\n/// What each operation on one word makes of the first of each pair.\n");
-  printf("pub const UNARY: [(Arithmetic, [u64; COUNT]); 16] = [\n");
+  printf("];\n\n/// What each operation on one word makes of the first of each pair, in hexadecimal.\n");
+  printf("pub const UNARY: &[(Arithmetic, &str)] = &[\n");
   UNARY("Negate { width: Width::Bits64 }", Negate64(x, 0))
   UNARY("Negate { width: Width::Bits32 }", Negate32(x, 0))
   UNARY("MoveSigned { extension: SignExtension::Bits8To32 }", (u32)(s32)(int8_t)x)

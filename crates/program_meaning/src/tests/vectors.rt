@@ -3,11 +3,8 @@
 use crate::word::Arithmetic;
 use instruction_set::{Operation, Relation, SignExtension, Swap, SwapSize, Width};
 
-/// The number of pairs.
-pub const COUNT: usize = 12;
-
 /// The words of the destination and the source.
-pub const PAIRS: [(u64, u64); COUNT] = [
+pub const PAIRS: &[(u64, u64)] = &[
     (0x7, 0x3),
     (0xfffffffffffffff3, 0x3),
     (0x8000000000000000, 0x2),
@@ -22,622 +19,248 @@ pub const PAIRS: [(u64, u64); COUNT] = [
     (0x8000000000000001, 0x8000003f),
 ];
 
-/// What each operation makes of each pair, at 64 and at 32 bits.
-pub const OPERATIONS: [(Operation, [u64; COUNT], [u64; COUNT]); 14] = [
+/// What each operation makes of each pair, at 64 and at 32 bits, in hexadecimal.
+pub const OPERATIONS: &[(Operation, &str, &str)] = &[
     (
         Operation::Add,
-        [
-            0xa,
-            0xfffffffffffffff6,
-            0x8000000000000002,
-            0x80000004,
-            0x1111111111111100,
-            0x46,
-            0x0,
-            0x7ffffffffffffffe,
-            0x17fffffe2,
-            0xbd5b7ddf95fd757c,
-            0xffffffff,
-            0x8000000080000040,
-        ],
-        [
-            0xa, 0xfffffff6, 0x2, 0x80000004, 0x11111100, 0x46, 0x0, 0xfffffffe, 0x7fffffe2,
-            0x95fd757c, 0xffffffff, 0x80000040,
-        ],
+        "a fffffffffffffff6 8000000000000002 80000004 1111111111111100 46 \
+         0 7ffffffffffffffe 17fffffe2 bd5b7ddf95fd757c ffffffff 8000000080000040",
+        "a fffffff6 2 80000004 11111100 46 \
+         0 fffffffe 7fffffe2 95fd757c ffffffff 80000040",
     ),
     (
         Operation::Subtract,
-        [
-            0x4,
-            0xfffffffffffffff0,
-            0x7ffffffffffffffe,
-            0xfffffffe7ffffffc,
-            0x13579be02468ace0,
-            0xffffffffffffffc4,
-            0x1fffffffe,
-            0x8000000000000000,
-            0x180000020,
-            0x0,
-            0xffffffffffffffff,
-            0x7fffffff7fffffc2,
-        ],
-        [
-            0x4, 0xfffffff0, 0xfffffffe, 0x7ffffffc, 0x2468ace0, 0xffffffc4, 0xfffffffe, 0x0,
-            0x80000020, 0x0, 0xffffffff, 0x7fffffc2,
-        ],
+        "4 fffffffffffffff0 7ffffffffffffffe fffffffe7ffffffc 13579be02468ace0 ffffffffffffffc4 \
+         1fffffffe 8000000000000000 180000020 0 ffffffffffffffff 7fffffff7fffffc2",
+        "4 fffffff0 fffffffe 7ffffffc 2468ace0 ffffffc4 \
+         fffffffe 0 80000020 0 ffffffff 7fffffc2",
     ),
     (
         Operation::Multiply,
-        [
-            0x15,
-            0xffffffffffffffd9,
-            0x0,
-            0x7ffffffe00000000,
-            0x236d88fe5618cf00,
-            0x145,
-            0x1ffffffff,
-            0x8000000000000001,
-            0xffffffd17fffffe1,
-            0xb295b2eef140a504,
-            0x3fffffff80000000,
-            0x800000008000003f,
-        ],
-        [
-            0x15, 0xffffffd9, 0x0, 0x0, 0x5618cf00, 0x145, 0xffffffff, 0x1, 0x7fffffe1, 0xf140a504,
-            0x80000000, 0x8000003f,
-        ],
+        "15 ffffffffffffffd9 0 7ffffffe00000000 236d88fe5618cf00 145 \
+         1ffffffff 8000000000000001 ffffffd17fffffe1 b295b2eef140a504 3fffffff80000000 800000008000003f",
+        "15 ffffffd9 0 0 5618cf00 145 \
+         ffffffff 1 7fffffe1 f140a504 80000000 8000003f",
     ),
     (
         Operation::Divide,
-        [
-            0x2,
-            0x5555555555555551,
-            0x4000000000000000,
-            0xfffffffb,
-            0x0,
-            0x0,
-            0x0,
-            0x2,
-            0x0,
-            0x1,
-            0x0,
-            0xffffff82,
-        ],
-        [
-            0x2, 0x55555551, 0x0, 0x20000000, 0x1, 0x0, 0xffffffff, 0x1, 0x0, 0x1, 0x0, 0x0,
-        ],
+        "2 5555555555555551 4000000000000000 fffffffb 0 0 \
+         0 2 0 1 0 ffffff82",
+        "2 55555551 0 20000000 1 0 \
+         ffffffff 1 0 1 0 0",
     ),
     (
         Operation::SignedDivide,
-        [
-            0x2,
-            0xfffffffffffffffc,
-            0xc000000000000000,
-            0x0,
-            0xfffffffffffffff1,
-            0x0,
-            0xffffffffffffffff,
-            0x0,
-            0xfffffffff39ce73a,
-            0x1,
-            0x0,
-            0xffffffff0000007e,
-        ],
-        [
-            0x2, 0xfffffffc, 0x0, 0xe0000000, 0x0, 0x0, 0xffffffff, 0x1, 0x4210842, 0x1, 0x0, 0x0,
-        ],
+        "2 fffffffffffffffc c000000000000000 0 fffffffffffffff1 0 \
+         ffffffffffffffff 0 fffffffff39ce73a 1 0 ffffffff0000007e",
+        "2 fffffffc 0 e0000000 0 0 \
+         ffffffff 1 4210842 1 0 0",
     ),
     (
         Operation::Or,
-        [
-            0x7,
-            0xfffffffffffffff3,
-            0x8000000000000002,
-            0xffffffff80000004,
-            0xfefcfef8fefcfef0,
-            0x45,
-            0xffffffffffffffff,
-            0xffffffffffffffff,
-            0xffffffffffffffe1,
-            0xdeadbeefcafebabe,
-            0xffffffff,
-            0x800000008000003f,
-        ],
-        [
-            0x7, 0xfffffff3, 0x2, 0x80000004, 0xfefcfef0, 0x45, 0xffffffff, 0xffffffff, 0xffffffe1,
-            0xcafebabe, 0xffffffff, 0x8000003f,
-        ],
+        "7 fffffffffffffff3 8000000000000002 ffffffff80000004 fefcfef8fefcfef0 45 \
+         ffffffffffffffff ffffffffffffffff ffffffffffffffe1 deadbeefcafebabe ffffffff 800000008000003f",
+        "7 fffffff3 2 80000004 fefcfef0 45 \
+         ffffffff ffffffff ffffffe1 cafebabe ffffffff 8000003f",
     ),
     (
         Operation::And,
-        [
-            0x3,
-            0x3,
-            0x0,
-            0x100000000,
-            0x1214121812141210,
-            0x1,
-            0x1,
-            0x7fffffffffffffff,
-            0x180000001,
-            0xdeadbeefcafebabe,
-            0x0,
-            0x1,
-        ],
-        [
-            0x3, 0x3, 0x0, 0x0, 0x12141210, 0x1, 0x1, 0xffffffff, 0x80000001, 0xcafebabe, 0x0, 0x1,
-        ],
+        "3 3 0 100000000 1214121812141210 1 \
+         1 7fffffffffffffff 180000001 deadbeefcafebabe 0 1",
+        "3 3 0 0 12141210 1 \
+         1 ffffffff 80000001 cafebabe 0 1",
     ),
     (
         Operation::LeftShift,
-        [
-            0x38,
-            0xffffffffffffff98,
-            0x0,
-            0xfffffff800000000,
-            0x56789abcdef00000,
-            0xa,
-            0x1fffffffe,
-            0x8000000000000000,
-            0x200000000,
-            0x8000000000000000,
-            0x7fffffff,
-            0x8000000000000000,
-        ],
-        [
-            0x38, 0xffffff98, 0x0, 0x0, 0xdef00000, 0xa, 0xfffffffe, 0x80000000, 0x2, 0x80000000,
-            0x7fffffff, 0x80000000,
-        ],
+        "38 ffffffffffffff98 0 fffffff800000000 56789abcdef00000 a \
+         1fffffffe 8000000000000000 200000000 8000000000000000 7fffffff 8000000000000000",
+        "38 ffffff98 0 0 def00000 a \
+         fffffffe 80000000 2 80000000 7fffffff 80000000",
     ),
     (
         Operation::RightShift,
-        [
-            0x0,
-            0x1ffffffffffffffe,
-            0x2000000000000000,
-            0xffffffff8000000,
-            0x123456789abc,
-            0x2,
-            0x7fffffff,
-            0x1,
-            0x0,
-            0x3,
-            0x7fffffff,
-            0x1,
-        ],
-        [
-            0x0, 0x1ffffffe, 0x0, 0x8000000, 0x9abc, 0x2, 0x7fffffff, 0x1, 0x40000000, 0x3,
-            0x7fffffff, 0x0,
-        ],
+        "0 1ffffffffffffffe 2000000000000000 ffffffff8000000 123456789abc 2 \
+         7fffffff 1 0 3 7fffffff 1",
+        "0 1ffffffe 0 8000000 9abc 2 \
+         7fffffff 1 40000000 3 7fffffff 0",
     ),
     (
         Operation::Modulo,
-        [
-            0x1,
-            0x0,
-            0x0,
-            0x80000014,
-            0x123456789abcdef0,
-            0x5,
-            0xffffffff,
-            0x1,
-            0x180000001,
-            0x0,
-            0x7fffffff,
-            0x1f03,
-        ],
-        [
-            0x1, 0x0, 0x0, 0x0, 0x2468ace0, 0x5, 0x0, 0x0, 0x80000001, 0x0, 0x7fffffff, 0x1,
-        ],
+        "1 0 0 80000014 123456789abcdef0 5 \
+         ffffffff 1 180000001 0 7fffffff 1f03",
+        "1 0 0 0 2468ace0 5 \
+         0 0 80000001 0 7fffffff 1",
     ),
     (
         Operation::SignedModulo,
-        [
-            0x1,
-            0xffffffffffffffff,
-            0x0,
-            0xffffffff80000000,
-            0x123456789abcde0,
-            0x5,
-            0x0,
-            0xffffffffffffffff,
-            0x7,
-            0x0,
-            0x7fffffff,
-            0xffffffffffffe0ff,
-        ],
-        [
-            0x1, 0xffffffff, 0x0, 0x0, 0x9abcdef0, 0x5, 0x0, 0x0, 0xffffffff, 0x0, 0x7fffffff, 0x1,
-        ],
+        "1 ffffffffffffffff 0 ffffffff80000000 123456789abcde0 5 \
+         0 ffffffffffffffff 7 0 7fffffff ffffffffffffe0ff",
+        "1 ffffffff 0 0 9abcdef0 5 \
+         0 0 ffffffff 0 7fffffff 1",
     ),
     (
         Operation::Xor,
-        [
-            0x4,
-            0xfffffffffffffff0,
-            0x8000000000000002,
-            0xfffffffe80000004,
-            0xece8ece0ece8ece0,
-            0x44,
-            0xfffffffffffffffe,
-            0x8000000000000000,
-            0xfffffffe7fffffe0,
-            0x0,
-            0xffffffff,
-            0x800000008000003e,
-        ],
-        [
-            0x4, 0xfffffff0, 0x2, 0x80000004, 0xece8ece0, 0x44, 0xfffffffe, 0x0, 0x7fffffe0, 0x0,
-            0xffffffff, 0x8000003e,
-        ],
+        "4 fffffffffffffff0 8000000000000002 fffffffe80000004 ece8ece0ece8ece0 44 \
+         fffffffffffffffe 8000000000000000 fffffffe7fffffe0 0 ffffffff 800000008000003e",
+        "4 fffffff0 2 80000004 ece8ece0 44 \
+         fffffffe 0 7fffffe0 0 ffffffff 8000003e",
     ),
     (
         Operation::Move,
-        [
-            0x3,
-            0x3,
-            0x2,
-            0x100000004,
-            0xfedcba9876543210,
-            0x41,
-            0xffffffff00000001,
-            0x7fffffffffffffff,
-            0xffffffffffffffe1,
-            0xdeadbeefcafebabe,
-            0x80000000,
-            0x8000003f,
-        ],
-        [
-            0x3, 0x3, 0x2, 0x4, 0x76543210, 0x41, 0x1, 0xffffffff, 0xffffffe1, 0xcafebabe,
-            0x80000000, 0x8000003f,
-        ],
+        "3 3 2 100000004 fedcba9876543210 41 \
+         ffffffff00000001 7fffffffffffffff ffffffffffffffe1 deadbeefcafebabe 80000000 8000003f",
+        "3 3 2 4 76543210 41 \
+         1 ffffffff ffffffe1 cafebabe 80000000 8000003f",
     ),
     (
         Operation::ArithmeticShift,
-        [
-            0x0,
-            0xfffffffffffffffe,
-            0xe000000000000000,
-            0xfffffffff8000000,
-            0x123456789abc,
-            0x2,
-            0x7fffffff,
-            0xffffffffffffffff,
-            0x0,
-            0xffffffffffffffff,
-            0x7fffffff,
-            0xffffffffffffffff,
-        ],
-        [
-            0x0, 0xfffffffe, 0x0, 0xf8000000, 0xffff9abc, 0x2, 0xffffffff, 0xffffffff, 0xc0000000,
-            0xffffffff, 0x7fffffff, 0x0,
-        ],
+        "0 fffffffffffffffe e000000000000000 fffffffff8000000 123456789abc 2 \
+         7fffffff ffffffffffffffff 0 ffffffffffffffff 7fffffff ffffffffffffffff",
+        "0 fffffffe 0 f8000000 ffff9abc 2 \
+         ffffffff ffffffff c0000000 ffffffff 7fffffff 0",
     ),
 ];
 
-/// Whether each relation holds for each pair, at 64 and at 32 bits.
-pub const RELATIONS: [(Relation, [bool; COUNT], [bool; COUNT]); 11] = [
-    (
-        Relation::Equal,
-        [
-            false, false, false, false, false, false, false, false, false, true, false, false,
-        ],
-        [
-            false, false, false, false, false, false, false, true, false, true, false, false,
-        ],
-    ),
-    (
-        Relation::Greater,
-        [
-            true, true, true, true, false, false, false, true, false, false, false, true,
-        ],
-        [
-            true, true, false, true, true, false, true, false, false, false, false, false,
-        ],
-    ),
-    (
-        Relation::GreaterOrEqual,
-        [
-            true, true, true, true, false, false, false, true, false, true, false, true,
-        ],
-        [
-            true, true, false, true, true, false, true, true, false, true, false, false,
-        ],
-    ),
-    (
-        Relation::AnyBitSet,
-        [
-            true, true, false, true, true, true, true, true, true, true, false, true,
-        ],
-        [
-            true, true, false, false, true, true, true, true, true, true, false, true,
-        ],
-    ),
-    (
-        Relation::NotEqual,
-        [
-            true, true, true, true, true, true, true, true, true, false, true, true,
-        ],
-        [
-            true, true, true, true, true, true, true, false, true, false, true, true,
-        ],
-    ),
-    (
-        Relation::SignedGreater,
-        [
-            true, false, false, false, true, false, true, false, true, false, false, false,
-        ],
-        [
-            true, false, false, false, false, false, false, false, false, false, true, true,
-        ],
-    ),
+/// Whether each relation holds (1) for each pair, at 64 and at 32 bits.
+pub const RELATIONS: &[(Relation, &str, &str)] = &[
+    (Relation::Equal, "000000000100", "000000010100"),
+    (Relation::Greater, "111100010001", "110110100000"),
+    (Relation::GreaterOrEqual, "111100010101", "110110110100"),
+    (Relation::AnyBitSet, "110111111101", "110011111101"),
+    (Relation::NotEqual, "111111111011", "111111101011"),
+    (Relation::SignedGreater, "100010101000", "100000000011"),
     (
         Relation::SignedGreaterOrEqual,
-        [
-            true, false, false, false, true, false, true, false, true, true, false, false,
-        ],
-        [
-            true, false, false, false, false, false, false, true, false, true, true, true,
-        ],
+        "100010101100",
+        "100000010111",
     ),
-    (
-        Relation::Less,
-        [
-            false, false, false, false, true, true, true, false, true, false, true, false,
-        ],
-        [
-            false, false, true, false, false, true, false, false, true, false, true, true,
-        ],
-    ),
-    (
-        Relation::LessOrEqual,
-        [
-            false, false, false, false, true, true, true, false, true, true, true, false,
-        ],
-        [
-            false, false, true, false, false, true, false, true, true, true, true, true,
-        ],
-    ),
-    (
-        Relation::SignedLess,
-        [
-            false, true, true, true, false, true, false, true, false, false, true, true,
-        ],
-        [
-            false, true, true, true, true, true, true, false, true, false, false, false,
-        ],
-    ),
-    (
-        Relation::SignedLessOrEqual,
-        [
-            false, true, true, true, false, true, false, true, false, true, true, true,
-        ],
-        [
-            false, true, true, true, true, true, true, true, true, true, false, false,
-        ],
-    ),
+    (Relation::Less, "000011101010", "001001001011"),
+    (Relation::LessOrEqual, "000011101110", "001001011111"),
+    (Relation::SignedLess, "011101010011", "011111101000"),
+    (Relation::SignedLessOrEqual, "011101010111", "011111111100"),
 ];
 
-/// What each operation on one word makes of the first of each pair.
-pub const UNARY: [(Arithmetic, [u64; COUNT]); 16] = [
+/// What each operation on one word makes of the first of each pair, in hexadecimal.
+pub const UNARY: &[(Arithmetic, &str)] = &[
     (
         Arithmetic::Negate {
             width: Width::Bits64,
         },
-        [
-            0xfffffffffffffff9,
-            0xd,
-            0x8000000000000000,
-            0x80000000,
-            0xedcba98765432110,
-            0xfffffffffffffffb,
-            0xffffffff00000001,
-            0x1,
-            0xfffffffe7fffffff,
-            0x2152411035014542,
-            0xffffffff80000001,
-            0x7fffffffffffffff,
-        ],
+        "fffffffffffffff9 d 8000000000000000 80000000 edcba98765432110 fffffffffffffffb \
+         ffffffff00000001 1 fffffffe7fffffff 2152411035014542 ffffffff80000001 7fffffffffffffff",
     ),
     (
         Arithmetic::Negate {
             width: Width::Bits32,
         },
-        [
-            0xfffffff9, 0xd, 0x0, 0x80000000, 0x65432110, 0xfffffffb, 0x1, 0x1, 0x7fffffff,
-            0x35014542, 0x80000001, 0xffffffff,
-        ],
+        "fffffff9 d 0 80000000 65432110 fffffffb \
+         1 1 7fffffff 35014542 80000001 ffffffff",
     ),
     (
         Arithmetic::MoveSigned {
             extension: SignExtension::Bits8To32,
         },
-        [
-            0x7, 0xfffffff3, 0x0, 0x0, 0xfffffff0, 0x5, 0xffffffff, 0xffffffff, 0x1, 0xffffffbe,
-            0xffffffff, 0x1,
-        ],
+        "7 fffffff3 0 0 fffffff0 5 \
+         ffffffff ffffffff 1 ffffffbe ffffffff 1",
     ),
     (
         Arithmetic::MoveSigned {
             extension: SignExtension::Bits16To32,
         },
-        [
-            0x7, 0xfffffff3, 0x0, 0x0, 0xffffdef0, 0x5, 0xffffffff, 0xffffffff, 0x1, 0xffffbabe,
-            0xffffffff, 0x1,
-        ],
+        "7 fffffff3 0 0 ffffdef0 5 \
+         ffffffff ffffffff 1 ffffbabe ffffffff 1",
     ),
     (
         Arithmetic::MoveSigned {
             extension: SignExtension::Bits8To64,
         },
-        [
-            0x7,
-            0xfffffffffffffff3,
-            0x0,
-            0x0,
-            0xfffffffffffffff0,
-            0x5,
-            0xffffffffffffffff,
-            0xffffffffffffffff,
-            0x1,
-            0xffffffffffffffbe,
-            0xffffffffffffffff,
-            0x1,
-        ],
+        "7 fffffffffffffff3 0 0 fffffffffffffff0 5 \
+         ffffffffffffffff ffffffffffffffff 1 ffffffffffffffbe ffffffffffffffff 1",
     ),
     (
         Arithmetic::MoveSigned {
             extension: SignExtension::Bits16To64,
         },
-        [
-            0x7,
-            0xfffffffffffffff3,
-            0x0,
-            0x0,
-            0xffffffffffffdef0,
-            0x5,
-            0xffffffffffffffff,
-            0xffffffffffffffff,
-            0x1,
-            0xffffffffffffbabe,
-            0xffffffffffffffff,
-            0x1,
-        ],
+        "7 fffffffffffffff3 0 0 ffffffffffffdef0 5 \
+         ffffffffffffffff ffffffffffffffff 1 ffffffffffffbabe ffffffffffffffff 1",
     ),
     (
         Arithmetic::MoveSigned {
             extension: SignExtension::Bits32To64,
         },
-        [
-            0x7,
-            0xfffffffffffffff3,
-            0x0,
-            0xffffffff80000000,
-            0xffffffff9abcdef0,
-            0x5,
-            0xffffffffffffffff,
-            0xffffffffffffffff,
-            0xffffffff80000001,
-            0xffffffffcafebabe,
-            0x7fffffff,
-            0x1,
-        ],
+        "7 fffffffffffffff3 0 ffffffff80000000 ffffffff9abcdef0 5 \
+         ffffffffffffffff ffffffffffffffff ffffffff80000001 ffffffffcafebabe 7fffffff 1",
     ),
     (
         Arithmetic::SwapBytes {
             swap: Swap::ToLittle,
             size: SwapSize::Bits16,
         },
-        [
-            0x7, 0xfff3, 0x0, 0x0, 0xdef0, 0x5, 0xffff, 0xffff, 0x1, 0xbabe, 0xffff, 0x1,
-        ],
+        "7 fff3 0 0 def0 5 \
+         ffff ffff 1 babe ffff 1",
     ),
     (
         Arithmetic::SwapBytes {
             swap: Swap::ToLittle,
             size: SwapSize::Bits32,
         },
-        [
-            0x7, 0xfffffff3, 0x0, 0x80000000, 0x9abcdef0, 0x5, 0xffffffff, 0xffffffff, 0x80000001,
-            0xcafebabe, 0x7fffffff, 0x1,
-        ],
+        "7 fffffff3 0 80000000 9abcdef0 5 \
+         ffffffff ffffffff 80000001 cafebabe 7fffffff 1",
     ),
     (
         Arithmetic::SwapBytes {
             swap: Swap::ToLittle,
             size: SwapSize::Bits64,
         },
-        [
-            0x7,
-            0xfffffffffffffff3,
-            0x8000000000000000,
-            0xffffffff80000000,
-            0x123456789abcdef0,
-            0x5,
-            0xffffffff,
-            0xffffffffffffffff,
-            0x180000001,
-            0xdeadbeefcafebabe,
-            0x7fffffff,
-            0x8000000000000001,
-        ],
+        "7 fffffffffffffff3 8000000000000000 ffffffff80000000 123456789abcdef0 5 \
+         ffffffff ffffffffffffffff 180000001 deadbeefcafebabe 7fffffff 8000000000000001",
     ),
     (
         Arithmetic::SwapBytes {
             swap: Swap::ToBig,
             size: SwapSize::Bits16,
         },
-        [
-            0x700, 0xf3ff, 0x0, 0x0, 0xf0de, 0x500, 0xffff, 0xffff, 0x100, 0xbeba, 0xffff, 0x100,
-        ],
+        "700 f3ff 0 0 f0de 500 \
+         ffff ffff 100 beba ffff 100",
     ),
     (
         Arithmetic::SwapBytes {
             swap: Swap::ToBig,
             size: SwapSize::Bits32,
         },
-        [
-            0x7000000, 0xf3ffffff, 0x0, 0x80, 0xf0debc9a, 0x5000000, 0xffffffff, 0xffffffff,
-            0x1000080, 0xbebafeca, 0xffffff7f, 0x1000000,
-        ],
+        "7000000 f3ffffff 0 80 f0debc9a 5000000 \
+         ffffffff ffffffff 1000080 bebafeca ffffff7f 1000000",
     ),
     (
         Arithmetic::SwapBytes {
             swap: Swap::ToBig,
             size: SwapSize::Bits64,
         },
-        [
-            0x700000000000000,
-            0xf3ffffffffffffff,
-            0x80,
-            0x80ffffffff,
-            0xf0debc9a78563412,
-            0x500000000000000,
-            0xffffffff00000000,
-            0xffffffffffffffff,
-            0x100008001000000,
-            0xbebafecaefbeadde,
-            0xffffff7f00000000,
-            0x100000000000080,
-        ],
+        "700000000000000 f3ffffffffffffff 80 80ffffffff f0debc9a78563412 500000000000000 \
+         ffffffff00000000 ffffffffffffffff 100008001000000 bebafecaefbeadde ffffff7f00000000 100000000000080",
     ),
     (
         Arithmetic::SwapBytes {
             swap: Swap::Reverse,
             size: SwapSize::Bits16,
         },
-        [
-            0x700, 0xf3ff, 0x0, 0x0, 0xf0de, 0x500, 0xffff, 0xffff, 0x100, 0xbeba, 0xffff, 0x100,
-        ],
+        "700 f3ff 0 0 f0de 500 \
+         ffff ffff 100 beba ffff 100",
     ),
     (
         Arithmetic::SwapBytes {
             swap: Swap::Reverse,
             size: SwapSize::Bits32,
         },
-        [
-            0x7000000, 0xf3ffffff, 0x0, 0x80, 0xf0debc9a, 0x5000000, 0xffffffff, 0xffffffff,
-            0x1000080, 0xbebafeca, 0xffffff7f, 0x1000000,
-        ],
+        "7000000 f3ffffff 0 80 f0debc9a 5000000 \
+         ffffffff ffffffff 1000080 bebafeca ffffff7f 1000000",
     ),
     (
         Arithmetic::SwapBytes {
             swap: Swap::Reverse,
             size: SwapSize::Bits64,
         },
-        [
-            0x700000000000000,
-            0xf3ffffffffffffff,
-            0x80,
-            0x80ffffffff,
-            0xf0debc9a78563412,
-            0x500000000000000,
-            0xffffffff00000000,
-            0xffffffffffffffff,
-            0x100008001000000,
-            0xbebafecaefbeadde,
-            0xffffff7f00000000,
-            0x100000000000080,
-        ],
+        "700000000000000 f3ffffffffffffff 80 80ffffffff f0debc9a78563412 500000000000000 \
+         ffffffff00000000 ffffffffffffffff 100008001000000 bebafecaefbeadde ffffff7f00000000 100000000000080",
     ),
 ];
