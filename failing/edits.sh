@@ -48,7 +48,7 @@ case ${1-} in
     exit
     ;;
 --turn)
-    number=$(cat "$record" | sha256sum | cut -c 1-8)
+    number=$(find crates -name out -prune -o -type f -print | LC_ALL=C sort | xargs sha256sum | sha256sum | cut -c 1-8)
     count=$(crates | wc -l)
     crates | sed -n "$((0x$number % count + 1))p"
     exit
