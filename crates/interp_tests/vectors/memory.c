@@ -1,5 +1,5 @@
 // Prints src/tests/vectors.rt: what gcc makes of loads and stores, on a little-endian host.
-// gcc -O1 -fwrapv memory.c && ./a.out > ../src/tests/vectors.rt && rm a.out && rt fmt
+// gcc -O1 -fwrapv memory.c && ./a.out > ../src/tests/vectors.rt && rm a.out
 // The words that are stored and the immediates are the firsts and the seconds of each third pair.
 #include "../../program_meaning/vectors/pairs.h"
 #include <stdio.h>
@@ -14,10 +14,8 @@ static u64 slot(int opcode, int dst, int src, int offset, int imm) {
   return text;
 }
 
-static const u64 EXIT = 0x9500000000000000;
-
 static void load(int opcode, int offset, u64 word) {
-  printf("([0x%016lx, 0x%016lx], 0x%lx),\n", slot(opcode, 0, 2, offset, 0), EXIT, word);
+  printf("%016lx %lx\n", slot(opcode, 0, 2, offset, 0), word);
 }
 
 #define LOAD(OPCODE, TYPE, WIDE)                                              \
@@ -29,32 +27,29 @@ static unsigned char scratch[32];
   for (size_t i = 0; i < N; i += 3) {                                         \
     TYPE n = pairs[i][0]; u64 after; int offset = 8 + i % 5;                  \
     memset(scratch, 0, 32); memcpy(scratch + offset, &n, sizeof n); memcpy(&after, scratch + 8, 8); \
-    printf("([0x%016lx, 0x%016lx, 0x%016lx, 0x%016lx, 0x%016lx], 0x%lx),\n",  \
+    printf("%016lx %016lx %016lx %016lx %lx\n",                               \
            slot(0x18, 4, 0, 0, pairs[i][0]), slot(0, 0, 0, 0, pairs[i][0] >> 32), \
-           slot(OPCODE, 3, 4, offset, 0), slot(0x79, 0, 3, 8, 0), EXIT, after); \
+           slot(OPCODE, 3, 4, offset, 0), slot(0x79, 0, 3, 8, 0), after);     \
   }
 
 #define STORE_IMMEDIATE(OPCODE, TYPE)                                         \
   for (size_t i = 0; i < N; i += 3) {                                         \
     s32 imm = pairs[i][1]; TYPE n = (s64)imm; u64 after; int offset = 8 + i % 7; \
     memset(scratch, 0, 32); memcpy(scratch + offset, &n, sizeof n); memcpy(&after, scratch + 8, 8); \
-    printf("([0x%016lx, 0x%016lx, 0x%016lx], 0x%lx),\n",                      \
-           slot(OPCODE, 3, 0, offset, imm), slot(0x79, 0, 3, 8, 0), EXIT, after); \
+    printf("%016lx %016lx %lx\n",                                             \
+           slot(OPCODE, 3, 0, offset, imm), slot(0x79, 0, 3, 8, 0), after);   \
   }
 
 int main(void) {
   for (int i = 0; i < 512; i++) block[i] = i * 37 + 11;
-  printf("//! What gcc makes of loads and stores, printed by `vectors/memory.c`.\n\n");
-  printf("/// Loads from a block whose byte i is 37 i + 11, by R2: slots, and R0 at the end.\n");
-  printf("pub const LOADS: [([u64; 2], u64); 21] = [\n");
+  printf("//! What gcc makes of loads and stores, printed by `vectors/memory.c`: the slots of a program but for its EXIT, and R0 at the end.\n\n");
+  printf("/// Loads from a block whose byte i is 37 i + 11, by R2.\npub const LOADS: &str = \"\\\n");
   LOAD(0x61, u32, u64) LOAD(0x69, uint16_t, u64) LOAD(0x71, uint8_t, u64) LOAD(0x79, u64, u64)
   LOAD(0x81, s32, s64) LOAD(0x89, int16_t, s64) LOAD(0x91, int8_t, s64)
-  printf("];\n\n/// Stores of a register into scratch by R3, read back: slots, and R0 at the end.\n");
-  printf("pub const STORES: [([u64; 5], u64); 16] = [\n");
+  printf("\";\n\n/// Stores of a register into scratch by R3, read back.\npub const STORES: &str = \"\\\n");
   STORE(0x63, u32) STORE(0x6b, uint16_t) STORE(0x73, uint8_t) STORE(0x7b, u64)
-  printf("];\n\n/// Stores of an immediate into scratch by R3, read back: slots, and R0 at the end.\n");
-  printf("pub const IMMEDIATE_STORES: [([u64; 3], u64); 16] = [\n");
+  printf("\";\n\n/// Stores of an immediate into scratch by R3, read back.\npub const IMMEDIATE_STORES: &str = \"\\\n");
   STORE_IMMEDIATE(0x62, u32) STORE_IMMEDIATE(0x6a, uint16_t) STORE_IMMEDIATE(0x72, uint8_t) STORE_IMMEDIATE(0x7a, u64)
-  printf("];\n");
+  printf("\";\n");
   return 0;
 }
