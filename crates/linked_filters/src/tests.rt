@@ -1,4 +1,4 @@
-//! Objects of drafts, as clang 14 makes them by the flags of `examples/Makefile` for v3 with `-fno-addrsig`, behind `llvm-strip
+//! Objects of drafts, as clang 14 makes them by the flags of `examples/Makefile` for v3 with `-fno-addrsig`, after `llvm-strip
 //! --strip-unneeded`. `make check` in `examples/` compares their digits with what clang makes today.
 
 mod entries;
@@ -76,12 +76,8 @@ fn check(rt: &impl Abort, alloc: Global, draft: &Draft) -> Result<(), Fail> {
         Err(fault) => return Err(Fail::from(fault)),
     };
     assert!(rt; is_accepted(alloc, &linked, block)?, "{name} is refused");
-    let compared = compare(alloc, &slots, &linked.slots, block, BLOCKS)?;
-    assert_eq!(rt;
-        Some(compared.ended),
-        draft.ended,
-        "{name}: ended by a guard"
-    );
+    let ended = compare(alloc, &slots, &linked.slots, block, BLOCKS)?.ended;
+    assert_eq!(rt; Some(ended), draft.ended, "{name}: ended by a guard");
     Ok(())
 }
 
