@@ -10,6 +10,4 @@ mod lines_objects;
 #[cfg(test)]
 mod programs;
 #[cfg(test)]
-mod references;
-#[cfg(test)]
 mod tests;

@@ -50,12 +50,8 @@ fn compare(rt: &impl Abort, alloc: Global, digits: &str) -> Result<(), Fail> {
 }
 
 #[test]
-fn lines_of_version_4(rt: HostRuntime) -> Result<(), Fail> {
-    compare(&rt, rt.alloc(), LINES_4)
-}
-
-#[test]
-fn lines_of_version_5(rt: HostRuntime) -> Result<(), Fail> {
+fn lines_of_versions_4_and_5(rt: HostRuntime) -> Result<(), Fail> {
+    compare(&rt, rt.alloc(), LINES_4)?;
     compare(&rt, rt.alloc(), LINES_5)
 }
 

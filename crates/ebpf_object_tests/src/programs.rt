@@ -1,7 +1,7 @@
 //! The program of the object, on blocks for which `vectors/calls.c` says by hand what is emitted.
 
 use crate::calls_object::calls;
-use ebpf_calls::{named_function, only_function};
+use ebpf_calls::{called_slots, named_function, only_function};
 use ebpf_decode::{decode, push_instruction};
 use ebpf_gather::gather;
 use ebpf_inline::inline;
@@ -39,25 +39,6 @@ fn linked(alloc: Global, block: BlockSize) -> Result<Vec<u8>, Fail> {
     Ok(bytes_of(alloc, &linked.slots)?)
 }
 
-/// Two functions of the object can be seen from outside.
-#[test]
-fn no_function_is_the_only_one(rt: HostRuntime) -> Result<(), Fail> {
-    let bytes = calls(rt.alloc())?;
-    assert!(rt; only_function(&Object::read(&bytes)?).is_err());
-    Ok(())
-}
-
-/// It is accepted, with a limit that has room for what is emitted.
-#[test]
-fn the_program_is_accepted(rt: HostRuntime) -> Result<(), Fail> {
-    let block = BlockSize::new(512).ok_or("no block")?;
-    let bytes = linked(rt.alloc(), block)?;
-    let program = decode(rt.alloc(), &bytes)?;
-    let sizes = RunSizes::new(block, 7).ok_or("no sizes")?;
-    assert!(rt; verify::<Intervals>(rt.alloc(), program, sizes).is_ok());
-    Ok(())
-}
-
 /// How a block run ends, and how many bytes it emits, of a block whose bytes 1 and 2 these are.
 fn run(rt: &impl Abort, program: &Program, first: u8, second: u8) -> (End, usize) {
     let mut block = [0; 512];
@@ -72,14 +53,28 @@ fn run(rt: &impl Abort, program: &Program, first: u8, second: u8) -> (End, usize
     (end, machine.group_length())
 }
 
-/// It emits "hello", of 5 bytes behind 2, where 11 times byte 1 and 13 times byte 2 come to 55.
+/// Two functions of the object can be seen from outside, so that it has to be said which is the program. `filter` has 16 slots, and twice
+/// 8 of `weight` with 7 of `prime`.
+#[test]
+fn the_functions_of_the_program(rt: HostRuntime) -> Result<(), Fail> {
+    let bytes = calls(rt.alloc())?;
+    let object = Object::read(&bytes)?;
+    assert!(rt; only_function(&object).is_err());
+    let filter = named_function(&object, b"filter").ok_or("no filter")?;
+    assert_eq!(rt; called_slots(&object, filter), Ok(46));
+    Ok(())
+}
+
+/// It is accepted, with a limit that has room for what is emitted. It emits "hello", of 5 bytes after 2, where 11 times byte 1 and 13 times
+/// byte 2 come to 55.
 #[test]
 fn the_program_does_what_the_functions_do(rt: HostRuntime) -> Result<(), Fail> {
     let block = BlockSize::new(512).ok_or("no block")?;
-    let bytes = linked(rt.alloc(), block)?;
-    let program = decode(rt.alloc(), &bytes)?;
+    let program = decode(rt.alloc(), &linked(rt.alloc(), block)?)?;
     assert_eq!(rt; run(&rt, &program, 5, 0), (End::Exit { r0: 0 }, 7));
     assert_eq!(rt; run(&rt, &program, 0, 5), (End::Exit { r0: 0 }, 0));
     assert_eq!(rt; run(&rt, &program, 4, 1), (End::Exit { r0: 0 }, 0));
+    let sizes = RunSizes::new(block, 7).ok_or("no sizes")?;
+    assert!(rt; verify::<Intervals>(rt.alloc(), program, sizes).is_ok());
     Ok(())
 }

@@ -1,406 +1,155 @@
 //! An object as clang makes it, and the same one with a wrong field.
 
 use crate::calls_object::calls;
-use ebpf_object::{
-    Binding, HeaderFault, Object, ObjectFault, Place, RelocationFault, RelocationKind,
-    SectionFault, SectionKind, SymbolFault, SymbolKind,
-};
-use std::process::Abort;
+use ebpf_calls::{Reference, reference_of};
+use ebpf_object::{Object, ObjectFault};
+use std::alloc::Global;
+use std::str;
 use std::test::Fail;
 
-/// The name of a section, its kind and how many relocations it has.
-fn told_section<'a>(object: &Object<'a>, number: usize) -> Option<(&'a [u8], SectionKind, usize)> {
-    if number >= object.section_count() {
-        return None;
-    }
-    Some((
-        object.section_name(number),
-        object.section(number).kind,
-        object.relocation_count(number),
-    ))
-}
+/// The sections of the object with their relocations, which are those that `llvm-readelf -Sr` prints.
+const SECTIONS: &str = "\
+0 \"\" Null
+1 \".strtab\" StringTable
+2 \".text\" ProgramBits
+3 \".rel.text\" Relocations
+  50 WideImmediate 6
+  90 Call 7
+  b0 Call 7
+  c8 WideImmediate 5
+4 \".rodata.str1.1\" ProgramBits
+5 \".rodata\" ProgramBits
+6 \".symtab\" SymbolTable
+";
 
-/// The sections of the object.
-const SECTIONS: &[(&str, SectionKind, usize)] = &[
-    ("", SectionKind::Null, 0),
-    (".strtab", SectionKind::StringTable, 0),
-    (".text", SectionKind::ProgramBits, 0),
-    (".rel.text", SectionKind::Relocations, 4),
-    (".rodata.str1.1", SectionKind::ProgramBits, 0),
-    (".rodata", SectionKind::ProgramBits, 0),
-    (".symtab", SectionKind::SymbolTable, 0),
-];
-
-#[test]
-fn the_sections_of_an_object(rt: HostRuntime) -> Result<(), Fail> {
-    let bytes = calls(rt.alloc())?;
-    let Ok(object) = Object::read(&bytes) else {
-        return Err(Fail::from("no object"));
-    };
-    assert_eq!(rt; object.section_count(), SECTIONS.len());
-    for (number, (name, kind, relocations)) in SECTIONS.iter().enumerate() {
-        let Some((told, its, has)) = told_section(&object, number) else {
-            return Err(Fail::from("no section"));
-        };
-        assert_eq!(rt; told, name.as_bytes());
-        assert_eq!(rt; its, *kind);
-        assert_eq!(rt; has, *relocations);
-    }
-    Ok(())
-}
-
-/// Symbols of the object: the number, the name, the binding, what it stands for, where it is, at which byte and how long.
-const SYMBOLS: &[(usize, &str, Binding, SymbolKind, Place, usize, usize)] = &[
-    (
-        1,
-        "calls.c",
-        Binding::Local,
-        SymbolKind::File,
-        Place::Reserved(0xfff1),
-        0,
-        0,
-    ),
-    (
-        2,
-        "prime",
-        Binding::Local,
-        SymbolKind::Function,
-        Place::Section(2),
-        0x40,
-        56,
-    ),
-    (
-        3,
-        "primes",
-        Binding::Local,
-        SymbolKind::Data,
-        Place::Section(5),
-        0,
-        20,
-    ),
-    (
-        6,
-        "",
-        Binding::Local,
-        SymbolKind::Section,
-        Place::Section(5),
-        0,
-        0,
-    ),
-    (
-        7,
-        "weight",
-        Binding::Global,
-        SymbolKind::Function,
-        Place::Section(2),
-        0,
-        64,
-    ),
-    (
-        8,
-        "filter",
-        Binding::Global,
-        SymbolKind::Function,
-        Place::Section(2),
-        0x78,
-        128,
-    ),
-];
-
-#[test]
-fn the_symbols_of_an_object(rt: HostRuntime) -> Result<(), Fail> {
-    let bytes = calls(rt.alloc())?;
-    let Ok(object) = Object::read(&bytes) else {
-        return Err(Fail::from("no object"));
-    };
-    assert_eq!(rt; object.symbol_count(), 9);
-    for (number, name, binding, kind, place, value, size) in SYMBOLS {
-        if *number >= object.symbol_count() {
-            return Err(Fail::from("no symbol"));
+/// Each section, and the byte that each of its relocations changes, how, and by which symbol.
+fn sections(alloc: Global, object: &Object<'_>) -> Result<String, Fail> {
+    let mut text = String::new(alloc);
+    for number in 0..object.section_count() {
+        let name = str::from_utf8(object.section_name(number))
+            .ok()
+            .ok_or("no name")?;
+        let kind = object.section(number).kind;
+        writeln!(text, "{number} {name:?} {kind:?}")?;
+        for place in 0..object.relocation_count(number) {
+            let relocation = object.relocation(number, place);
+            let (byte, symbol) = (relocation.offset, relocation.symbol);
+            let kind = relocation.kind.ok_or("no kind")?;
+            writeln!(text, "  {byte:x} {kind:?} {symbol}")?;
         }
-        let symbol = object.symbol(*number);
-        assert_eq!(rt; object.symbol_name(*number), name.as_bytes());
-        assert_eq!(rt; symbol.binding, *binding);
-        assert_eq!(rt; symbol.kind, *kind);
-        assert_eq!(rt; symbol.place, *place);
-        assert_eq!(rt; symbol.value, *value);
-        assert_eq!(rt; symbol.size, *size);
     }
-    Ok(())
+    Ok(text)
 }
 
-/// The relocations of the object: at which byte, of which kind, and the number of the symbol.
-const RELOCATIONS: [(usize, RelocationKind, usize); 4] = [
-    (0x50, RelocationKind::WideImmediate, 6),
-    (0x90, RelocationKind::Call, 7),
-    (0xb0, RelocationKind::Call, 7),
-    (0xc8, RelocationKind::WideImmediate, 5),
-];
+/// Its symbols, which are those that `llvm-readelf -s` prints, and what the slots of its functions refer to: `weight` calls `prime` by its
+/// distance alone, which no relocation changes.
+const SYMBOLS: &str = "\
+0 \"\" Local Untold Undefined 0 0
+1 \"calls.c\" Local File Reserved(65521) 0 0
+2 \"prime\" Local Function Section(2) 40 56
+  slot 2: Data { section: 5, byte: 0 }
+3 \"primes\" Local Data Section(5) 0 20
+4 \"LBB2_2\" Local Untold Section(2) e8 0
+5 \"\" Local Section Section(4) 0 0
+6 \"\" Local Section Section(5) 0 0
+7 \"weight\" Global Function Section(2) 0 64
+  slot 5: Function(Function { section: 2, offset: 64, slots: 7 })
+8 \"filter\" Global Function Section(2) 78 128
+  slot 3: Function(Function { section: 2, offset: 0, slots: 8 })
+  slot 7: Function(Function { section: 2, offset: 0, slots: 8 })
+  slot 10: Data { section: 4, byte: 0 }
+";
 
-#[test]
-fn the_relocations_of_an_object(rt: HostRuntime) -> Result<(), Fail> {
-    let bytes = calls(rt.alloc())?;
-    let Ok(object) = Object::read(&bytes) else {
-        return Err(Fail::from("no object"));
-    };
-    for (number, (offset, kind, symbol)) in RELOCATIONS.iter().enumerate() {
-        if 3 >= object.section_count() || number >= object.relocation_count(3) {
-            return Err(Fail::from("no relocation"));
-        }
-        let relocation = object.relocation(3, number);
-        assert_eq!(rt; relocation.offset, *offset);
-        assert_eq!(rt; relocation.kind, Some(*kind));
-        assert_eq!(rt; relocation.symbol, *symbol);
-    }
-    Ok(())
-}
-
-/// The functions of the object: the number of the symbol, at which byte of section 2, how many slots, and the first byte.
-const FUNCTIONS: [(usize, usize, usize, u8); 3] = [
-    (2, 0x40, 7, 0x57),
-    (7, 0, 8, 0xbf),
-    (8, 0x78, 16, 0xbf),
-];
-
-#[test]
-fn the_functions_of_an_object(rt: HostRuntime) -> Result<(), Fail> {
-    let bytes = calls(rt.alloc())?;
-    let Ok(object) = Object::read(&bytes) else {
-        return Err(Fail::from("no object"));
-    };
-    for (number, offset, slots, first) in FUNCTIONS {
-        if number >= object.symbol_count() {
-            return Err(Fail::from("no symbol"));
-        }
+/// Each symbol, and of a function each slot that refers to something.
+fn symbols(alloc: Global, object: &Object<'_>) -> Result<String, Fail> {
+    let mut text = String::new(alloc);
+    for number in 0..object.symbol_count() {
+        let name = str::from_utf8(object.symbol_name(number))
+            .ok()
+            .ok_or("no name")?;
+        let symbol = object.symbol(number);
+        let (binding, kind, place) = (symbol.binding, symbol.kind, symbol.place);
+        let (value, size) = (symbol.value, symbol.size);
+        writeln!(
+            text,
+            "{number} {name:?} {binding:?} {kind:?} {place:?} {value:x} {size}"
+        )?;
         let Some(function) = object.function(number) else {
-            return Err(Fail::from("no function"));
+            continue;
         };
-        assert_eq!(rt;
-            (function.section, function.offset, function.slots),
-            (2, offset, slots)
-        );
-        let code = object.code(function);
-        assert_eq!(rt; code.len(), 8 * slots);
-        assert_eq!(rt; code.first().copied(), Some(first));
-    }
-    Ok(())
-}
-
-#[test]
-fn a_symbol_that_is_no_function(rt: HostRuntime) -> Result<(), Fail> {
-    let bytes = calls(rt.alloc())?;
-    let Ok(object) = Object::read(&bytes) else {
-        return Err(Fail::from("no object"));
-    };
-    for number in [0, 1, 3, 5, 6] {
-        if number >= object.symbol_count() {
-            return Err(Fail::from("no symbol"));
+        for slot in 0..function.slots {
+            match reference_of(object, function, slot) {
+                Ok(Reference::Nothing) => (),
+                Ok(reference) => writeln!(text, "  slot {slot}: {reference:?}")?,
+                Err(_) => return Err(Fail::from("a wrong reference")),
+            }
         }
-        assert_eq!(rt; object.function(number), None);
     }
-    Ok(())
+    Ok(text)
 }
 
 #[test]
-fn what_relocations_change(rt: HostRuntime) -> Result<(), Fail> {
+fn what_an_object_has(rt: HostRuntime) -> Result<(), Fail> {
     let bytes = calls(rt.alloc())?;
-    let Ok(object) = Object::read(&bytes) else {
-        return Err(Fail::from("no object"));
-    };
-    for (number, (offset, kind, symbol)) in RELOCATIONS.iter().enumerate() {
-        let Some((of, place, relocation)) = object.change(2, *offset) else {
-            return Err(Fail::from("nothing changes it"));
-        };
-        assert_eq!(rt; (of, place), (3, number));
-        assert_eq!(rt;
-            (relocation.kind, relocation.symbol),
-            (Some(*kind), *symbol)
-        );
-    }
-    assert_eq!(rt; object.change(2, 0x58), None);
-    assert_eq!(rt; object.change(4, 0x50), None);
+    let object = Object::read(&bytes)?;
+    assert_eq!(rt; sections(rt.alloc(), &object)?.as_str(), SECTIONS);
+    assert_eq!(rt; symbols(rt.alloc(), &object)?.as_str(), SYMBOLS);
     Ok(())
 }
 
-#[test]
-fn a_cut_object(rt: HostRuntime) -> Result<(), Fail> {
-    let bytes = calls(rt.alloc())?;
-    for len in 0..bytes.len() {
-        assert!(rt; Object::read(&bytes[..len]).is_err());
-    }
-    Ok(())
-}
+/// A byte of the object, what it becomes, and the fault that is told then.
+const WRONG: &str = "\
+0 0 Header(Magic)
+4 1 Header(Class)
+5 2 Header(Encoding)
+16 2 Header(Type)
+18 62 Header(Machine)
+58 63 Header(HeaderSize)
+47 1 Header(Outside)
+62 7 Header(Names)
+62 2 Header(Names)
+1108 1 NoSymbols
+849 1 Section { section: 2, fault: Name }
+879 1 Section { section: 2, fault: Outside }
+715 120 Section { section: 1, fault: Unended }
+1136 217 Section { section: 6, fault: Overlap(3) }
+1136 215 Section { section: 6, fault: Entries }
+1144 2 Section { section: 6, fault: Strings }
+916 4 Section { section: 3, fault: Addends }
+944 65 Section { section: 3, fault: Overlap(1) }
+944 63 Section { section: 3, fault: Entries }
+952 5 Section { section: 3, fault: Symbols }
+956 7 Section { section: 3, fault: Target }
+393 1 Symbol { symbol: 2, fault: Name }
+398 9 Symbol { symbol: 2, fault: Section }
+408 249 Symbol { symbol: 2, fault: Outside }
+408 57 Symbol { symbol: 2, fault: Function }
+576 244 Relocation { section: 3, number: 1, fault: Outside }
+584 5 Relocation { section: 3, number: 1, fault: Type }
+588 9 Relocation { section: 3, number: 1, fault: Symbol }
+";
 
-/// A byte of the object, what it becomes, and what is told then.
-const WRONG: &[(usize, u8, ObjectFault)] = &[
-    (0, 0, ObjectFault::Header(HeaderFault::Magic)),
-    (4, 1, ObjectFault::Header(HeaderFault::Class)),
-    (5, 2, ObjectFault::Header(HeaderFault::Encoding)),
-    (16, 2, ObjectFault::Header(HeaderFault::Type)),
-    (18, 62, ObjectFault::Header(HeaderFault::Machine)),
-    (58, 63, ObjectFault::Header(HeaderFault::HeaderSize)),
-    (47, 1, ObjectFault::Header(HeaderFault::Outside)), // e_shoff
-    (62, 7, ObjectFault::Header(HeaderFault::Names)), // no section
-    (62, 2, ObjectFault::Header(HeaderFault::Names)), // .text
-    (1108, 1, ObjectFault::NoSymbols), // sh_type of .symtab
-    (
-        849,
-        1,
-        ObjectFault::Section {
-            section: 2,
-            fault: SectionFault::Name,
-        },
-    ),
-    (
-        879,
-        1,
-        ObjectFault::Section {
-            section: 2,
-            fault: SectionFault::Outside,
-        },
-    ), // the top byte of sh_offset
-    (
-        715,
-        120,
-        ObjectFault::Section {
-            section: 1,
-            fault: SectionFault::Unended,
-        },
-    ),
-    (
-        1136,
-        0xd9,
-        ObjectFault::Section {
-            section: 6,
-            fault: SectionFault::Overlap(3),
-        },
-    ),
-    (
-        1136,
-        0xd7,
-        ObjectFault::Section {
-            section: 6,
-            fault: SectionFault::Entries,
-        },
-    ),
-    (
-        1144,
-        2,
-        ObjectFault::Section {
-            section: 6,
-            fault: SectionFault::Strings,
-        },
-    ),
-    (
-        916,
-        4,
-        ObjectFault::Section {
-            section: 3,
-            fault: SectionFault::Addends,
-        },
-    ),
-    (
-        944,
-        0x41,
-        ObjectFault::Section {
-            section: 3,
-            fault: SectionFault::Overlap(1),
-        },
-    ),
-    (
-        944,
-        0x3f,
-        ObjectFault::Section {
-            section: 3,
-            fault: SectionFault::Entries,
-        },
-    ),
-    (
-        952,
-        5,
-        ObjectFault::Section {
-            section: 3,
-            fault: SectionFault::Symbols,
-        },
-    ),
-    (
-        956,
-        7,
-        ObjectFault::Section {
-            section: 3,
-            fault: SectionFault::Target,
-        },
-    ),
-    (
-        393,
-        1,
-        ObjectFault::Symbol {
-            symbol: 2,
-            fault: SymbolFault::Name,
-        },
-    ),
-    (
-        398,
-        9,
-        ObjectFault::Symbol {
-            symbol: 2,
-            fault: SymbolFault::Section,
-        },
-    ),
-    (
-        408,
-        249,
-        ObjectFault::Symbol {
-            symbol: 2,
-            fault: SymbolFault::Outside,
-        },
-    ),
-    (
-        408,
-        57,
-        ObjectFault::Symbol {
-            symbol: 2,
-            fault: SymbolFault::Function,
-        },
-    ),
-    (
-        576,
-        0xf4,
-        ObjectFault::Relocation {
-            section: 3,
-            number: 1,
-            fault: RelocationFault::Outside,
-        },
-    ),
-    (
-        584,
-        5,
-        ObjectFault::Relocation {
-            section: 3,
-            number: 1,
-            fault: RelocationFault::Type,
-        },
-    ),
-    (
-        588,
-        9,
-        ObjectFault::Relocation {
-            section: 3,
-            number: 1,
-            fault: RelocationFault::Symbol,
-        },
-    ),
-];
+/// The fault of the object with another byte at a place.
+fn fault_of(alloc: Global, at: usize, byte: u8) -> Result<ObjectFault, Fail> {
+    let mut bytes = calls(alloc)?;
+    if at >= bytes.len() {
+        return Err(Fail::from("no byte"));
+    }
+    bytes[at] = byte;
+    match Object::read(&bytes) {
+        Ok(_) => Err(Fail::from("an object")),
+        Err(fault) => Ok(fault),
+    }
+}
 
 #[test]
 fn an_object_with_a_wrong_byte(rt: HostRuntime) -> Result<(), Fail> {
-    for (at, byte, fault) in WRONG {
-        let mut bytes = calls(rt.alloc())?;
-        if *at >= bytes.len() {
-            return Err(Fail::from("no byte"));
-        }
-        bytes[*at] = *byte;
-        assert_eq!(rt; Object::read(&bytes).err(), Some(*fault));
+    for line in WRONG.lines() {
+        let (at, told) = line.split_once(' ').ok_or("no byte")?;
+        let (byte, wanted) = told.split_once(' ').ok_or("no fault")?;
+        let fault = fault_of(rt.alloc(), at.parse::<usize>()?, byte.parse::<u8>()?)?;
+        let said = format!(in rt.alloc(); "{fault:?}")?;
+        assert_eq!(rt; said.as_str(), wanted, "{line}");
     }
     Ok(())
 }

@@ -39,15 +39,15 @@ fn context_of(size: BlockSize, index: u32, count: u32) -> [u8; CONTEXT_BYTES] {
 fn compare_on(
     rt: &impl Abort,
     prepared: &Prepared<Verified<Intervals>>,
-    block: &[u8; 512],
+    block: &[u8],
     context: &[u8; CONTEXT_BYTES],
     scratch: &mut [u8; SCRATCH_BYTES],
     other_scratch: &mut [u8; SCRATCH_BYTES],
     other_stack: &mut Stack,
 ) {
     let (program, sizes) = (prepared.verified().program(), prepared.verified().sizes());
-    assert!(rt; sizes.block().bytes() == 512);
     let limit = sizes.limit() as usize;
+    assert!(rt; block.len() == sizes.block().bytes() as usize);
     assert!(rt; limit <= LIMIT);
     let (mut group, mut other_group) = ([9; LIMIT], [9; LIMIT]);
     let mut stack = [0; STACK_BYTES];
