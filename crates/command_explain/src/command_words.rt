@@ -6,7 +6,10 @@ use std::fmt;
 
 /// A command as the user reads it: what it does, to what.
 #[derive(Clone, Copy)]
-pub(crate) struct CommandWords<'a>(pub(crate) &'a Command);
+pub struct CommandWords<'a>(
+    /// The command.
+    pub &'a Command,
+);
 
 impl fmt::Display for CommandWords<'_> {
     fn fmt<W: fmt::Write>(&self, f: &mut fmt::Formatter<W>) -> fmt::Result {

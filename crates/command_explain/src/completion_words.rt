@@ -56,7 +56,7 @@ fn print_paired<O: Write>(
             let words = CommandWords(&command);
             write!(out, "{words}: ")?;
             if fits {
-                print_of_command(completion, data, &command, out)
+                print_answer(completion, data, &command, out)
             } else {
                 print_unnamed(completion, data, out)
             }
@@ -137,7 +137,7 @@ fn print_unnamed<O: Write>(completion: &Completion, data: &[u8], out: &mut O) ->
 }
 
 /// Prints how a command ended that can have this answer.
-fn print_of_command<O: Write>(
+pub fn print_answer<O: Write>(
     completion: &Completion,
     data: &[u8],
     command: &Command,

@@ -12,3 +12,6 @@ mod report_words;
 mod submissions;
 mod uses;
 mod waiting;
+
+pub use command_words::CommandWords;
+pub use completion_words::print_answer;

@@ -6,6 +6,7 @@ ghost use Rattle.zscli.specs.Ended.{end_of};
 
 use clap::error::ErrorKind;
 use clap::{ArgMatches, Command};
+use command_demo::demo;
 use command_durable::{DurableFiles, fold};
 use command_entry::{entries, entry};
 use command_exec::{exec, fail};
@@ -246,6 +247,7 @@ fn perform_without_image<'a, F: Files, O: Write>(
         entry::NAME => entry::entry(alloc, line, matches, files, out),
         entries::NAME => entries::entries(alloc, matches, files, out),
         explain::NAME => explain::explain(alloc, matches, files, out),
+        demo::NAME => demo::demo(alloc, matches, out),
         _ => Err(no_command(line)),
     }
 }
@@ -272,5 +274,6 @@ fn command_line<'a>(alloc: Global) -> Result<Command<'a>, AllocError> {
     let line = and_command(line, unpack::subcommand(alloc));
     let line = and_command(line, entry::subcommand(alloc));
     let line = and_command(line, entries::subcommand(alloc));
-    and_command(line, explain::subcommand(alloc))
+    let line = and_command(line, explain::subcommand(alloc));
+    and_command(line, command_words::command(alloc, &demo::WORDS))
 }

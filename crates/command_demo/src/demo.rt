@@ -1,0 +1,186 @@
+//! The command `demo`: a pushdown on a device in memory, in words.
+
+use crate::events::events;
+use crate::orders::BLOCK;
+use crate::picture::print_zones;
+use clap::ArgMatches;
+use command_explain::{CommandWords, print_answer};
+use command_files::{Counted, Failure, printed};
+use command_words::{Argument, Takes, Words};
+use device_events::{Event, Reply};
+use image_store::{Geometry, Image, Limits};
+use interval_domain::Intervals;
+use nvme_entry::{Command, Completion, Entry, MOST_TRANSFER, Status};
+use runner::Device;
+use std::alloc::{AllocError, Global};
+use std::io::{self, Write};
+
+/// The command's name.
+pub const NAME: &str = "demo";
+
+const HEX: &str = "hex";
+
+/// How the command stands on the command line.
+pub static WORDS: Words = Words {
+    name: NAME,
+    about: "Shows a pushdown on a device in memory, in words",
+    long_about: "\
+Shows a pushdown: a filter runs beside four orders on a device in memory, and only those of one region are read back. For each \
+event it prints what is asked and what is answered, and at the end the zones with what is in their blocks. No file is read or made.",
+    example: "\
+Example:
+
+  zscli demo",
+    arguments: &[Argument {
+        id: HEX,
+        long: HEX,
+        short: None,
+        takes: Takes::Nothing,
+        help: "Print the bytes of each entry and of each completion too",
+    }],
+    one_of: &[],
+};
+
+/// Shows a pushdown on a device in memory.
+///
+/// # Errors
+///
+/// Standard output fails, or memory is wanting.
+pub fn demo<'a, O: Write>(
+    alloc: Global,
+    matches: &ArgMatches<'a>,
+    out: &mut O,
+) -> Result<(), Failure<'a>> {
+    let limits = Limits {
+        open_limit: 3,
+        active_limit: 3,
+    };
+    let geometry = Geometry::new(BLOCK, 4, 64, 64, limits).map_err(Failure::GeometryRefused)?;
+    let image = Image::empty(alloc, geometry)?;
+    let mut device = Device::<Intervals>::new(alloc, image);
+    let hex = matches.get_flag(HEX);
+    let mut output = vec![in alloc; 0; MOST_TRANSFER]?;
+    for event in &events(alloc)? {
+        let reply = device.apply(event, output.as_mut_slice());
+        printed(print_event(alloc, event, hex, out))?;
+        printed(print_reply(alloc, event, reply, output.as_slice(), hex, out))?;
+    }
+    printed(writeln!(out))?;
+    printed(print_zones(alloc, device.image(), out))
+}
+
+/// Prints what is asked of the device.
+fn print_event<O: Write>(alloc: Global, event: &Event, hex: bool, out: &mut O) -> io::Result<()> {
+    match event {
+        Event::Submit { queue, entry, .. } => {
+            let cid = Entry::cid(entry);
+            write!(out, "queue {queue}, command {cid}: ")?;
+            match Entry::decode(entry) {
+                Ok(command) => writeln!(out, "{}", CommandWords(&command))?,
+                Err(status) => writeln!(out, "{status}")?,
+            }
+            print_bytes(alloc, hex, entry, out)
+        }
+        Event::Turn { run } => writeln!(out, "a turn of run {run}"),
+        Event::Fault { zone, state } => {
+            let state = state.word();
+            writeln!(out, "a fault of zone {zone}: {state}")
+        }
+    }
+}
+
+/// Prints what the device answers to an event, with `data` at the front of what it gave.
+fn print_reply<O: Write>(
+    alloc: Global,
+    event: &Event,
+    reply: Reply,
+    data: &[u8],
+    hex: bool,
+    out: &mut O,
+) -> io::Result<()> {
+    match (reply, event) {
+        (Reply::Complete { entry, length, .. }, _) => {
+            let data = data.get(..length).unwrap_or(data);
+            print_completion(alloc, event, &entry, data, out)?;
+            print_bytes(alloc, hex, &entry, out)
+        }
+        (Reply::Pending { run }, Event::Submit { .. }) => writeln!(out, "  admitted as run {run}"),
+        (Reply::Pending { .. }, _) => writeln!(out, "  done for one block; more are left"),
+        (Reply::Idle, _) => writeln!(out, "  no such run"),
+        (Reply::FaultTaken, _) => writeln!(out, "  done"),
+        (Reply::FaultRefused, _) => writeln!(out, "  refused"),
+    }
+}
+
+/// Prints a completion: of the event's own command, or of the run whose last turn it was.
+fn print_completion<O: Write>(
+    alloc: Global,
+    event: &Event,
+    entry: &[u8; 16],
+    data: &[u8],
+    out: &mut O,
+) -> io::Result<()> {
+    let Some(completion) = Completion::decode(entry) else {
+        return Ok(());
+    };
+    if completion.status != Status::SUCCESS {
+        return print_refusal(alloc, completion.status, out);
+    }
+    match command_of(event) {
+        Some(command) => {
+            write!(out, "  ")?;
+            print_answer(&completion, data, &command, out)
+        }
+        None => {
+            let queue = completion.queue;
+            let cid = completion.cid;
+            let records = Counted(u64::from(completion.dw0), "record");
+            let blocks = Counted(u64::from(completion.dw1), "block");
+            writeln!(
+                out,
+                "  the last block; queue {queue}, command {cid}: {records} in {blocks}"
+            )
+        }
+    }
+}
+
+/// The command that an event submits, if it does.
+fn command_of(event: &Event) -> Option<Command> {
+    match event {
+        Event::Submit { entry, .. } => Entry::decode(entry).ok(),
+        Event::Turn { .. } | Event::Fault { .. } => None,
+    }
+}
+
+/// Prints why a command was refused, without the numbers of the status.
+fn print_refusal<O: Write>(alloc: Global, status: Status, out: &mut O) -> io::Result<()> {
+    let text = status.to_string(alloc)?;
+    let name = before(text.as_str(), " (type ");
+    let sentence = after(text.as_str(), "): ");
+    writeln!(out, "  refused: {name}: {sentence}")
+}
+
+/// A text up to the first mark.
+fn before<'a>(text: &'a str, mark: &str) -> &'a str {
+    match text.split_once(mark) {
+        Some((front, _)) => front,
+        None => text,
+    }
+}
+
+/// A text after the first mark.
+fn after<'a>(text: &'a str, mark: &str) -> &'a str {
+    match text.split_once(mark) {
+        Some((_, rest)) => rest,
+        None => text,
+    }
+}
+
+/// Prints bytes in hexadecimal, where these are asked for.
+fn print_bytes<O: Write>(alloc: Global, hex: bool, bytes: &[u8], out: &mut O) -> io::Result<()> {
+    if !hex {
+        return Ok(());
+    }
+    let digits = hex::encode(alloc, bytes)?;
+    writeln!(out, "    {digits}")
+}
