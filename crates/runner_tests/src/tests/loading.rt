@@ -1,11 +1,12 @@
 //! Programs that are loaded into slots.
 
-use super::scenes::{ALL_EMPTY, FOUR_ZONES, Scene, play};
+use super::scenes::{FOUR_ZONES, Scene, play};
 use super::steps::Expected::{Done, Pending, ProgramRefused, Refused};
 use super::steps::{Case, Step};
 use nvme_entry::Status;
 use std::test::Fail;
 use test_inputs::programs::{GROWING, MATCHING, RETURNING, Text};
+use zone_state::Action;
 
 const ACCEPTED: &[Case] = &[
     (Step::Load(1, 0, 0, RETURNING), Done(1)),
@@ -17,18 +18,18 @@ const ACCEPTED: &[Case] = &[
     (Step::Load(4, 1, 10, GROWING), Done(4)),
 ];
 
-/// What refuses a program: the slot of an instruction and a number, in Dwords 0 and 1.
+/// What refuses a program, the slot of an instruction and a number, in Dwords 0 and 1; and fields that are refused.
 const REFUSED: &[Case] = &[
     // Half of a wide instruction.
     (
-        Step::LoadBytes(8, 0, 0, "1801000000000000"),
+        Step::Entry(8, 0xc1, 0, [8, 0], 0, "1801000000000000"),
         ProgramRefused(8, 0, 26),
     ),
     // No bytes.
     (Step::Load(8, 0, 0, ""), ProgramRefused(8, 0, 21)),
     // 4097 slots.
     (
-        Step::LoadBytes(8, 0, 0, "b700000000000000*4097"),
+        Step::Entry(8, 0xc1, 0, [32776, 0], 0, "b700000000000000*4097"),
         ProgramRefused(8, 0, 22),
     ),
     // A block that begins with 9 leads to a load from 0.
@@ -43,19 +44,19 @@ exit",
         ),
         ProgramRefused(8, 7, 5),
     ),
+    // A jump into a wide instruction, and a program without an end.
+    (
+        Step::Load(8, 0, 0, "ja +1\nlddw r1, 0\nexit"),
+        ProgramRefused(8, 0, 2),
+    ),
+    (Step::Load(8, 0, 0, "mov r0, 0"), ProgramRefused(8, 0, 3)),
     // A loop.
     (Step::Load(8, 0, 0, "ja -1\nexit"), ProgramRefused(8, 0, 1)),
     // One byte more than the limit.
     (Step::Load(8, 0, 9, MATCHING), ProgramRefused(8, 4, 10)),
-    // Nothing of this is in the slot.
-    (Step::Result(8, 0, ""), Refused(8, Status::NO_SUCH_PROGRAM)),
-    (Step::Run(8, 0, 1, 8), Refused(8, Status::NO_SUCH_PROGRAM)),
-];
-
-const WRONG_FIELDS: &[Case] = &[
     // 16 bytes are told, and 8 stand beside the entry.
     (
-        Step::Entry(8, 0xc1, [0, 0, 16, 0, 0, 0], "b700000000000000"),
+        Step::Entry(8, 0xc1, 0, [16, 0], 0, "b700000000000000"),
         Refused(8, Status::INVALID_FIELD_IN_COMMAND),
     ),
     // The limit is over the block's size.
@@ -65,9 +66,12 @@ const WRONG_FIELDS: &[Case] = &[
     ),
     // A Result takes no bytes.
     (
-        Step::Entry(8, 0xc2, [0, 0, 0, 0, 0, 0], "00"),
+        Step::Entry(8, 0xc2, 0, [0, 0], 0, "00"),
         Refused(8, Status::INVALID_FIELD_IN_COMMAND),
     ),
+    // Nothing of this is in the slot.
+    (Step::Result(8, 0, ""), Refused(8, Status::NO_SUCH_PROGRAM)),
+    (Step::Run(8, 0, 1, 8), Refused(8, Status::NO_SUCH_PROGRAM)),
 ];
 
 /// Adds a block's first byte to a sum in scratch.
@@ -75,6 +79,8 @@ const ADDING: Text =
     "ldxb r4, [r2+0]\nldxdw r5, [r3+0]\nadd r5, r4\nstxdw [r3+0], r5\nmov r0, 0\nexit";
 
 const RESULTS: &[Case] = &[
+    (Step::Append(1, 0, "28*512 02*512"), Done(1)),
+    (Step::Send(1, 8, Action::Open), Done(1)),
     (Step::Load(1, 0, 0, ADDING), Done(1)),
     // No run has ended yet.
     (Step::Result(2, 0, "00*1024"), Done(2)),
@@ -99,50 +105,28 @@ const RESULTS: &[Case] = &[
     (Step::Result(11, 0, "00*1024"), Done(11)),
 ];
 
-const PROGRAMS: &[Scene] = &[
+const SCENES: &[Scene] = &[
     Scene {
         name: "programs that are accepted",
         shape: FOUR_ZONES,
-        zones: ALL_EMPTY,
         steps: ACCEPTED,
-        drained: &[],
         left: "empty 0, empty 0, empty 0, empty 0",
     },
     Scene {
-        name: "programs that are refused",
+        name: "programs and fields that are refused",
         shape: FOUR_ZONES,
-        zones: "closed 00, explicit, empty, empty",
         steps: REFUSED,
-        drained: &[],
-        left: "closed 1, explicit 0, empty 0, empty 0",
-    },
-];
-
-#[test]
-fn programs_that_are_accepted_or_refused(rt: HostRuntime) -> Result<(), Fail> {
-    play(&rt, rt.alloc(), PROGRAMS)
-}
-
-const SLOTS: &[Scene] = &[
-    Scene {
-        name: "fields that are refused",
-        shape: FOUR_ZONES,
-        zones: ALL_EMPTY,
-        steps: WRONG_FIELDS,
-        drained: &[],
         left: "empty 0, empty 0, empty 0, empty 0",
     },
     Scene {
         name: "results and slots in use",
         shape: FOUR_ZONES,
-        zones: "closed 28 02, explicit, empty, empty",
         steps: RESULTS,
-        drained: &[],
-        left: "closed 2, explicit 0, empty 0, empty 0",
+        left: "implicit 2, explicit 0, empty 0, empty 0",
     },
 ];
 
 #[test]
-fn slots_and_results(rt: HostRuntime) -> Result<(), Fail> {
-    play(&rt, rt.alloc(), SLOTS)
+fn loading(rt: HostRuntime) -> Result<(), Fail> {
+    play(&rt, rt.alloc(), SCENES)
 }

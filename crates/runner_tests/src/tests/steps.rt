@@ -1,30 +1,21 @@
 //! What happens to a device, as data: steps, each with the reply that it has to get.
 
-ghost use Rattle.std.specs.Prelude.{◌≤◌};
-ghost use Rattle.nvme_entry.specs.Encoding.{program_length};
-
 use byteorder::{ByteOrder, LittleEndian};
 use ebpf_asm::assemble;
-use nvme_entry::{
-    BlockCount, Command, Completion, Entry, LoadCommand, ProgramSlot, RunCommand, StandardCommand,
-    Status,
-};
+use nvme_entry::{Completion, Status};
 use runner::{Event, Reply};
 use std::alloc::Global;
 use std::test::Fail;
 use test_inputs::programs::Text;
 use test_inputs::texts::repeated;
-use zns_commands::{FaultState, MOST_TRANSFER};
+use zns_commands::FaultState;
 use zone_state::Action;
 
 /// Bytes in hexadecimal: words, where `a5*512` stands for 512 bytes a5h.
 pub(super) type Bytes = &'static str;
 
-/// A step, and the reply that is expected. Where bytes go with it, they stand in the step.
+/// A step, and the reply that is expected. Where bytes go with it, they are in the step.
 pub(super) type Case = (Step, Expected);
-
-/// A block of 512 bytes.
-pub(super) const A_BLOCK: Bytes = "a5*512";
 
 /// The queue that entries come from.
 const QUEUE: u16 = 3;
@@ -44,22 +35,14 @@ pub(super) enum Step {
     Read(u16, u64, u32, Bytes),
     /// A Zone Management Send to an address.
     Send(u16, u64, Action),
-    /// The same to all zones.
-    SendAll(u16, Action),
     /// A Load of a program into a slot, with the most bytes that may be emitted for a block.
     Load(u16, u8, u32, Text),
-    /// A Load of these bytes.
-    LoadBytes(u16, u8, u32, Bytes),
     /// A Run of slot 0 over so many blocks from an address on, to the zone of an address.
     Run(u16, u64, u32, u64),
-    /// The same of a slot, with an argument.
-    RunOf(u16, (u8, u32), u64, u32, u64),
     /// A Result of a slot, and what it gives.
     Result(u16, u8, Bytes),
-    /// An entry that no command has, or not with the bytes beside it: its opcode, and Command Dwords 10 to 15.
-    Entry(u16, u8, [u32; 6], Bytes),
-    /// An entry with this opcode and these flags, its byte 1.
-    Flags(u16, u8, u8),
+    /// Any entry with bytes beside it: its opcode, Command Dwords 10 and 11, each of 12 and 13, and 14 and 15.
+    Entry(u16, u8, u64, [u32; 2], u64, Bytes),
 }
 
 /// The reply that is expected of a device.
@@ -94,54 +77,43 @@ impl Step {
 
     /// What happens.
     pub(super) fn event(self, alloc: Global) -> Result<Event, Fail> {
-        let beside = self.beside(alloc)?;
         match self {
             Step::Turns(run, _) => Ok(Event::Turn { run }),
             Step::Fault(zone, state) => Ok(Event::Fault { zone, state }),
-            Step::Load(cid, slot, limit, _) => load(cid, slot, limit, beside),
-            Step::LoadBytes(cid, slot, limit, _) => load(cid, slot, limit, beside),
-            Step::Run(cid, lba, blocks, to) => {
-                let run = run_of((0, 0), lba, blocks, to)?;
-                Ok(submit(Command::Run(run), cid, beside))
-            }
-            Step::RunOf(cid, of, lba, blocks, to) => {
-                let run = run_of(of, lba, blocks, to)?;
-                Ok(submit(Command::Run(run), cid, beside))
-            }
-            Step::Result(cid, slot, _) => {
-                Ok(submit(Command::Result(slot_of(slot)?), cid, beside))
-            }
-            Step::Entry(cid, opcode, dwords, _) => {
-                Ok(submitted(entry_of(cid, opcode, 0, dwords), beside))
-            }
-            Step::Flags(cid, opcode, flags) => {
-                Ok(submitted(entry_of(cid, opcode, flags, [0; 6]), beside))
-            }
             _ => {
-                let (cid, command) = self.standard(beside.len())?;
-                Ok(submit(Command::Standard(command), cid, beside))
+                let input = self.beside(alloc)?;
+                let entry = self.entry(u32::try_from(input.len())?);
+                Ok(Event::Submit {
+                    queue: QUEUE,
+                    entry,
+                    input,
+                })
             }
         }
     }
 
-    /// The command of the standards that it submits, behind its identifier, with so many bytes beside it.
-    fn standard(self, bytes: usize) -> Result<(u16, StandardCommand), Fail> {
+    /// Its entry, with so many bytes beside it.
+    fn entry(self, bytes: u32) -> [u8; 64] {
+        let last = (bytes / 512).wrapping_sub(1);
         match self {
-            Step::Write(cid, lba, _) => {
-                let blocks = blocks_of(bytes)?;
-                Ok((cid, StandardCommand::Write { lba, blocks }))
-            }
-            Step::Append(cid, lba, _) => {
-                let blocks = blocks_of(bytes)?;
-                Ok((cid, StandardCommand::Append { lba, blocks }))
-            }
+            Step::Write(cid, lba, _) => entry_of(cid, 0x01, lba, [last, 0], 0),
+            Step::Append(cid, lba, _) => entry_of(cid, 0x7d, lba, [last, 0], 0),
             Step::Read(cid, lba, blocks, _) => {
-                let blocks = count(blocks)?;
-                Ok((cid, StandardCommand::Read { lba, blocks }))
+                entry_of(cid, 0x02, lba, [blocks.wrapping_sub(1), 0], 0)
             }
-            Step::Send(cid, lba, action) => Ok((cid, send(lba, action, false))),
-            Step::SendAll(cid, action) => Ok((cid, send(0, action, true))),
-            _ => Err(Fail::from("no command of the standards")),
+            Step::Send(cid, lba, action) => {
+                entry_of(cid, 0x79, lba, [0, u32::from(action.code())], 0)
+            }
+            Step::Load(cid, slot, limit, _) => {
+                let place = u64::from(slot) | (u64::from(limit) << 32);
+                entry_of(cid, 0xc1, place, [bytes, 0], 0)
+            }
+            Step::Run(cid, lba, blocks, to) => {
+                entry_of(cid, 0xc0, lba, [blocks.wrapping_sub(1), 0], to)
+            }
+            Step::Result(cid, slot, _) => entry_of(cid, 0xc2, u64::from(slot), [0, 0], 0),
+            Step::Entry(cid, opcode, place, rest, to, _) => entry_of(cid, opcode, place, rest, to),
+            _ => [0; 64],
         }
     }
 
@@ -149,10 +121,9 @@ impl Step {
     fn beside(self, alloc: Global) -> Result<Vec<u8>, Fail> {
         match self {
             Step::Load(_, _, _, program) => Ok(assemble(alloc, program.as_bytes())?),
-            Step::LoadBytes(_, _, _, program) => bytes_of(alloc, program),
             Step::Write(_, _, beside) => bytes_of(alloc, beside),
             Step::Append(_, _, beside) => bytes_of(alloc, beside),
-            Step::Entry(_, _, _, beside) => bytes_of(alloc, beside),
+            Step::Entry(_, _, _, _, _, beside) => bytes_of(alloc, beside),
             _ => Ok(Vec::new(alloc)),
         }
     }
@@ -167,78 +138,17 @@ impl Step {
     }
 }
 
-/// So many blocks.
-fn count(blocks: u32) -> Result<BlockCount, Fail> {
-    Ok(BlockCount::new(blocks).ok_or("no command has so many blocks")?)
-}
-
-/// The blocks of so many bytes.
-fn blocks_of(bytes: usize) -> Result<BlockCount, Fail> {
-    count(u32::try_from(bytes / 512)?)
-}
-
-fn slot_of(number: u8) -> Result<ProgramSlot, Fail> {
-    Ok(ProgramSlot::new(u32::from(number)).ok_or("no slot")?)
-}
-
-fn send(lba: u64, action: Action, select_all: bool) -> StandardCommand {
-    StandardCommand::Send {
-        lba,
-        action,
-        select_all,
-    }
-}
-
-/// A Run of a slot with an argument.
-fn run_of(of: (u8, u32), lba: u64, blocks: u32, destination: u64) -> Result<RunCommand, Fail> {
-    Ok(RunCommand {
-        lba,
-        blocks: count(blocks)?,
-        slot: slot_of(of.0)?,
-        argument: of.1,
-        destination,
-    })
-}
-
-/// A submission of a Load.
-fn load(cid: u16, slot: u8, limit: u32, program: Vec<u8>) -> Result<Event, Fail> {
-    if program.len() > MOST_TRANSFER {
-        return Err(Fail::from("a program that no Load takes"));
-    }
-    let command = LoadCommand {
-        slot: slot_of(slot)?,
-        limit,
-        bytes: program.len() as u32,
-    };
-    Ok(submit(Command::Load(command), cid, program))
-}
-
-/// A submission of a command, with bytes beside it.
-fn submit(command: Command, cid: u16, input: Vec<u8>) -> Event
-    requires { program_length command ≤ MOST_TRANSFER }
-{
-    submitted(Entry::encode(command, cid), input)
-}
-
-fn submitted(entry: [u8; 64], input: Vec<u8>) -> Event {
-    Event::Submit {
-        queue: QUEUE,
-        entry,
-        input,
-    }
-}
-
-/// The entry to namespace 1 with this opcode and these flags, and these Command Dwords 10 to 15.
-fn entry_of(cid: u16, opcode: u8, flags: u8, dwords: [u32; 6]) -> [u8; 64] {
-    let first = u32::from(opcode) | (u32::from(flags) << 8) | (u32::from(cid) << 16);
+/// The entry to namespace 1 with this opcode, and these Command Dwords 10 and 11, each of 12 and 13, and 14 and 15.
+fn entry_of(cid: u16, opcode: u8, place: u64, rest: [u32; 2], to: u64) -> [u8; 64] {
+    let [twelve, thirteen] = rest;
     let mut entry = [0; 64];
-    LittleEndian::write_u32_into(
-        &[
-            first, 1, 0, 0, 0, 0, 0, 0, 0, 0, dwords[0], dwords[1], dwords[2], dwords[3],
-            dwords[4], dwords[5],
-        ],
-        &mut entry,
-    );
+    entry[0] = opcode;
+    LittleEndian::write_u16(&mut entry[2..], cid);
+    entry[4] = 1;
+    LittleEndian::write_u64(&mut entry[40..], place);
+    LittleEndian::write_u32(&mut entry[48..], twelve);
+    LittleEndian::write_u32(&mut entry[52..], thirteen);
+    LittleEndian::write_u64(&mut entry[56..], to);
     entry
 }
 
