@@ -1,15 +1,13 @@
 //! Images that were written down byte by byte, and what is told of bytes that are none.
 
 use image_store::{Geometry, GeometryRefusal, Image, Limits};
-use image_text::{Buffer, HeaderFault, ImageText, LoadFault, Sink, Version, ZoneRowFault};
+use image_text::{
+    Buffer, HeaderFault, ImageText, LoadFault, Source, StreamFault, Version, ZoneRowFault,
+};
 use std::alloc::{AllocError, Global};
 use std::process::Abort;
 use std::test::Fail;
 use zone_state::ZoneState;
-
-mod damage;
-mod streams;
-mod versions;
 
 /// The image of four zones, of which nothing is written: blocks of 512 bytes, eight of them in a
 /// zone, of which six can be written; two zones may be open and three active.
@@ -24,32 +22,48 @@ const LIMITS: Limits = Limits {
     active_limit: 3,
 };
 
-fn geometry() -> Result<Geometry, GeometryRefusal> {
-    Geometry::new(512, 4, 8, 6, LIMITS)
-}
-
-/// Changes some bytes of a text.
-fn change(text: &mut [u8], changes: &[(usize, u8)]) {
-    for (at, to) in changes {
-        if let Some(byte) = text.get_mut(*at) {
-            *byte = *to;
-        }
-    }
-}
-
 /// The empty image with some bytes changed.
 fn changed(changes: &[(usize, u8)]) -> [u8; 96] {
     let mut image = EMPTY;
-    change(&mut image, changes);
+    for (at, to) in changes {
+        if let Some(byte) = image.get_mut(*at) {
+            *byte = *to;
+        }
+    }
     image
 }
 
-/// The image whose zone 1 is implicitly opened and has one block, all of it 5a.
-fn written(alloc: Global) -> Result<Vec<u8>, AllocError> {
+/// The image whose zone 1 is implicitly opened and has one block, all of it 5a. A version has this digit and tells this number of
+/// written blocks.
+fn written(alloc: Global, digit: u8, total: u8) -> Result<Vec<u8>, AllocError> {
     let mut text = Vec::new(alloc);
-    text.extend_from_slice(&changed(&[(32, 1), (72, 2), (76, 1)]))?;
+    text.extend_from_slice(&changed(&[(7, digit), (32, total), (72, 2), (76, 1)]))?;
     text.extend_from_slice(&[0x5a; 512])?;
     Ok(text)
+}
+
+/// The text that is saved of the image that a text is loaded as.
+fn saved(alloc: Global, text: &[u8]) -> Result<Vec<u8>, Fail> {
+    let mut source = text;
+    let image = Image::load(alloc, &mut source)?;
+    let mut sink = Buffer::new(alloc);
+    image.save(&mut sink)?;
+    Ok(sink.into_bytes())
+}
+
+#[test]
+fn images_are_saved(rt: HostRuntime) -> Result<(), Fail> {
+    let alloc = rt.alloc();
+    let image = Image::empty(alloc, Geometry::new(512, 4, 8, 6, LIMITS)?)?;
+    let mut sink = Buffer::new(alloc);
+    image.save(&mut sink)?;
+    assert_eq!(rt; sink.bytes(), EMPTY.as_slice());
+    let text = written(alloc, b'2', 1)?;
+    assert_eq!(rt; saved(alloc, &text)?.as_slice(), text.as_slice());
+    // The header of version 1 tells nothing of written blocks.
+    let old = written(alloc, b'1', 0)?;
+    assert_eq!(rt; saved(alloc, &old)?.as_slice(), text.as_slice());
+    Ok(())
 }
 
 /// The fault that a text is refused with, if it is.
@@ -58,196 +72,11 @@ fn fault_of(alloc: Global, text: &[u8]) -> Option<LoadFault> {
     Image::load(alloc, &mut source).err()
 }
 
-/// The same of the front of a text.
-fn fault_of_front(alloc: Global, text: &[u8], length: usize) -> Option<LoadFault> {
-    fault_of(alloc, &text[..length.min(text.len())])
-}
-
-#[test]
-fn an_empty_image_is_its_header_and_zone_rows(rt: HostRuntime) -> Result<(), Fail> {
-    let image = Image::empty(rt.alloc(), geometry()?)?;
-    let mut sink = Buffer::new(rt.alloc());
-    image.save(&mut sink)?;
-    assert_eq!(rt; sink.bytes(), EMPTY.as_slice());
-    assert_eq!(rt; sink.failures(), 0);
-    Ok(())
-}
-
-#[test]
-fn an_appended_block_is_saved(rt: HostRuntime) -> Result<(), Fail> {
-    let mut image = Image::empty(rt.alloc(), geometry()?)?;
-    assert_eq!(rt; image.zones().len(), 4);
-    assert_eq!(rt; image.geometry().block().bytes(), 512);
-    assert_eq!(rt; image.zone(1).written(), 0);
-    let Ok(()) = image.zone(1).check_write(0, 1) else {
-        return Err(Fail::from("zone 1 takes a block"));
-    };
-    let counts = image.counts();
-    let limits = image.geometry().limits();
-    assert!(rt; counts.opened < limits.open_limit as usize);
-    assert!(rt; counts.active < limits.active_limit as usize);
-    image.append(1, &[0x5a; 512]);
-    let mut sink = Buffer::new(rt.alloc());
-    image.save(&mut sink)?;
-    assert_eq!(rt; sink.bytes(), written(rt.alloc())?.as_slice());
-    Ok(())
-}
-
-#[test]
-fn a_saved_image_loads_again(rt: HostRuntime) -> Result<(), Fail> {
-    let text = written(rt.alloc())?;
-    assert_eq!(rt; text.len(), 608);
-    let mut source = text.as_slice();
-    let image = Image::load(rt.alloc(), &mut source)?;
-    assert_eq!(rt; image.zones().len(), 4);
-    let zone = image.zone(1);
-    assert_eq!(rt; zone.written(), 1);
-    let mut sink = Buffer::new(rt.alloc());
-    image.save(&mut sink)?;
-    assert_eq!(rt; sink.into_bytes().as_slice(), text.as_slice());
-    Ok(())
-}
-
-#[test]
-fn an_empty_image_has_one_length(rt: HostRuntime) -> Result<(), Fail> {
-    check_one_length(&rt, rt.alloc(), EMPTY.to_vec(rt.alloc())?)
-}
-
-#[test]
-fn each_bad_header_has_its_fault(rt: HostRuntime) -> Result<(), Fail> {
-    assert_eq!(rt;
-        fault_of(rt.alloc(), &changed(&[(0, 0)])),
-        Some(LoadFault::Magic)
-    );
-    assert_eq!(rt;
-        fault_of(rt.alloc(), &changed(&[(7, 0x33)])),
-        Some(LoadFault::Magic)
-    );
-    assert_eq!(rt;
-        fault_of(rt.alloc(), &changed(&[(8, 1)])),
-        bad_header(HeaderFault::Numbers(GeometryRefusal::BlockSize(513)))
-    );
-    assert_eq!(rt;
-        fault_of(rt.alloc(), &changed(&[(20, 9)])),
-        bad_header(HeaderFault::Numbers(GeometryRefusal::ZoneCapacity {
-            capacity: 9,
-            size: 8
-        }))
-    );
-    for (at, told) in [(32, 1), (39, 1 << 56)] {
-        assert_eq!(rt;
-            fault_of(rt.alloc(), &changed(&[(at, 1)])),
-            Some(LoadFault::Total { told, counted: 0 })
-        );
-    }
-    Ok(())
-}
-
-#[test]
-fn each_end_of_what_is_reserved_has_its_fault(rt: HostRuntime) {
-    for at in [40, 63] {
-        assert_eq!(rt;
-            fault_of(rt.alloc(), &changed(&[(at, 1)])),
-            bad_header(HeaderFault::Reserved(Version::Two))
-        );
-    }
-}
-
-/// What is told of a header that has this fault.
-fn bad_header(fault: HeaderFault) -> Option<LoadFault> {
-    Some(LoadFault::Header(fault))
-}
-
-/// What is told of the row of a zone that has this fault.
-fn bad_row(zone: u32, fault: ZoneRowFault) -> Option<LoadFault> {
-    Some(LoadFault::ZoneRow { zone, fault })
-}
-
-/// What is told of zone 0, in an implicitly opened state with so many of its 6 blocks written.
-fn bad_count(written: u32) -> Option<LoadFault> {
-    let fault = ZoneRowFault::Blocks {
-        state: ZoneState::ImplicitlyOpened,
-        written,
-        capacity: 6,
-    };
-    bad_row(0, fault)
-}
-
-/// What is told of three open zones, where two may be open and three active.
-fn too_many() -> Option<LoadFault> {
-    Some(LoadFault::Limits {
-        opened: 3,
-        active: 3,
-        limits: LIMITS,
-    })
-}
-
-#[test]
-fn each_bad_zone_row_and_too_many_open_zones_have_their_fault(rt: HostRuntime) -> Result<(), Fail> {
-    assert_eq!(rt; fault_of(rt.alloc(), &changed(&[(64, 2)])), bad_count(0));
-    assert_eq!(rt;
-        fault_of(rt.alloc(), &changed(&[(64, 2), (68, 6)])),
-        bad_count(6)
-    );
-    assert_eq!(rt;
-        fault_of(rt.alloc(), &changed(&[(72, 5)])),
-        bad_row(1, ZoneRowFault::State(5))
-    );
-    assert_eq!(rt;
-        fault_of(rt.alloc(), &changed(&[(91, 1)])),
-        bad_row(3, ZoneRowFault::Reserved)
-    );
-    let many = changed(&[(64, 3), (72, 3), (80, 3)]);
-    assert_eq!(rt; fault_of(rt.alloc(), &many), too_many());
-    Ok(())
-}
-
-#[test]
-fn the_first_fault_decides(rt: HostRuntime) -> Result<(), Fail> {
-    let no_image = changed(&[(0, 0), (8, 1)]);
-    assert_eq!(rt;
-        fault_of_front(rt.alloc(), &no_image, 63),
-        Some(LoadFault::Truncated)
-    );
-    assert_eq!(rt;
-        fault_of_front(rt.alloc(), &no_image, 64),
-        Some(LoadFault::Magic)
-    );
-    assert_eq!(rt;
-        fault_of_front(rt.alloc(), &EMPTY, 64),
-        Some(LoadFault::Truncated)
-    );
-    assert_eq!(rt;
-        fault_of_front(rt.alloc(), &changed(&[(8, 1)]), 64),
-        bad_header(HeaderFault::Numbers(GeometryRefusal::BlockSize(513)))
-    );
-    assert_eq!(rt;
-        fault_of_front(rt.alloc(), &changed(&[(64, 5)]), 95),
-        Some(LoadFault::Truncated)
-    );
-    let many = changed(&[(32, 1), (64, 3), (68, 1), (72, 3), (80, 3)]);
-    assert_eq!(rt; fault_of(rt.alloc(), &many), too_many());
-    let miscounted = changed(&[(64, 3), (68, 1), (72, 3), (80, 3)]);
-    let total = LoadFault::Total {
-        told: 0,
-        counted: 1,
-    };
-    assert_eq!(rt; fault_of(rt.alloc(), &miscounted), Some(total));
-    let bad_zone = changed(&[(32, 1), (91, 1)]);
-    assert_eq!(rt;
-        fault_of(rt.alloc(), &bad_zone),
-        bad_row(3, ZoneRowFault::Reserved)
-    );
-    Ok(())
-}
-
 /// A text is cut short wherever it is cut, loads whole, and trails with one byte more.
 fn check_one_length(rt: &impl Abort, alloc: Global, mut text: Vec<u8>) -> Result<(), Fail> {
     for length in 0..text.len() {
-        assert_eq!(rt;
-            fault_of_front(alloc, text.as_slice(), length),
-            Some(LoadFault::Truncated)
-        );
+        let fault = fault_of(alloc, text.get(..length).unwrap_or(&[]));
+        assert_eq!(rt; fault, Some(LoadFault::Truncated));
     }
     assert_eq!(rt; fault_of(alloc, text.as_slice()), None);
     text.push(0)?;
@@ -256,6 +85,141 @@ fn check_one_length(rt: &impl Abort, alloc: Global, mut text: Vec<u8>) -> Result
 }
 
 #[test]
-fn a_written_image_has_one_length(rt: HostRuntime) -> Result<(), Fail> {
-    check_one_length(&rt, rt.alloc(), written(rt.alloc())?)
+fn an_image_has_one_length(rt: HostRuntime) -> Result<(), Fail> {
+    check_one_length(&rt, rt.alloc(), written(rt.alloc(), b'2', 1)?)?;
+    check_one_length(&rt, rt.alloc(), written(rt.alloc(), b'1', 0)?)
+}
+
+/// What is told of three open zones, where two may be open and three active.
+const TOO_MANY: LoadFault = LoadFault::Limits {
+    opened: 3,
+    active: 3,
+    limits: LIMITS,
+};
+
+#[test]
+fn the_first_fault_decides(rt: HostRuntime) -> Result<(), Fail> {
+    let total = LoadFault::Total {
+        told: 1,
+        counted: 0,
+    };
+    let count = ZoneRowFault::Blocks {
+        state: ZoneState::ImplicitlyOpened,
+        written: 6,
+        capacity: 6,
+    };
+    let block = HeaderFault::Numbers(GeometryRefusal::BlockSize(513));
+    let zone_count = HeaderFault::VersionZones {
+        version: Version::One,
+        zones: 1025,
+    };
+    let cases = [
+        (changed(&[(0, 0), (8, 1)]), LoadFault::Magic),
+        (changed(&[(7, 0x33)]), LoadFault::Magic),
+        (changed(&[(8, 1), (64, 5)]), LoadFault::Header(block)),
+        (
+            changed(&[(7, b'1'), (32, 1)]),
+            LoadFault::Header(HeaderFault::Reserved(Version::One)),
+        ),
+        (
+            changed(&[(7, b'1'), (12, 1), (13, 4)]),
+            LoadFault::Header(zone_count),
+        ),
+        (
+            changed(&[(72, 5)]),
+            LoadFault::ZoneRow {
+                zone: 1,
+                fault: ZoneRowFault::State(5),
+            },
+        ),
+        (
+            changed(&[(64, 2), (68, 6)]),
+            LoadFault::ZoneRow {
+                zone: 0,
+                fault: count,
+            },
+        ),
+        (changed(&[(32, 1), (64, 3), (72, 3), (80, 3)]), total),
+        (changed(&[(64, 3), (72, 3), (80, 3)]), TOO_MANY),
+    ];
+    for (text, fault) in cases {
+        assert_eq!(rt; fault_of(rt.alloc(), &text), Some(fault));
+    }
+    Ok(())
+}
+
+#[test]
+fn there_are_large_blocks_and_many_zones(rt: HostRuntime) {
+    let limits = Limits {
+        open_limit: 1,
+        active_limit: 1,
+    };
+    assert!(rt; Geometry::new(8192, 4096, 8, 8, limits).is_ok());
+    let too_large = GeometryRefusal::TooLarge {
+        zones: 4096,
+        capacity: 9,
+        block: 8192,
+    };
+    for (block, zones, size, refusal) in [
+        (8192, 4096, 9, too_large),
+        (32768, 4096, 8, GeometryRefusal::BlockSize(32768)),
+        (8192, 4097, 8, GeometryRefusal::ZoneCount(4097)),
+    ] {
+        let refused = Geometry::new(block, zones, size, size, limits).err();
+        assert_eq!(rt; refused, Some(refusal));
+    }
+}
+
+/// A source that gives a byte at a time, and fails after some calls.
+#[derive(Drop)]
+struct Slow<'a> {
+    rest: &'a [u8],
+    calls: u64,
+    failures: u64,
+}
+
+impl Source for Slow<'_> {
+    ghost tells = { ⊥ };
+
+    ghost rest = { λ s. s.rest.now };
+
+    ghost failures = { λ s. s.failures };
+
+    fn read(&mut self, to: &mut [u8]) -> Result<usize, StreamFault> {
+        if self.calls == 0 {
+            self.failures += 1;
+            return Err(StreamFault);
+        }
+        self.calls -= 1;
+        let Some((first, rest)) = self.rest.split_first() else {
+            return Ok(0);
+        };
+        let Some(byte) = to.first_mut() else {
+            return Ok(0);
+        };
+        *byte = *first;
+        self.rest = rest;
+        Ok(1)
+    }
+
+    fn failures(&self) -> u64 {
+        self.failures
+    }
+}
+
+#[test]
+fn a_slow_source_is_read_to_its_end(rt: HostRuntime) -> Result<(), Fail> {
+    let text = written(rt.alloc(), b'2', 1)?;
+    for calls in 0..=609 {
+        let mut source = Slow {
+            rest: &text,
+            calls,
+            failures: 0,
+        };
+        match Image::load(rt.alloc(), &mut source) {
+            Ok(_) => assert_eq!(rt; calls, 609),
+            Err(fault) => assert_eq!(rt; fault, LoadFault::Stream),
+        }
+    }
+    Ok(())
 }
