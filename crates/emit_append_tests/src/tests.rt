@@ -37,6 +37,7 @@ fn bounds_the_blocks(rt: HostRuntime) {
 fn packs_groups(rt: HostRuntime) -> Result<(), Fail> {
     let mut packer = Packer::new(BlockSize::new(512).unwrap());
     packer.add(&[6; 300]);
+    packer.add(&[]);
     assert!(rt; packer.has_room(212));
     packer.add(&[7; 212]);
     assert!(rt; !packer.has_room(3));
