@@ -49,8 +49,7 @@ fn requests_are_read(rt: HostRuntime) -> Result<(), Fail> {
         Request::Save,
     ];
     for size in [1, 7, 64] {
-        let read = read(rt.alloc(), &SHORT, size)?;
-        assert!(rt; read.as_slice() == wanted.as_slice());
+        assert!(rt; read(rt.alloc(), &SHORT, size)?.as_slice() == wanted.as_slice());
     }
     Ok(())
 }
