@@ -3,19 +3,10 @@
 ghost use Rattle.std.specs.Prelude.{◌≡◌, ◌<◌, ◌≤◌, ◌+◌, length};
 
 use std::alloc::Global;
-use std::process::Abort;
 use std::test::*;
 use tcp_capsules::identifier;
 use tcp_connection::{Connection, MOST_ENTRIES, Outcome, Queue};
-use zone_state::{Status, StatusType};
-
-/// An ICReq: PFV, HPDA, DGST and MAXR2T 0.
-fn ic_req() -> [u8; 128] {
-    let mut bytes = [0; 128];
-    bytes[2] = 128;
-    bytes[4] = 128;
-    bytes
-}
+use zone_state::Status;
 
 /// The capsule of Connect to queue 1, but for its 1024 bytes of data: identifier 0, SQSIZE 127, all data in the capsule.
 const CONNECT: [u8; 72] = [
@@ -64,7 +55,11 @@ const GIVEN: [u8; 56] = [
 /// The stream of the host.
 fn stream(alloc: Global) -> Result<Vec<u8>, Fail> {
     let mut bytes = Vec::new(alloc);
-    bytes.extend_from_slice(&ic_req())?;
+    // An ICReq: PFV, HPDA, DGST and MAXR2T 0.
+    let mut ic_req = [0; 128];
+    ic_req[2] = 128;
+    ic_req[4] = 128;
+    bytes.extend_from_slice(&ic_req)?;
     bytes.extend_from_slice(&CONNECT)?;
     bytes.extend_from_slice(&[0x55; 1024])?;
     bytes.extend_from_slice(&LOAD)?;
@@ -81,41 +76,34 @@ struct Served {
 }
 
 /// Takes a piece whole, and executes each command that is ready.
-fn serve(rt: &impl Abort, alloc: Global, served: &mut Served, piece: &[u8]) -> Result<(), Fail> {
+fn serve(alloc: Global, served: &mut Served, piece: &[u8]) -> Result<(), Fail> {
     let mut rest = piece;
     for _ in 0..=piece.len() {
         let mut out = Vec::with_capacity(alloc, 256)?;
         let count = served.connection.take(rest, &mut out);
         rest = &rest[count..];
         served.sent.extend_from_slice(out.as_slice())?;
-        execute(rt, alloc, served)?;
+        execute(alloc, served)?;
     }
-    assert!(rt; rest.is_empty() || served.connection.is_ended());
     Ok(())
 }
 
 /// Executes the command that is ready, and those behind it.
-fn execute(rt: &impl Abort, alloc: Global, served: &mut Served) -> Result<(), Fail> {
+fn execute(alloc: Global, served: &mut Served) -> Result<(), Fail> {
     for _ in 0..MOST_ENTRIES {
         let Some(entry) = served.connection.ready() else {
             return Ok(());
         };
-        let size = served.connection.ready_data().len();
         let mut out = Vec::with_capacity(alloc, 512)?;
         served.connection.go(&mut out);
         let command = identifier(&entry);
-        match entry[0] {
-            0x7F => {
-                assert_eq!(rt; size, 1024);
-                let queue = Queue {
-                    id: 1,
-                    entries: 128,
-                    has_flow_control: true,
-                };
-                served.connection.connect(queue, 0);
-            }
-            0xC1 => assert_eq!(rt; size, 7),
-            _ => assert_eq!(rt; size, 0),
+        if entry[0] == 0x7F {
+            let queue = Queue {
+                id: 1,
+                entries: 128,
+                has_flow_control: true,
+            };
+            served.connection.connect(queue, 0);
         }
         served.sent.extend_from_slice(out.as_slice())?;
         complete(alloc, served, entry[0], command)?;
@@ -139,7 +127,7 @@ fn complete(alloc: Global, served: &mut Served, opcode: u8, command: u16) -> Res
 }
 
 /// A connection that has taken the stream in pieces of so many bytes.
-fn serve_stream(rt: &impl Abort, alloc: Global, stream: &[u8], size: usize) -> Result<Served, Fail>
+fn serve_stream(alloc: Global, stream: &[u8], size: usize) -> Result<Served, Fail>
     requires { 0 < size }
 {
     let mut served = Served {
@@ -147,7 +135,7 @@ fn serve_stream(rt: &impl Abort, alloc: Global, stream: &[u8], size: usize) -> R
         sent: Vec::new(alloc),
     };
     for piece in stream.chunks(size) {
-        serve(rt, alloc, &mut served, piece)?;
+        serve(alloc, &mut served, piece)?;
     }
     Ok(served)
 }
@@ -157,91 +145,13 @@ fn commands_are_answered(rt: HostRuntime) -> Result<(), Fail> {
     let alloc = rt.alloc();
     let stream = stream(alloc)?;
     for size in [1, 7, 72, 1000, 2000] {
-        let served = serve_stream(&rt, alloc, stream.as_slice(), size)?;
+        let served = serve_stream(alloc, stream.as_slice(), size)?;
         let sent = served.sent.as_slice();
         assert_eq!(rt; sent.len(), 128 + 24 + 48 + 56, "in pieces of {size}");
         assert!(rt; sent[128..].starts_with(&CONNECTED));
         assert!(rt; sent[152..].starts_with(&LOADED));
         assert!(rt; sent[200..].starts_with(&GIVEN));
         assert!(rt; !served.connection.is_ended());
-    }
-    Ok(())
-}
-
-/// The stream up to the Load, and these bytes behind it.
-fn stream_with(alloc: Global, behind: &[u8]) -> Result<Vec<u8>, Fail> {
-    let mut bytes = Vec::new(alloc);
-    bytes.extend_from_slice(&ic_req())?;
-    bytes.extend_from_slice(&CONNECT)?;
-    bytes.extend_from_slice(&[0x55; 1024])?;
-    bytes.extend_from_slice(&LOAD)?;
-    bytes.extend_from_slice(behind)?;
-    Ok(bytes)
-}
-
-/// What answers a Load that comes again before its data: PDU Sequence Error, and its header.
-const ENDED: [u8; 24] = [
-    3, 0, 24, 0, 96, 0, 0, 0, 2, 0, 0, 0, 0, 0, 0, 0, 0, 0, 0, 0, 0, 0, 0, 0,
-];
-
-#[test]
-fn an_identifier_in_use_ends_the_connection(rt: HostRuntime) -> Result<(), Fail> {
-    let alloc = rt.alloc();
-    let stream = stream_with(alloc, &LOAD)?;
-    for size in [1, 100, 2000] {
-        let mut served = serve_stream(&rt, alloc, stream.as_slice(), size)?;
-        serve(&rt, alloc, &mut served, &LOAD_DATA)?;
-        let sent = served.sent.as_slice();
-        assert_eq!(rt; sent.len(), 128 + 24 + 24 + 96);
-        assert!(rt; sent[176..].starts_with(&ENDED));
-        assert!(rt; sent[200..].starts_with(&LOAD));
-        assert!(rt; served.connection.is_ended());
-    }
-    Ok(())
-}
-
-#[test]
-fn the_host_may_end_the_connection(rt: HostRuntime) -> Result<(), Fail> {
-    let alloc = rt.alloc();
-    let mut end = [0; 24];
-    end[0] = 2;
-    end[2] = 24;
-    end[4] = 24;
-    let stream = stream_with(alloc, &end)?;
-    let mut served = serve_stream(&rt, alloc, stream.as_slice(), 50)?;
-    serve(&rt, alloc, &mut served, &LOAD_DATA)?;
-    assert_eq!(rt; served.sent.len(), 128 + 24 + 24);
-    assert!(rt; served.connection.is_ended());
-    Ok(())
-}
-
-/// Changes of the Result's capsule, each with the status that refuses it, as the last two bytes of its completion tell it.
-const REFUSED: &[(usize, u8, u16)] = &[
-    (9, 0x00, 0x8004),
-    (47, 0x0F, 0x8022),
-    (47, 0x01, 0x8022),
-    (8, 0xC1, 0x0000),
-];
-
-#[test]
-fn capsules_are_refused_at_once(rt: HostRuntime) -> Result<(), Fail> {
-    let alloc = rt.alloc();
-    for (place, byte, told) in REFUSED {
-        let mut result = RESULT;
-        if *place < result.len() {
-            result[*place] = *byte;
-        }
-        let stream = stream_with(alloc, &result)?;
-        let served = serve_stream(&rt, alloc, stream.as_slice(), 200)?;
-        let sent = served.sent.as_slice();
-        if *told == 0 {
-            assert_eq!(rt; sent.len(), 128 + 24 + 24);
-        } else {
-            assert_eq!(rt; sent.len(), 128 + 24 + 24 + 24);
-            let [low, high] = told.to_le_bytes();
-            assert_eq!(rt; sent[198], low, "at {place}");
-            assert_eq!(rt; sent[199], high, "at {place}");
-        }
     }
     Ok(())
 }
