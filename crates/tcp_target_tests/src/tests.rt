@@ -6,7 +6,6 @@ use std::alloc::Global;
 use std::process::Abort;
 use std::test::*;
 use tcp_admin::{NamespaceFormat, QualifiedName, Subsystem};
-use tcp_capsules::identifier;
 use tcp_connection::Outcome;
 use tcp_target::Target;
 use zone_state::Status;
@@ -175,69 +174,5 @@ fn reads_go_to_the_device(rt: HostRuntime) -> Result<(), Fail> {
     assert!(rt; read(&mut target, &[9; 7]));
     assert_eq!(rt; target.unsent(1).len(), 24);
     assert_eq!(rt; completion(&target, 1), Some((0x801E, 0)));
-    Ok(())
-}
-
-#[test]
-fn commands_before_connect_are_refused(rt: HostRuntime) -> Result<(), Fail> {
-    let mut target = target(rt.alloc())?;
-    assert_eq!(rt; begin(&mut target, 3), Some(0));
-    assert_eq!(rt; completion(&target, 0), Some((0x8304, 0x1_0010)));
-    command(&mut target, 0, &entry(0x18, 0x5A, 0));
-    assert_eq!(rt; completion(&target, 0), Some((0x8018, 0)));
-    Ok(())
-}
-
-#[test]
-fn a_stopped_controller_has_no_io_queues(rt: HostRuntime) -> Result<(), Fail> {
-    let mut target = connected(&rt, rt.alloc())?;
-    command(&mut target, 1, &entry(0x02, 0x5A, 8));
-    assert!(rt; target.given_to_device(1).is_some());
-    command(&mut target, 0, &set_cc(0x0046_0060));
-    assert!(rt; target.given_to_device(1).is_none());
-    assert!(rt; target.is_cut_off(1));
-    assert!(rt; !target.is_cut_off(0));
-    Ok(())
-}
-
-#[test]
-fn a_silent_host_is_given_up(rt: HostRuntime) -> Result<(), Fail> {
-    let mut target = connected(&rt, rt.alloc())?;
-    target.tick(7499);
-    assert!(rt; !target.is_cut_off(0));
-    command(&mut target, 0, &entry(0x18, 0x5A, 0));
-    target.tick(7499);
-    assert!(rt; !target.is_cut_off(1));
-    target.tick(1);
-    assert!(rt; target.is_cut_off(0));
-    assert!(rt; target.is_cut_off(1));
-    target.close(0);
-    target.close(1);
-    assert_eq!(rt; begin(&mut target, 0), Some(0));
-    assert_eq!(rt; completion(&target, 0), Some((0, 1)));
-    Ok(())
-}
-
-#[test]
-fn a_number_is_kept_while_a_run_goes_on(rt: HostRuntime) -> Result<(), Fail> {
-    let mut target = connected(&rt, rt.alloc())?;
-    command(&mut target, 1, &entry(0xC0, 0x5A, 0));
-    let run = target.given_to_device(1);
-    assert!(rt; run.is_some());
-    if let Some(entry) = run {
-        target.hand_over(1);
-        target.close(1);
-        assert_eq!(rt; target.open(), Some(2));
-        let outcome = Outcome {
-            status: Status::SUCCESS,
-            dw0: 3,
-            dw1: 0,
-        };
-        if target.has_room(1, 0) {
-            target.end_run(1, identifier(&entry), outcome);
-        }
-        assert_eq!(rt; target.open(), Some(1));
-        assert!(rt; target.unsent(1).is_empty());
-    }
     Ok(())
 }
