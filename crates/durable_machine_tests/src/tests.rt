@@ -143,37 +143,6 @@ fn a_fold_is_cut_off_at_each_moment(rt: HostRuntime) -> Result<(), Fail> {
     Ok(())
 }
 
-/// Why a file of these bytes isn't opened.
-fn refusal(alloc: Global, bytes: &[u8]) -> Result<Option<Fault>, Fault> {
-    match opened(alloc, bytes) {
-        Ok(_store) => Ok(None),
-        Err(Fault::OfFile(error)) => Err(Fault::OfFile(error)),
-        Err(fault) => Ok(Some(fault)),
-    }
-}
-
-#[test]
-fn what_no_crash_leaves_is_refused(rt: HostRuntime) -> Result<(), Fail> {
-    let alloc = rt.alloc();
-    let mut store = created(alloc)?;
-    store.serve(alloc, &batch(alloc, 1)?)?;
-    store.serve(alloc, &batch(alloc, 2)?)?;
-    let whole = store.journal.file.bytes().to_vec(alloc)?;
-    assert_eq!(rt; whole.len(), 6 * SECTOR);
-    // The second batch is cut short, or the byte behind its events is another.
-    let mut cut = whole.clone()?;
-    cut.truncate(4 * SECTOR + 100);
-    assert!(rt; refusal(alloc, &cut)? == Some(Fault::Damaged(3 * SECTOR)));
-    let mut changed = whole.clone()?;
-    changed[4 * SECTOR + 20] = 7;
-    assert!(rt; refusal(alloc, &changed)? == Some(Fault::Damaged(3 * SECTOR)));
-    // The front isn't whole.
-    cut.truncate(SECTOR - 1);
-    assert!(rt; refusal(alloc, &cut)? == Some(Fault::Unreadable));
-    assert!(rt; refusal(alloc, &whole)? == None);
-    Ok(())
-}
-
 #[test]
 fn what_no_sync_followed_is_torn(rt: HostRuntime) -> Result<(), Fail> {
     let alloc = rt.alloc();
