@@ -2,6 +2,7 @@ Where a command takes an image it takes a journal too. Frames are made from word
 
   $ frames() { python3 "$TESTDIR/frames.py" "$1"; }
   $ format() { zscli format image --block 512 --zones 4 --size 8 --capacity 6 --open 2 --active 3; }
+  $ refused() { zscli "$@" > printed; status=$?; sed 's/^/out: /' printed; return $status; }
   $ serve() { frames make > asked; zscli serve image --durable --frames < asked | frames show; }
 
 A journal: the empty image, and an append of a block to zone 0.
@@ -78,7 +79,8 @@ What saves an image makes one of version 2 of it, also where nothing happens.
   $ zscli zones image | sed -n 1p
   0 empty 0
 
-A journal whose device has a program is read, and not replaced, since no image keeps programs.
+A journal whose device has a program is read, and not replaced, since no image keeps programs. What a refusal
+prints to standard output would be marked.
 
   $ printf 'mov r0, 0\nexit\n' > text
   $ zscli asm text program
@@ -91,19 +93,19 @@ A journal whose device has a program is read, and not replaced, since no image k
   1 empty 0
   2 empty 0
   3 empty 0
-  $ zscli exec image events
+  $ refused exec image events
   image: its device has a program or a run, which no image keeps; `serve --durable` keeps them
   device refused
   [3]
-  $ zscli upgrade image
+  $ refused upgrade image
   image: its device has a program or a run, which no image keeps; `serve --durable` keeps them
   device refused
   [3]
-  $ zscli serve image < events
+  $ refused serve image < events
   image: its device has a program or a run, which no image keeps; `serve --durable` keeps them
   device refused
   [3]
-  $ zscli serve image --frames < asked
+  $ refused serve image --frames < asked
   image: its device has a program or a run, which no image keeps; `serve --durable` keeps them
   device refused
   [3]
@@ -112,7 +114,7 @@ A journal whose device has a program is read, and not replaced, since no image k
 `fold` keeps the program.
 
   $ zscli fold image
-  $ zscli exec image events
+  $ refused exec image events
   image: its device has a program or a run, which no image keeps; `serve --durable` keeps them
   device refused
   [3]
@@ -125,19 +127,19 @@ A journal with an open gate and no whole batch after it, which no crash leaves, 
   $ { head -c 8192 with_program | head -c 4096; printf '\1'; head -c 4095 /dev/zero; } > damaged
   $ head -c 4096 /dev/zero | tr '\0' '\2' >> damaged
   $ cp damaged image
-  $ zscli zones image
+  $ refused zones image
   image, byte 4096: an open gate, and no whole batch of events behind it
   journal refused 4096
   [3]
-  $ zscli exec image events
+  $ refused exec image events
   image, byte 4096: an open gate, and no whole batch of events behind it
   journal refused 4096
   [3]
-  $ zscli upgrade image
+  $ refused upgrade image
   image, byte 4096: an open gate, and no whole batch of events behind it
   journal refused 4096
   [3]
-  $ zscli serve image < events
+  $ refused serve image < events
   image, byte 4096: an open gate, and no whole batch of events behind it
   journal refused 4096
   [3]
@@ -153,11 +155,11 @@ A file that begins as a journal, and has no base, is refused as a file that is n
 
   $ for it in 1 2 3 4 5 6 7 8; do printf ZNSJRN01; done > no_base
   $ cp no_base image
-  $ zscli zones image
+  $ refused zones image
   image: the first 8 bytes are neither ZNSIMG01 nor ZNSIMG02
   image refused 11
   [3]
-  $ zscli exec image events
+  $ refused exec image events
   image: the first 8 bytes are neither ZNSIMG01 nor ZNSIMG02
   image refused 11
   [3]

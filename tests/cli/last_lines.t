@@ -1,12 +1,13 @@
-What a command that fails prints to standard error, all of it, and its status. Nothing is printed to standard output.
+What a command that fails prints to standard error, all of it, and its status. Nothing is printed to standard output: it would be marked.
+
+  $ zscli() { command zscli "$@" > printed; status=$?; sed 's/^/out: /' printed; return $status; }
 
 A file that isn't there, a file that can't be made, and standard output that takes nothing.
 
-  $ zscli zones missing.img 2> said
-  [1]
-  $ cat said
+  $ zscli zones missing.img
   missing.img: no such file or folder
   cannot read missing.img
+  [1]
   $ printf 'ldxb r6, [r2]\njne r6, 7, +3\nmov r1, r2\nmov r2, 8\ncall 1\nmov r0, 0\nexit\n' > text
   $ zscli asm text program
   $ zscli asm text none/made
@@ -21,7 +22,7 @@ A file that isn't there, a file that can't be made, and standard output that tak
   text/image: a part of its path is no folder
   cannot read text/image
   [1]
-  $ zscli disasm program > /dev/full
+  $ command zscli disasm program > /dev/full
   cannot write -
   [1]
 

@@ -1,4 +1,7 @@
-Numbers that are no geometry, and files that are no image, are refused: a sentence, and a line for scripts.
+Numbers that are no geometry, and files that are no image, are refused: a sentence and a line for scripts, on standard error. What is
+printed to standard output is marked.
+
+  $ zscli() { command zscli "$@" > printed; status=$?; sed 's/^/out: /' printed; return $status; }
 
 Each geometry with one number that is wrong. No file is made.
 
@@ -36,8 +39,7 @@ Each geometry with one number that is wrong. No file is made.
   geometry refused 6
   [3]
   $ ls
-  $ format 513 4 8 6 2 3 2> /dev/null
-  [3]
+  printed
 
 The parts of an image: the header, which has a block of 512 bytes, 4 zones of 8 blocks, 6 of them writable, and the limits 2 and 3;
 zeros; and a row for each zone.
@@ -50,10 +52,10 @@ zeros; and a row for each zone.
   $ header() { printf "ZNSIMG02$numbers$limits" && zeros 32; }
   $ { header; row $empty$empty$empty$empty; } > image
   $ zscli zones image
-  0 empty 0
-  1 empty 0
-  2 empty 0
-  3 empty 0
+  out: 0 empty 0
+  out: 1 empty 0
+  out: 2 empty 0
+  out: 3 empty 0
 
 The same as `format` makes.
 
@@ -167,11 +169,13 @@ A byte after the last block.
   image refused 15
   [3]
 
-Whatever reads an image refuses it so, prints nothing to standard output, and leaves it as it is.
+Whatever reads an image refuses it so, and leaves it as it is.
 
   $ cp image before
   $ printf 'turn 0\n' > events
-  $ zscli report image 2> /dev/null
+  $ zscli report image
+  image: bytes follow the last block
+  image refused 15
   [3]
   $ zscli upgrade image
   image: bytes follow the last block
@@ -191,3 +195,4 @@ Whatever reads an image refuses it so, prints nothing to standard output, and le
   events
   image
   new
+  printed

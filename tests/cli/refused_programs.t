@@ -1,4 +1,7 @@
-Programs, texts of programs, output blocks and command files that are refused: a sentence, and a line for scripts.
+Programs, texts of programs, output blocks and command files that are refused: a sentence and a line for scripts, on standard error. What
+is printed to standard output is marked.
+
+  $ zscli() { command zscli "$@" > printed; status=$?; sed 's/^/out: /' printed; return $status; }
 
 A program of 7 bytes, of none, and of too many.
 
@@ -156,8 +159,7 @@ Texts with each fault but a label too far away, which no program of 4096 slots h
   ls: cannot access 'made': No such file or directory
   [2]
 
-Output blocks: a frame that doesn't end in its block, a byte after the last frame, and a block that isn't whole. Nothing is printed to
-standard output.
+Output blocks: a frame that doesn't end in its block, a byte after the last frame, and a block that isn't whole.
 
   $ zeros() { head -c "$1" /dev/zero; }
   $ { printf '\3\0abc'; zeros 507; printf '\377\1'; zeros 510; } > b
@@ -175,8 +177,6 @@ standard output.
   b, byte 512: 1 of the 512 bytes of a block; whole blocks are expected
   frame refused 512
   [3]
-  $ zscli unpack b --block 512 2> /dev/null
-  [3]
   $ zscli unpack b --block 513
   a block of 513 bytes: the block size is no power of 2 from 512 to 16384
   geometry refused 1
@@ -191,7 +191,7 @@ A command file: the event of the line before isn't done either.
   line 2 refused
   [3]
   $ zscli zones image
-  0 empty 0
-  1 empty 0
-  2 empty 0
-  3 empty 0
+  out: 0 empty 0
+  out: 1 empty 0
+  out: 2 empty 0
+  out: 3 empty 0
