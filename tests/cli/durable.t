@@ -60,7 +60,7 @@ Where standard output takes no answer, the batch is done and kept.
   [1]
   $ cmp image journal
 
-A file that can't have the batch: nothing is answered.
+Where the file can't grow, nothing is answered.
 
   $ fresh
   $ zscli serve image --durable --frames < /dev/null
@@ -106,7 +106,7 @@ Meanwhile no other command can save the image, and those that only read can see 
   $ answers
   cpl 1 00000000000000000000010002000000 42x512
 
-A journal that no crash leaves so, a file that is no image, and one that isn't there, are refused, and left alone.
+A damaged journal, a file that is no image, and one that isn't there, are refused, and left alone.
 
   $ { base; gate; zeros 4096 | tr '\0' '\2'; } > damaged
   $ cp damaged image

@@ -51,7 +51,7 @@ What the other commands left is saved.
   2 empty 0
   3 empty 0
 
-A file that fails comes before.
+Where a file fails, the status is 1.
 
   $ zscli exec --fail image gone
   gone: no such file or folder

@@ -162,7 +162,7 @@ The run has its turn when a drain asks for it.
   cpl 1 00000000000000000000010004000000
   drained 1
 
-With `--drain`, when no more has come.
+With `--drain` it has its turn when no more input has come.
 
   $ fresh
   $ serve --drain < run
@@ -173,7 +173,7 @@ With `--drain`, when no more has come.
   pending 0
   cpl 1 00000000000000000000010004000000
 
-Else at the end of the input, after what came last.
+Without a drain it has its turn at the end of the input.
 
   $ fresh
   $ serve < run

@@ -16,7 +16,7 @@ A journal: the empty image, and an append of a block to zone 0.
   $ head -c 8 journal
   ZNSJRN01 (no-eol)
 
-The same as an image.
+The same device as an image.
 
   $ rm image
   $ format

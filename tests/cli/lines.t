@@ -102,7 +102,7 @@ turn at the end of the input.
   $ zones
   0 implicit 1,1 explicit 0,2 empty 0,3 empty 0,
 
-When a line asks for it.
+It has its turn when a line asks for it.
 
   $ echo turn 0 >> lines
   $ fresh
@@ -114,7 +114,7 @@ When a line asks for it.
   pending 0
   cpl 1 00000000000000000000010004000000
 
-With `--drain` after the Run's own line, so that no run is left for the turn that is asked for.
+With `--drain` it has its turn after the line of the Run. No run is left for the turn that is asked for.
 
   $ fresh
   $ serve --drain

@@ -3,10 +3,12 @@
 
     pages.py FOLDER PAGE..
 
-A console example is a block of lines that four spaces indent and that the first of begins with `$ `: commands after `$ `, what goes on
-after `> `, and what they print. All of a page are one transcript, FOLDER/PAGE.t, which is run in one folder, with what a reader finds at
-the root of the repository, whose path is the variable ROOT: `examples`, `hosts` and `zscli`. A page without an example gives none.
-Neither does one whose tools are missing, other than README.md: a line says so.
+A console example is a block of lines that four spaces indent, whose first line begins with `$ `: commands after `$ `, what goes on
+after `> `, and what they print. All examples of a page are one transcript, FOLDER/PAGE.t. It is run in one folder, with what a reader
+finds at the root of the repository, whose path is the variable ROOT: `examples`, `hosts` and `zscli`. cram prints the status of a
+command that fails: a page shows it by `|| echo status $?`.
+
+A page without an example gives no transcript. Neither does one whose tools are missing, other than README.md: a line says so.
 """
 
 import re

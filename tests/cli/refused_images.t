@@ -83,7 +83,7 @@ Another version.
   image refused 11
   [3]
 
-Headers.
+Headers that are wrong.
 
   $ { printf ZNSIMG02; zeros 56; } > image
   $ zscli zones image
@@ -119,7 +119,7 @@ Blocks of 8192 bytes, and 1025 zones, of which version 1 has none.
   image refused 12
   [3]
 
-Rows.
+Rows that are wrong.
 
   $ { header; row $empty$empty$empty'\1\0\0\0\1\0\0\0'; } > image
   $ zscli zones image

@@ -112,7 +112,7 @@ An object is called so, whatever length it has.
   program refused 0 20
   [3]
 
-A file that begins with other four bytes is no object. `entry load` looks at nothing else of a program.
+A file that begins with four other bytes is no object. `entry load` looks at nothing else of a program.
 
   $ printf '\177ELE\177ELE' > p.o
   $ zscli disasm p.o

@@ -46,8 +46,8 @@ Each line is taken.
   2 empty 0
   3 empty 0
 
-The same by `serve`, which gets a line when the one before it is answered: its reader leaves after so many lines, and the next one is
-done whose line isn't taken. A turn that waits for no line is given to no run then.
+The same by `serve`. It gets each line when the one before is answered. Its reader leaves after so many answers. The next line is done,
+whose answer isn't taken, and no later turn is given.
 
   $ cat events > lines
   $ printf 'turn 0\nturn 0\nturn 0\n' >> lines
