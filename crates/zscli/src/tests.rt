@@ -1,28 +1,16 @@
-//! Whole command lines over files in memory: tables of scenes, and one rule that plays them.
+//! Command lines over files in memory that fail at a chosen call, and an output that takes so many writes: what no transcript can
+//! bring about. All else that command lines do is shown by the transcripts of `tests/cli`.
 
-mod command_lines;
-mod entries;
-mod event_lines;
-mod explain;
-mod explain_json;
-mod failing_exec;
-mod help;
-mod images;
-mod journaled_images;
-mod last_lines;
-mod linking;
-mod profiles;
-mod programs;
-mod readme;
-mod refusals;
-mod reports;
-mod scenes;
-mod serving;
-mod serving_durably;
-mod serving_lines;
+mod files;
+mod outputs;
 mod stage;
-mod stopping;
-mod submissions;
-mod verify_explained;
-mod verify_json;
-mod worded_files;
+
+use command_files::{Failure, conclude};
+
+#[test]
+fn want_of_memory_is_said(rt: HostRuntime) {
+    let mut err = Vec::new(rt.alloc());
+    let end = conclude(Err(Failure::NoMemory), &mut err);
+    assert_eq!(rt; end.status, 1);
+    assert_eq!(rt; err.as_slice(), b"no memory\n".as_slice());
+}

@@ -1,25 +1,66 @@
-//! Where command lines run.
+//! Where command lines run, and what is done there, as data.
 
-use super::submissions::submission;
 use crate::commands::{command, ended};
 use command_files::{MemoryFiles, conclude};
 use std::alloc::{AllocError, Global};
 use std::io::{self, Write};
 use std::process::Abort;
 use std::str;
-use test_inputs::slots::bytes_of;
+use std::test::Fail;
 
 /// Bytes: parts, each repeated so many times.
 pub(super) type Parts = &'static [(&'static [u8], usize)];
 
+/// An image of 4 zones of 8 blocks, 6 of them writable, at most 2 open and 3 active, all Empty.
+pub(super) const EMPTY_IMAGE: Parts = &[(HEADER, 1), (b"\0", 32), (EMPTY_ZONE, 4)];
+
+/// What such an image says before its runs' zones.
+pub(super) const HEADER: &[u8] =
+    b"ZNSIMG02\0\x02\0\0\x04\0\0\0\x08\0\0\0\x06\0\0\0\x02\0\0\0\x03\0\0\0";
+
+pub(super) const EMPTY_ZONE: &[u8] = b"\x01\0\0\0\0\0\0\0";
+
+/// `exec` on the image and the command file of a scene.
+pub(super) const EXEC: &str = "zscli exec image events";
+
+/// What shows something: acts on files, in order. At first there are none.
+#[derive(Clone, Copy)]
+pub(super) struct Scene {
+    pub(super) name: &'static str,
+    pub(super) acts: &'static [Act],
+}
+
+/// Something that is done, or that has to hold.
+#[derive(Clone, Copy)]
+pub(super) enum Act {
+    /// Puts a file of these bytes.
+    Put(&'static str, Parts),
+    /// From now on no file that a command makes can be larger.
+    Room(usize),
+    /// From now on reading in pieces fails after the first bytes of a file.
+    Unreadable,
+    /// From now on standard input has these bytes.
+    Input(Parts),
+    /// A command line succeeds, and what it prints is added to a file.
+    Adds(&'static str, &'static str),
+    /// A command line whose standard output takes so many writes ends with this status, and prints this to standard error.
+    Ends(&'static str, usize, u8, &'static str),
+    /// The last command line printed this.
+    Printed(Parts),
+    /// A file has these bytes.
+    Has(&'static str, Parts),
+    /// `zones` prints this of the image.
+    Zones(&'static str),
+}
+
 /// A standard output that takes so many writes, and then none.
 #[derive(Drop)]
-struct Printed {
+struct Output {
     bytes: Vec<u8>,
     writes: usize,
 }
 
-impl Write for Printed {
+impl Write for Output {
     fn write(&mut self, buf: &[u8]) -> io::Result<usize> {
         if self.writes == 0 {
             return Err(io::Error::from(io::ErrorKind::Other));
@@ -34,33 +75,36 @@ impl Write for Printed {
     }
 }
 
-/// Where something was compared: a scene, and what was looked at there: a command line or a file.
-#[derive(Clone, Copy, Debug)]
-pub(super) struct At<'a> {
-    pub(super) scene: &'a str,
-    pub(super) what: &'a str,
-}
-
 /// Files, and how the last command line ended that ran on them.
 #[derive(Drop)]
-pub(super) struct Stage {
+struct Stage {
     alloc: Global,
-    pub(super) files: MemoryFiles,
-    /// Standard input.
+    files: MemoryFiles,
     input: Vec<u8>,
-    out: Printed,
+    out: Output,
     err: Vec<u8>,
     status: u8,
 }
 
+/// Plays scenes, each on files of its own.
+pub(super) fn play(rt: &impl Abort, alloc: Global, scenes: &[Scene]) -> Result<(), Fail> {
+    for scene in scenes {
+        let mut stage = Stage::new(alloc);
+        for act in scene.acts {
+            stage.perform(rt, scene.name, *act)?;
+        }
+    }
+    Ok(())
+}
+
 impl Stage {
     /// No files.
-    pub(super) fn new(alloc: Global) -> Stage {
+    fn new(alloc: Global) -> Stage {
         Stage {
             alloc,
             files: MemoryFiles::new(alloc),
             input: Vec::new(alloc),
-            out: Printed {
+            out: Output {
                 bytes: Vec::new(alloc),
                 writes: 0,
             },
@@ -69,20 +113,57 @@ impl Stage {
         }
     }
 
-    /// Puts a file of these bytes.
-    pub(super) fn put(&mut self, file: &str, parts: Parts) -> Result<(), AllocError> {
-        let bytes = joined(self.alloc, parts)?;
-        self.files.put(file, bytes.as_slice())
+    /// Does an act that looks at nothing.
+    fn perform(&mut self, rt: &impl Abort, scene: &str, act: Act) -> Result<(), Fail> {
+        match act {
+            Act::Put(file, parts) => {
+                let bytes = joined(self.alloc, parts)?;
+                self.files.put(file, bytes.as_slice())?;
+            }
+            Act::Room(room) => self.files.room = room,
+            Act::Unreadable => self.files.fails = true,
+            Act::Input(parts) => self.input = joined(self.alloc, parts)?,
+            _ => self.judge(rt, scene, act)?,
+        }
+        Ok(())
     }
 
-    /// Puts a file of these slots of a program.
-    pub(super) fn put_slots(&mut self, file: &str, slots: &[u64]) -> Result<(), AllocError> {
-        let bytes = bytes_of(self.alloc, slots)?;
-        self.files.put(file, bytes.as_slice())
+    /// Does an act that compares something.
+    fn judge(&mut self, rt: &impl Abort, scene: &str, act: Act) -> Result<(), Fail> {
+        match act {
+            Act::Adds(file, line) => {
+                self.run(line, usize::MAX)?;
+                self.check_end(rt, scene, 0, "");
+                self.files.add(file, self.out.bytes.as_slice())?;
+            }
+            Act::Ends(line, writes, status, err) => {
+                self.run(line, writes)?;
+                self.check_end(rt, scene, status, err);
+            }
+            Act::Printed(parts) => self.check_printed(rt, scene, parts)?,
+            Act::Has(file, parts) => {
+                let bytes = joined(self.alloc, parts)?;
+                assert!(rt;
+                    self.files.bytes(file) == Some(bytes.as_slice()),
+                    "{scene}: {file}"
+                );
+            }
+            Act::Zones(text) => {
+                self.run("zscli zones image", usize::MAX)?;
+                self.check_end(rt, scene, 0, "");
+                assert_eq!(rt;
+                    str::from_utf8(self.out.bytes.as_slice()),
+                    Ok(text),
+                    "{scene}"
+                );
+            }
+            _ => {}
+        }
+        Ok(())
     }
 
     /// Runs a command line, whose words spaces separate, where standard output takes so many writes.
-    pub(super) fn run(&mut self, line: &str, writes: usize) -> Result<(), AllocError> {
+    fn run(&mut self, line: &str, writes: usize) -> Result<(), AllocError> {
         let mut words = Vec::new(self.alloc);
         for word in line.split(' ') {
             words.push(String::from_str(self.alloc, word)?)?;
@@ -102,227 +183,16 @@ impl Stage {
         Ok(())
     }
 
-    /// From now on standard input has these bytes.
-    pub(super) fn give_input(&mut self, parts: Parts) -> Result<(), AllocError> {
-        self.input = joined(self.alloc, parts)?;
-        Ok(())
+    /// Compares the status of the last command line, and what it printed to standard error.
+    fn check_end(&self, rt: &impl Abort, scene: &str, status: u8, err: &str) {
+        assert_eq!(rt; str::from_utf8(self.err.as_slice()), Ok(err), "{scene}");
+        assert_eq!(rt; self.status, status, "{scene}");
     }
 
-    /// From now on standard input has the bytes of a file, or none where there is no such file.
-    pub(super) fn give_file(&mut self, file: &str) -> Result<(), AllocError> {
-        self.input.clear();
-        match self.files.bytes(file) {
-            Some(bytes) => self.input.extend_from_slice(bytes),
-            None => Ok(()),
-        }
-    }
-
-    /// Compares what the last command line printed with these bytes.
-    pub(super) fn check_written(
-        &self,
-        rt: &impl Abort,
-        at: &At,
-        out: Parts,
-    ) -> Result<(), AllocError> {
-        let wanted = joined(self.alloc, out)?;
-        assert!(rt; self.out.bytes.as_slice() == wanted.as_slice(), "{at:?}");
-        Ok(())
-    }
-
-    /// Runs a command line, and compares how it ends and what it prints.
-    pub(super) fn check(
-        &mut self,
-        rt: &impl Abort,
-        at: &At,
-        status: u8,
-        out: &str,
-        err: &str,
-    ) -> Result<(), AllocError> {
-        self.run(at.what, usize::MAX)?;
-        self.check_end(rt, at, status, err);
-        assert_printed(rt, at, self.out.bytes.as_slice(), out);
-        Ok(())
-    }
-
-    /// Runs a command line that succeeds, and compares what it prints with the bytes of a file.
-    pub(super) fn check_same(
-        &mut self,
-        rt: &impl Abort,
-        at: &At,
-        file: &str,
-    ) -> Result<(), AllocError> {
-        self.run(at.what, usize::MAX)?;
-        self.check_end(rt, at, 0, "");
-        assert!(rt;
-            self.files.bytes(file) == Some(self.out.bytes.as_slice()),
-            "{at:?}"
-        );
-        Ok(())
-    }
-
-    /// Runs a command line that succeeds, and compares what it prints with this text and a line end.
-    pub(super) fn check_list(
-        &mut self,
-        rt: &impl Abort,
-        at: &At,
-        text: &str,
-    ) -> Result<(), AllocError> {
-        let out = format!(in self.alloc; "{text}\n")?;
-        self.check(rt, at, 0, out.as_str(), "")
-    }
-
-    /// Runs a command line that succeeds, and puts what it prints behind the bytes of a file.
-    pub(super) fn add_printed(
-        &mut self,
-        rt: &impl Abort,
-        at: &At,
-        file: &str,
-    ) -> Result<(), AllocError> {
-        self.run(at.what, usize::MAX)?;
-        self.check_end(rt, at, 0, "");
-        self.files.add(file, self.out.bytes.as_slice())
-    }
-
-    /// Runs a command line that prints the submission of the entry of these dwords to a queue, and compares what it prints.
-    pub(super) fn check_submission(
-        &mut self,
-        rt: &impl Abort,
-        at: &At,
-        queue: u16,
-        dwords: &[(u32, u32)],
-        data: &str,
-    ) -> Result<(), AllocError> {
-        let line = submission(self.alloc, queue, dwords, data)?;
-        self.check(rt, at, 0, line.as_str(), "")
-    }
-
-    /// Puts the submission of the entry of these dwords to queue 1, without data, behind the bytes of a file.
-    pub(super) fn add_submission(
-        &mut self,
-        file: &str,
-        dwords: &[(u32, u32)],
-    ) -> Result<(), AllocError> {
-        let line = submission(self.alloc, 1, dwords, "")?;
-        self.files.add(file, line.as_bytes())
-    }
-
-    /// Compares the status of the last command line, and the last line that it printed to standard error.
-    pub(super) fn check_end(&self, rt: &impl Abort, at: &At, status: u8, err: &str) {
-        assert_printed(rt, at, last_line(self.err.as_slice()), err);
-        assert_eq!(rt; self.status, status, "{at:?}");
-    }
-
-    /// Runs a command line that prints to standard error alone, and compares all of that, and its status.
-    pub(super) fn check_all(
-        &mut self,
-        rt: &impl Abort,
-        at: &At,
-        status: u8,
-        err: &str,
-    ) -> Result<(), AllocError> {
-        self.run(at.what, usize::MAX)?;
-        assert_printed(rt, at, self.err.as_slice(), err);
-        assert_printed(rt, at, self.out.bytes.as_slice(), "");
-        assert_eq!(rt; self.status, status, "{at:?}");
-        Ok(())
-    }
-
-    /// It told its usage: where its status is 0 to standard output, and else to standard error.
-    pub(super) fn check_usage(&self, rt: &impl Abort, at: &At, status: u8) {
-        let (out, err) = (self.out.bytes.as_slice(), self.err.as_slice());
-        let (told, other) = if status == 0 { (out, err) } else { (err, out) };
-        assert!(rt;
-            has_text(told, "Usage: zscli") && other.is_empty(),
-            "{at:?}"
-        );
-        assert_eq!(rt; self.status, status, "{at:?}");
-    }
-
-    /// Runs a command line, and looks for a text in what it prints, on either stream.
-    pub(super) fn check_said(
-        &mut self,
-        rt: &impl Abort,
-        at: &At,
-        text: &str,
-    ) -> Result<(), AllocError> {
-        self.run(at.what, usize::MAX)?;
-        let (out, err) = (self.out.bytes.as_slice(), self.err.as_slice());
-        assert!(rt;
-            has_text(out, text) || has_text(err, text),
-            "{at:?}: {text}"
-        );
-        Ok(())
-    }
-
-    /// Compares what `verify` with a flag says of a program, which is in a file, for blocks of 512 bytes.
-    pub(super) fn check_program(
-        &mut self,
-        rt: &impl Abort,
-        program: &str,
-        file: &str,
-        emit: u32,
-        flag: &str,
-        said: &str,
-    ) -> Result<(), AllocError> {
-        let line = format!(in self.alloc; "zscli verify {file} --block 512 --emit {emit} {flag}")?;
-        self.run(line.as_str(), usize::MAX)?;
-        let end = self.out.bytes.pop();
-        assert_eq!(rt; end, Some(b'\n'), "{program}");
-        let at = At {
-            scene: program,
-            what: "zscli verify",
-        };
-        assert_printed(rt, &at, self.out.bytes.as_slice(), said);
-        Ok(())
-    }
-
-    /// Compares the bytes of the file of this name.
-    pub(super) fn check_file(
-        &self,
-        rt: &impl Abort,
-        at: &At,
-        parts: Parts,
-    ) -> Result<(), AllocError> {
+    fn check_printed(&self, rt: &impl Abort, scene: &str, parts: Parts) -> Result<(), AllocError> {
         let bytes = joined(self.alloc, parts)?;
-        self.check_bytes(rt, at, bytes.as_slice());
+        assert!(rt; self.out.bytes.as_slice() == bytes.as_slice(), "{scene}");
         Ok(())
-    }
-
-    /// Compares the bytes of the file of this name with slots of a program.
-    pub(super) fn check_slots(
-        &self,
-        rt: &impl Abort,
-        at: &At,
-        slots: &[u64],
-    ) -> Result<(), AllocError> {
-        let bytes = bytes_of(self.alloc, slots)?;
-        self.check_bytes(rt, at, bytes.as_slice());
-        Ok(())
-    }
-
-    fn check_bytes(&self, rt: &impl Abort, at: &At, bytes: &[u8]) {
-        assert!(rt; self.files.bytes(at.what) == Some(bytes), "{at:?}");
-    }
-}
-
-/// The last line of what was printed, with its end.
-fn last_line(printed: &[u8]) -> &[u8] {
-    let front = printed.strip_suffix(b"\n").unwrap_or(printed);
-    match front.iter().rposition(|byte| *byte == b'\n') {
-        Some(end) => printed.get(end + 1..).unwrap_or(printed),
-        None => printed,
-    }
-}
-
-fn assert_printed(rt: &impl Abort, at: &At, printed: &[u8], text: &str) {
-    assert_eq!(rt; str::from_utf8(printed), Ok(text), "{at:?}");
-}
-
-/// Does a text stand in what was printed?
-fn has_text(printed: &[u8], text: &str) -> bool {
-    match str::from_utf8(printed) {
-        Ok(printed) => printed.contains(text),
-        Err(_) => false,
     }
 }
 
