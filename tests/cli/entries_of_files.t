@@ -1,0 +1,93 @@
+`zscli entries` prints a command file, made of lines of words. `made` is here each time the same file, made line by line with
+`zscli entry`.
+
+  $ zscli format image --block 512 --zones 4 --size 8 --capacity 6 --open 2 --active 3
+  $ head -c 1024 /dev/zero | tr '\0' a > data
+
+Comments and empty lines are left out, words are separated by blanks or tabs, and a `\r` before a line's end is dropped. The
+identifiers count up for each queue, from the line's own where it has one; after 65535 the lowest is taken that none has.
+
+  $ cat > words <<'END'
+  > ; a comment
+  > append --lba 8 --data data
+  > 
+  > END
+  $ printf 'open --lba 16 --queue 2 --cid 7 ; its own\r\n' >> words
+  $ printf '\twrite  --lba 0x0 --data data --queue 2\n' >> words
+  $ cat >> words <<'END'
+  > report --lba 0
+  > reset --all --cid 65535
+  > read --lba 8 --blocks 2
+  > END
+  $ printf 'result --slot 0' >> words
+  $ zscli entry append --lba 8 --data data > made
+  $ zscli entry open --lba 16 --queue 2 --cid 7 >> made
+  $ zscli entry write --lba 0 --data data --queue 2 --cid 8 >> made
+  $ zscli entry report --lba 0 --cid 2 >> made
+  $ zscli entry reset --all --cid 65535 >> made
+  $ zscli entry read --lba 8 --blocks 2 --cid 0 >> made
+  $ zscli entry result --slot 0 --cid 3 >> made
+  $ zscli entries words > events
+  $ cmp events made
+
+Turns and faults are printed as they are.
+
+  $ printf 'turn 0 ; of a run\r\nfault 3 offline\nopen --lba 0\n' > words
+  $ zscli entries words > events
+  $ cat events
+  turn 0 ; of a run
+  fault 3 offline
+  submit 1 79000100010000000000000000000000000000000000000000000000000000000000000000000000000000000000000000000000030000000000000000000000
+  $ tail -n 1 events > last
+  $ zscli entry open --lba 0 | cmp - last
+  $ zscli exec image events
+  idle
+  done
+  cpl 1 00000000000000000000010001000000
+
+The words may come through a pipe.
+
+  $ cat words | zscli entries /dev/stdin | cmp - events
+
+What is longer than a transfer of 131072 bytes becomes several lines, each of as many whole blocks as one moves. Those of an
+append name the same zone; those of a write and a read go on where the one before them ended.
+
+  $ head -c 263168 /dev/zero | tr '\0' a > long
+  $ head -c 131072 long > most
+  $ head -c 1024 long > rest
+  $ cat > words <<'END'
+  > append --lba 8 --data long
+  > write --lba 64 --data long --cid 9
+  > read --lba 64 --blocks 514
+  > append --lba 8 --data long --block 1024
+  > END
+  $ zscli entry append --lba 8 --data most --cid 1 > made
+  $ zscli entry append --lba 8 --data most --cid 2 >> made
+  $ zscli entry append --lba 8 --data rest --cid 3 >> made
+  $ zscli entry write --lba 64 --data most --cid 9 >> made
+  $ zscli entry write --lba 320 --data most --cid 10 >> made
+  $ zscli entry write --lba 576 --data rest --cid 11 >> made
+  $ zscli entry read --lba 64 --blocks 256 --cid 12 >> made
+  $ zscli entry read --lba 320 --blocks 256 --cid 13 >> made
+  $ zscli entry read --lba 576 --blocks 2 --cid 14 >> made
+  $ zscli entry append --lba 8 --data most --block 1024 --cid 15 >> made
+  $ zscli entry append --lba 8 --data most --block 1024 --cid 16 >> made
+  $ zscli entry append --lba 8 --data rest --block 1024 --cid 17 >> made
+  $ zscli entries words > events
+  $ cmp events made
+  $ wc -l < events
+  12
+
+The size of a block is the line's own, or else that of an image, or that of `--block`, or 512 bytes.
+
+  $ zscli format large --block 4096 --zones 4 --size 8 --capacity 6 --open 2 --active 3
+  $ head -c 4096 long > data
+  $ printf 'append --lba 8 --data data\nread --lba 8 --blocks 33\n' > words
+  $ zscli entry append --lba 8 --data data --block 4096 > made
+  $ zscli entry read --lba 8 --blocks 32 --cid 2 >> made
+  $ zscli entry read --lba 40 --blocks 1 --cid 3 >> made
+  $ zscli entries words --image large | cmp - made
+  $ zscli entries words --block 4096 | cmp - made
+  $ printf 'append --lba 8 --data data --block 4096\n' > words
+  $ head -n 1 made > first
+  $ zscli entries words --block 512 | cmp - first
