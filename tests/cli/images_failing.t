@@ -1,0 +1,144 @@
+Images and files that can't be read or written. `no_room` runs a command where the system lets no file grow.
+
+  $ format() {
+  >   zscli format "$@" --block 512 --zones 4 --size 8 --capacity 6 --open 2 --active 3
+  > }
+  $ no_room() { (trap '' XFSZ; ulimit -f 0; "$@"); }
+  $ format new
+
+Where standard output takes no line, `exec` stops at the first event, and saves what that left: zone 0 is lost, and no later one.
+
+  $ format image
+  $ printf 'fault 0 offline\nfault 1 offline\nfault 2 offline' > events
+  $ zscli exec image events > /dev/full
+  cannot write -
+  [1]
+  $ zscli zones image
+  0 offline 0
+  1 empty 0
+  2 empty 0
+  3 empty 0
+
+Where the new image can't be written, what was done is printed, and the image is as it was. Nothing is left beside it.
+
+  $ format image
+  $ printf 'fault 0 offline' > events
+  $ no_room zscli exec image events
+  done
+  cannot write image
+  [1]
+  $ cmp image new
+  $ ls
+  events
+  image
+  new
+
+Where standard output takes no line either, that the image can't be written is told last.
+
+  $ no_room zscli exec image events > /dev/full
+  cannot write image
+  [1]
+  $ cmp image new
+
+Where the events leave the image as it was, no file is written, and none is wanted. Standard output may still fail.
+
+  $ printf 'fault 4 offline\nturn 0' > same
+  $ no_room zscli exec image same
+  refused
+  idle
+  $ no_room zscli exec image same > /dev/full
+  cannot write -
+  [1]
+  $ cmp image new
+
+An image of version 1 is written all the same, as version 2.
+
+  $ cp new old
+  $ printf 1 | dd of=old bs=1 seek=7 conv=notrunc status=none
+  $ cp old first
+  $ printf '' > none
+  $ no_room zscli exec old none
+  cannot write old
+  [1]
+  $ no_room zscli upgrade old
+  cannot write old
+  [1]
+  $ cmp old first
+
+No image is made where it can't be written, and one of the same name stays.
+
+  $ no_room format made
+  cannot write made
+  [1]
+  $ no_room format image
+  cannot write image
+  [1]
+  $ cmp image new
+  $ ls
+  events
+  first
+  image
+  new
+  none
+  old
+  same
+
+What isn't there, and what is no file, can't be read. No event happens, and nothing is printed.
+
+  $ mkdir folder
+  $ zscli exec gone events > out
+  gone: no such file or folder
+  cannot read gone
+  [1]
+  $ zscli exec folder events >> out
+  folder: not an ordinary file
+  cannot write folder
+  [1]
+  $ zscli zones gone >> out
+  gone: no such file or folder
+  cannot read gone
+  [1]
+  $ zscli zones folder >> out
+  cannot read folder
+  [1]
+  $ zscli exec image folder >> out
+  folder: it is a folder
+  cannot read folder
+  [1]
+  $ cat out
+  $ cmp image new
+
+One command at a time works on an image. Here the lock is held by `flock`.
+
+  $ (flock 9; zscli exec image events; zscli upgrade image; format image) 9< image
+  image: in use by another command
+  cannot write image
+  image: in use by another command
+  cannot write image
+  image: in use by another command
+  cannot write image
+  [1]
+  $ cmp image new
+
+One that only reads doesn't wait for it.
+
+  $ (flock 9; zscli zones image) 9< image
+  0 empty 0
+  1 empty 0
+  2 empty 0
+  3 empty 0
+
+A new image has the permissions of the old one. Through a link the file is changed, and the link stays.
+
+  $ chmod 640 image
+  $ ln -s image link
+  $ zscli exec link events
+  done
+  $ zscli zones image
+  0 offline 0
+  1 empty 0
+  2 empty 0
+  3 empty 0
+  $ stat -c '%a %F' image link
+  640 regular file
+  777 symbolic link
