@@ -8,7 +8,7 @@ writable; 2 zones may be open and 3 active.
   $ said() { zscli explain replies --commands events; }
   $ brief() {  # the replies, where bytes of data that repeat are counted
   >   awk '{
-  >     line = $1 " " $2 (NF > 2 ? " " $3 : "")
+  >     line = $1 (NF > 1 ? " " $2 : "") (NF > 2 ? " " $3 : "")
   >     for (i = 1; i < length($4); i += 2 * n) {
   >       byte = substr($4, i, 2)
   >       for (n = 1; substr($4, i + 2 * n, 2) == byte; n++) ;
