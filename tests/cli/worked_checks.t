@@ -15,6 +15,7 @@ writable; none is changed here but where a scene says so.
   $ head -c 512 /dev/zero > data1
   $ head -c 1024 /dev/zero > data2
   $ head -c 3072 /dev/zero > data6
+  $ head -c 4096 /dev/zero > data8
 
 The opcode comes before the flags, the flags before the namespace. Opcode 03 is none; flags other than 0 are an invalid field; there is
 no namespace 2, and none of number 0.
@@ -82,29 +83,29 @@ No address passes the last one that 64 bits have.
   queue 1, command 4: read of 2 blocks from LBA 31 on: refused: LBA Out of Range (type 0h, code 80h): a block that the entry names is not in the namespace
   queue 1, command 5: read of 9 blocks from LBA 24 on: refused: LBA Out of Range (type 0h, code 80h): a block that the entry names is not in the namespace
 
-So it is for the other commands, at the first LBA that isn't there and at the last that there could be.
+So it is for the other commands, at the first LBAs that aren't there and at the last that there could be.
 
-  $ for lba in 32 0xffffffffffffffff; do
+  $ for lba in 32 33 39 0x100000000 0xfffffffffffffffe 0xffffffffffffffff; do
   >   zscli entry append --lba $lba --data data1 --cid 1
   >   zscli entry write --lba $lba --data data1 --cid 2
   >   zscli entry open --lba $lba --cid 3
   >   zscli entry reset --lba $lba --cid 4
   >   zscli entry offline --lba $lba --cid 5
   >   zscli entry report --lba $lba --cid 6
+  >   zscli entry read --lba $lba --blocks 1 --cid 7
+  >   zscli entry append --lba $lba --data data8 --cid 8
+  >   zscli entry write --lba $lba --data data8 --cid 9
   > done > events
-  $ zscli exec image events
-  cpl 1 00000000000000000000010001000001
-  cpl 1 00000000000000000000010002000001
-  cpl 1 00000000000000000000010003000001
-  cpl 1 00000000000000000000010004000001
-  cpl 1 00000000000000000000010005000001
-  cpl 1 00000000000000000000010006000001
-  cpl 1 00000000000000000000010001000001
-  cpl 1 00000000000000000000010002000001
-  cpl 1 00000000000000000000010003000001
-  cpl 1 00000000000000000000010004000001
-  cpl 1 00000000000000000000010005000001
-  cpl 1 00000000000000000000010006000001
+  $ zscli exec image events | sort | uniq -c
+        6 cpl 1 00000000000000000000010001000001
+        6 cpl 1 00000000000000000000010002000001
+        6 cpl 1 00000000000000000000010003000001
+        6 cpl 1 00000000000000000000010004000001
+        6 cpl 1 00000000000000000000010005000001
+        6 cpl 1 00000000000000000000010006000001
+        6 cpl 1 00000000000000000000010007000001
+        6 cpl 1 00000000000000000000010008000001
+        6 cpl 1 00000000000000000000010009000001
 
 An action on all zones doesn't look at the address.
 
