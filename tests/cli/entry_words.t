@@ -25,7 +25,7 @@ Numbers have a range.
   error: '4294967296' for --emit is not a number from 0 to 4294967295
   [2]
 
-They have no sign, and hexadecimal digits after a small `0x` alone.
+They have no sign, and only a small `0x` begins hexadecimal digits.
 
   $ zscli entry read --lba +1 --blocks 1 >> out
   error: '+1' for --lba is not a number from 0 to 18446744073709551615

@@ -49,7 +49,7 @@ The events may come through a pipe.
   done
   idle
 
-Of a file with a refused line no event happens. The lowest is told on standard error, and nothing is printed.
+Of a file with a refused line no event happens. Standard error has the lowest, and standard output nothing.
 
   $ new
   $ printf '; x\n\nturn 0\nturn 256\nfault 0 lost\n' > events

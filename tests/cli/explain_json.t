@@ -1,4 +1,4 @@
-With `--json` each line of `zscli explain` tells one line that `exec` printed, as a JSON object.
+With `--json` each line of `zscli explain` is a JSON object, which says what one line that `exec` printed means.
 
   $ cat > replies <<'END'
   > cpl 1 08000000000000000000010001000000

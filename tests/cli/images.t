@@ -28,7 +28,7 @@ Numbers may have zeros in front.
   $ zscli format again --block 0512 --zones 4 --size 008 --capacity 06 --open 2 --active 3
   $ cmp again new
 
-A file that is no image is replaced with `--force` alone; it stays as it is without. An image, here of version 1, and a file of
+A file that is no image is replaced only with `--force`; without, it stays as it is. An image, here of version 1, and a file of
 no bytes are replaced without it.
 
   $ printf ZNSIMG0 > notes

@@ -19,6 +19,40 @@ Where standard output takes no line, `exec` stops at the first event, and saves 
   2 empty 0
   3 empty 0
 
+Where it takes some lines, the events up to the first that isn't printed are done and saved. `with_room N` runs a command whose
+output goes to a file that can grow by N bytes.
+
+  $ with_room() {
+  >   room=$1
+  >   shift
+  >   head -c $((512 - room)) /dev/zero > out
+  >   (trap '' XFSZ; ulimit -f 1; "$@" >> out)
+  > }
+  $ format image
+  $ with_room 5 zscli exec image events
+  cannot write -
+  [1]
+  $ tail -c +508 out
+  done
+  $ zscli zones image
+  0 offline 0
+  1 offline 0
+  2 empty 0
+  3 empty 0
+  $ format image
+  $ with_room 10 zscli exec image events
+  cannot write -
+  [1]
+  $ tail -c +503 out
+  done
+  done
+  $ zscli zones image
+  0 offline 0
+  1 offline 0
+  2 offline 0
+  3 empty 0
+  $ rm out
+
 Where the new image can't be written, what was done is printed, and the image is as it was. Nothing is left beside it.
 
   $ format image
@@ -33,7 +67,7 @@ Where the new image can't be written, what was done is printed, and the image is
   image
   new
 
-Where standard output takes no line either, that the image can't be written is told last.
+Where standard output takes no line either, the last line on standard error says that the image can't be written.
 
   $ no_room zscli exec image events > /dev/full
   cannot write image
@@ -49,6 +83,12 @@ Where the events leave the image as it was, no file is written, and none is want
   $ no_room zscli exec image same > /dev/full
   cannot write -
   [1]
+  $ with_room 8 zscli exec image same
+  cannot write -
+  [1]
+  $ tail -c +505 out
+  refused
+  $ rm out
   $ cmp image new
 
 An image of version 1 is written all the same, as version 2.

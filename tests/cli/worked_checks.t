@@ -31,8 +31,8 @@ no namespace 2, and none of number 0.
   queue 1, command 7: an entry that is no command: refused: Invalid Field in Command (type 0h, code 02h): a field has a value that it may not have, or the data is not as long as the fields say
   queue 1, command 8: an entry that is no command: refused: Invalid Namespace or Format (type 0h, code 0Bh): the namespace is not 1
 
-Fields come before addresses: an action that isn't there, at LBA 99, which isn't there either; a write of one block with 511 bytes beside it;
-a read with a block beside it; a load of 16 bytes with 8 beside it; program slot 8; a run and a result with a byte beside them; a load
+Fields come before addresses: an action that isn't there, at LBA 99, which isn't there either; a write of one block with 511 bytes
+beside it; a read with a block beside it; a load of 16 bytes with 8 beside it; program slot 8; a run and a result with a byte beside them; a load
 with more bytes to emit than a block has.
 
   $ entry 7900010001000000 63000000000000000000000006 > events

@@ -74,8 +74,8 @@ Records of 4 and of 8 bytes, as the first byte of each block says.
   cpl 1 02000000010000000000010002000000
   cpl 1 00000000000000000000010003000000 04 00 03 00*3 08 00 07 00*503
 
-What a program is given: it emits its context. The run is over 2 blocks from block 1 on, by slot 5 and with argument abcdh. A record has the LBA,
-the index in the run, the number of blocks, the size of a block, and the argument.
+What a program is given: it emits its context. The run is over 2 blocks from block 1 on, by slot 5 and with argument abcdh. A record
+has the LBA, the index in the run, the number of blocks, the size of a block, and the argument.
 
   $ assemble context <<'END'
   > mov r2, 32

@@ -90,8 +90,8 @@ completions, and append the same blocks.
   1024
   1024
 
-A run from zone 0 to zone 1 after the first of two turns. Its source isn't reset, its destination takes no append, no write and no action, and
-neither has a fault. A write to zone 3 needs an open zone: zone 2 gives way, and not zone 1, which is lower. A program can't be loaded
+A run from zone 0 to zone 1 after the first of two turns. Its source isn't reset, its destination takes no append, no write and no
+action, and neither has a fault. A write to zone 3 needs an open zone: zone 2 gives way, and not zone 1, which is lower. A program can't be loaded
 over the one that runs.
 
   $ begin <<'END'

@@ -59,7 +59,7 @@ The largest blocks and the most zones, and what is beyond them.
   geometry refused 2
   [3]
 
-An image of 4 empty zones has 96 bytes: a header of 64, and 8 for each zone. Version 1 differs in byte 7 alone.
+An image of 4 empty zones has 96 bytes: a header of 64, and 8 for each zone. Version 1 differs only in byte 7.
 
   $ new image
   $ xxd -p -c 32 image

@@ -83,8 +83,8 @@ there aren't, opcodes that are left out, half of a wide instruction, and no byte
   $ slot '' 2>&1 | tail -n 1
   program refused 0 21
 
-The first program step by step, on a block that begins with 7. It needs 10 bytes to emit and 7 steps; with 9 bytes the emit is a trap, and with
-4 steps it stops there.
+The first program step by step, on a block that begins with 7. It needs 10 bytes to emit and 7 steps; with 9 bytes the emit is a trap,
+and with 4 steps it stops there.
 
   $ { printf '\007'; head -c 511 /dev/zero; } > block
   $ zscli trace again block --emit 10

@@ -50,7 +50,7 @@ A last part that is shorter than a block is refused at its first byte. A file of
   $ printf '' > blocks
   $ zscli unpack blocks --block 512
 
-Records of several blocks are printed in order; the lowest byte that is wrong is told.
+Records of several blocks are printed in order; of a file with wrong bytes the lowest is named.
 
   $ { block 01006101006202006364; block 010065; } > blocks
   $ zscli unpack blocks --block 512
