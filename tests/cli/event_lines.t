@@ -52,9 +52,11 @@ The events may come through a pipe.
 Of a file with a refused line no event happens. Standard error has the lowest, and standard output nothing.
 
   $ new
+  $ cp image before
   $ printf '; x\n\nturn 0\nturn 256\nfault 0 lost\n' > events
   $ zscli exec image events > out
   events, line 4: "256": no run; a number from 0 to 255 is expected
   line 4 refused
   [3]
   $ cat out
+  $ cmp image before

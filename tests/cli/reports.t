@@ -67,7 +67,7 @@ A file that isn't there, and one that is no image.
   [3]
   $ cat out
 
-Standard output that takes nothing.
+Standard output that takes nothing, and a file that takes 100 bytes more.
 
   $ zscli report image > /dev/full
   cannot write -
@@ -75,3 +75,10 @@ Standard output that takes nothing.
   $ zscli report image --json > /dev/full
   cannot write -
   [1]
+  $ head -c 412 /dev/zero > out
+  $ (trap '' XFSZ; ulimit -f 1; zscli report image >> out)
+  cannot write -
+  [1]
+  $ tail -c +413 out
+  block 512 bytes, 4 zones of 8 blocks, capacity 6 blocks, open 1 of 2, active 1 of 3
+    start: 0x00000 (no-eol)

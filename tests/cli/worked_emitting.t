@@ -74,6 +74,51 @@ Records of 4 and of 8 bytes, as the first byte of each block says.
   cpl 1 02000000010000000000010002000000
   cpl 1 00000000000000000000010003000000 04 00 03 00*3 08 00 07 00*503
 
+Records go into output blocks in order. One of 298 bytes and one of 210 fill a block of 512, with two bytes for the length of each; a block in
+between emits nothing; the last record goes into a second block. Up to the last turn nothing is appended.
+
+  $ assemble lengths <<'END'
+  > ldxh r6, [r2+0]
+  > jeq r6, 0, done
+  > jgt r6, 300, done
+  > mov r1, r2
+  > mov r2, r6
+  > call 1
+  > done: mov r0, 0
+  > exit
+  > END
+  $ for length in '\052\001' '\000\000' '\322\000' '\001\000'; do
+  >   printf "$length"
+  >   head -c 510 /dev/zero
+  > done > data
+  $ begin
+  implicit 4 explicit 0 empty 0 empty 0
+  $ play <<'END'
+  > load --slot 0 --program lengths --emit 512
+  > run --slot 0 --from 0 --blocks 4 --to 8
+  > turn 0
+  > turn 0
+  > turn 0
+  > report --lba 8 --dwords 32 --partial
+  > turn 0
+  > read --lba 8 --blocks 2
+  > END
+  cpl 1 00000000000000000000010001000000
+  pending 0
+  pending 0
+  pending 0
+  pending 0
+  cpl 1 00000000000000000000010003000000 01 00*63 02 30 00*6 06 00*7 08 00*7 08 00*39
+  cpl 1 03000000020000000000010002000000
+  cpl 1 00000000000000000000010004000000 2a 01 2a 01 00*296 d2 00 d2 00*209 01 00 01 00*509
+  $ states
+  implicit 4 explicit 2 empty 0 empty 0
+  $ tail -n 1 replies | cut -d ' ' -f 4 | xxd -r -p > emitted
+  $ zscli unpack emitted --block 512 | awk '{ print length($1) / 2 }'
+  298
+  210
+  1
+
 What a program is given: it emits its context. The run is over 2 blocks from block 1 on, by slot 5 and with argument abcdh. A record
 has the LBA, the index in the run, the number of blocks, the size of a block, and the argument.
 
