@@ -31,6 +31,23 @@ no namespace 2, and none of number 0.
   queue 1, command 7: an entry that is no command: refused: Invalid Field in Command (type 0h, code 02h): a field has a value that it may not have, or the data is not as long as the fields say
   queue 1, command 8: an entry that is no command: refused: Invalid Namespace or Format (type 0h, code 0Bh): the namespace is not 1
 
+Bits that mean nothing here are ignored, whatever they are: the upper flags, the 32 bytes of pointers, and what a command doesn't use
+of dwords 10 to 15. These are a read of a block, a reset of zone 1, and a report of 64 bytes on empty zones.
+
+  $ ones() { zeros $1 | tr 0 f; }
+  $ {
+  >   echo "submit 1 02fc010001000000$(ones 32)00000000000000000000ffff$(ones 12)"
+  >   echo "submit 1 79fc020001000000$(ones 32)0800000000000000ffffffff04feffff$(ones 8)"
+  >   echo "submit 1 7afc030001000000$(ones 32)09000000000000000f0000000001feff$(ones 8)"
+  > } > events
+  $ play
+  cpl 1 00000000000000000000010001000000 000000000000000000000
+  cpl 1 00000000000000000000010002000000
+  cpl 1 00000000000000000000010003000000 030000000000000000000
+  queue 1, command 1: read of 1 block from LBA 0 on: 512 bytes
+  queue 1, command 2: reset of the zone of LBA 8: done
+  queue 1, command 3: report of zones from that of LBA 9 on: 0 of 3 zones
+
 Fields come before addresses: an action that isn't there, at LBA 99, which isn't there either; a write of one block with 511 bytes
 beside it; a read with a block beside it; a load of 16 bytes with 8 beside it; program slot 8; a run and a result with a byte beside them; a load
 with more bytes to emit than a block has.

@@ -74,8 +74,8 @@ Records of 4 and of 8 bytes, as the first byte of each block says.
   cpl 1 02000000010000000000010002000000
   cpl 1 00000000000000000000010003000000 04 00 03 00*3 08 00 07 00*503
 
-Records go into output blocks in order. One of 298 bytes and one of 210 fill a block of 512, with two bytes for the length of each; a block in
-between emits nothing; the last record goes into a second block. Up to the last turn nothing is appended.
+Records go into output blocks in order. One of 298 bytes and one of 210 fill a block of 512, with two bytes for the length of each; a
+block in between emits nothing; the last record goes into a second block. Up to the last turn nothing is appended.
 
   $ assemble lengths <<'END'
   > ldxh r6, [r2+0]
@@ -144,9 +144,9 @@ has the LBA, the index in the run, the number of blocks, the size of a block, an
   cpl 1 02000000010000000000010002000000
   cpl 1 00000000000000000000010003000000 20 00 01 00*11 02 00*4 02 00*2 cd ab 00*10 20 00 02 00*7 01 00*3 02 00*4 02 00*2 cd ab 00*454
   $ awk 'NF > 3 { print $4 }' replies | xxd -r -p > emitted
-  $ zscli unpack emitted --block 512 | sed 's/......../& /g'
-  01000000 00000000 00000000 02000000 00020000 cdab0000 00000000 00000000 
-  02000000 00000000 01000000 02000000 00020000 cdab0000 00000000 00000000 
+  $ zscli unpack emitted --block 512 | sed 's/......../ &/g'
+   01000000 00000000 00000000 02000000 00020000 cdab0000 00000000 00000000
+   02000000 00000000 01000000 02000000 00020000 cdab0000 00000000 00000000
 
 Turns after the last event go to the lowest run until it has ended, then to the next.
 
