@@ -3,7 +3,7 @@
 use super::stage::{Act, EMPTY_IMAGE, EXEC, Scene, play};
 use std::test::Fail;
 
-const NO_IMAGE: &str = "image: no room is left\ncannot write image\n";
+const NO_IMAGE: &str = "cannot write image\n";
 
 const SAVED: &[Act] = &[
     Act::Put("image", EMPTY_IMAGE),
@@ -44,7 +44,7 @@ const SERVED: &[Act] = &[
     Act::Printed(&[(b"done\n", 1)]),
     Act::Has("image", EMPTY_IMAGE),
     // the same as a frame: zone 3 falls into Offline
-    Act::Input(&[(b"\x03\x02\0\0\0\0\0\0\x03\0\0\0\0\0\0\0", 1)]),
+    Act::Input(&[(b"\x03\x02\0\0\x03\0\0\0\0\0\0\0\0\0\0\0", 1)]),
     Act::Ends("zscli serve image --frames", usize::MAX, 1, NO_IMAGE),
     Act::Has("image", EMPTY_IMAGE),
 ];

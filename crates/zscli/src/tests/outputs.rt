@@ -83,7 +83,6 @@ const AT_OTHERS: &[Act] = &[
         "events, line 2: the first command that was refused\ncommands refused 1\n",
     ),
     Act::Ends("zscli report image", 4, 1, NO_OUTPUT),
-    Act::Ends("zscli report image", 5, 0, ""),
 ];
 
 #[test]
