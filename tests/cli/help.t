@@ -178,7 +178,7 @@ A refusal is explained with the same words.
 
 Help is printed to standard output, and a usage that is wrong to standard error.
 
-  $ zscli --help 2> /dev/null | head -n 3
+  $ zscli --help 2> /dev/null | sed -n 1,3p
   Works on zoned namespaces, and on the programs that run beside their data
   
   Usage: zscli <COMMAND>

@@ -23,7 +23,7 @@ Every slot of an accepted program is listed, after the lines of `--explain`. For
 
 Without `--explain` the second line isn't there.
 
-  $ zscli verify program --block 512 --emit 10 --facts | head -n 2
+  $ zscli verify program --block 512 --emit 10 --facts | sed -n 1,2p
   accepted 7
      0  ldxb r6, [r2+0]  r2 is block + 0
 
