@@ -31,7 +31,7 @@ alone hand on.
 """
 
 # crates that serve tests and measures alone
-PROMISE_NOTHING = re.compile(r"bench_\w+|\w+_tests|test_inputs|compiled_filters")
+PROMISE_NOTHING = re.compile(r"bench_\w+|\w+_tests|test_inputs")
 
 # functions that no other crate can call, whose contracts are promises to the user all the same; those not found yet
 INSIDE = {
