@@ -134,7 +134,7 @@ def for_bloom(rng: Random) -> List[Run]:
 
 
 def for_join(rng: Random) -> List[Run]:
-    """Keys in and out of each block's dictionary; behind the 8 records stands one more that looks like them."""
+    """Keys in and out of each block's dictionary. After the 8 records comes one more that looks like them."""
     blocks = []
     for _ in range(COUNT):
         keys = sorted(rng.choice(range(0, 2**16, 1021)) for _ in range(16))

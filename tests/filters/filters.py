@@ -1,4 +1,4 @@
-"""What the filters of `examples/` do, a second time: a function for each, called as its file is.
+"""What the filters of `examples/` do, a second time: a function for each, with the name of its file.
 
 Each takes a run and says what it leaves. It sees the whole run at once, where the C sees one block after another: it sorts all
 records where the C keeps the four greatest, and counts at the end where the C adds.

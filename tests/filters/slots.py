@@ -1,5 +1,6 @@
-"""Slots before a program and after it: they give a block run the context and the scratch that a test asks for, and show the scratch
-that it leaves. What stands between is the program as it is, since all jumps go by distances.
+"""Slots that are put before a program and after it. They give a block run the context and the scratch that a test asks for, and
+show the scratch that it leaves. The program stays as it is, since all jumps go by distances; only its EXITs become jumps where
+slots come after it.
 """
 
 from __future__ import annotations

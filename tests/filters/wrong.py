@@ -13,7 +13,7 @@ import filters
 
 Implementation = Callable[[filters.Run], filters.Left]
 
-# what stands in the place of each comparison
+# what each comparison is turned into
 _OTHER: Dict[Type[ast.cmpop], Type[ast.cmpop]] = {
     ast.Lt: ast.LtE,
     ast.LtE: ast.Lt,
