@@ -14,14 +14,6 @@ pub const MATCHING: Text =
 pub const GROWING: Text =
     "ldxb r6, [r2+0]\nand r6, 7\nadd r6, 1\nmov r1, r2\nmov r2, r6\ncall 1\nmov r0, 0\nexit";
 
-/// Emits a block's first 3 bytes twice.
-pub const EMITTING_TWICE: Text =
-    "mov r6, r2\nmov r1, r6\nmov r2, 3\ncall 1\nmov r1, r6\nmov r2, 3\ncall 1\nexit";
-
-/// Emits a block's first byte once where it is 0, and else twice.
-pub const ONCE_OR_TWICE: Text = "\
-mov r7, r2\nldxb r6, [r7+0]\njeq r6, 0, +3\nmov r1, r7\nmov r2, 1\ncall 1\nmov r1, r7\nmov r2, 1\ncall 1\nexit";
-
 /// Adds a block's first byte to a sum in scratch, and ends the run with its third block.
 pub const ADDING_THREE: Text = "\
 ldxb r4, [r2+0]\nldxdw r5, [r3+0]\nadd r5, r4\nstxdw [r3+0], r5\nldxw r6, [r1+8]\nmov r0, 0\njne r6, 2, +1\nmov r0, 1\n\
