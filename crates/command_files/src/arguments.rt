@@ -9,6 +9,7 @@ use crate::failure::Failure;
 use crate::numbers::decimal_or_hexadecimal;
 use clap::error::ErrorKind;
 use clap::{Arg, ArgAction, ArgMatches, Command};
+use command_words::{Argument, Takes};
 use image_store::GeometryRefusal;
 use program_interface::BlockSize;
 use std::alloc::{AllocError, Global};
@@ -25,6 +26,42 @@ pub const ARGUMENT_OPTION: &str = "argument";
 
 /// The argument that [`program_argument`] describes.
 pub const PROGRAM: &str = "PROGRAM";
+
+/// The option that gives the bytes of a block, which is required.
+pub const BLOCK_ARGUMENT: Argument = Argument {
+    id: BLOCK_OPTION,
+    long: BLOCK_OPTION,
+    short: None,
+    takes: Takes::Required("B"),
+    help: "Bytes of a block: a power of 2 from 512 to 16384",
+};
+
+/// The option that gives the most bytes that may be emitted for a block, which is required.
+pub const EMIT_ARGUMENT: Argument = Argument {
+    id: EMIT_OPTION,
+    long: EMIT_OPTION,
+    short: None,
+    takes: Takes::Required("E"),
+    help: "The most bytes that may be emitted for a block, two for each record counted: at most a block's",
+};
+
+/// The option that gives a run's argument, 0 where it isn't given.
+pub const RUN_ARGUMENT: Argument = Argument {
+    id: ARGUMENT_OPTION,
+    long: ARGUMENT_OPTION,
+    short: None,
+    takes: Takes::Default("A", "0"),
+    help: "The argument of the run, a number that the program is told",
+};
+
+/// The argument that names the file of a program.
+pub const PROGRAM_ARGUMENT: Argument = Argument {
+    id: PROGRAM,
+    long: "",
+    short: None,
+    takes: Takes::Place,
+    help: "The program, as instruction bytes",
+};
 
 /// The option `--NAME VALUE`, whose value help shows by this word.
 pub fn option<'a>(alloc: Global, name: &'a str, value: &'a str) -> Arg<'a> {
