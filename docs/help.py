@@ -1,27 +1,23 @@
 #!/usr/bin/env python3
 """Makes the manual page docs/zscli.1 and docs/zscli.bash, which completes command lines, from the sources of the help texts.
 
-It reads the functions that describe the command line, of crates/zscli/src/commands.rt and what these call, as they are written:
-`let` lines, calls and chains of calls. It writes both files, or with --check compares them, and ends with status 1 where one
-differs.
+It reads the tables of words (`WORDS`, and `KINDS` of commands that have others below them) of the commands in the list of
+crates/zscli/src/commands.rt, as they are written. It writes both files, or with --check compares them, and ends with status 1 where
+one differs.
 """
 
 import re
 import sys
 from dataclasses import dataclass, field
 from pathlib import Path
-from typing import Dict, Iterator, List, Optional, Tuple, Union
+from typing import Dict, Iterator, List, NamedTuple, Optional, Tuple, Union
 
 ROOT = Path(__file__).resolve().parent.parent
-CRATES = (
-    *("zscli", "command_files", "command_images", "command_durable", "command_exec", "command_serve"),
-    *("command_profile", "command_programs", "command_link", "command_entry", "command_explain"),
-)
-TOKEN = re.compile(r'"(?:[^"\\]|\\.)*"|\'\w\'|\w+(?:::\w+)*|[^\w\s]', re.S)
-CONSTANT = re.compile(r'^(?:pub(?:\(crate\))? )?const (\w+): &str =\s+("(?:[^"\\]|\\.)*");', re.M | re.S)
+TEXT = r'"(?:[^"\\]|\\.)*"'
+TOKEN = re.compile(rf"{TEXT}|'(?:[^'\\]|\\.)'|\.\.|\w+(?:::\w+)*|[^\w\s]", re.S)
+ITEM = re.compile(rf'^(?:pub(?:\(crate\))? )?(?:const|static) (\w+): [^=]*=((?:{TEXT}|[^";])*);', re.M | re.S)
 IMPORT = re.compile(r"^use (?:\w+::)*?(\w+)::(?:\{(.*?)\}|(\w+));", re.M | re.S)
-FUNCTION = re.compile(r"^(?:pub(?:\(crate\))? )?fn (\w+)<'a>\(([^()]*)\) -> (?:Result<Command|Arg)[^{]*\{\n(.*?)^\}", re.M | re.S)
-LIST = re.compile(r"^const (\w+): &\[&str\] = &\[(.*?)\];", re.M | re.S)
+COMMENT = re.compile(r"^\s*//.*$", re.M)
 
 
 @dataclass
@@ -59,165 +55,179 @@ class Command:
     below: List["Command"] = field(default_factory=list)
 
 
-Value = Union[str, Arg, Command, List[str], None]
+class Case(NamedTuple):
+    """A case of an enum, with its values."""
+
+    name: str
+    values: List["Value"]
 
 
-@dataclass
-class Module:
-    """A source file: its constants, its functions with their parameters and bodies, and the file that each name is brought in from."""
+Value = Union[str, Case, List["Value"], Dict[str, "Value"]]
 
-    constants: Dict[str, Value]
-    functions: Dict[str, Tuple[List[str], str]]
+
+class Module(NamedTuple):
+    """A source file: how its constants and statics are written, and the file or crate that each name is brought in from."""
+
+    items: Dict[str, str]
     imports: Dict[str, str]
 
 
 def text_of(literal: str) -> str:
-    """What a string literal stands for."""
+    """What a literal of a text or of a letter stands for."""
     text = re.sub(r"\\\n\s*", "", literal[1:-1])
     return re.sub(r"\\(.)", lambda found: {"n": "\n", "t": "\t", "0": "\0"}.get(found[1], found[1]), text)
 
 
 def module(file: Path) -> Module:
     """Reads a source file."""
-    source = file.read_text()
-    constants: Dict[str, Value] = {name: text_of(literal) for name, literal in CONSTANT.findall(source)}
-    functions = {
-        name: (re.findall(r"(\w+): ", parameters), body)
-        for name, parameters, body in FUNCTION.findall(source)
-    }
-    for name, words in LIST.findall(source):
-        constants[name] = [constants[w] if w in constants else text_of(w) for w in re.findall(TOKEN, words) if w != ","]  # type: ignore
+    source = COMMENT.sub("", file.read_text())
     imports = {name: stem for stem, several, one in IMPORT.findall(source) for name in re.findall(r"\w+", several or one)}
-    return Module(constants, functions, imports)
+    return Module(dict(ITEM.findall(source)), imports)
 
 
 MODULES = {
-    (crate, file.stem): module(file) for crate in CRATES for file in sorted((ROOT / "crates" / crate / "src").glob("*.rt"))
+    (file.parts[-3], file.stem): module(file)
+    for crate in [*sorted(ROOT.glob("crates/command_*")), ROOT / "crates" / "zscli"]
+    for file in sorted(crate.glob("src/*.rt"))
 }
 
 
 class Reader:
-    """Reads the body of a function, as what it gives."""
+    """Reads a value as it is written in a file."""
 
-    def __init__(self, crate: str, stem: str, names: Dict[str, Value], body: str) -> None:
-        self.crate, self.stem, self.names = crate, stem, names
-        self.tokens: List[str] = TOKEN.findall(re.sub(r"^\s*//.*$", "", body, flags=re.M))
+    def __init__(self, key: Tuple[str, str], written: str) -> None:
+        self.key = key
+        self.tokens: List[str] = TOKEN.findall(written)
 
-    def take(self, wanted: Optional[str] = None) -> str:
-        """The next token, which has to be the one that is wanted."""
+    def next_is(self, *tokens: str) -> bool:
+        """Is the next token one of these?"""
+        return bool(self.tokens) and self.tokens[0] in tokens
+
+    def value(self) -> Value:
+        """A text, a list, a struct by its fields, a case of an enum, or what a name stands for."""
+        while self.next_is("&"):
+            self.tokens.pop(0)
         token = self.tokens.pop(0)
-        if wanted is not None and token != wanted:
-            raise ValueError(f"{self.crate}, {self.stem}: {token} in place of {wanted}")
-        return token
-
-    def body(self) -> Value:
-        """What the body gives: `let` lines, and an expression behind them."""
-        while self.tokens[0] == "let":
-            self.take("let")
-            name = self.take()
-            self.take("=")
-            self.names[name] = self.chain()
-            self.take(";")
-        return self.chain()
-
-    def arguments(self) -> List[Value]:
-        """The arguments of a call."""
-        given: List[Value] = []
-        self.take("(")
-        while self.tokens[0] != ")":
-            given.append(self.chain())
-            if self.tokens[0] == ",":
-                self.take(",")
-        self.take(")")
-        return given
-
-    def chain(self) -> Value:
-        """A value, and calls of its methods behind it."""
-        value = self.first()
-        while self.tokens and self.tokens[0] in (".", "?"):
-            if self.take() == ".":
-                value = method(value, self.take(), self.arguments())
-        return value
-
-    def first(self) -> Value:
-        """A literal, a name or a call."""
-        token = self.take()
         if token[0] in "\"'":
             return text_of(token)
-        if self.tokens and self.tokens[0] == "(":
-            return self.call(token, self.arguments())
-        if token in self.names:
-            return self.names[token]
-        return self.constant(token)
+        if token == "[":
+            return self.several("]")
+        if self.next_is("{"):
+            self.tokens.pop(0)
+            return self.fields()
+        name = token.rpartition("::")[2]
+        if self.next_is("("):
+            self.tokens.pop(0)
+            return Case(name, self.several(")"))
+        return Case(name, []) if name[0].isupper() and not name.isupper() else constant(self.key, token)
 
-    def constant(self, name: str) -> Value:
-        """A constant of this file or another one, or a case of an enum."""
-        owner, _, name = name.rpartition("::")
-        for (crate, stem), found in self.nearest(owner or self.imported(name)):
-            if name in found.constants:
-                return found.constants[name]
-        return name
+    def several(self, end: str) -> List[Value]:
+        """Values with commas between them."""
+        values: List[Value] = []
+        while not self.next_is(end):
+            values.append(self.value())
+            if self.next_is(","):
+                self.tokens.pop(0)
+        self.tokens.pop(0)
+        return values
 
-    def call(self, name: str, given: List[Value]) -> Value:
-        """What a function gives."""
-        owner, _, name = name.rpartition("::")
-        if name == "Ok":
-            return given[0]
-        if name == "new" and owner in ("Command", "Arg", "ArgGroup"):
-            return {"Command": Command, "Arg": Arg}.get(owner, str)(str(given[1]))
-        for (crate, stem), found in self.nearest(owner or self.imported(name)):
-            if name in found.functions:
-                parameters, body = found.functions[name]
-                return Reader(crate, stem, dict(zip(parameters, given)), body).body()
-        raise ValueError(f"{self.crate}, {self.stem}: {name} isn't known")
-
-    def imported(self, name: str) -> str:
-        """The file that a name is brought in from, where it is."""
-        return MODULES[self.crate, self.stem].imports.get(name, "")
-
-    def nearest(self, owner: str) -> Iterator[Tuple[Tuple[str, str], Module]]:
-        """The files in which a name may stand: of its owner, a file or a crate, or this file, those of its crate, and the others."""
-        stem = owner.rpartition("::")[2]
-        own = (self.crate, self.stem)
-        order = sorted(MODULES, key=lambda key: (key != own, key[0] != self.crate, key))
-        for key in order:
-            if stem in ("", *key):
-                yield key, MODULES[key]
+    def fields(self) -> Dict[str, Value]:
+        """The fields of a struct, of which others may be those of another one."""
+        fields: Dict[str, Value] = {}
+        while not self.next_is("}"):
+            if (name := self.tokens.pop(0)) == "..":
+                rest = self.value()
+                assert isinstance(rest, dict)
+                fields = {**rest, **fields}
+            elif self.next_is(":"):
+                self.tokens.pop(0)
+                fields[name] = self.value()
+            else:
+                fields[name] = constant(self.key, name)
+            if self.next_is(","):
+                self.tokens.pop(0)
+        self.tokens.pop(0)
+        return fields
 
 
-def method(value: Value, name: str, given: List[Value]) -> Value:
-    """What a method of a command, an argument or a word gives."""
-    first = given[0] if given else None
-    if isinstance(value, Command):
-        if name == "arg" and isinstance(first, Arg):
-            value.args.append(first)
-        elif name == "subcommand" and isinstance(first, Command):
-            value.below.append(first)
-        elif name in ("about", "long_about", "after_help", "version"):
-            setattr(value, name, first)
-        elif name not in ("group", "subcommand_required", "arg_required_else_help"):
-            raise ValueError(f"a command's {name} isn't known")
-    elif isinstance(value, Arg):
-        if name == "action":
-            value.flag = first == "SetTrue"
-        elif name == "required":
-            value.required = first == "true"
-        else:
-            setattr(value, {"value_name": "value", "default_value": "default", "value_parser": "words"}.get(name, name), first)
-    elif name == "word":
-        return str(value).lower()
+def written(key: Tuple[str, str], path: str) -> Optional[Tuple[Tuple[str, str], str]]:
+    """How a constant is written, and where: in the file or crate that its path names, or that it is brought in from, or in this file,
+    or in another of its crate."""
+    owner, _, name = path.rpartition("::")
+    stem = owner.rpartition("::")[2] or MODULES[key].imports.get(name, "")
+    for found in sorted(MODULES, key=lambda other: (other != key, other[0] != key[0], other)):
+        if stem in ("", "crate", *found) and name in MODULES[found].items:
+            return found, MODULES[found].items[name]
+    return None
+
+
+def constant(key: Tuple[str, str], path: str) -> Value:
+    """What a name stands for in a file."""
+    found = written(key, path)
+    if found is None:
+        raise ValueError(f"{'/'.join(key)}: {path} isn't known")
+    return Reader(*found).value()
+
+
+def text(value: Value) -> str:
+    """A value that is a text."""
+    assert isinstance(value, str), value
     return value
 
 
-def troff(text: str) -> str:
+def argument_of(told: Value) -> Arg:
+    """An argument by its row in a table."""
+    assert isinstance(told, dict)
+    short, takes = told["short"], told["takes"]
+    assert isinstance(short, Case) and isinstance(takes, Case)
+    made = Arg(text(told["id"]), help=text(told["help"]), long=text(told["long"]) or None)
+    made.short = text(short.values[0]) if short.values else None
+    made.required = takes.name in ("Place", "Required")
+    made.flag = takes.name.startswith("Nothing")
+    if takes.name in ("Required", "Optional", "Default", "OneOf"):
+        made.value = text(takes.values[0])
+    if takes.name in ("Default", "OneOf"):
+        made.default = text(takes.values[1])
+    if takes.name == "OneOf":
+        made.words = [text(word) for word in listed(takes.values[2])]
+    return made
+
+
+def listed(value: Value) -> List[Value]:
+    """A value that is a list."""
+    assert isinstance(value, list), value
+    return value
+
+
+def command_of(told: Value, below: Optional[List[Value]] = None) -> Command:
+    """A command by its table, with those below it by theirs."""
+    assert isinstance(told, dict)
+    texts = [text(told[name]) for name in ("name", "about", "long_about", "example")]
+    args = [argument_of(it) for it in listed(told["arguments"])]
+    return Command(*texts, args=args, below=[command_of(it) for it in below or []])
+
+
+def command_line() -> Command:
+    """The whole line: of each command that `command_line` lists, its table and the one of those below it."""
+    key = ("zscli", "commands")
+    source = (ROOT / "crates" / "zscli" / "src" / "commands.rt").read_text()
+    line = command_of(constant(key, "LINE"))
+    line.version = text(constant(key, "VERSION"))
+    for name in re.findall(r"&(\w+)::WORDS", source[source.index("fn command_line") :]):
+        below = listed(constant(key, f"{name}::KINDS")) if written(key, f"{name}::KINDS") else None
+        line.below.append(command_of(constant(key, f"{name}::WORDS"), below))
+    return line
+
+
+def troff(words: str) -> str:
     """A text as a manual page has it."""
-    escaped = text.replace("\\", "\\e").replace("-", "\\-")
+    escaped = words.replace("\\", "\\e").replace("-", "\\-")
     return re.sub(r"(?m)^([.'])", r"\\&\1", escaped)
 
 
-def paragraphs(text: str) -> Iterator[str]:
+def paragraphs(words: str) -> Iterator[str]:
     """The paragraphs of a help text; lines that are set in stand as they are."""
-    for part in text.split("\n\n"):
+    for part in words.split("\n\n"):
         if any(line.startswith("  ") for line in part.split("\n")):
             yield f".PP\n.nf\n{troff(part)}\n.fi\n"
         else:
@@ -314,14 +324,13 @@ complete -o filenames -F _{line.name} {line.name}
 
 def main() -> int:
     """Writes both files, or compares them."""
-    line = Reader("zscli", "commands", {}, MODULES["zscli", "commands"].functions["command_line"][1]).body()
-    assert isinstance(line, Command)
+    line = command_line()
     status = 0
-    for name, text in (("zscli.1", manual(line)), ("zscli.bash", completion(line))):
+    for name, made in (("zscli.1", manual(line)), ("zscli.bash", completion(line))):
         file = ROOT / "docs" / name
         if "--check" not in sys.argv[1:]:
-            file.write_text(text)
-        elif not file.exists() or file.read_text() != text:
+            file.write_text(made)
+        elif not file.exists() or file.read_text() != made:
             print(f"docs/{name} isn't what docs/make.sh makes of the help texts")
             status = 1
     return status

@@ -10,12 +10,13 @@ ghost use Rattle.command_durable.specs.Opening.{FailsToOpen, Opens};
 
 use crate::DurableFiles;
 use crate::opening::{failed, into_file, is_journal, reopen, stored};
-use clap::{Arg, ArgMatches, Command};
-use command_files::arguments::{and_argument, required};
+use clap::ArgMatches;
+use command_files::arguments::required;
 use command_files::{Failure, Files};
 use command_images::image_file::{self, IMAGE};
+use command_words::{Argument, Takes, Words};
 use durable_device::DurableDevice;
-use std::alloc::{AllocError, Global};
+use std::alloc::Global;
 use stored_file::StoredFile;
 
 /// The command's name.
@@ -37,20 +38,20 @@ Example, of a frame by which zone 3 becomes read only, as `serve --help` has it:
   zscli fold zoned.img";
 
 /// How the command stands on the command line.
-///
-/// # Errors
-///
-/// Want of memory.
-pub fn subcommand<'a>(alloc: Global) -> Result<Command<'a>, AllocError> {
-    let image = Arg::new(alloc, IMAGE)
-        .required(true)
-        .help("The image, which `serve --durable` writes as a journal");
-    let command = Command::new(alloc, NAME)
-        .about("Makes of a journal's base and events a new base")
-        .long_about(LONG_ABOUT)
-        .after_help(EXAMPLE);
-    and_argument(Ok(command), image)
-}
+pub static WORDS: Words = Words {
+    name: NAME,
+    about: "Makes of a journal's base and events a new base",
+    long_about: LONG_ABOUT,
+    example: EXAMPLE,
+    arguments: &[Argument {
+        id: IMAGE,
+        long: "",
+        short: None,
+        takes: Takes::Place,
+        help: "The image, which `serve --durable` writes as a journal",
+    }],
+    one_of: &[],
+};
 
 /// Folds the journal of the image file into a new base. An image that is no journal stays as it is.
 ///

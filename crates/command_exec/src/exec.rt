@@ -11,19 +11,20 @@ ghost use Rattle.command_exec.specs.Executed.{AreExecuted, AreExecutedBy, AreLef
 ghost use Rattle.command_exec.specs.UserTold.{ExecFails, PrintsNothing};
 ghost use Rattle.command_exec.specs.steps.Told.{SavingFails};
 
-use crate::fail::Refused;
+use crate::fail::{FAIL, Refused};
 use crate::watched::{Refusals, Watched};
 use address_domain::Addresses;
-use clap::{Arg, ArgMatches, Command};
-use command_files::arguments::{and_argument, required};
+use clap::ArgMatches;
+use command_files::arguments::required;
 use command_files::{Failure, Files, read};
 use command_images::device_file;
 use command_images::image_file::{self, IMAGE};
-use command_profile::{Profile, profile_asked, profile_option};
+use command_profile::{PROFILE, Profile, profile_asked};
+use command_words::{Argument, Takes, Words};
 use event_text::{Lines, event_lines};
 use interval_domain::Intervals;
 use runner::{Device, Event, Stopped};
-use std::alloc::{AllocError, Global};
+use std::alloc::Global;
 use std::io::Write;
 use word_domain::Domain;
 use zns_commands::MOST_TRANSFER;
@@ -32,9 +33,6 @@ use zns_commands::MOST_TRANSFER;
 pub const NAME: &str = "exec";
 
 pub(crate) const COMMANDS: &str = "COMMANDS";
-
-const PROFILE_HELP: &str =
-    "The profile by which Load judges: 2, or 3, which knows more of addresses and sums";
 
 const LONG_ABOUT: &str = "\
 Runs the events of a command file on an image, one after another. Then it gives turns to the runs that \
@@ -80,25 +78,43 @@ Example, in the folder of the sources:
   zscli exec zoned.img examples/pushdown.cmd";
 
 /// How the command stands on the command line.
-///
-/// # Errors
-///
-/// Want of memory.
-pub fn subcommand<'a>(alloc: Global) -> Result<Command<'a>, AllocError> {
-    let image = Arg::new(alloc, IMAGE)
-        .required(true)
-        .help("The image, which `format` makes");
-    let commands = Arg::new(alloc, COMMANDS)
-        .required(true)
-        .help("The command file");
-    let command = Command::new(alloc, NAME)
-        .about("Runs the events of a command file on an image")
-        .long_about(LONG_ABOUT)
-        .after_help(EXAMPLE);
-    let command = and_argument(Ok(command), image);
-    let command = and_argument(command, commands);
-    and_argument(command, profile_option(alloc, PROFILE_HELP))
-}
+pub static WORDS: Words = Words {
+    name: NAME,
+    about: "Runs the events of a command file on an image",
+    long_about: LONG_ABOUT,
+    example: EXAMPLE,
+    arguments: &[
+        Argument {
+            id: IMAGE,
+            long: "",
+            short: None,
+            takes: Takes::Place,
+            help: "The image, which `format` makes",
+        },
+        Argument {
+            id: COMMANDS,
+            long: "",
+            short: None,
+            takes: Takes::Place,
+            help: "The command file",
+        },
+        Argument {
+            id: PROFILE,
+            long: PROFILE,
+            short: None,
+            takes: Takes::Default("P", "2"),
+            help: "The profile by which Load judges: 2, or 3, which knows more of addresses and sums",
+        },
+        Argument {
+            id: FAIL,
+            long: FAIL,
+            short: None,
+            takes: Takes::Nothing,
+            help: "End with status 4 where a command was refused, and tell how many were and the line of the first",
+        },
+    ],
+    one_of: &[],
+};
 
 /// Does the events of the command file on the namespace of the image file, and then the turns that end all runs; prints
 /// the line of each reply, in order and nothing else; and makes one file, in the image file's place, unless that has it

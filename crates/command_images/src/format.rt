@@ -9,14 +9,13 @@ ghost use Rattle.command_images.specs.UserTold.{FormatFails, IsUnreplaced, Refus
 ghost use Rattle.command_images.specs.steps.Beginnings.{may_begin};
 
 use crate::image_file::{self, IMAGE};
-use clap::{Arg, ArgAction, ArgMatches, Command};
-use command_files::arguments::{
-    BLOCK_OPTION, and_argument, block_option, number, option, required,
-};
+use clap::ArgMatches;
+use command_files::arguments::{BLOCK_ARGUMENT, BLOCK_OPTION, number, required};
 use command_files::{Failure, Files, cannot_write};
+use command_words::{Argument, Takes, Words};
 use image_store::{Geometry, Image, Limits};
 use image_text::Version;
-use std::alloc::{AllocError, Global};
+use std::alloc::Global;
 
 /// The command's name.
 pub const NAME: &str = "format";
@@ -57,46 +56,65 @@ Example: 4 zones of 8 blocks, 6 of them writable, at most 2 of the zones open an
   zscli format zoned.img --block 512 --zones 4 --size 8 --capacity 6 --open 2 --active 3";
 
 /// How the command stands on the command line.
-///
-/// # Errors
-///
-/// Want of memory.
-pub fn subcommand<'a>(alloc: Global) -> Result<Command<'a>, AllocError> {
-    let image = Arg::new(alloc, IMAGE).required(true).help(
-        "The image that is written; a file with this name is replaced, with all its data",
-    );
-    let block = block_option(alloc);
-    let zones = count(alloc, ZONES, "N", "The number of zones");
-    let size = count(alloc, SIZE, "S", "Blocks of a zone");
-    let capacity = count(alloc, CAPACITY, "C", "Blocks of a zone that can be written");
-    let open = count(alloc, OPEN, "O", "The most zones that are open at a time");
-    let active = count(
-        alloc,
-        ACTIVE,
-        "A",
-        "The most zones that are active at a time",
-    );
-    let force = Arg::new(alloc, FORCE)
-        .long(FORCE)
-        .action(ArgAction::SetTrue)
-        .help("Replaces a file whose bytes are no image too");
-    let command = Command::new(alloc, NAME)
-        .about("Writes an image of empty zones")
-        .long_about(LONG_ABOUT)
-        .after_help(EXAMPLE);
-    let command = and_argument(Ok(command), image);
-    let command = and_argument(command, block);
-    let command = and_argument(command, zones);
-    let command = and_argument(command, size);
-    let command = and_argument(command, capacity);
-    let command = and_argument(command, open);
-    let command = and_argument(command, active);
-    and_argument(command, force)
-}
-
-fn count<'a>(alloc: Global, name: &'a str, letter: &'a str, help: &'a str) -> Arg<'a> {
-    option(alloc, name, letter).required(true).help(help)
-}
+pub static WORDS: Words = Words {
+    name: NAME,
+    about: "Writes an image of empty zones",
+    long_about: LONG_ABOUT,
+    example: EXAMPLE,
+    arguments: &[
+        Argument {
+            id: IMAGE,
+            long: "",
+            short: None,
+            takes: Takes::Place,
+            help: "The image that is written; a file with this name is replaced, with all its data",
+        },
+        BLOCK_ARGUMENT,
+        Argument {
+            id: ZONES,
+            long: ZONES,
+            short: None,
+            takes: Takes::Required("N"),
+            help: "The number of zones",
+        },
+        Argument {
+            id: SIZE,
+            long: SIZE,
+            short: None,
+            takes: Takes::Required("S"),
+            help: "Blocks of a zone",
+        },
+        Argument {
+            id: CAPACITY,
+            long: CAPACITY,
+            short: None,
+            takes: Takes::Required("C"),
+            help: "Blocks of a zone that can be written",
+        },
+        Argument {
+            id: OPEN,
+            long: OPEN,
+            short: None,
+            takes: Takes::Required("O"),
+            help: "The most zones that are open at a time",
+        },
+        Argument {
+            id: ACTIVE,
+            long: ACTIVE,
+            short: None,
+            takes: Takes::Required("A"),
+            help: "The most zones that are active at a time",
+        },
+        Argument {
+            id: FORCE,
+            long: FORCE,
+            short: None,
+            takes: Takes::Nothing,
+            help: "Replaces a file whose bytes are no image too",
+        },
+    ],
+    one_of: &[],
+};
 
 /// Makes one file, in the image file's place: the text of a namespace of which nothing is written, of the shape whose
 /// numbers the options spell, which passes the tests. Bytes that are no image are replaced by force alone. Where it

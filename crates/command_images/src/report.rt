@@ -4,11 +4,12 @@ ghost use Rattle.std.specs.Prelude.{◌≡◌};
 
 use crate::device_file;
 use crate::image_file::IMAGE;
-use clap::{Arg, ArgAction, ArgMatches, Command};
-use command_files::arguments::{and_argument, required};
+use clap::ArgMatches;
+use command_files::arguments::required;
 use command_files::{Failure, Files, printed};
+use command_words::{Argument, Takes, Words};
 use image_store::Image;
-use std::alloc::{AllocError, Global};
+use std::alloc::Global;
 use std::io::{self, Write};
 use zone_state::{Zone, ZoneState};
 
@@ -43,23 +44,29 @@ Example:
   zscli report zoned.img";
 
 /// How the command stands on the command line.
-///
-/// # Errors
-///
-/// Want of memory.
-pub fn subcommand<'a>(alloc: Global) -> Result<Command<'a>, AllocError> {
-    let image = Arg::new(alloc, IMAGE).required(true).help("The image");
-    let json = Arg::new(alloc, JSON)
-        .long(JSON)
-        .action(ArgAction::SetTrue)
-        .help("Print one JSON object");
-    let command = Command::new(alloc, NAME)
-        .about("Prints an image's geometry, limits and zones, as `blkzone report` has them")
-        .long_about(LONG_ABOUT)
-        .after_help(EXAMPLE);
-    let command = and_argument(Ok(command), image);
-    and_argument(command, json)
-}
+pub static WORDS: Words = Words {
+    name: NAME,
+    about: "Prints an image's geometry, limits and zones, as `blkzone report` has them",
+    long_about: LONG_ABOUT,
+    example: EXAMPLE,
+    arguments: &[
+        Argument {
+            id: IMAGE,
+            long: "",
+            short: None,
+            takes: Takes::Place,
+            help: "The image",
+        },
+        Argument {
+            id: JSON,
+            long: JSON,
+            short: None,
+            takes: Takes::Nothing,
+            help: "Print one JSON object",
+        },
+    ],
+    one_of: &[],
+};
 
 /// Runs the command, which makes no file: each has the bytes that it had. What is printed isn't said.
 ///

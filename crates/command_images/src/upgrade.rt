@@ -9,11 +9,12 @@ ghost use Rattle.command_images.specs.UserTold.{ReplacingFails};
 
 use crate::device_file;
 use crate::image_file::{self, IMAGE};
-use clap::{Arg, ArgMatches, Command};
+use clap::ArgMatches;
 use command_files::arguments::required;
 use command_files::{Failure, Files};
+use command_words::{Argument, Takes, Words};
 use runner::Device;
-use std::alloc::{AllocError, Global};
+use std::alloc::Global;
 
 /// The command's name.
 pub const NAME: &str = "upgrade";
@@ -35,20 +36,20 @@ Example:
   zscli upgrade zoned.img";
 
 /// How the command stands on the command line.
-///
-/// # Errors
-///
-/// Want of memory.
-pub fn subcommand<'a>(alloc: Global) -> Result<Command<'a>, AllocError> {
-    let image = Arg::new(alloc, IMAGE)
-        .required(true)
-        .help("The image, which is replaced");
-    Command::new(alloc, NAME)
-        .about("Saves an image in the last version")
-        .long_about(LONG_ABOUT)
-        .after_help(EXAMPLE)
-        .arg(image)
-}
+pub static WORDS: Words = Words {
+    name: NAME,
+    about: "Saves an image in the last version",
+    long_about: LONG_ABOUT,
+    example: EXAMPLE,
+    arguments: &[Argument {
+        id: IMAGE,
+        long: "",
+        short: None,
+        takes: Takes::Place,
+        help: "The image, which is replaced",
+    }],
+    one_of: &[],
+};
 
 /// Makes one file, in the image file's place: the text of version 2 of the namespace that the image file's bytes stand
 /// for. Where it fails, no file is made, and what is told is the first fault of these bytes, or by the file's name that

@@ -7,10 +7,11 @@ ghost use Rattle.command_images.specs.Zones.{PrintsZones, zone_line, zone_lines_
 
 use crate::device_file;
 use crate::image_file::IMAGE;
-use clap::{Arg, ArgMatches, Command};
+use clap::ArgMatches;
 use command_files::arguments::required;
 use command_files::{Failure, Files, printed};
-use std::alloc::{AllocError, Global};
+use command_words::{Argument, Takes, Words};
+use std::alloc::Global;
 use std::io::{self, Write};
 use zone_state::Zone;
 
@@ -33,18 +34,20 @@ Example:
   zscli zones zoned.img";
 
 /// How the command stands on the command line.
-///
-/// # Errors
-///
-/// Want of memory.
-pub fn subcommand<'a>(alloc: Global) -> Result<Command<'a>, AllocError> {
-    let image = Arg::new(alloc, IMAGE).required(true).help("The image");
-    Command::new(alloc, NAME)
-        .about("Prints the states of an image's zones")
-        .long_about(LONG_ABOUT)
-        .after_help(EXAMPLE)
-        .arg(image)
-}
+pub static WORDS: Words = Words {
+    name: NAME,
+    about: "Prints the states of an image's zones",
+    long_about: LONG_ABOUT,
+    example: EXAMPLE,
+    arguments: &[Argument {
+        id: IMAGE,
+        long: "",
+        short: None,
+        takes: Takes::Place,
+        help: "The image",
+    }],
+    one_of: &[],
+};
 
 /// Prints the zones of the namespace that the image file's bytes stand for, in order, each on a line and nothing else: its
 /// number, the word for its state and how many of its blocks are written. It makes no file: each has the bytes that it had.

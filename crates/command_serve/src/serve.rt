@@ -19,17 +19,18 @@ ghost use Rattle.command_serve.specs.steps.Told.{IsTold};
 
 use crate::image_keeper::ImageKeeper;
 use crate::lines::{self, INPUT};
-use clap::{Arg, ArgAction, ArgMatches, Command};
-use command_files::arguments::{and_argument, required};
+use clap::ArgMatches;
+use command_files::arguments::required;
 use command_files::{Failure, FileCause, Files};
 use command_images::device_file;
 use command_images::image_file::{self, IMAGE};
+use command_words::{Argument, Takes, Words};
 use event_frames::{Frames, StreamFault};
 use image_store::Image;
 use live_serve::ServeFault;
 use nvme_entry::MOST_TRANSFER;
 use runner::{Device, Stopped};
-use std::alloc::{AllocError, Global};
+use std::alloc::Global;
 use std::io::{Read, Write};
 use std::mem;
 
@@ -89,37 +90,43 @@ Example, in the folder of the sources, of the lines of a command file, and of a 
   printf '\\2\\0\\0\\0\\0\\0\\0\\0\\0\\0\\0\\0\\0\\0\\0\\0' | zscli serve zoned.img --frames | xxd";
 
 /// How the command stands on the command line.
-///
-/// # Errors
-///
-/// Want of memory.
-pub fn subcommand<'a>(alloc: Global) -> Result<Command<'a>, AllocError> {
-    let image = Arg::new(alloc, IMAGE)
-        .required(true)
-        .help("The image, which `format` makes");
-    let frames = flag(alloc, FRAMES).help(
-        "Takes requests and gives answers as frames of bytes, not as lines",
-    );
-    let drain = flag(alloc, DRAIN).help(
-        "Gives the runs all of their turns behind each line, or with --frames before more is read, and writes the answers to these too",
-    );
-    let durable = flag(alloc, DURABLE)
-        .help("Answers nothing before it is on the disk, by a journal in the image's file")
-        .requires_arg(FRAMES)?
-        .conflicts_with(DRAIN)?;
-    let command = Command::new(alloc, NAME)
-        .about("Does what standard input asks of an image, as it comes")
-        .long_about(LONG_ABOUT)
-        .after_help(EXAMPLE);
-    let command = and_argument(Ok(command), image);
-    let command = and_argument(command, frames);
-    let command = and_argument(command, drain);
-    and_argument(command, durable)
-}
-
-fn flag<'a>(alloc: Global, name: &'a str) -> Arg<'a> {
-    Arg::new(alloc, name).long(name).action(ArgAction::SetTrue)
-}
+pub static WORDS: Words = Words {
+    name: NAME,
+    about: "Does what standard input asks of an image, as it comes",
+    long_about: LONG_ABOUT,
+    example: EXAMPLE,
+    arguments: &[
+        Argument {
+            id: IMAGE,
+            long: "",
+            short: None,
+            takes: Takes::Place,
+            help: "The image, which `format` makes",
+        },
+        Argument {
+            id: FRAMES,
+            long: FRAMES,
+            short: None,
+            takes: Takes::Nothing,
+            help: "Takes requests and gives answers as frames of bytes, not as lines",
+        },
+        Argument {
+            id: DRAIN,
+            long: DRAIN,
+            short: None,
+            takes: Takes::Nothing,
+            help: "Gives the runs all of their turns behind each line, or with --frames before more is read, and writes the answers to these too",
+        },
+        Argument {
+            id: DURABLE,
+            long: DURABLE,
+            short: None,
+            takes: Takes::NothingWithout(FRAMES, DRAIN),
+            help: "Answers nothing before it is on the disk, by a journal in the image's file",
+        },
+    ],
+    one_of: &[],
+};
 
 /// Does what the input asks of the namespace of the image file, as it comes, and then the turns that end all runs, and makes
 /// the file anew, unless it has the text of the namespace that they leave already; also where the input asks for that. The input is

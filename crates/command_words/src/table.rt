@@ -40,6 +40,8 @@ pub enum Takes {
     Place,
     /// None: a flag.
     Nothing,
+    /// None: a flag that is given with the first of these alone, and never with the second.
+    NothingWithout(&'static str, &'static str),
     /// One that has to be given.
     Required(&'static str),
     /// One that can be left out.
@@ -58,7 +60,7 @@ pub enum Takes {
 pub fn command<'a>(alloc: Global, words: &'static Words) -> Result<Command<'a>, AllocError> {
     let mut command = described(alloc, words);
     for argument in words.arguments {
-        command = command.arg(parsed(alloc, argument))?;
+        command = command.arg(parsed(alloc, argument)?)?;
     }
     if words.one_of.is_empty() {
         return Ok(command);
@@ -105,18 +107,26 @@ fn described<'a>(alloc: Global, words: &'static Words) -> Command<'a> {
 }
 
 /// The parser of an argument.
-fn parsed<'a>(alloc: Global, argument: &'static Argument) -> Arg<'a> {
+fn parsed<'a>(alloc: Global, argument: &'static Argument) -> Result<Arg<'a>, AllocError> {
     let parsed = Arg::new(alloc, argument.id).help(argument.help);
-    match argument.takes {
+    Ok(match argument.takes {
         Takes::Place => parsed.required(true),
-        Takes::Nothing => parsed.long(argument.long).action(ArgAction::SetTrue),
+        Takes::Nothing => flag(parsed, argument),
+        Takes::NothingWithout(needed, excluded) => flag(parsed, argument)
+            .requires_arg(needed)?
+            .conflicts_with(excluded)?,
         Takes::Required(value) => valued(parsed, argument, value).required(true),
         Takes::Optional(value) => valued(parsed, argument, value),
         Takes::Default(value, default) => valued(parsed, argument, value).default_value(default),
         Takes::OneOf(value, default, words) => valued(parsed, argument, value)
             .default_value(default)
             .value_parser(words),
-    }
+    })
+}
+
+/// The parser of a flag.
+fn flag<'a>(parsed: Arg<'a>, argument: &'static Argument) -> Arg<'a> {
+    parsed.long(argument.long).action(ArgAction::SetTrue)
 }
 
 /// The parser of an option with a value, which help shows by this word.

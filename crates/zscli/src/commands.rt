@@ -11,12 +11,13 @@ use command_durable::{DurableFiles, fold};
 use command_entry::{entries, entry};
 use command_exec::{exec, fail};
 use command_explain::explain;
-use command_files::arguments::{and_command, no_command};
+use command_files::arguments::no_command;
 use command_files::{Failure, Files, Shown, printed};
 use command_images::{format, report, upgrade, zones};
 use command_link::link;
 use command_programs::{asm, disasm, trace, unpack, verify};
 use command_serve::serve;
+use command_words::{Words, command_over};
 use std::alloc::{AllocError, Global};
 use std::io::{Read, Write};
 
@@ -252,28 +253,63 @@ fn perform_without_image<'a, F: Files, O: Write>(
     }
 }
 
+/// The words in front of all commands.
+static LINE: Words = Words {
+    name: "zscli",
+    about: "Works on zoned namespaces, and on the programs that run beside their data",
+    long_about: "",
+    example: "",
+    arguments: &[],
+    one_of: &[],
+};
+
+/// A command on the line: by its words, or by its name where its module makes its parser.
+#[derive(Clone, Copy)]
+enum Row {
+    Words(&'static Words),
+    Name(&'static str),
+}
+
 /// How a command line is written.
 fn command_line<'a>(alloc: Global) -> Result<Command<'a>, AllocError> {
-    let line = Command::new(alloc, "zscli")
-        .about("Works on zoned namespaces, and on the programs that run beside their data")
-        .version(VERSION)
-        .subcommand_required(true)
-        .arg_required_else_help(true);
-    let line = and_command(Ok(line), format::subcommand(alloc));
-    let line = and_command(line, zones::subcommand(alloc));
-    let line = and_command(line, report::subcommand(alloc));
-    let line = and_command(line, upgrade::subcommand(alloc));
-    let line = and_command(line, fail::subcommand(alloc));
-    let line = and_command(line, serve::subcommand(alloc));
-    let line = and_command(line, fold::subcommand(alloc));
-    let line = and_command(line, asm::subcommand(alloc));
-    let line = and_command(line, disasm::subcommand(alloc));
-    let line = and_command(line, link::subcommand(alloc));
-    let line = and_command(line, trace::subcommand(alloc));
-    let line = and_command(line, verify::subcommand(alloc));
-    let line = and_command(line, unpack::subcommand(alloc));
-    let line = and_command(line, entry::subcommand(alloc));
-    let line = and_command(line, entries::subcommand(alloc));
-    let line = and_command(line, explain::subcommand(alloc));
-    and_command(line, command_words::command(alloc, &demo::WORDS))
+    let commands = [
+        Row::Words(&format::WORDS),
+        Row::Words(&zones::WORDS),
+        Row::Words(&report::WORDS),
+        Row::Words(&upgrade::WORDS),
+        Row::Words(&exec::WORDS),
+        Row::Words(&serve::WORDS),
+        Row::Words(&fold::WORDS),
+        Row::Name(asm::NAME),
+        Row::Name(disasm::NAME),
+        Row::Name(link::NAME),
+        Row::Name(trace::NAME),
+        Row::Name(verify::NAME),
+        Row::Name(unpack::NAME),
+        Row::Name(entry::NAME),
+        Row::Name(entries::NAME),
+        Row::Name(explain::NAME),
+        Row::Words(&demo::WORDS),
+    ];
+    let mut line = command_over(alloc, &LINE, &[])?.version(VERSION);
+    for row in commands {
+        line = line.subcommand(parser(alloc, row)?)?;
+    }
+    Ok(line)
+}
+
+/// The parser of a command.
+fn parser<'a>(alloc: Global, row: Row) -> Result<Command<'a>, AllocError> {
+    match row {
+        Row::Words(words) => command_words::command(alloc, words),
+        Row::Name(asm::NAME) => asm::subcommand(alloc),
+        Row::Name(disasm::NAME) => disasm::subcommand(alloc),
+        Row::Name(link::NAME) => link::subcommand(alloc),
+        Row::Name(trace::NAME) => trace::subcommand(alloc),
+        Row::Name(verify::NAME) => verify::subcommand(alloc),
+        Row::Name(unpack::NAME) => unpack::subcommand(alloc),
+        Row::Name(entry::NAME) => entry::subcommand(alloc),
+        Row::Name(entries::NAME) => entries::subcommand(alloc),
+        Row::Name(_) => explain::subcommand(alloc),
+    }
 }
