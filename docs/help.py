@@ -16,7 +16,7 @@ ROOT = Path(__file__).resolve().parent.parent
 TEXT = r'"(?:[^"\\]|\\.)*"'
 TOKEN = re.compile(rf"{TEXT}|'(?:[^'\\]|\\.)'|\.\.|\w+(?:::\w+)*|[^\w\s]", re.S)
 ITEM = re.compile(rf'^(?:pub(?:\(crate\))? )?(?:const|static) (\w+): [^=]*=((?:{TEXT}|[^";])*);', re.M | re.S)
-IMPORT = re.compile(r"^use (?:\w+::)*?(\w+)::(?:\{(.*?)\}|(\w+));", re.M | re.S)
+IMPORT = re.compile(r"^(?:pub )?use (?:\w+::)*?(\w+)::(?:\{(.*?)\}|(\w+));", re.M | re.S)
 COMMENT = re.compile(r"^\s*//.*$", re.M)
 
 
@@ -158,6 +158,8 @@ def written(key: Tuple[str, str], path: str) -> Optional[Tuple[Tuple[str, str], 
     for found in sorted(MODULES, key=lambda other: (other != key, other[0] != key[0], other)):
         if stem in ("", "crate", *found) and name in MODULES[found].items:
             return found, MODULES[found].items[name]
+        if owner and stem in found and name in MODULES[found].imports:
+            return written(found, name)
     return None
 
 
@@ -213,7 +215,8 @@ def command_line() -> Command:
     source = (ROOT / "crates" / "zscli" / "src" / "commands.rt").read_text()
     line = command_of(constant(key, "LINE"))
     line.version = text(constant(key, "VERSION"))
-    for name in re.findall(r"&(\w+)::WORDS", source[source.index("fn command_line") :]):
+    start = source.index("fn command_line")
+    for name in re.findall(r"&(\w+)::WORDS", source[start : source.index("\n}\n", start)]):
         below = listed(constant(key, f"{name}::KINDS")) if written(key, f"{name}::KINDS") else None
         line.below.append(command_of(constant(key, f"{name}::WORDS"), below))
     return line
