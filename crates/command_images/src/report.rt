@@ -91,35 +91,27 @@ pub fn report<'a, F: Files, O: Write>(
     }
 }
 
-/// Prints the geometry and the limits on a line, and each zone on one behind it.
+/// Prints the geometry and how much of the limits is in use on a line, and each zone on one behind it.
 fn print<O: Write>(image: &Image, out: &mut O) -> io::Result<()> {
     let geometry = image.geometry();
+    let limits = geometry.limits();
+    let counts = image.counts();
     let size = geometry.size();
-    print_head(image, out)?;
+    writeln!(
+        out,
+        "block {} bytes, {} zones of {size} blocks, capacity {} blocks, open {} of {}, active {} of {}",
+        geometry.block().bytes(),
+        geometry.zones(),
+        geometry.capacity(),
+        counts.opened,
+        limits.open_limit,
+        counts.active,
+        limits.active_limit
+    )?;
     for (number, zone) in image.zones().iter().enumerate() {
         print_zone(number as u64 * u64::from(size), size, zone, out)?;
     }
     Ok(())
-}
-
-/// Prints the geometry, and how many zones are open and active of those that may be.
-fn print_head<O: Write>(image: &Image, out: &mut O) -> io::Result<()> {
-    let geometry = image.geometry();
-    let block = geometry.block().bytes();
-    let zones = geometry.zones();
-    let size = geometry.size();
-    let capacity = geometry.capacity();
-    let limits = geometry.limits();
-    let counts = image.counts();
-    let open = counts.opened;
-    let active = counts.active;
-    let open_limit = limits.open_limit;
-    let active_limit = limits.active_limit;
-    writeln!(
-        out,
-        "block {block} bytes, {zones} zones of {size} blocks, capacity {capacity} blocks, \
-         open {open} of {open_limit}, active {active} of {active_limit}"
-    )
 }
 
 /// Prints a zone that begins at this address and has so many blocks.
@@ -154,8 +146,21 @@ fn short_name(state: ZoneState) -> &'static str {
 /// Prints the same as one JSON object on a line. Its values are numbers, and words of lower case letters alone.
 fn print_json<O: Write>(image: &Image, out: &mut O) -> io::Result<()> {
     let geometry = image.geometry();
+    let limits = geometry.limits();
+    let counts = image.counts();
     let size = geometry.size();
-    print_json_head(image, out)?;
+    write!(
+        out,
+        "{{\"block_bytes\":{},\"zone_count\":{},\"zone_size\":{size},\"zone_capacity\":{},\"open_zones\":{},\"open_limit\":{},\
+         \"active_zones\":{},\"active_limit\":{},\"zones\":[",
+        geometry.block().bytes(),
+        geometry.zones(),
+        geometry.capacity(),
+        counts.opened,
+        limits.open_limit,
+        counts.active,
+        limits.active_limit
+    )?;
     for (number, zone) in image.zones().iter().enumerate() {
         if number > 0 {
             write!(out, ",")?;
@@ -163,29 +168,6 @@ fn print_json<O: Write>(image: &Image, out: &mut O) -> io::Result<()> {
         print_json_zone(number, number as u64 * u64::from(size), zone, out)?;
     }
     writeln!(out, "]}}")
-}
-
-/// Prints the beginning of the object, up to the zones.
-fn print_json_head<O: Write>(image: &Image, out: &mut O) -> io::Result<()> {
-    let geometry = image.geometry();
-    let block = geometry.block().bytes();
-    let zones = geometry.zones();
-    let size = geometry.size();
-    let capacity = geometry.capacity();
-    let limits = geometry.limits();
-    let counts = image.counts();
-    let open = counts.opened;
-    let active = counts.active;
-    let open_limit = limits.open_limit;
-    let active_limit = limits.active_limit;
-    write!(
-        out,
-        "{{\"block_bytes\":{block},\"zone_count\":{zones},\"zone_size\":{size},\"zone_capacity\":{capacity},"
-    )?;
-    write!(
-        out,
-        "\"open_zones\":{open},\"open_limit\":{open_limit},\"active_zones\":{active},\"active_limit\":{active_limit},\"zones\":["
-    )
 }
 
 /// Prints the object of a zone.
