@@ -7,14 +7,15 @@ ghost use Rattle.command_files.specs.declared.arguments.TheConstants.{PROGRAM};
 
 use crate::making::{LinkedProgram, made};
 use crate::refusal::Refusal;
-use clap::{Arg, ArgAction, ArgMatches, Command};
+use clap::ArgMatches;
 use command_files::arguments::{
-    BLOCK_OPTION, PROGRAM, and_argument, block_option, block_size, number, option, required,
+    BLOCK_ARGUMENT, BLOCK_OPTION, PROGRAM, block_size, number, required,
 };
 use command_files::{Failure, Files, printed, read, write};
+use command_words::{Argument, Takes, Words};
 use ebpf_link::Linked;
 use program_interface::BlockSize;
-use std::alloc::{AllocError, Global};
+use std::alloc::Global;
 use std::io::Write;
 
 /// The command's name.
@@ -47,36 +48,44 @@ Example:
   zscli verify filter.bin --block 4096 --emit 4096";
 
 /// How the command stands on the command line.
-///
-/// # Errors
-///
-/// Want of memory.
-pub fn subcommand<'a>(alloc: Global) -> Result<Command<'a>, AllocError> {
-    let object = Arg::new(alloc, OBJECT)
-        .required(true)
-        .help("The object, as clang makes it");
-    let program = Arg::new(alloc, PROGRAM)
-        .short('o')
-        .long("output")
-        .value_name(PROGRAM)
-        .action(ArgAction::Set)
-        .required(true)
-        .help("The program that is written");
-    let function = option(alloc, FUNCTION, "NAME").help("The function to start with");
-    let verbose = Arg::new(alloc, VERBOSE)
-        .long(VERBOSE)
-        .action(ArgAction::SetTrue)
-        .help("Print how many slots the program has, and how many compares were put in");
-    let command = Command::new(alloc, NAME)
-        .about("Makes a program of an object that clang made of C")
-        .long_about(LONG_ABOUT)
-        .after_help(EXAMPLE);
-    let command = and_argument(Ok(command), object);
-    let command = and_argument(command, block_option(alloc));
-    let command = and_argument(command, program);
-    let command = and_argument(command, function);
-    and_argument(command, verbose)
-}
+pub static WORDS: Words = Words {
+    name: NAME,
+    about: "Makes a program of an object that clang made of C",
+    long_about: LONG_ABOUT,
+    example: EXAMPLE,
+    arguments: &[
+        Argument {
+            id: OBJECT,
+            long: "",
+            short: None,
+            takes: Takes::Place,
+            help: "The object, as clang makes it",
+        },
+        BLOCK_ARGUMENT,
+        Argument {
+            id: PROGRAM,
+            long: "output",
+            short: Some('o'),
+            takes: Takes::Required(PROGRAM),
+            help: "The program that is written",
+        },
+        Argument {
+            id: FUNCTION,
+            long: FUNCTION,
+            short: None,
+            takes: Takes::Optional("NAME"),
+            help: "The function to start with",
+        },
+        Argument {
+            id: VERBOSE,
+            long: VERBOSE,
+            short: None,
+            takes: Takes::Nothing,
+            help: "Print how many slots the program has, and how many compares were put in",
+        },
+    ],
+    one_of: &[],
+};
 
 /// Makes one file, in the program file's place: the program of the object file's bytes. Where it fails, no file is made, but for what
 /// [`Files::write`] says. Nothing is promised of which program it is: `verify` and Load judge it like any other.

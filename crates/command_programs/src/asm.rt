@@ -7,11 +7,12 @@ ghost use Rattle.command_programs.specs.MakesProgram.{Assembles, MakesProgram, p
 ghost use Rattle.command_programs.specs.UserTold.{AsmFails};
 ghost use Rattle.command_programs.specs.steps.Told.{IsToldOfAssembly, MakesNone};
 
-use clap::{Arg, ArgMatches, Command};
-use command_files::arguments::{PROGRAM, and_argument, required};
+use clap::ArgMatches;
+use command_files::arguments::{PROGRAM, required};
 use command_files::{Failure, Files, read, write};
+use command_words::{Argument, Takes, Words};
 use ebpf_asm::{AssembleFault, AssemblyRefusal, assemble};
-use std::alloc::{AllocError, Global};
+use std::alloc::Global;
 
 /// The command's name.
 pub const NAME: &str = "asm";
@@ -37,24 +38,29 @@ Example: a program that emits the first 8 bytes of each block whose first byte i
   exit";
 
 /// How the command stands on the command line.
-///
-/// # Errors
-///
-/// Want of memory.
-pub fn subcommand<'a>(alloc: Global) -> Result<Command<'a>, AllocError> {
-    let text = Arg::new(alloc, TEXT)
-        .required(true)
-        .help("The assembly text");
-    let program = Arg::new(alloc, PROGRAM)
-        .required(true)
-        .help("The program that is written");
-    let command = Command::new(alloc, NAME)
-        .about("Assembles text to a program")
-        .long_about(LONG_ABOUT)
-        .after_help(EXAMPLE);
-    let command = and_argument(Ok(command), text);
-    and_argument(command, program)
-}
+pub static WORDS: Words = Words {
+    name: NAME,
+    about: "Assembles text to a program",
+    long_about: LONG_ABOUT,
+    example: EXAMPLE,
+    arguments: &[
+        Argument {
+            id: TEXT,
+            long: "",
+            short: None,
+            takes: Takes::Place,
+            help: "The assembly text",
+        },
+        Argument {
+            id: PROGRAM,
+            long: "",
+            short: None,
+            takes: Takes::Place,
+            help: "The program that is written",
+        },
+    ],
+    one_of: &[],
+};
 
 /// Makes one file, in the program file's place: the bytes that the text file's assemble to. Where it fails, no file is
 /// made, but for what [`Files::write`] says, and what is told is the fault of the text, or by its name which file can't

@@ -8,9 +8,10 @@ ghost use Rattle.command_programs.specs.Printed.{PrintsListing, listed};
 use crate::flags::is_set;
 use crate::printing::print;
 use crate::program::program_in_file;
-use clap::{Arg, ArgAction, ArgMatches, Command};
-use command_files::arguments::{PROGRAM, and_argument, program_argument, required};
+use clap::ArgMatches;
+use command_files::arguments::{PROGRAM, PROGRAM_ARGUMENT, required};
 use command_files::{Failure, Files};
+use command_words::{Argument, Takes, Words};
 use ebpf_asm::{disassemble, disassemble_with_slots};
 use instruction_set::Program;
 use std::alloc::{AllocError, Global};
@@ -42,22 +43,23 @@ Example: the program of the bytes b700000000000000 9500000000000000.
      1  exit";
 
 /// How the command stands on the command line.
-///
-/// # Errors
-///
-/// Want of memory.
-pub fn subcommand<'a>(alloc: Global) -> Result<Command<'a>, AllocError> {
-    let slots = Arg::new(alloc, SLOTS)
-        .long(SLOTS)
-        .action(ArgAction::SetTrue)
-        .help("Print each instruction's slot before it: a wide one takes two");
-    let command = Command::new(alloc, NAME)
-        .about("Prints a program as assembly text")
-        .long_about(LONG_ABOUT)
-        .after_help(EXAMPLE);
-    let command = and_argument(Ok(command), program_argument(alloc));
-    and_argument(command, slots)
-}
+pub static WORDS: Words = Words {
+    name: NAME,
+    about: "Prints a program as assembly text",
+    long_about: LONG_ABOUT,
+    example: EXAMPLE,
+    arguments: &[
+        PROGRAM_ARGUMENT,
+        Argument {
+            id: SLOTS,
+            long: SLOTS,
+            short: None,
+            takes: Takes::Nothing,
+            help: "Print each instruction's slot before it: a wide one takes two",
+        },
+    ],
+    one_of: &[],
+};
 
 /// Prints the listing of the program that the file's bytes spell, and nothing else; with `--slots` each instruction's slot
 /// stands before it. It makes no file: each has the bytes that it had.

@@ -3,20 +3,20 @@
 ghost use Rattle.std.specs.Prelude.{◌≡◌};
 ghost use Rattle.command_programs.specs.Asked.{is_set};
 
-use clap::{Arg, ArgAction, ArgMatches};
+use clap::ArgMatches;
 use command_files::arguments::required;
-use std::alloc::Global;
+use command_words::{Argument, Takes};
 
-/// The flag that [`json_flag`] describes.
 pub(crate) const JSON: &str = "json";
 
 /// The flag that asks for one JSON object in place of lines.
-pub(crate) fn json_flag<'a>(alloc: Global) -> Arg<'a> {
-    Arg::new(alloc, JSON)
-        .long(JSON)
-        .action(ArgAction::SetTrue)
-        .help("Print one JSON object")
-}
+pub(crate) const JSON_ARGUMENT: Argument = Argument {
+    id: JSON,
+    long: JSON,
+    short: None,
+    takes: Takes::Nothing,
+    help: "Print one JSON object",
+};
 
 /// Is this flag set?
 pub(crate) fn is_set(matches: &ArgMatches<'_>, flag: &str) -> bool

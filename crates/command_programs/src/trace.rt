@@ -17,19 +17,19 @@ use crate::printing::print;
 use crate::program::program_in_file;
 use crate::sizes::{limit, run_sizes};
 use crate::step_lines::{Emitting, print_cause, print_changes};
-use clap::{Arg, ArgAction, ArgMatches, Command};
+use clap::ArgMatches;
 use command_files::arguments::{
-    ARGUMENT_OPTION, PROGRAM, and_argument, argument_option, emit_option, number, option,
-    program_argument, required,
+    ARGUMENT_OPTION, EMIT_ARGUMENT, PROGRAM, PROGRAM_ARGUMENT, RUN_ARGUMENT, number, required,
 };
 use command_files::{Failure, Files, printed, read, size_as_block};
+use command_words::{Argument, Takes, Words};
 use instruction_set::Program;
 use interp::{Machine, Step};
 use program_interface::{
     BlockSize, CONTEXT_BYTES, Context, LARGEST_BLOCK, RunSizes, SCRATCH_BYTES, STACK_BYTES,
 };
 use program_meaning::Cause;
-use std::alloc::{AllocError, Global};
+use std::alloc::Global;
 use std::io::Write;
 
 /// The command's name.
@@ -79,30 +79,42 @@ Example: the program of `asm --help`, on a block that begins with a 7.
   exit 0 7 08000700000000000000";
 
 /// How the command stands on the command line.
-///
-/// # Errors
-///
-/// Want of memory.
-pub fn subcommand<'a>(alloc: Global) -> Result<Command<'a>, AllocError> {
-    let block = Arg::new(alloc, BLOCK).required(true).help("The block");
-    let fuel = option(alloc, FUEL, "F")
-        .default_value("65536")
-        .help("The most steps");
-    let registers = Arg::new(alloc, REGISTERS)
-        .long(REGISTERS)
-        .action(ArgAction::SetTrue)
-        .help("Print each instruction, and the register that it changed");
-    let command = Command::new(alloc, NAME)
-        .about("Runs a program on one block, step by step")
-        .long_about(LONG_ABOUT)
-        .after_help(EXAMPLE);
-    let command = and_argument(Ok(command), program_argument(alloc));
-    let command = and_argument(command, block);
-    let command = and_argument(command, emit_option(alloc).required(false));
-    let command = and_argument(command, argument_option(alloc));
-    let command = and_argument(command, fuel);
-    and_argument(command, registers)
-}
+pub static WORDS: Words = Words {
+    name: NAME,
+    about: "Runs a program on one block, step by step",
+    long_about: LONG_ABOUT,
+    example: EXAMPLE,
+    arguments: &[
+        PROGRAM_ARGUMENT,
+        Argument {
+            id: BLOCK,
+            long: "",
+            short: None,
+            takes: Takes::Place,
+            help: "The block",
+        },
+        Argument {
+            takes: Takes::Optional("E"),
+            ..EMIT_ARGUMENT
+        },
+        RUN_ARGUMENT,
+        Argument {
+            id: FUEL,
+            long: FUEL,
+            short: None,
+            takes: Takes::Default("F", "65536"),
+            help: "The most steps",
+        },
+        Argument {
+            id: REGISTERS,
+            long: REGISTERS,
+            short: None,
+            takes: Takes::Nothing,
+            help: "Print each instruction, and the register that it changed",
+        },
+    ],
+    one_of: &[],
+};
 
 /// Runs the program that a file's bytes spell on the block that another's are, and prints a line for each instruction that is
 /// executed, and then how the block run ended; without `--registers` the slot of each, and nothing else. A trap is no failure.

@@ -7,13 +7,12 @@ ghost use Rattle.emit_append.specs.Unpacking.{record_bytes, unpacked};
 ghost use Rattle.command_programs.specs.Printed.{PrintsRecords, blocks_file_of, record_lines, record_object, records_document, records_text};
 ghost use Rattle.command_programs.specs.steps.Told.{IsToldOfFrame};
 
-use crate::flags::{JSON, is_set, json_flag};
+use crate::flags::{JSON, JSON_ARGUMENT, is_set};
 use crate::printing::print;
-use clap::{Arg, ArgMatches, Command};
-use command_files::arguments::{
-    BLOCK_OPTION, and_argument, block_option, block_size, number, required,
-};
+use clap::ArgMatches;
+use command_files::arguments::{BLOCK_ARGUMENT, BLOCK_OPTION, block_size, number, required};
 use command_files::{Failure, Files, read};
+use command_words::{Argument, Takes, Words};
 use emit_append::{BlockSize, FrameRefusal, UnpackFault, unpack as records_of};
 use std::alloc::{AllocError, Global};
 use std::io::Write;
@@ -40,23 +39,24 @@ Example: a block that begins 0300616263 holds the record 616263.
   zscli unpack blocks.bin --block 512";
 
 /// How the command stands on the command line.
-///
-/// # Errors
-///
-/// Want of memory.
-pub fn subcommand<'a>(alloc: Global) -> Result<Command<'a>, AllocError> {
-    let file = Arg::new(alloc, FILE)
-        .required(true)
-        .help("The output blocks");
-    let block = block_option(alloc);
-    let command = Command::new(alloc, NAME)
-        .about("Prints the records of output blocks")
-        .long_about(LONG_ABOUT)
-        .after_help(EXAMPLE);
-    let command = and_argument(Ok(command), file);
-    let command = and_argument(command, block);
-    and_argument(command, json_flag(alloc))
-}
+pub static WORDS: Words = Words {
+    name: NAME,
+    about: "Prints the records of output blocks",
+    long_about: LONG_ABOUT,
+    example: EXAMPLE,
+    arguments: &[
+        Argument {
+            id: FILE,
+            long: "",
+            short: None,
+            takes: Takes::Place,
+            help: "The output blocks",
+        },
+        BLOCK_ARGUMENT,
+        JSON_ARGUMENT,
+    ],
+    one_of: &[],
+};
 
 /// Prints the records of the output blocks that the file's bytes are, in order, each in hexadecimal on a line, or all as one
 /// JSON object, and nothing else. It makes no file: each has the bytes that it had.

@@ -11,21 +11,22 @@ ghost use Rattle.command_programs.specs.Asked.{IsLimit};
 ghost use Rattle.command_programs.specs.MakesProgram.{program_file_of};
 ghost use Rattle.command_programs.specs.Printed.{PrintsAcceptance, PrintsAccepted, PrintsFirstRefusal, PrintsRefused, SaysAccepted, SaysRefused, form_of, place_fields, refused_line};
 
-use crate::flags::{JSON, is_set, json_flag};
+use crate::flags::{JSON, JSON_ARGUMENT, is_set};
 use crate::printing::print;
 use crate::program::program_in_file;
 use crate::refused_instruction::RefusedInstruction;
 use crate::sizes::{limit, run_sizes};
 use accepted_programs::{Facts, Refusal};
 use address_domain::Addresses;
-use clap::{Arg, ArgAction, ArgMatches, Command};
+use clap::ArgMatches;
 use command_facts::fact_lines;
 use command_files::arguments::{
-    BLOCK_OPTION, PROGRAM, and_argument, block_option, block_size, emit_option, number,
-    program_argument, required,
+    BLOCK_ARGUMENT, BLOCK_OPTION, EMIT_ARGUMENT, PROGRAM, PROGRAM_ARGUMENT, block_size, number,
+    required,
 };
 use command_files::{Counted, Failure, Files, printed};
-use command_profile::{Profile, profile_asked, profile_option};
+use command_profile::{PROFILE, Profile, profile_asked};
+use command_words::{Argument, Takes, Words};
 use ebpf_asm::instruction_text;
 use instruction_set::Program;
 use interval_domain::Intervals;
@@ -57,9 +58,6 @@ pub enum Form {
     /// As one JSON object.
     Json,
 }
-
-const PROFILE_HELP: &str =
-    "The profile to judge by: 2, as Load does, or 3, which knows more of addresses and sums";
 
 const LONG_ABOUT: &str = "\
 Says whether a program is accepted for a block size and a limit of what it may emit for a block:
@@ -126,31 +124,40 @@ Example: a program whose emit ends where the sum of its address and its length d
   accepted 12";
 
 /// How the command stands on the command line.
-///
-/// # Errors
-///
-/// Want of memory.
-pub fn subcommand<'a>(alloc: Global) -> Result<Command<'a>, AllocError> {
-    let explain = Arg::new(alloc, EXPLAIN)
-        .long(EXPLAIN)
-        .action(ArgAction::SetTrue)
-        .help("Say in words what is known");
-    let facts = Arg::new(alloc, FACTS)
-        .long(FACTS)
-        .action(ArgAction::SetTrue)
-        .help("List what is known at each slot");
-    let command = Command::new(alloc, NAME)
-        .about("Says whether a program is accepted")
-        .long_about(LONG_ABOUT)
-        .after_help(EXAMPLE);
-    let command = and_argument(Ok(command), program_argument(alloc));
-    let command = and_argument(command, block_option(alloc));
-    let command = and_argument(command, emit_option(alloc));
-    let command = and_argument(command, profile_option(alloc, PROFILE_HELP));
-    let command = and_argument(command, explain);
-    let command = and_argument(command, facts);
-    and_argument(command, json_flag(alloc))
-}
+pub static WORDS: Words = Words {
+    name: NAME,
+    about: "Says whether a program is accepted",
+    long_about: LONG_ABOUT,
+    example: EXAMPLE,
+    arguments: &[
+        PROGRAM_ARGUMENT,
+        BLOCK_ARGUMENT,
+        EMIT_ARGUMENT,
+        Argument {
+            id: PROFILE,
+            long: PROFILE,
+            short: None,
+            takes: Takes::Default("P", "2"),
+            help: "The profile to judge by: 2, as Load does, or 3, which knows more of addresses and sums",
+        },
+        Argument {
+            id: EXPLAIN,
+            long: EXPLAIN,
+            short: None,
+            takes: Takes::Nothing,
+            help: "Say in words what is known",
+        },
+        Argument {
+            id: FACTS,
+            long: FACTS,
+            short: None,
+            takes: Takes::Nothing,
+            help: "List what is known at each slot",
+        },
+        JSON_ARGUMENT,
+    ],
+    one_of: &[],
+};
 
 /// Prints whether the program that the file's bytes spell is accepted for the sizes that the options give, or the first
 /// refusal, on a line; with `--explain` and with `--facts` lines behind it, which aren't said; with `--json` in place of all these
