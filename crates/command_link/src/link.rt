@@ -1,6 +1,6 @@
 //! The command `link`: an object to a program.
 
-ghost use Rattle.std.specs.Prelude.{◌≡◌, IfErr, OnErr, OnOk};
+ghost use Rattle.std.specs.Prelude.{◌≡◌, OnErr, OnOk};
 ghost use Rattle.command_files.specs.Arguments.{value_of};
 ghost use Rattle.command_files.specs.Made.{MakesOne};
 ghost use Rattle.command_files.specs.declared.arguments.TheConstants.{PROGRAM};
@@ -15,7 +15,7 @@ use command_files::{Failure, Files, printed, read, write};
 use command_words::{Argument, Takes, Words};
 use ebpf_link::Linked;
 use program_interface::BlockSize;
-use std::alloc::Global;
+use std::alloc::{AllocError, Global};
 use std::io::Write;
 
 /// The command's name.
@@ -108,7 +108,8 @@ pub fn link<'a, F: Files, O: Write>(
     let object = read(required(matches, OBJECT), files)?;
     let name = required(matches, FUNCTION);
     let made = program(alloc, object.as_slice(), name, block, out)?;
-    tell(&made, required(matches, VERBOSE) == "true", out)?;
+    let notes = notes(alloc, &made, required(matches, VERBOSE) == "true")?;
+    printed(out.write_all(notes.as_bytes()))?;
     write(required(matches, PROGRAM), made.bytes.as_slice(), files)
 }
 
@@ -130,38 +131,30 @@ fn program<'a, O: Write>(
     }
 }
 
-/// Tells what there is to be told of a program: where it has not all rounds, where `verify` refuses it, and with numbers its own.
-fn tell<'a, O: Write>(
-    made: &LinkedProgram,
-    has_numbers: bool,
-    out: &mut O,
-) -> Result<(), Failure<'a>> {
+/// What is told of a program: where it has not all rounds, where `verify` refuses it, and with numbers its own.
+fn notes(alloc: Global, made: &LinkedProgram, has_numbers: bool) -> Result<String, AllocError> {
+    let mut notes = String::new(alloc);
     if let Some(rounds) = made.linked.rounds {
-        tell_rounds(rounds, out)?;
+        writeln!(
+            notes,
+            "there is room for {rounds} rounds of a loop: a block that needs more ends its run with R0 = 7004h"
+        )?;
     }
     if let Some(text) = &made.refused {
-        printed(writeln!(out, "note: {text}"))?;
+        writeln!(notes, "note: {text}")?;
     }
     if has_numbers {
-        tell_numbers(&made.linked, out)?;
+        push_numbers(&made.linked, &mut notes)?;
     }
-    Ok(())
+    Ok(notes)
 }
 
-/// Tells that a loop isn't laid out to its end.
-fn tell_rounds<'a, O: Write>(rounds: usize, out: &mut O) -> Result<(), Failure<'a>> {
-    printed(writeln!(
-        out,
-        "there is room for {rounds} rounds of a loop: a block that needs more ends its run with R0 = 7004h"
-    ))
-}
-
-/// Tells how many slots a program has, and how many guards of each kind.
-fn tell_numbers<'a, O: Write>(linked: &Linked, out: &mut O) -> Result<(), Failure<'a>> {
+/// Adds how many slots a program has, and how many guards of each kind.
+fn push_numbers(linked: &Linked, notes: &mut String) -> Result<(), AllocError> {
     let slots = linked.slots.len();
     let [memory, emit, size, _] = linked.guards;
-    printed(writeln!(
-        out,
+    writeln!(
+        notes,
         "{slots} slots; compares put in: {memory} of accesses, {emit} of emits, {size} of the block's size"
-    ))
+    )
 }

@@ -1,6 +1,6 @@
 //! A program of an object's bytes.
 
-use crate::refusal::{Refusal, of_verdict};
+use crate::refusal::{Refusal, of_gathering, of_inlining, of_linking, of_start, of_verdict};
 use crate::source::{Source, source_of};
 use accepted_programs::Refusal as Verdict;
 use ebpf_calls::{named_function, only_function};
@@ -30,7 +30,7 @@ fn start(alloc: Global, object: &Object<'_>, name: &str) -> Result<Function, Ref
     if name.is_empty() {
         return match only_function(object) {
             Ok(function) => Ok(function),
-            Err(fault) => Err(Refusal::of_start(alloc, object, fault)),
+            Err(fault) => Err(Refusal::of(of_start(alloc, object, fault))),
         };
     }
     match named_function(object, name.as_bytes()) {
@@ -60,11 +60,11 @@ fn laid_out(
 ) -> Result<Linked, Refusal> {
     let slots = match inline(alloc, &gathered.unit) {
         Ok(slots) => slots,
-        Err(fault) => return Err(Refusal::of_inlining(alloc, source, gathered, fault)),
+        Err(fault) => return Err(Refusal::of(of_inlining(alloc, source, gathered, fault))),
     };
     match link(alloc, &slots, gathered.own, block) {
         Ok(linked) => Ok(linked),
-        Err(fault) => Err(Refusal::of_linking(alloc, source, origins, fault)),
+        Err(fault) => Err(Refusal::of(of_linking(alloc, source, origins, fault))),
     }
 }
 
@@ -114,7 +114,7 @@ fn program(
     let source = source_of(alloc, object)?;
     let gathered = match gather(alloc, object, function) {
         Ok(found) => found,
-        Err(fault) => return Err(Refusal::of_gathering(alloc, &source, fault)),
+        Err(fault) => return Err(Refusal::of(of_gathering(alloc, &source, fault))),
     };
     let origins = origins(alloc, &gathered)?;
     let linked = laid_out(alloc, &source, &gathered, &origins, block)?;

@@ -73,22 +73,35 @@ fn verdict_advice(reason: Reason) -> &'static str {
     }
 }
 
-/// What is told of a slot of a function.
-fn of_slot(
+/// What is told: where it is, if that is known, what is wrong, and what to write instead.
+fn sentence(
     alloc: Global,
     source: &Source<'_, '_>,
-    origin: Origin,
+    place: Option<Place<'_>>,
+    problem: &str,
+    advice: &'static str,
+) -> Result<String, AllocError> {
+    match place {
+        Some(place) => {
+            let hint = source.hint();
+            format!(in alloc; "{place}: {problem}; {advice}{hint}")
+        }
+        None => format!(in alloc; "{problem}; {advice}"),
+    }
+}
+
+/// What is wrong with a slot, and of which function it calls.
+fn slot_problem(
+    alloc: Global,
+    object: &Object<'_>,
     problem: SlotProblem,
 ) -> Result<String, AllocError> {
-    let place = source.place(origin);
-    let advice = advice(problem);
-    let hint = source.hint();
     match problem {
         SlotProblem::Missing(symbol) | SlotProblem::Length(symbol) => {
-            let called = symbol_name(source.object, symbol);
-            format!(in alloc; "{place}: {called}: {problem}; {advice}{hint}")
+            let called = symbol_name(object, symbol);
+            format!(in alloc; "{called}: {problem}")
         }
-        _ => format!(in alloc; "{place}: {problem}; {advice}{hint}"),
+        _ => format!(in alloc; "{problem}"),
     }
 }
 
@@ -129,46 +142,6 @@ fn unit_problem(fault: UnitFault) -> &'static str {
     }
 }
 
-/// What is told of what hinders functions.
-fn of_unit(
-    alloc: Global,
-    source: &Source<'_, '_>,
-    gathered: &Gathered,
-    fault: UnitFault,
-) -> Result<String, AllocError> {
-    let problem = unit_problem(fault);
-    let advice = unit_advice(fault);
-    match unit_origin(gathered, fault) {
-        Some(origin) => {
-            let place = source.place(origin);
-            let hint = source.hint();
-            format!(in alloc; "{place}: {problem}; {advice}{hint}")
-        }
-        None => format!(in alloc; "{problem}; {advice}"),
-    }
-}
-
-/// What is told of a loop.
-fn of_loop(
-    alloc: Global,
-    source: &Source<'_, '_>,
-    place: Option<Place<'_>>,
-    rounds: usize,
-) -> Result<String, AllocError> {
-    let advice = "give it a constant bound, fewer rounds, or less in each";
-    match place {
-        Some(place) => {
-            let hint = source.hint();
-            format!(in alloc;
-                "{place}: a loop that isn't known to be over after {rounds} rounds; {advice}{hint}"
-            )
-        }
-        None => format!(in alloc;
-            "a loop that isn't known to be over after {rounds} rounds; {advice}"
-        ),
-    }
-}
-
 /// What is told of so many slots, most of them of a loop, if there is one.
 fn of_length(
     alloc: Global,
@@ -176,16 +149,15 @@ fn of_length(
     place: Option<Place<'_>>,
     count: usize,
 ) -> Result<String, AllocError> {
-    match place {
-        Some(place) => {
-            let hint = source.hint();
-            format!(in alloc;
-                "{place}: a loop whose rounds are most of {count} slots, and a program has 4096 at most; write fewer rounds, or less \
-                 in each{hint}"
-            )
-        }
-        None => format!(in alloc; "{count} slots, and a program has 4096 at most; write less"),
-    }
+    let (loops, advice) = match place {
+        Some(_) => (
+            "a loop whose rounds are most of ",
+            "write fewer rounds, or less in each",
+        ),
+        None => ("", "write less"),
+    };
+    let problem = format!(in alloc; "{loops}{count} slots, and a program has 4096 at most")?;
+    sentence(alloc, source, place, problem.as_str(), advice)
 }
 
 /// What is told of a slot of a program that the verifier refuses, and that was made of another one.
@@ -196,16 +168,111 @@ pub(crate) fn of_verdict(
     refusal: Verdict,
 ) -> Result<String, AllocError> {
     let (slot, reason) = (refusal.slot, refusal.reason);
-    let advice = verdict_advice(reason);
-    match origin {
-        Some(origin) => {
-            let place = source.place(origin);
-            let hint = source.hint();
+    let problem = format!(in alloc; "verify refuses slot {slot} of the program, {reason}")?;
+    let place = source.place_of(origin);
+    sentence(
+        alloc,
+        source,
+        place,
+        problem.as_str(),
+        verdict_advice(reason),
+    )
+}
+
+/// What is told of an object in which a program could start with several functions, or with none.
+pub(crate) fn of_start(
+    alloc: Global,
+    object: &Object<'_>,
+    fault: StartFault,
+) -> Result<String, AllocError> {
+    match fault {
+        StartFault::NoFunction => String::from_str(
+            alloc,
+            "no function that isn't static; write one, which is given the context, the block and scratch",
+        ),
+        StartFault::Several(first, second) => {
+            let (first, second) = (symbol_name(object, first), symbol_name(object, second));
             format!(in alloc;
-                "{place}: verify refuses slot {slot} of the program, {reason}; {advice}{hint}"
+                "several functions that aren't static, as {first} and {second}; name the one to start with by --function"
             )
         }
-        None => format!(in alloc; "verify refuses slot {slot} of the program, {reason}; {advice}"),
+    }
+}
+
+/// What is told of functions that can't be gathered.
+pub(crate) fn of_gathering(
+    alloc: Global,
+    source: &Source<'_, '_>,
+    fault: GatherFault,
+) -> Result<String, AllocError> {
+    match fault {
+        GatherFault::Memory(error) => Err(error),
+        GatherFault::NoStart => String::from_str(alloc, "no function to start with"),
+        GatherFault::TooMany => String::from_str(
+            alloc,
+            "more functions, or slots in one, than a program can have; write fewer",
+        ),
+        GatherFault::Slot {
+            function,
+            slot,
+            problem,
+        } => {
+            let origin = Origin {
+                symbol: function,
+                slot,
+            };
+            let place = source.place(origin);
+            let told = slot_problem(alloc, source.object, problem)?;
+            sentence(alloc, source, Some(place), told.as_str(), advice(problem))
+        }
+    }
+}
+
+/// What is told of functions that can't be made one.
+pub(crate) fn of_inlining(
+    alloc: Global,
+    source: &Source<'_, '_>,
+    gathered: &Gathered,
+    fault: InlineFault,
+) -> Result<String, AllocError> {
+    match fault {
+        InlineFault::Memory(error) => Err(error),
+        InlineFault::Hindered(fault) => {
+            let place = source.place_of(unit_origin(gathered, fault));
+            sentence(
+                alloc,
+                source,
+                place,
+                unit_problem(fault),
+                unit_advice(fault),
+            )
+        }
+    }
+}
+
+/// What is told of loops that can't be laid out.
+pub(crate) fn of_linking(
+    alloc: Global,
+    source: &Source<'_, '_>,
+    origins: &[Option<Origin>],
+    fault: LinkFault,
+) -> Result<String, AllocError> {
+    match fault {
+        LinkFault::Memory(error) => Err(error),
+        LinkFault::Leaves(_) => {
+            format!(in alloc; "{fault}; compile the file by `clang -target bpf -O2 -c`")
+        }
+        LinkFault::Loop { slots, rounds } => {
+            let place = source.loop_place(origins, &slots);
+            let problem = format!(in alloc;
+                "a loop that isn't known to be over after {rounds} rounds"
+            )?;
+            let advice = "give it a constant bound, fewer rounds, or less in each";
+            sentence(alloc, source, place, problem.as_str(), advice)
+        }
+        LinkFault::TooLong { count, slots } => {
+            of_length(alloc, source, source.loop_place(origins, &slots), count)
+        }
     }
 }
 
@@ -215,85 +282,6 @@ impl Refusal {
         match text {
             Ok(text) => Refusal::Told(text),
             Err(_) => Refusal::Memory,
-        }
-    }
-
-    /// That of an object in which a program could start with several functions, or with none.
-    pub fn of_start(alloc: Global, object: &Object<'_>, fault: StartFault) -> Refusal {
-        match fault {
-            StartFault::NoFunction => Refusal::of(String::from_str(
-                alloc,
-                "no function that isn't static; write one, which is given the context, the block and scratch",
-            )),
-            StartFault::Several(first, second) => {
-                let first = symbol_name(object, first);
-                let second = symbol_name(object, second);
-                Refusal::of(format!(in alloc;
-                    "several functions that aren't static, as {first} and {second}; name the one to start with by --function"
-                ))
-            }
-        }
-    }
-
-    /// That of functions that can't be gathered.
-    pub fn of_gathering(alloc: Global, source: &Source<'_, '_>, fault: GatherFault) -> Refusal {
-        match fault {
-            GatherFault::Memory(_) => Refusal::Memory,
-            GatherFault::NoStart => Refusal::of(String::from_str(
-                alloc,
-                "no function to start with",
-            )),
-            GatherFault::TooMany => Refusal::of(String::from_str(
-                alloc,
-                "more functions, or slots in one, than a program can have; write fewer",
-            )),
-            GatherFault::Slot {
-                function,
-                slot,
-                problem,
-            } => {
-                let origin = Origin {
-                    symbol: function,
-                    slot,
-                };
-                Refusal::of(of_slot(alloc, source, origin, problem))
-            }
-        }
-    }
-
-    /// That of functions that can't be made one.
-    pub fn of_inlining(
-        alloc: Global,
-        source: &Source<'_, '_>,
-        gathered: &Gathered,
-        fault: InlineFault,
-    ) -> Refusal {
-        match fault {
-            InlineFault::Memory(_) => Refusal::Memory,
-            InlineFault::Hindered(fault) => Refusal::of(of_unit(alloc, source, gathered, fault)),
-        }
-    }
-
-    /// That of loops that can't be laid out.
-    pub fn of_linking(
-        alloc: Global,
-        source: &Source<'_, '_>,
-        origins: &[Option<Origin>],
-        fault: LinkFault,
-    ) -> Refusal {
-        match fault {
-            LinkFault::Memory(_) => Refusal::Memory,
-            LinkFault::Leaves(_) => Refusal::of(format!(in alloc;
-                "{fault}; compile the file by `clang -target bpf -O2 -c`"
-            )),
-            LinkFault::Loop { slots, rounds } => {
-                let place = source.loop_place(origins, &slots);
-                Refusal::of(of_loop(alloc, source, place, rounds))
-            }
-            LinkFault::TooLong { count, slots } => {
-                let place = source.loop_place(origins, &slots);
-                Refusal::of(of_length(alloc, source, place, count))
-            }
         }
     }
 }

@@ -95,6 +95,14 @@ impl<'a> Source<'a, '_> {
         self.place_with(origin, self.row(origin))
     }
 
+    /// The same, where it is a slot of the object's.
+    pub fn place_of(&self, origin: Option<Origin>) -> Option<Place<'a>> {
+        match origin {
+            Some(origin) => Some(self.place(origin)),
+            None => None,
+        }
+    }
+
     /// The first line of those of slots of one function that stand in the file in which the function begins.
     fn first_row(&self, first: Origin, origins: &[Option<Origin>], slots: &[usize]) -> Option<Row> {
         let function = self.function(first.symbol)?;
