@@ -3,4 +3,4 @@
 
 mod profile;
 
-pub use profile::{PROFILE, Profile, profile_asked, profile_option};
+pub use profile::{PROFILE, Profile, profile_asked};

@@ -4,13 +4,12 @@ ghost use Rattle.std.specs.Prelude.{◌≡◌, codes, IfErr, IfOk, Some};
 ghost use Rattle.command_files.specs.Arguments.{number_of};
 ghost use Rattle.command_profile.specs.Profile.{IsToldOfProfile, profile_number};
 
-use clap::{Arg, ArgMatches};
+use clap::ArgMatches;
 use command_files::Failure;
-use command_files::arguments::{not_in_range, option, required};
-use std::alloc::Global;
+use command_files::arguments::{not_in_range, required};
 use text_lines::decimal;
 
-/// The option that [`profile_option`] describes.
+/// The option that gives the number of a profile: 2 where it isn't given.
 pub const PROFILE: &str = "profile";
 
 /// A profile: by what is known of words it is judged which programs are accepted.
@@ -20,11 +19,6 @@ pub enum Profile {
     Two,
     /// Profile 3: the same, where addresses are words too.
     Three,
-}
-
-/// The option that gives the number of a profile, 2 where it isn't given.
-pub fn profile_option<'a>(alloc: Global, help: &'a str) -> Arg<'a> {
-    option(alloc, PROFILE, "P").default_value("2").help(help)
 }
 
 /// The profile whose number the option spells. Where it spells no other number than 2 and 3, the option, its word, and these two
