@@ -53,11 +53,6 @@ struct Computed<D> {
 }
 
 impl<D: Domain> Computed<D> {
-    /// The address that it takes, if one of its words is known as one.
-    fn address(&self) -> Option<Offsets> {
-        self.first.offsets().or(self.second.offsets())
-    }
-
     /// What is known of the word that it makes.
     fn word(&self) -> D {
         D::alu(self.arithmetic, self.first, self.second)
@@ -66,7 +61,8 @@ impl<D: Domain> Computed<D> {
     /// The address that it takes, if what it makes of it isn't known as one. A difference of two addresses that is known is a
     /// number, and none is forgotten.
     fn forgotten(&self) -> Option<Forgotten> {
-        let (address, cause) = (self.address()?, self.cause());
+        let address = self.first.offsets().or(self.second.offsets())?;
+        let cause = cause_of(self.arithmetic, Told::of(self.first), Told::of(self.second));
         match (Told::of(self.word()), cause) {
             (Told::Address(_), _) => None,
             (number, Cause::Address) if !number.is_any() => None,
@@ -77,21 +73,20 @@ impl<D: Domain> Computed<D> {
             }),
         }
     }
+}
 
-    /// Why no address is known of it, where one is of a word that it takes.
-    fn cause(&self) -> Cause {
-        let (first, second) = (Told::of(self.first), Told::of(self.second));
-        match self.arithmetic {
-            Arithmetic::Binary {
-                width: Width::Bits64,
-                operation: Operation::Add,
-            } => cause_of_sum(first, second),
-            Arithmetic::Binary {
-                width: Width::Bits64,
-                operation: Operation::Subtract,
-            } => cause_of_difference(second),
-            _ => Cause::Operation,
-        }
+/// Why no address is known of what is computed of these, where one of them is one.
+fn cause_of(arithmetic: Arithmetic, first: Told, second: Told) -> Cause {
+    match arithmetic {
+        Arithmetic::Binary {
+            width: Width::Bits64,
+            operation: Operation::Add,
+        } => cause_of_sum(first, second),
+        Arithmetic::Binary {
+            width: Width::Bits64,
+            operation: Operation::Subtract,
+        } => cause_of_difference(second),
+        _ => Cause::Operation,
     }
 }
 

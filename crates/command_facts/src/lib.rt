@@ -1,4 +1,4 @@
-//! What is known at the slots of a program, as lines that users read, and which registers an instruction reads.
+//! What is known at the slots of a program, as lines that users read, and of the registers that an instruction reads.
 #![tactic(auto)]
 
 mod forgotten;
@@ -10,5 +10,5 @@ mod wanted;
 mod ways;
 
 pub use listing::fact_lines;
-pub use reads::registers_read;
+pub use reads::{ReadRegister, read_registers};
 pub use told::Told;

@@ -1,11 +1,11 @@
 //! The lines.
 
-use crate::forgotten::{forgotten_by, unknown_word};
-use crate::reads::registers_read;
+use crate::forgotten::{Forgotten, forgotten_by, unknown_word};
+use crate::reads::{ReadRegister, read_registers};
 use crate::register_set::RegisterSet;
 use crate::told::Told;
 use crate::wanted::registers_wanted;
-use crate::ways::Known;
+use crate::ways::{Known, Meeting};
 use accepted_programs::{Facts, Refusal};
 use ebpf_asm::instruction_text;
 use instruction_set::{Instruction, Program, Register};
@@ -74,38 +74,28 @@ fn push_known<D: Domain>(
     let Some(facts) = known.at(slot) else {
         return text.push_str("  no slot leads here\n");
     };
-    let [first, second] = registers_read(instruction);
-    push_register("  ", first, facts, text)?;
-    push_register(", ", second, facts, text)?;
-    push_emitted(instruction, facts, text)?;
-    text.push_str("\n")?;
-    push_meetings(known, slot, facts, wanted, text)?;
-    push_forgotten(instruction, facts, text)
-}
-
-/// What is known of a register, if there is one, behind this.
-fn push_register<D: Domain>(
-    before: &str,
-    register: Option<Register>,
-    facts: &Facts<D>,
-    text: &mut String,
-) -> Result<(), AllocError> {
-    let Some(register) = register else {
-        return Ok(());
-    };
-    let (number, fact) = (register.number(), Told::of(facts.get(register)));
-    write!(text, "{before}r{number} is {fact}")
-}
-
-/// In front of an emit, how many bytes were emitted before at most.
-fn push_emitted<D: Domain>(
-    instruction: &Instruction,
-    facts: &Facts<D>,
-    text: &mut String,
-) -> Result<(), AllocError> {
+    push_registers(read_registers(instruction, facts), text)?;
     if instruction.is_emit() {
         let emitted = facts.emitted;
         write!(text, ", emitted at most {emitted}")?;
+    }
+    text.push_str("\n")?;
+    push_meetings(known, slot, facts, wanted, text)?;
+    push_forgotten(forgotten_by(instruction, facts), text)?;
+    push_unknown(unknown_word(instruction, facts), text)
+}
+
+/// What is known of registers.
+fn push_registers(
+    registers: [Option<ReadRegister>; 2],
+    text: &mut String,
+) -> Result<(), AllocError> {
+    let [first, second] = registers;
+    if let Some(read) = first {
+        write!(text, "  {read}")?;
+    }
+    if let Some(read) = second {
+        write!(text, ", {read}")?;
     }
     Ok(())
 }
@@ -124,20 +114,19 @@ fn push_meetings<D: Domain>(
     for number in 0..11 {
         let register = Register::from_number(number);
         if wanted.has(register) && is_where_addresses_are(Told::of(facts.get(register))) {
-            push_meeting(known, slot, register, text)?;
+            push_meeting(register, known.meeting(slot, register), text)?;
         }
     }
     Ok(())
 }
 
-/// The address that is forgotten in a register where ways meet at a slot, if one is.
-fn push_meeting<D: Domain>(
-    known: &Known<'_, D>,
-    slot: usize,
+/// The address that is forgotten in a register where ways meet, if one is.
+fn push_meeting(
     register: Register,
+    meeting: Option<Meeting>,
     text: &mut String,
 ) -> Result<(), AllocError> {
-    let Some(meeting) = known.meeting(slot, register) else {
+    let Some(meeting) = meeting else {
         return Ok(());
     };
     let (number, address, other) = (register.number(), meeting.address, meeting.other);
@@ -148,24 +137,25 @@ fn push_meeting<D: Domain>(
     )
 }
 
-/// The address that an instruction forgets, if it does, and that nothing is known of the word that it loads.
-fn push_forgotten<D: Domain>(
-    instruction: &Instruction,
-    facts: &Facts<D>,
-    text: &mut String,
-) -> Result<(), AllocError> {
-    if let Some(forgotten) = forgotten_by(instruction, facts) {
-        let (number, address) = (forgotten.register.number(), forgotten.address);
-        let cause = forgotten.cause;
-        writeln!(text, "      forgotten in r{number}: {address}; {cause}")?;
-    }
-    if let Some(distance) = unknown_word(instruction, facts) {
-        writeln!(
-            text,
-            "      nothing is known of the word at stack + {distance}"
-        )?;
-    }
-    Ok(())
+/// The address that an instruction forgets, if it does.
+fn push_forgotten(forgotten: Option<Forgotten>, text: &mut String) -> Result<(), AllocError> {
+    let Some(forgotten) = forgotten else {
+        return Ok(());
+    };
+    let (number, address) = (forgotten.register.number(), forgotten.address);
+    let cause = forgotten.cause;
+    writeln!(text, "      forgotten in r{number}: {address}; {cause}")
+}
+
+/// That nothing is known of a word that is loaded, if that is so: its distance.
+fn push_unknown(distance: Option<usize>, text: &mut String) -> Result<(), AllocError> {
+    let Some(distance) = distance else {
+        return Ok(());
+    };
+    writeln!(
+        text,
+        "      nothing is known of the word at stack + {distance}"
+    )
 }
 
 /// May it be a number that is an address? So are those that addresses in two areas are joined to.

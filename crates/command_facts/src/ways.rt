@@ -78,7 +78,7 @@ impl<D: Domain> Known<'_, D> {
     /// The first slot that leads to another with an address in a register, and that address.
     fn way_with_address(&self, slot: usize, register: Register) -> Option<(usize, Offsets)> {
         for from in 0..slot {
-            if let Some(address) = self.address_brought(from, slot, register) {
+            if let Some(Told::Address(address)) = self.brought(from, slot, register) {
                 return Some((from, address));
             }
         }
@@ -94,29 +94,23 @@ impl<D: Domain> Known<'_, D> {
     ) -> Option<(usize, Told)> {
         for from in 0..slot {
             match self.brought(from, slot, register) {
-                Some(word) if !is_in(word.offsets(), address) => {
-                    return Some((from, Told::of(word)));
-                }
+                Some(told) if !is_in(told, address) => return Some((from, told)),
                 _ => {}
             }
         }
         None
     }
 
-    /// The address that a register has on the way from one slot to another, if there is one and it has.
-    fn address_brought(&self, from: usize, to: usize, register: Register) -> Option<Offsets> {
-        self.brought(from, to, register)?.offsets()
-    }
-
     /// What a register is known to be on the way from one slot to another, if there is one.
     #[tactic(auto, using(crate::proofs::Sizes::facts_fit))]
-    fn brought(&self, from: usize, to: usize, register: Register) -> Option<D> {
+    fn brought(&self, from: usize, to: usize, register: Register) -> Option<Told> {
         D::fact_fits();
         let facts = self.at(from)?;
         let instruction = self.program.at(from)?;
         let is_behind = from + instruction.slots() == to;
         let is_target = target(from, instruction) == Some(to);
-        left_along(instruction, is_behind, is_target, register, facts)
+        let word = left_along(instruction, is_behind, is_target, register, facts)?;
+        Some(Told::of(word))
     }
 }
 
@@ -185,9 +179,9 @@ fn compared<D: Domain>(width: Width, source: Source, facts: &Facts<D>) -> D {
 }
 
 /// Is this an address in the area of another?
-fn is_in(told: Option<Offsets>, address: Offsets) -> bool {
+fn is_in(told: Told, address: Offsets) -> bool {
     match told {
-        Some(told) => told.area == address.area,
-        None => false,
+        Told::Address(told) => told.area == address.area,
+        Told::Words(_) => false,
     }
 }

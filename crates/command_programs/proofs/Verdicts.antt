@@ -1,64 +1,81 @@
 -- What `verify` prints of a program whose bytes are known.
-use Rattle.std.proofs.Common.{◌≡◌, ℕ, List, [], ◌++◌, Option, Some, None, Result, Ok, Err, OnOk, sym, subst, append-nil}
+use Rattle.std.proofs.Common.{◌≡◌, ℕ, List, ◌++◌, Option, Some, None, Result, Ok, Err, OnOk, ap, sym, subst, ◌∙◌, append-nil, append_assoc}
 use Rattle.std.specs.Prelude.{codes}
+use Rattle.std.specs.Fmt.{decimal}
 use Rattle.std.specs.Io.KnownBytes.{Appends}
-use Rattle.std.proofs.KnownBytes.{Appends-trans}
-use Rattle.std.proofs.lemmas.Result.{on_ok_weaker}
 use Rattle.clap.specs.Matches.{found_of, first_value}
 use Rattle.clap.specs.declared.parser.matches.ArgMatches.{ArgMatches}
-use Rattle.accepted_programs.specs.Accepted.{refusal}
+use Rattle.accepted_programs.specs.Accepted.{reason_number, refusal}
 use Rattle.accepted_programs.specs.Emitted.{most_emitted}
+use Rattle.accepted_programs.specs.declared.reason.Refusal.{Refusal}
 use Rattle.instruction_set.specs.Program.{instruction_count}
 use Rattle.instruction_set.specs.declared.instruction.Instruction.{Instruction}
 use Rattle.interval_domain.specs.declared.fact.Fact.{Fact}
 use Rattle.program_interface.specs.RunSizes.{Sizes, sizes_with}
 use Rattle.word_domain.specs.Domain.{Operations}
 use Rattle.command_files.specs.Arguments.{number_of}
-use Rattle.command_files.specs.Lines.{GrowsAround}
 use Rattle.command_programs.specs.Asked.{IsLimit, Spell}
 use Rattle.command_profile.specs.Profile.{operations_of, profile_number}
 use Rattle.command_programs.specs.MakesProgram.{program_file_of}
-use Rattle.command_programs.specs.Printed.{Judges, PrintsAcceptance, SaysAccepted, form_of}
+use Rattle.command_programs.specs.Printed.{Judges, PrintsAcceptance, PrintsFirstRefusal, SaysAccepted, SaysRefused, accepted_line, form_of, refused_line}
 use Rattle.command_profile.specs.declared.profile.Profile.{Profile}
 use Rattle.command_programs.specs.declared.verify.Form.{Form}
+use Rattle.command_programs.specs.declared.verify.Form.TheVariants.{Json, Line, Worded}
+use Rattle.command_programs.specs.steps.Verdict.{acceptance_text, refusal_text}
 
--- a line, and some words behind it
-grows_behind : (old between new : Option (List ℕ)) (line words : List ℕ) → Appends old between line → Appends between new words → GrowsAround line [] old new
-grows_behind old between new line words first then = record {
+-- a text that says that a program is accepted was printed
+prints_acceptance : (form : Form) (instructions emitted : ℕ) (words : List ℕ) (before after : Option (List ℕ))
+    → Appends before after (acceptance_text form instructions emitted words) → PrintsAcceptance form instructions emitted before after
+prints_acceptance Line instructions emitted words before after printed = printed
+prints_acceptance (Worded explained facts) instructions emitted words before after printed = record {
   words = words;
-  grows = subst (λ (t : List ℕ). Appends old new t) (sym (append-nil (line ++ words))) (Appends-trans old between new line words first then);
+  grows = subst (λ (t : List ℕ). Appends before after t) (sym (append-nil (accepted_line instructions ++ words))) printed;
 }
+prints_acceptance Json instructions emitted words before after printed = printed
 
--- a line was printed, and some words behind it
-pub says_more : {T E : Type 0} (result : Result T E) (line words : List ℕ) (old between new : Option (List ℕ))
-    → Appends old between line → OnOk result (Appends between new words) → OnOk result (GrowsAround line [] old new)
-says_more result line words old between new first then = on_ok_weaker result (grows_behind old between new line words first) then
+-- four texts behind another
+four_behind : (h a b c d : List ℕ) → h ++ a ++ b ++ c ++ d ≡ h ++ (a ++ b ++ c ++ d)
+four_behind h a b c d =
+    ap (λ (t : List ℕ). t ++ c ++ d) (append_assoc h a b) ∙ ap (λ (t : List ℕ). t ++ d) (append_assoc h (a ++ b) c) ∙ append_assoc h (a ++ b ++ c) d
 
--- a front, some words, and what stands behind them
-grows_around : (old first second new : Option (List ℕ)) (front words behind : List ℕ) → Appends old first front → Appends first second words
-    → Appends second new behind → GrowsAround front behind old new
-grows_around old first second new front words behind at_first then at_last = record {
+-- a text that says that one is refused was printed
+prints_refusal : (form : Form) (instructions : ℕ) (first : Refusal) (words : List ℕ) (before after : Option (List ℕ))
+    → Appends before after (refusal_text form instructions first words) → PrintsFirstRefusal form instructions first before after
+prints_refusal Line instructions first words before after printed = printed
+prints_refusal (Worded explained facts) instructions first words before after printed = record {
   words = words;
-  grows = Appends-trans old second new (front ++ words) behind (Appends-trans old first second front words at_first then) at_last;
+  grows = subst (λ (t : List ℕ). Appends before after t) (sym (append-nil (refused_line first ++ words))) printed;
+}
+prints_refusal Json instructions first words before after printed = record {
+  words = words;
+  grows = subst (λ (t : List ℕ). Appends before after (t ++ words ++ codes "}\n"))
+      (four_behind (codes "{\"accepted\":false,\"instruction_count\":" ++ decimal instructions) (codes ",\"slot\":") (decimal first.slot)
+      (codes ",\"reason\":") (decimal (reason_number first.reason))) printed;
 }
 
--- a front was printed, some words, and what stands behind them
-pub says_around : {T E : Type 0} (result : Result T E) (front words behind : List ℕ) (old first second new : Option (List ℕ)) → Appends old first front
-    → Appends first second words → OnOk result (Appends second new behind) → OnOk result (GrowsAround front behind old new)
-says_around result front words behind old first second new at_first then at_last =
-    on_ok_weaker result (grows_around old first second new front words behind at_first then) at_last
+module _ {D : Type 0} (operations : Operations D) (program : List (Option Instruction)) (sizes : Sizes) (form : Form) (instructions : ℕ)
+    (words text : List ℕ) (before after : Option (List ℕ)) (counted : instructions ≡ instruction_count program) where
+  -- that a program is accepted was printed
+  pub says_accepted : {T E : Type 0} (result : Result T E) (emitted : ℕ) → refusal operations program sizes ≡ None
+      → emitted ≡ most_emitted operations program sizes.block → text ≡ acceptance_text form instructions emitted words
+      → OnOk result (Appends before after text) → OnOk result (SaysAccepted operations program sizes form before after)
+  says_accepted (Err error) emitted accepted bounded is printed = tt
+  says_accepted (Ok done) emitted accepted bounded is printed = record {
+    accepted = accepted;
+    printed = subst (λ (n : ℕ). PrintsAcceptance form n (most_emitted operations program sizes.block) before after) counted
+        (subst (λ (n : ℕ). PrintsAcceptance form instructions n before after) bounded
+        (prints_acceptance form instructions emitted words before after (subst (λ (t : List ℕ). Appends before after t) is printed)));
+  }
 
--- that a program is accepted was printed
-pub says_accepted : {T E D : Type 0} (result : Result T E) (operations : Operations D) (program : List (Option Instruction)) (sizes : Sizes)
-    (form : Form) (emitted : ℕ) (before after : Option (List ℕ)) → refusal operations program sizes ≡ None
-    → emitted ≡ most_emitted operations program sizes.block
-    → OnOk result (PrintsAcceptance form (instruction_count program) emitted before after)
-    → OnOk result (SaysAccepted operations program sizes form before after)
-says_accepted (Err error) operations program sizes form emitted before after accepted bounded printed = tt
-says_accepted (Ok done) operations program sizes form emitted before after accepted bounded printed = record {
-  accepted = accepted;
-  printed = subst (λ (n : ℕ). PrintsAcceptance form (instruction_count program) n before after) bounded printed;
-}
+  -- that it is refused was printed
+  pub says_refused : (first : Refusal) → refusal operations program sizes ≡ Some first → text ≡ refusal_text form instructions first words
+      → Appends before after text → SaysRefused operations program sizes form before after
+  says_refused first refused is printed = record {
+    first = first;
+    refused = refused;
+    printed = subst (λ (n : ℕ). PrintsFirstRefusal form n first before after) counted
+        (prints_refusal form instructions first words before after (subst (λ (t : List ℕ). Appends before after t) is printed));
+  }
 
 -- a program was judged, which was decoded of the file that is asked for
 pub judges : (Says : Operations Fact → List (Option Instruction) → Sizes → Form → Type 0) (matches : ArgMatches) (contents : List ℕ → Option (List ℕ))

@@ -13,4 +13,5 @@ mod sizes;
 mod step_lines;
 pub mod trace;
 pub mod unpack;
+mod verdict;
 pub mod verify;

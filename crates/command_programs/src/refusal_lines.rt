@@ -2,116 +2,106 @@
 
 use crate::refused_instruction::{Detail, RefusedInstruction};
 use accepted_programs::Reason;
-use command_facts::registers_read;
 use command_files::Counted;
 use instruction_set::Register;
 use program_interface::FRAME_LENGTH_BYTES;
-use std::io::{self, Write};
-use word_domain::{Domain, Offsets};
+use std::alloc::AllocError;
+use word_domain::Offsets;
 
-impl<D: Domain> RefusedInstruction<'_, D> {
-    /// Prints the instruction, which has this text, behind its slot, and then the reason and what is known there.
-    pub(crate) fn explain<O: Write>(&self, text: &str, out: &mut O) -> io::Result<()> {
+impl RefusedInstruction<'_> {
+    /// Adds the instruction, which has this text, behind its slot, and then the reason and what is known there.
+    pub(crate) fn push_lines(&self, text: &str, out: &mut String) -> Result<(), AllocError> {
         let (slot, reason) = (self.slot, self.reason);
-        writeln!(out, "{slot:4}  {text}")?;
-        write!(out, "{reason}: ")?;
-        match self.detail() {
-            Some(detail) => self.print_detail(detail, out)?,
-            None => print_plain(reason, out)?,
+        write!(out, "{slot:4}  {text}\n{reason}: ")?;
+        self.push_detail(out)?;
+        for read in self.known.registers {
+            if let Some(read) = read {
+                writeln!(out, "{read}")?;
+            }
         }
-        let [first, second] = registers_read(self.instruction);
-        self.print_register(first, out)?;
-        self.print_register(second, out)
+        Ok(())
     }
 
-    fn print_detail<O: Write>(&self, detail: Detail, out: &mut O) -> io::Result<()> {
-        match detail {
-            Detail::Target(target) => self.print_target(target, out),
+    fn push_detail(&self, out: &mut String) -> Result<(), AllocError> {
+        match self.detail() {
+            Detail::Plain => out.push_str(plain_words(self.reason)),
+            Detail::Target(target) => self.push_target(target, out),
             Detail::Address {
                 base,
                 bytes,
                 allowed,
-            } => print_address(base, bytes, allowed, out),
-            Detail::ReadOnly { base, .. } => {
-                let number = base.number();
-                writeln!(out, "r{number} leads to what a program can only read")
-            }
+            } => push_address(base, bytes, allowed, out),
+            Detail::ReadOnly { base, .. } => push_read_only(base, out),
             Detail::Helper(helper) => writeln!(out, "it calls {helper}"),
-            Detail::Room(room) => print_room(room, out),
+            Detail::Room(room) => push_room(room, out),
             Detail::Limit {
                 emitted,
                 record,
                 limit,
-            } => print_limit(emitted, record, limit, out),
+            } => push_limit(emitted, record, limit, out),
         }
     }
 
     /// Where a jump leads.
-    fn print_target<O: Write>(&self, target: i128, out: &mut O) -> io::Result<()> {
+    fn push_target(&self, target: i128, out: &mut String) -> Result<(), AllocError> {
         let slots = self.slots as i128;
+        write!(out, "to slot {target}")?;
         if target < 0 || target >= slots {
-            writeln!(out, "to slot {target}, of {slots} slots")
+            writeln!(out, ", of {slots} slots")
         } else if self.reason == Reason::JumpOutside {
-            writeln!(out, "to slot {target}, a wide instruction's second")
+            out.push_str(", a wide instruction's second\n")
         } else {
-            writeln!(out, "to slot {target}")
-        }
-    }
-
-    /// A line that says what is known of a register.
-    fn print_register<O: Write>(&self, register: Option<Register>, out: &mut O) -> io::Result<()> {
-        match register {
-            Some(register) => {
-                let (number, told) = (register.number(), self.told(register));
-                writeln!(out, "r{number} is {told}")
-            }
-            None => Ok(()),
+            out.push_str("\n")
         }
     }
 }
 
 /// What a reason without numbers means.
-fn print_plain<O: Write>(reason: Reason, out: &mut O) -> io::Result<()> {
+fn plain_words(reason: Reason) -> &'static str {
     match reason {
-        Reason::FallsOff => writeln!(out, "no instruction stands behind it"),
-        _ => writeln!(out, "a program can only read it"),
+        Reason::FallsOff => "no instruction stands behind it\n",
+        _ => "a program can only read it\n",
     }
 }
 
 /// Where a register has to point, so that an access of so many bytes lies in its area.
-fn print_address<O: Write>(
+fn push_address(
     base: Register,
     bytes: u8,
     allowed: Option<Offsets>,
-    out: &mut O,
-) -> io::Result<()> {
+    out: &mut String,
+) -> Result<(), AllocError> {
     let number = base.number();
     let Some(allowed) = allowed else {
         return writeln!(out, "r{number} is not known to be an address");
     };
-    if bytes == 0 {
-        writeln!(out, "r{number} must be {allowed}")
-    } else {
+    if bytes > 0 {
         let bytes = Counted(u64::from(bytes), "byte");
-        writeln!(out, "for {bytes} r{number} must be {allowed}")
+        write!(out, "for {bytes} ")?;
     }
+    writeln!(out, "r{number} must be {allowed}")
+}
+
+/// That a register can't be stored through.
+fn push_read_only(base: Register, out: &mut String) -> Result<(), AllocError> {
+    let number = base.number();
+    writeln!(out, "r{number} leads to what a program can only read")
 }
 
 /// How many bytes an emit can take.
-fn print_room<O: Write>(room: Option<i64>, out: &mut O) -> io::Result<()> {
+fn push_room(room: Option<i64>, out: &mut String) -> Result<(), AllocError> {
     match room {
-        None => writeln!(out, "r1 is not known to be an address"),
-        Some(most) if most < 1 => writeln!(out, "no byte is known to lie at r1"),
+        None => out.push_str("r1 is not known to be an address\n"),
+        Some(most) if most < 1 => out.push_str("no byte is known to lie at r1\n"),
         Some(most) => writeln!(out, "r2 must be 1 to {most}"),
     }
 }
 
 /// What the group has with this emit, and what it may have.
-fn print_limit<O: Write>(emitted: u64, record: u64, limit: u32, out: &mut O) -> io::Result<()> {
+fn push_limit(emitted: u64, record: u64, limit: u32, out: &mut String) -> Result<(), AllocError> {
     let length = FRAME_LENGTH_BYTES as u64;
     let after = u128::from(emitted) + u128::from(length) + u128::from(record);
-    let before = Counted(emitted, "byte");
-    let record = Counted(record, "byte");
+    let (before, record) = (Counted(emitted, "byte"), Counted(record, "byte"));
     writeln!(
         out,
         "behind {before}, {length} for its length and {record} come to {after}, and {limit} may be emitted"

@@ -4,26 +4,39 @@ ghost use Rattle.std.specs.Prelude.{◌<◌};
 ghost use Rattle.program_interface.specs.declared.TheConstants.{MOST_SLOTS};
 
 use accepted_programs::{Facts, Reason};
-use command_facts::Told;
+use command_facts::{ReadRegister, Told, read_registers};
 use instruction_set::{Access, Instruction, Register};
 use program_interface::{Area, RunSizes};
-use word_domain::{Domain, Offsets};
+use word_domain::{Bounds, Domain, Offsets};
 
 /// An instruction that is refused, of a program of so many slots, the reason, and what is known at its slot.
 #[derive(Drop)]
-pub(crate) struct RefusedInstruction<'p, D> {
+pub(crate) struct RefusedInstruction<'p> {
     pub(crate) slots: usize,
     pub(crate) slot: usize,
     pub(crate) instruction: &'p Instruction,
     pub(crate) reason: Reason,
     pub(crate) sizes: RunSizes,
-    pub(crate) facts: &'p Facts<D>,
+    pub(crate) known: Known,
     ghost within: { slot < MOST_SLOTS },
+}
+
+/// What is known where an instruction is.
+#[derive(Clone, Copy)]
+pub(crate) struct Known {
+    /// Of the registers that it reads: where it accesses memory or emits, the first is the one with the address.
+    pub(crate) registers: [Option<ReadRegister>; 2],
+    /// How many bytes the group has at most.
+    emitted: u64,
+    /// The greatest word of R2.
+    record: u64,
 }
 
 /// What is wrong with an instruction, in the numbers of its reason.
 #[derive(Clone, Copy)]
 pub(crate) enum Detail {
+    /// The reason says all by itself.
+    Plain,
     /// A jump leads to this slot.
     Target(i128),
     /// An access of so many bytes, and where its register has to point for that; `None` where the register isn't known to be
@@ -50,21 +63,36 @@ pub(crate) enum Detail {
     },
 }
 
-impl<D: Domain> RefusedInstruction<'_, D> {
-    /// The numbers of the reason; `None` of one that says all by itself.
-    pub(crate) fn detail(&self) -> Option<Detail> {
+/// What facts tell of an instruction, if there is one.
+#[tactic(auto, using(command_facts::proofs::Sizes::facts_fit))]
+pub(crate) fn known_of<D: Domain>(instruction: Option<&Instruction>, facts: &Facts<D>) -> Known {
+    D::fact_fits();
+    let registers = match instruction {
+        Some(instruction) => read_registers(instruction, facts),
+        None => [None, None],
+    };
+    Known {
+        registers,
+        emitted: facts.emitted as u64,
+        record: facts.get(Register::R2).bounds().high,
+    }
+}
+
+impl RefusedInstruction<'_> {
+    /// The numbers of the reason.
+    pub(crate) fn detail(&self) -> Detail {
         match self.reason {
-            Reason::JumpBack | Reason::JumpOutside => Some(self.target()),
-            Reason::FallsOff | Reason::WriteToFramePointer => None,
-            Reason::LoadOutside => self
-                .instruction
-                .access()
-                .map(|access| self.accessed(access)),
-            Reason::StoreOutside => self.instruction.access().map(|access| self.stored(access)),
+            Reason::JumpBack | Reason::JumpOutside => self.target(),
+            Reason::FallsOff | Reason::WriteToFramePointer => Detail::Plain,
+            Reason::LoadOutside | Reason::StoreOutside => self.accessed(),
             Reason::UnknownHelper => helper_of(self.instruction),
-            Reason::EmitAddress => Some(self.address(Register::R1, 0, 0)),
-            Reason::EmitLength => Some(self.room()),
-            Reason::EmitLimit => Some(self.over_limit()),
+            Reason::EmitAddress => self.address(Register::R1, 0, 0),
+            Reason::EmitLength => self.room(),
+            Reason::EmitLimit => Detail::Limit {
+                emitted: self.known.emitted,
+                record: self.known.record,
+                limit: self.sizes.limit(),
+            },
         }
     }
 
@@ -74,24 +102,30 @@ impl<D: Domain> RefusedInstruction<'_, D> {
         Detail::Target(i128::from(Instruction::target(self.slot, distance)))
     }
 
-    fn accessed(&self, access: Access) -> Detail {
-        self.address(access.base, access.offset, access.size)
-    }
-
-    /// The same of a store, or that the area is one to read.
-    fn stored(&self, access: Access) -> Detail {
-        match self.told(access.base) {
-            Told::Address(address) if !address.area.is_writable() => Detail::ReadOnly {
-                base: access.base,
-                bytes: access.size,
+    /// Where the register of an access has to point, or that a store's area is one to read.
+    fn accessed(&self) -> Detail {
+        let Some(
+            Access {
+                base,
+                offset,
+                size,
+                ..
             },
-            _ => self.accessed(access),
+        ) = self.instruction.access()
+        else {
+            return Detail::Plain;
+        };
+        match (self.reason, self.base()) {
+            (Reason::StoreOutside, Told::Address(address)) if !address.area.is_writable() => {
+                Detail::ReadOnly { base, bytes: size }
+            }
+            _ => self.address(base, offset, size),
         }
     }
 
     /// Where a register has to point, so that so many bytes at an offset from there lie in its area.
     fn address(&self, base: Register, offset: i16, bytes: u8) -> Detail {
-        let allowed = match self.told(base) {
+        let allowed = match self.base() {
             Told::Address(Offsets { area, .. }) => {
                 Some(offsets_allowed(area, self.length(area), offset, bytes))
             }
@@ -106,30 +140,20 @@ impl<D: Domain> RefusedInstruction<'_, D> {
 
     /// How many bytes an emit can take, from its address to the end of the area.
     fn room(&self) -> Detail {
-        match self.told(Register::R1) {
+        match self.base() {
             Told::Address(Offsets { area, high, .. }) => {
-                Detail::Room(Some(bytes_behind(self.length(area), high)))
+                Detail::Room(Some(i64::from(self.length(area)).saturating_sub(high)))
             }
             Told::Words(_) => Detail::Room(None),
         }
     }
 
-    /// What the group has before this emit, what it adds, and what it may have.
-    #[tactic(auto, using(command_facts::proofs::Sizes::facts_fit))]
-    fn over_limit(&self) -> Detail {
-        D::fact_fits();
-        Detail::Limit {
-            emitted: self.facts.emitted as u64,
-            record: self.facts.get(Register::R2).bounds().high,
-            limit: self.sizes.limit(),
+    /// What is told of the first register that it reads.
+    fn base(&self) -> Told {
+        match self.known.registers[0] {
+            Some(read) => read.told,
+            None => Told::Words(Bounds::FULL),
         }
-    }
-
-    /// What is told of a register.
-    #[tactic(auto, using(command_facts::proofs::Sizes::facts_fit))]
-    pub(crate) fn told(&self, register: Register) -> Told {
-        D::fact_fits();
-        Told::of(self.facts.get(register))
     }
 
     /// The bytes of an area.
@@ -146,15 +170,10 @@ fn offsets_allowed(area: Area, length: u32, offset: i16, size: u8) -> Offsets {
     Offsets { area, low, high }
 }
 
-/// The bytes of an area of this length from an offset on.
-fn bytes_behind(length: u32, offset: i64) -> i64 {
-    i64::from(length).saturating_sub(offset)
-}
-
 /// The helper that an instruction calls, if it calls one.
-fn helper_of(instruction: &Instruction) -> Option<Detail> {
+fn helper_of(instruction: &Instruction) -> Detail {
     match *instruction {
-        Instruction::Call { helper } => Some(Detail::Helper(helper)),
-        _ => None,
+        Instruction::Call { helper } => Detail::Helper(helper),
+        _ => Detail::Plain,
     }
 }

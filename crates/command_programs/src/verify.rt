@@ -1,40 +1,31 @@
 //! The command `verify`: says whether a program is accepted.
 
 ghost use Rattle.std.specs.Prelude.{◌≡◌, ◌≢◌, codes, Err, Some, IfOk, OnOk};
-ghost use Rattle.std.specs.Io.KnownBytes.{Appends};
 ghost use Rattle.clap.specs.Matches.{found_of, first_value};
-ghost use Rattle.instruction_set.specs.Program.{instruction_count};
 ghost use Rattle.program_interface.specs.RunSizes.{sizes_with};
 ghost use Rattle.command_files.specs.Arguments.{number_of};
-ghost use Rattle.command_profile.specs.Profile.{operations_of};
+ghost use Rattle.command_profile.specs.Profile.{operations_of, profile_number};
 ghost use Rattle.command_programs.specs.Asked.{IsLimit};
 ghost use Rattle.command_programs.specs.MakesProgram.{program_file_of};
-ghost use Rattle.command_programs.specs.Printed.{PrintsAcceptance, PrintsAccepted, PrintsFirstRefusal, PrintsRefused, SaysAccepted, SaysRefused, form_of, place_fields, refused_line};
+ghost use Rattle.command_programs.specs.Printed.{PrintsAccepted, PrintsRefused, SaysAccepted, SaysRefused, form_of};
 
 use crate::flags::{JSON, JSON_ARGUMENT, is_set};
 use crate::printing::print;
 use crate::program::program_in_file;
-use crate::refused_instruction::RefusedInstruction;
 use crate::sizes::{limit, run_sizes};
-use accepted_programs::{Facts, Refusal};
-use address_domain::Addresses;
+use crate::verdict::{Verdict, acceptance_text, judged, refusal_text};
 use clap::ArgMatches;
-use command_facts::fact_lines;
 use command_files::arguments::{
     BLOCK_ARGUMENT, BLOCK_OPTION, EMIT_ARGUMENT, PROGRAM, PROGRAM_ARGUMENT, block_size, number,
     required,
 };
-use command_files::{Counted, Failure, Files, printed};
+use command_files::{Failure, Files};
 use command_profile::{PROFILE, Profile, profile_asked};
 use command_words::{Argument, Takes, Words};
-use ebpf_asm::instruction_text;
 use instruction_set::Program;
-use interval_domain::Intervals;
 use program_interface::RunSizes;
-use std::alloc::{AllocError, Global};
-use std::io::{self, Write};
-use verifier::{Judgement, Refused, judge};
-use word_domain::Domain;
+use std::alloc::Global;
+use std::io::Write;
 
 /// The command's name.
 pub const NAME: &str = "verify";
@@ -180,11 +171,36 @@ pub fn verify<'a, F: Files, O: Write>(
     ensures made { F.made files.new ≡ F.made files.old }
     ensures contents { F.contents files.new ≡ F.contents files.old }
 {
-    let (block, limit) = numbers_asked(matches)?;
-    let profile = profile_asked(matches)?;
+    let asked = asked_for(matches)?;
     let program = program_in_file(alloc, required(matches, PROGRAM), files)?;
-    let sizes = sizes_with(block, limit)?;
-    say_by(profile, alloc, &program, sizes, form_asked(matches), out)
+    let sizes = sizes_with(asked.block, asked.limit)?;
+    say(alloc, &program, sizes, asked.profile, asked.form, out)
+}
+
+/// What a user asks for.
+#[derive(Clone, Copy)]
+struct VerifyOptions {
+    /// The bytes of a block.
+    block: u32,
+    /// The most that may be emitted for one.
+    limit: u32,
+    profile: Profile,
+    form: Form,
+}
+
+fn asked_for<'a>(matches: &ArgMatches<'a>) -> Result<VerifyOptions, Failure<'a>>
+    ensures block { IfOk result (λ asked. number_of matches.now (codes "block") ≡ Some asked.block) }
+    ensures limit { IfOk result (λ asked. IsLimit matches.now (first_value (found_of matches.now) (codes "emit")) asked.limit) }
+    ensures profile { IfOk result (λ asked. number_of matches.now (codes "profile") ≡ Some (profile_number asked.profile)) }
+    ensures form { IfOk result (λ asked. asked.form ≡ form_of matches.now) }
+    ensures not_judged { result ≢ Err Failure.NotAccepted }
+{
+    Ok(VerifyOptions {
+        block: number(matches, BLOCK_OPTION)?,
+        limit: limit(matches)?,
+        profile: profile_asked(matches)?,
+        form: form_asked(matches),
+    })
 }
 
 /// How the verdict is to be printed.
@@ -201,17 +217,6 @@ fn form_asked(matches: &ArgMatches<'_>) -> Form
     }
 }
 
-/// The bytes of a block, and the most that may be emitted for one, as the options give them.
-fn numbers_asked<'a>(matches: &ArgMatches<'a>) -> Result<(u32, u32), Failure<'a>>
-    ensures block { IfOk result (λ asked. number_of matches.now (codes "block") ≡ Some asked.0) }
-    ensures limit { IfOk result (λ asked. IsLimit matches.now (first_value (found_of matches.now) (codes "emit")) asked.1) }
-    ensures not_judged { result ≢ Err Failure.NotAccepted }
-{
-    let block = number(matches, BLOCK_OPTION)?;
-    let limit = limit(matches)?;
-    Ok((block, limit))
-}
-
 /// The sizes of a run with these numbers.
 fn sizes_with<'a>(block: u32, limit: u32) -> Result<RunSizes, Failure<'a>>
     ensures sizes { IfOk result (λ sizes. sizes_with block limit ≡ Some sizes) }
@@ -221,11 +226,11 @@ fn sizes_with<'a>(block: u32, limit: u32) -> Result<RunSizes, Failure<'a>>
 }
 
 /// Judges a program by a profile, and prints whether it is accepted.
-fn say_by<'a, O: Write>(
-    profile: Profile,
+fn say<'a, O: Write>(
     alloc: Global,
     program: &Program,
     sizes: RunSizes,
+    profile: Profile,
     form: Form,
     out: &mut O,
 ) -> Result<(), Failure<'a>>
@@ -233,224 +238,19 @@ fn say_by<'a, O: Write>(
     ensures refused { result ≡ Err Failure.NotAccepted
         → SaysRefused (operations_of profile) program.now sizes form (O.contents out.old) (O.contents out.new) }
 {
-    match profile {
-        Profile::Two => say::<Intervals, O>(alloc, program, sizes, form, out),
-        Profile::Three => say::<Addresses, O>(alloc, program, sizes, form, out),
-    }
-}
-
-/// Judges a program over a domain, and prints whether it is accepted.
-#[tactic(auto, using(command_facts::proofs::Sizes::facts_fit))]
-fn say<'a, D: Domain, O: Write>(
-    alloc: Global,
-    program: &Program,
-    sizes: RunSizes,
-    form: Form,
-    out: &mut O,
-) -> Result<(), Failure<'a>>
-    ensures accepted { OnOk result (SaysAccepted D.operations program.now sizes form (O.contents out.old) (O.contents out.new)) }
-    ensures refused { result ≡ Err Failure.NotAccepted
-        → SaysRefused D.operations program.now sizes form (O.contents out.old) (O.contents out.new) }
-{
-    D::fact_fits();
-    match judge::<D>(alloc, program, sizes)? {
-        Judgement::Accepted { most_emitted, .. } => {
-            say_accepted::<D, O>(alloc, program, sizes, most_emitted, form, out)
+    let instructions = program.instruction_count();
+    match judged(alloc, program, sizes, profile, form)? {
+        Verdict::Accepted {
+            most_emitted,
+            words,
+        } => {
+            let text = acceptance_text(alloc, instructions, most_emitted, words.as_str(), form)?;
+            print(text.as_bytes(), out)
         }
-        Judgement::Refused(Refused { refusal, facts }) => {
-            say_refused(alloc, program, sizes, refusal, &*facts, form, out)?;
+        Verdict::Refused { refusal, words } => {
+            let text = refusal_text(alloc, instructions, refusal, words.as_str(), form)?;
+            print(text.as_bytes(), out)?;
             Err(Failure::NotAccepted)
         }
-    }
-}
-
-/// Prints that a program is accepted, which emits at most so many bytes for a block.
-fn say_accepted<'a, D: Domain, O: Write>(
-    alloc: Global,
-    program: &Program,
-    sizes: RunSizes,
-    most_emitted: usize,
-    form: Form,
-    out: &mut O,
-) -> Result<(), Failure<'a>>
-    ensures printed { let instructions = instruction_count program.now in
-        OnOk result (PrintsAcceptance form instructions most_emitted (O.contents out.old) (O.contents out.new)) }
-    ensures not_judged { result ≢ Err Failure.NotAccepted }
-{
-    let instructions = program.instruction_count();
-    match form {
-        Form::Line => printed(writeln!(out, "accepted {instructions}")),
-        Form::Worded { explained, facts } => {
-            printed(writeln!(out, "accepted {instructions}"))?;
-            let told = words_of_acceptance::<D>(
-                alloc,
-                program,
-                sizes,
-                most_emitted,
-                explained,
-                facts,
-            )?;
-            print(told.as_str().as_bytes(), out)
-        }
-        Form::Json => printed(print_accepted(instructions, most_emitted, out)),
-    }
-}
-
-/// Prints that a program of so many instructions is accepted, which emits at most so many bytes for a block, as one JSON object.
-fn print_accepted<O: Write>(instructions: usize, most_emitted: usize, out: &mut O) -> io::Result<()>
-    ensures { OnOk result (PrintsAcceptance Form.Json instructions most_emitted (O.contents out.old) (O.contents out.new)) }
-{
-    writeln!(
-        out,
-        "{{\"accepted\":true,\"instruction_count\":{instructions},\"most_emitted\":{most_emitted}}}"
-    )
-}
-
-/// The lines that are asked for behind that of an accepted program: how many steps and bytes a block takes at most, and what is
-/// known at each slot.
-fn words_of_acceptance<D: Domain>(
-    alloc: Global,
-    program: &Program,
-    sizes: RunSizes,
-    most_emitted: usize,
-    explained: bool,
-    facts: bool,
-) -> Result<String, AllocError> {
-    let mut told = String::new(alloc);
-    if explained {
-        let taken = Counted(program.instruction_count() as u64, "step");
-        let emitted = Counted(most_emitted as u64, "byte");
-        writeln!(told, "for a block at most {taken}, and {emitted} emitted")?;
-    }
-    if facts {
-        let lines = fact_lines::<D>(alloc, program, sizes, None)?;
-        told.push_str(lines.as_str())?;
-    }
-    Ok(told)
-}
-
-/// Prints the first refusal of a program.
-fn say_refused<'a, D: Domain, O: Write>(
-    alloc: Global,
-    program: &Program,
-    sizes: RunSizes,
-    refusal: Refusal,
-    facts: &Facts<D>,
-    form: Form,
-    out: &mut O,
-) -> Result<(), Failure<'a>>
-    ensures printed { let instructions = instruction_count program.now in
-        OnOk result (PrintsFirstRefusal form instructions refusal (O.contents out.old) (O.contents out.new)) }
-    ensures not_judged { result ≢ Err Failure.NotAccepted }
-{
-    match form {
-        Form::Line => printed(print_refused(refusal, out)),
-        Form::Worded { .. } => {
-            printed(print_refused(refusal, out))?;
-            let told = words_of_refusal(alloc, program, sizes, refusal, facts, form)?;
-            print(told.as_slice(), out)
-        }
-        Form::Json => {
-            let fields = explanation(alloc, program, sizes, refusal, facts, form)?;
-            let instructions = program.instruction_count();
-            printed(print_object(instructions, refusal, fields.as_slice(), out))
-        }
-    }
-}
-
-/// Prints the slot of a refusal, and the number of its reason.
-fn print_refused<O: Write>(refusal: Refusal, out: &mut O) -> io::Result<()>
-    ensures { OnOk result (Appends (O.contents out.old) (O.contents out.new) (refused_line refusal)) }
-{
-    let Refusal { slot, reason } = refusal;
-    let number = reason.number();
-    writeln!(out, "refused {slot} {number}")
-}
-
-/// Prints a refusal of a program of so many instructions as one JSON object, with these fields behind the others.
-fn print_object<O: Write>(
-    instructions: usize,
-    refusal: Refusal,
-    fields: &[u8],
-    out: &mut O,
-) -> io::Result<()>
-    ensures { OnOk result (PrintsFirstRefusal Form.Json instructions refusal (O.contents out.old) (O.contents out.new)) }
-{
-    write!(
-        out,
-        "{{\"accepted\":false,\"instruction_count\":{instructions}"
-    )?;
-    print_place(refusal, out)?;
-    out.write_all(fields)?;
-    writeln!(out, "}}")
-}
-
-/// Prints the slot of a refusal, and the number of its reason, as fields of a JSON object.
-fn print_place<O: Write>(refusal: Refusal, out: &mut O) -> io::Result<()>
-    ensures { OnOk result (Appends (O.contents out.old) (O.contents out.new) (place_fields refusal)) }
-{
-    let Refusal { slot, reason } = refusal;
-    let number = reason.number();
-    write!(out, ",\"slot\":{slot},\"reason\":{number}")
-}
-
-/// The lines that are asked for behind that of a refusal.
-fn words_of_refusal<D: Domain>(
-    alloc: Global,
-    program: &Program,
-    sizes: RunSizes,
-    refusal: Refusal,
-    known: &Facts<D>,
-    form: Form,
-) -> Result<Vec<u8>, AllocError> {
-    let mut told = Vec::new(alloc);
-    if let Form::Worded {
-        explained: true,
-        ..
-    } = form
-    {
-        told = explanation(alloc, program, sizes, refusal, known, form)?;
-    }
-    if let Form::Worded { facts: true, .. } = form {
-        let lines = fact_lines::<D>(alloc, program, sizes, Some(refusal))?;
-        told.extend_from_slice(lines.as_str().as_bytes())?;
-    }
-    Ok(told)
-}
-
-/// Why a program isn't accepted, the instruction, the reason and what is known there: as lines, or as fields of a JSON object.
-///
-/// # Errors
-///
-/// Want of memory.
-fn explanation<D: Domain>(
-    alloc: Global,
-    program: &Program,
-    sizes: RunSizes,
-    refusal: Refusal,
-    facts: &Facts<D>,
-    form: Form,
-) -> Result<Vec<u8>, AllocError> {
-    let Refusal { slot, reason } = refusal;
-    let mut told = Vec::new(alloc);
-    let Some(instruction) = program.at(slot) else {
-        return Ok(told);
-    };
-    let text = instruction_text(alloc, instruction)?;
-    let refused = RefusedInstruction {
-        slots: program.slots(),
-        slot,
-        instruction,
-        reason,
-        sizes,
-        facts,
-    };
-    let written = match form {
-        Form::Json => refused.print_fields(text.as_str(), &mut told),
-        Form::Line | Form::Worded { .. } => refused.explain(text.as_str(), &mut told),
-    };
-    match written {
-        Ok(()) => Ok(told),
-        Err(_) => Err(AllocError),
     }
 }

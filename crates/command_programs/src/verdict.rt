@@ -1,0 +1,205 @@
+//! What `verify` finds of a program, and the words that say it.
+
+ghost use Rattle.std.specs.Prelude.{◌≡◌, IfOk};
+ghost use Rattle.std.specs.String.{string_bytes};
+ghost use Rattle.command_profile.specs.Profile.{operations_of};
+ghost use Rattle.command_programs.specs.steps.Verdict.{IsVerdict, acceptance_text, refusal_text};
+
+use crate::refused_instruction::{Known, RefusedInstruction, known_of};
+use crate::verify::Form;
+use accepted_programs::Refusal;
+use address_domain::Addresses;
+use command_facts::fact_lines;
+use command_files::Counted;
+use command_profile::Profile;
+use ebpf_asm::instruction_text;
+use instruction_set::Program;
+use interval_domain::Intervals;
+use program_interface::RunSizes;
+use std::alloc::{AllocError, Global};
+use verifier::{Judgement, Refused, judge};
+use word_domain::Domain;
+
+/// Whether a program is accepted, with the words that are asked for.
+#[derive(Drop)]
+pub(crate) enum Verdict {
+    /// It is.
+    Accepted {
+        /// It emits at most so many bytes for a block.
+        most_emitted: usize,
+        /// The lines that say more.
+        words: String,
+    },
+    /// It isn't.
+    Refused {
+        /// The first refusal.
+        refusal: Refusal,
+        /// The lines or the fields that say more.
+        words: String,
+    },
+}
+
+/// Judges a program by a profile.
+pub(crate) fn judged(
+    alloc: Global,
+    program: &Program,
+    sizes: RunSizes,
+    profile: Profile,
+    form: Form,
+) -> Result<Verdict, AllocError>
+    ensures { IfOk result (IsVerdict (operations_of profile) program.now sizes) }
+{
+    match profile {
+        Profile::Two => judged_over::<Intervals>(alloc, program, sizes, form),
+        Profile::Three => judged_over::<Addresses>(alloc, program, sizes, form),
+    }
+}
+
+/// Judges a program over a domain.
+#[tactic(auto, using(command_facts::proofs::Sizes::facts_fit))]
+fn judged_over<D: Domain>(
+    alloc: Global,
+    program: &Program,
+    sizes: RunSizes,
+    form: Form,
+) -> Result<Verdict, AllocError>
+    ensures { IfOk result (IsVerdict D.operations program.now sizes) }
+{
+    D::fact_fits();
+    match judge::<D>(alloc, program, sizes)? {
+        Judgement::Accepted { most_emitted, .. } => {
+            let facts = facts_asked::<D>(alloc, program, sizes, None, form)?;
+            let words = words_of_acceptance(alloc, program, most_emitted, form, facts.as_str())?;
+            Ok(Verdict::Accepted {
+                most_emitted,
+                words,
+            })
+        }
+        Judgement::Refused(Refused { refusal, facts }) => {
+            let known = known_of(program.at(refusal.slot), &*facts);
+            let facts = facts_asked::<D>(alloc, program, sizes, Some(refusal), form)?;
+            let words = words_of_refusal(
+                alloc,
+                program,
+                sizes,
+                refusal,
+                known,
+                form,
+                facts.as_str(),
+            )?;
+            Ok(Verdict::Refused { refusal, words })
+        }
+    }
+}
+
+/// The lines that say what is known at each slot, if they are asked for.
+fn facts_asked<D: Domain>(
+    alloc: Global,
+    program: &Program,
+    sizes: RunSizes,
+    refusal: Option<Refusal>,
+    form: Form,
+) -> Result<String, AllocError> {
+    match form {
+        Form::Worded { facts: true, .. } => fact_lines::<D>(alloc, program, sizes, refusal),
+        _ => Ok(String::new(alloc)),
+    }
+}
+
+/// The lines behind that of an accepted program: how many steps and bytes a block takes at most, if that is asked for, and these.
+fn words_of_acceptance(
+    alloc: Global,
+    program: &Program,
+    most_emitted: usize,
+    form: Form,
+    facts: &str,
+) -> Result<String, AllocError> {
+    let mut words = String::new(alloc);
+    if let Form::Worded {
+        explained: true,
+        ..
+    } = form
+    {
+        let taken = Counted(program.instruction_count() as u64, "step");
+        let emitted = Counted(most_emitted as u64, "byte");
+        writeln!(words, "for a block at most {taken}, and {emitted} emitted")?;
+    }
+    words.push_str(facts)?;
+    Ok(words)
+}
+
+/// The lines behind that of a refusal, or its fields: the instruction, the reason and what is known there, if they are asked
+/// for, and these.
+fn words_of_refusal(
+    alloc: Global,
+    program: &Program,
+    sizes: RunSizes,
+    refusal: Refusal,
+    known: Known,
+    form: Form,
+    facts: &str,
+) -> Result<String, AllocError> {
+    let Refusal { slot, reason } = refusal;
+    let mut words = String::new(alloc);
+    if let Some(instruction) = program.at(slot) {
+        let refused = RefusedInstruction {
+            slots: program.slots(),
+            slot,
+            instruction,
+            reason,
+            sizes,
+            known,
+        };
+        let text = instruction_text(alloc, instruction)?;
+        match form {
+            Form::Json => refused.push_fields(text.as_str(), &mut words)?,
+            Form::Worded {
+                explained: true,
+                ..
+            } => refused.push_lines(text.as_str(), &mut words)?,
+            _ => {}
+        }
+    }
+    words.push_str(facts)?;
+    Ok(words)
+}
+
+/// What says that a program of so many instructions is accepted, with these words behind it, where there may be some.
+pub(crate) fn acceptance_text(
+    alloc: Global,
+    instructions: usize,
+    most_emitted: usize,
+    words: &str,
+    form: Form,
+) -> Result<String, AllocError>
+    ensures { IfOk result (λ text. string_bytes text ≡ acceptance_text form instructions most_emitted words.now) }
+{
+    match form {
+        Form::Line => format!(in alloc; "accepted {instructions}\n"),
+        Form::Worded { .. } => format!(in alloc; "accepted {instructions}\n{words}"),
+        Form::Json => format!(in alloc;
+            "{{\"accepted\":true,\"instruction_count\":{instructions},\"most_emitted\":{most_emitted}}}\n"
+        ),
+    }
+}
+
+/// What says that one is refused, with these words or fields.
+pub(crate) fn refusal_text(
+    alloc: Global,
+    instructions: usize,
+    refusal: Refusal,
+    words: &str,
+    form: Form,
+) -> Result<String, AllocError>
+    ensures { IfOk result (λ text. string_bytes text ≡ refusal_text form instructions refusal words.now) }
+{
+    let Refusal { slot, reason } = refusal;
+    let number = reason.number();
+    match form {
+        Form::Line => format!(in alloc; "refused {slot} {number}\n"),
+        Form::Worded { .. } => format!(in alloc; "refused {slot} {number}\n{words}"),
+        Form::Json => format!(in alloc;
+            "{{\"accepted\":false,\"instruction_count\":{instructions},\"slot\":{slot},\"reason\":{number}{words}}}\n"
+        ),
+    }
+}
