@@ -1,12 +1,10 @@
-//! What an instruction changed, or why it can't be done, on a line.
+//! What an instruction changed, on a line.
 
-use command_files::{Counted, Failure, printed};
+use command_files::Counted;
 use ebpf_asm::instruction_text;
 use instruction_set::{Instruction, Register};
 use interp::Machine;
-use program_meaning::Cause;
-use std::alloc::Global;
-use std::io::{self, Write};
+use std::alloc::{AllocError, Global};
 use word_domain::Offsets;
 
 /// What emit takes of a machine: it leaves 0 in these registers, so that they are read before the step.
@@ -39,45 +37,38 @@ impl Emitting {
     }
 }
 
-/// Prints a step that was taken: the slot of its instruction, that, and what it changed.
-pub(crate) fn print_changes<'a, O: Write>(
+/// The line of a step that was taken: the slot of its instruction, that, and what it changed.
+pub(crate) fn step_line(
     alloc: Global,
     slot: usize,
     instruction: &Instruction,
     machine: &Machine<'_>,
     emitting: Emitting,
-    out: &mut O,
-) -> Result<(), Failure<'a>> {
+) -> Result<String, AllocError> {
     let text = instruction_text(alloc, instruction)?;
-    printed(write!(out, "{slot:4}  {text}"))?;
+    let mut line = format!(in alloc; "{slot:4}  {text}")?;
     if let Instruction::Call { .. } = *instruction {
-        printed(print_emit(emitting, machine, out))?;
+        push_emit(emitting, machine, &mut line)?;
     }
     if let Some(register) = changed(instruction) {
         let (number, word) = (register.number(), machine.register(register));
-        printed(write!(out, "  r{number} = {word:#x}"))?;
+        write!(line, "  r{number} = {word:#x}")?;
     }
-    printed(writeln!(out))
+    line.push_str("\n")?;
+    Ok(line)
 }
 
-/// Prints an instruction that can't be done, behind its slot, and why.
-pub(crate) fn print_cause<'a, O: Write>(
-    alloc: Global,
-    slot: usize,
-    instruction: &Instruction,
-    cause: Cause,
-    out: &mut O,
-) -> Result<(), Failure<'a>> {
-    let text = instruction_text(alloc, instruction)?;
-    printed(writeln!(out, "{slot:4}  {text}: {cause}"))
-}
-
-/// Prints what was emitted.
-fn print_emit<O: Write>(emitting: Emitting, machine: &Machine<'_>, out: &mut O) -> io::Result<()> {
+/// Adds what was emitted.
+fn push_emit(
+    emitting: Emitting,
+    machine: &Machine<'_>,
+    line: &mut String,
+) -> Result<(), AllocError> {
     let length = Counted(emitting.length, "byte");
+    write!(line, "  emit {length}")?;
     match emitting.offsets(machine) {
-        Some(offsets) => write!(out, "  emit {length} at {offsets}"),
-        None => write!(out, "  emit {length}"),
+        Some(offsets) => write!(line, " at {offsets}"),
+        None => Ok(()),
     }
 }
 

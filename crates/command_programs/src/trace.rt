@@ -2,6 +2,7 @@
 
 ghost use Rattle.std.specs.Prelude.{◌≡◌, ◌≤◌, false, codes, length, replicate, IfOk, OnOk, Some};
 ghost use Rattle.std.specs.Io.KnownBytes.{Appends};
+ghost use Rattle.std.specs.String.{string_bytes};
 ghost use Rattle.clap.specs.Matches.{found_of, first_value};
 ghost use Rattle.program_meaning.specs.Step.{IsAt};
 ghost use Rattle.interp.specs.Machine.{machine_slot, machine_state, steps_of, group_length};
@@ -16,20 +17,21 @@ use crate::flags::is_set;
 use crate::printing::print;
 use crate::program::program_in_file;
 use crate::sizes::{limit, run_sizes};
-use crate::step_lines::{Emitting, print_cause, print_changes};
+use crate::step_lines::{Emitting, step_line};
 use clap::ArgMatches;
 use command_files::arguments::{
     ARGUMENT_OPTION, EMIT_ARGUMENT, PROGRAM, PROGRAM_ARGUMENT, RUN_ARGUMENT, number, required,
 };
 use command_files::{Failure, Files, printed, read, size_as_block};
 use command_words::{Argument, Takes, Words};
+use ebpf_asm::instruction_text;
 use instruction_set::Program;
 use interp::{Machine, Step};
 use program_interface::{
     BlockSize, CONTEXT_BYTES, Context, LARGEST_BLOCK, RunSizes, SCRATCH_BYTES, STACK_BYTES,
 };
 use program_meaning::Cause;
-use std::alloc::Global;
+use std::alloc::{AllocError, Global};
 use std::io::Write;
 
 /// The command's name.
@@ -280,7 +282,8 @@ impl Tracer<'_> {
     {
         match self.program.at(slot) {
             Some(instruction) if self.registers => {
-                print_changes(self.alloc, slot, instruction, machine, emitting, out)
+                let line = step_line(self.alloc, slot, instruction, machine, emitting)?;
+                print(line.as_bytes(), out)
             }
             _ => printed(writeln!(out, "{slot}")),
         }
@@ -296,25 +299,20 @@ impl Tracer<'_> {
     ) -> Result<(), Failure<'a>>
         ensures { OnOk result (self.now.registers ≡ false → Appends (O.contents out.old) (O.contents out.new) (trap_line slot cause)) }
     {
-        self.print_hindered(slot, cause, out)?;
-        let number = cause.number();
-        printed(writeln!(out, "trap {slot} {number}"))
+        let text = self.trap_text(slot, cause)?;
+        print(text.as_bytes(), out)
     }
 
-    /// Prints an instruction that can't be done and the cause in words, if that is asked for.
-    fn print_hindered<'a, O: Write>(
-        &self,
-        slot: usize,
-        cause: Cause,
-        out: &mut O,
-    ) -> Result<(), Failure<'a>>
-        ensures { OnOk result (self.now.registers ≡ false → O.contents out.new ≡ O.contents out.old) }
+    fn trap_text(&self, slot: usize, cause: Cause) -> Result<String, AllocError>
+        ensures { IfOk result (λ text. self.now.registers ≡ false → string_bytes text ≡ trap_line slot cause) }
     {
+        let number = cause.number();
         match self.program.at(slot) {
             Some(instruction) if self.registers => {
-                print_cause(self.alloc, slot, instruction, cause, out)
+                let text = instruction_text(self.alloc, instruction)?;
+                format!(in self.alloc; "{slot:4}  {text}: {cause}\ntrap {slot} {number}\n")
             }
-            _ => Ok(()),
+            _ => format!(in self.alloc; "trap {slot} {number}\n"),
         }
     }
 }
@@ -329,10 +327,17 @@ fn print_exit<'a, O: Write>(
 ) -> Result<(), Failure<'a>>
     ensures { OnOk result (Appends (O.contents out.old) (O.contents out.new) (exit_line r0 steps group.now)) }
 {
+    let text = exit_text(alloc, r0, steps, group)?;
+    print(text.as_bytes(), out)
+}
+
+fn exit_text(alloc: Global, r0: u64, steps: u64, group: &[u8]) -> Result<String, AllocError>
+    ensures { IfOk result (λ text. string_bytes text ≡ exit_line r0 steps group.now) }
+{
     if group.is_empty() {
-        return printed(writeln!(out, "exit {r0} {steps} -"));
+        return format!(in alloc; "exit {r0} {steps} -\n");
     }
     let digits = hex::encode(alloc, group)?;
     let digits = digits.as_str();
-    printed(writeln!(out, "exit {r0} {steps} {digits}"))
+    format!(in alloc; "exit {r0} {steps} {digits}\n")
 }
