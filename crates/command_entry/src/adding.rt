@@ -8,6 +8,7 @@ ghost use Rattle.command_entry.specs.Added.{AddsCommand, AddsLine, AreOf, IsChos
 
 use crate::identifiers::{Identifiers, next_identifier};
 use crate::printing::line_of;
+use crate::wrong_line::wrong_words;
 use clap::Command;
 use clap::error::ErrorKind;
 use command_files::{Failure, FileCause, FileFault, Files, cannot_read, write};
@@ -15,6 +16,10 @@ use device_events::Event;
 use event_text::parse;
 use nvme_entry::MOST_TRANSFER;
 use std::alloc::{AllocError, Global};
+
+/// Why a command line that leaves the command identifier out is wrong.
+const NONE_LEFT: &str =
+    "each command identifier of the queue has a submission in the file; --cid names one of them";
 
 /// Adds the line that submits the entry of a command, with data beside it, to the end of the command file with this
 /// name. Where there is none it is begun. The identifier is the one that the words name, or else one that no submission
@@ -102,18 +107,8 @@ fn chosen<'a>(
         Some(cid) => Ok(cid),
         None => match next_identifier(identifiers.queue, events) {
             Some(cid) => Ok(cid),
-            None => Err(none_left(command_line)),
+            None => Err(wrong_words(command_line, ErrorKind::MissingRequiredArgument, NONE_LEFT)),
         },
-    }
-}
-
-/// Why a command line that leaves the command identifier out is wrong.
-fn none_left<'a>(line: &mut Command<'a>) -> Failure<'a> {
-    let text =
-        "each command identifier of the queue has a submission in the file; --cid names one of them";
-    match line.error(ErrorKind::MissingRequiredArgument, text) {
-        Ok(error) => Failure::from(error),
-        Err(error) => Failure::from(error),
     }
 }
 

@@ -7,10 +7,15 @@ ghost use Rattle.nvme_entry.specs.declared.command.TheConstants.{MOST_TRANSFER};
 use crate::identifiers::Identifiers;
 use crate::numbering::Numbering;
 use crate::printing::line_of;
+use crate::wrong_line::wrong_words;
 use clap::Command;
 use clap::error::ErrorKind;
 use command_files::Failure;
 use std::alloc::{AllocError, Global};
+
+/// Why words that leave the command identifier out are wrong.
+const NONE_LEFT: &str =
+    "each command identifier of the queue has an entry before this one; --cid names one of them";
 
 /// The lines of a command file, and the identifiers that they have.
 #[derive(Drop)]
@@ -48,7 +53,7 @@ impl CommandText {
     {
         let queue = identifiers.queue;
         let Some(cid) = identifiers.cid.or(self.numbering.next(queue)) else {
-            return Err(none_left(command_line));
+            return Err(wrong_words(command_line, ErrorKind::MissingRequiredArgument, NONE_LEFT));
         };
         self.numbering.note(queue, cid)?;
         let line = line_of(alloc, queue, cid, command, input)?;
@@ -61,15 +66,5 @@ impl CommandText {
         self.text.extend_from_slice(line)?;
         self.text.push(b'\n')?;
         Ok(())
-    }
-}
-
-/// Why words that leave the command identifier out are wrong.
-fn none_left<'a>(line: &mut Command<'a>) -> Failure<'a> {
-    let text =
-        "each command identifier of the queue has an entry before this one; --cid names one of them";
-    match line.error(ErrorKind::MissingRequiredArgument, text) {
-        Ok(error) => Failure::from(error),
-        Err(error) => Failure::from(error),
     }
 }

@@ -1,76 +1,55 @@
 //! Files whose bytes stand beside an entry.
 
-ghost use Rattle.std.specs.Prelude.{◌≡◌, ◌≤◌, IfOk, vec_len};
+ghost use Rattle.std.specs.Prelude.{◌≡◌, ◌≤◌, OnOk, length};
 
-use crate::numbers::block_count;
-use command_files::{DataFault, Failure, Files, read};
-use nvme_entry::{BlockCount, MOST_TRANSFER};
-use program_interface::BlockSize;
+use crate::kinds::Kind;
+use crate::words::EntryWords;
+use command_files::{DataFault, Failure, Files, object_refusal, read};
+use std::alloc::Global;
 
-/// All bytes of a file: one at least, and no more than a command moves.
-pub(crate) fn read_data<'a, F: Files>(path: &'a str, files: &mut F) -> Result<Vec<u8>, Failure<'a>>
-    ensures made { F.made files.new ≡ F.made files.old }
-    ensures contents { F.contents files.new ≡ F.contents files.old }
-    ensures least { IfOk result (λ bytes. 1 ≤ vec_len bytes) }
-    ensures most { IfOk result (λ bytes. vec_len bytes ≤ MOST_TRANSFER) }
-{
-    let data = read_some(path, files)?;
-    if data.len() > MOST_TRANSFER {
-        return Err(refused(path, DataFault::TooLong(data.len())));
-    }
-    Ok(data)
-}
-
-/// All bytes of a file: one at least.
-fn read_some<'a, F: Files>(path: &'a str, files: &mut F) -> Result<Vec<u8>, Failure<'a>>
-    ensures made { F.made files.new ≡ F.made files.old }
-    ensures contents { F.contents files.new ≡ F.contents files.old }
-    ensures least { IfOk result (λ bytes. 1 ≤ vec_len bytes) }
-{
-    let data = read(path, files)?;
-    if data.is_empty() {
-        return Err(refused(path, DataFault::Empty));
-    }
-    Ok(data)
-}
-
-/// All bytes of a file: whole blocks, one at least.
-pub(crate) fn read_blocks<'a, F: Files>(
-    path: &'a str,
-    block: BlockSize,
+/// All bytes of the file that words name, of any number; none where their kind has no file.
+pub(crate) fn read_data<'a, F: Files>(
+    alloc: Global,
+    words: &EntryWords<'a>,
     files: &mut F,
 ) -> Result<Vec<u8>, Failure<'a>>
     ensures made { F.made files.new ≡ F.made files.old }
     ensures contents { F.contents files.new ≡ F.contents files.old }
 {
-    let data = read_some(path, files)?;
-    let size = block.bytes();
-    if data.len() % size as usize != 0 {
-        return Err(not_whole(path, data.len(), size));
-    }
-    Ok(data)
-}
-
-/// The number of blocks that so many bytes of a file are.
-pub(crate) fn whole_blocks<'a>(
-    path: &'a str,
-    bytes: usize,
-    block: BlockSize,
-) -> Result<BlockCount, Failure<'a>> {
-    let size = block.bytes();
-    if bytes % size as usize != 0 {
-        return Err(not_whole(path, bytes, size));
-    }
-    match block_count(bytes / size as usize) {
-        Some(blocks) => Ok(blocks),
-        None => Err(refused(path, DataFault::TooLong(bytes))),
+    if words.kind.has_file() {
+        read(words.path, files)
+    } else {
+        Ok(Vec::new(alloc))
     }
 }
 
-fn refused<'a>(path: &'a str, fault: DataFault) -> Failure<'a> {
-    Failure::DataRefused { path, fault }
-}
-
-fn not_whole<'a>(path: &'a str, bytes: usize, block: u32) -> Failure<'a> {
-    refused(path, DataFault::NotWholeBlocks { bytes, block })
+/// Checks the bytes of the file that words name: there are some, and no more than `most`; they are no object where they are to be
+/// a program, and else whole blocks.
+pub(crate) fn check_data<'a>(
+    words: &EntryWords<'a>,
+    input: &[u8],
+    most: usize,
+) -> Result<(), Failure<'a>>
+    ensures { OnOk result (length input.now ≤ most) }
+{
+    let path = words.path;
+    let bytes = input.len();
+    let block = words.block.bytes();
+    let fault = if bytes > most {
+        DataFault::TooLong(bytes)
+    } else if !words.kind.has_file() {
+        return Ok(());
+    } else if bytes == 0 {
+        DataFault::Empty
+    } else if let Kind::Load = words.kind {
+        return match object_refusal(path, input) {
+            Some(refusal) => Err(refusal),
+            None => Ok(()),
+        };
+    } else if bytes % block as usize != 0 {
+        DataFault::NotWholeBlocks { bytes, block }
+    } else {
+        return Ok(());
+    };
+    Err(Failure::DataRefused { path, fault })
 }

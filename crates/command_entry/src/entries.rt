@@ -3,23 +3,21 @@
 ghost use Rattle.std.specs.Prelude.{◌≡◌, ◌≢◌, IfErr};
 
 use crate::command_text::CommandText;
-use crate::entry::words_asked;
+use crate::data_file::read_data;
+use crate::entry;
 use crate::event_line::add_event;
-use crate::identifiers::{INTO, Identifiers};
-use crate::pieces::{add_append, add_read, add_write};
-use crate::transfers::{self, moved_blocks};
+use crate::kinds::{BLOCK_ARGUMENT, INTO};
+use crate::pieces::add_entry;
 use crate::worded_lines::{WordedLine, worded_lines};
-use crate::wrong_line::wrong_line;
+use crate::words::EntryWords;
+use crate::wrong_line::{wrong_line, wrong_words};
 use clap::error::ErrorKind;
-use clap::{Arg, ArgMatches, Command};
-use command_files::arguments::{
-    BLOCK_OPTION, and_argument, block_option, block_size, no_command, number_or_hexadecimal,
-    option, required,
-};
+use clap::{ArgMatches, Command};
+use command_files::arguments::{no_command, required};
 use command_files::{Failure, Files, printed, read};
-use command_images::device_file;
+use command_words::{Argument, Takes, Words, command_over};
 use program_interface::BlockSize;
-use std::alloc::{AllocError, Global};
+use std::alloc::Global;
 use std::io::Write;
 
 /// The command's name.
@@ -27,7 +25,8 @@ pub const NAME: &str = "entries";
 
 const FILE: &str = "FILE";
 
-const IMAGE: &str = "image";
+/// The option that names the image whose blocks the lines speak of.
+pub const IMAGE: &str = "image";
 
 const LONG_ABOUT: &str = "\
 Prints a command file, made of lines of words, which `exec` runs. Each line of FILE has the words that stand behind \
@@ -57,37 +56,42 @@ Example: a file words.txt of three lines, and the command file that they make.
   zscli exec zoned.img work.cmd";
 
 /// How the command stands on the command line.
-///
-/// # Errors
-///
-/// Want of memory.
-pub fn subcommand<'a>(alloc: Global) -> Result<Command<'a>, AllocError> {
-    let file = Arg::new(alloc, FILE)
-        .required(true)
-        .help("The lines of words");
-    let image = option(alloc, IMAGE, "IMAGE").help(
-        "The image whose blocks the lines speak of, in place of --block",
-    );
-    let block = block_option(alloc).required(false).default_value("512");
-    let command = Command::new(alloc, NAME)
-        .about("Prints a command file, made of lines of words")
-        .long_about(LONG_ABOUT)
-        .after_help(EXAMPLE);
-    let command = and_argument(Ok(command), file);
-    let command = and_argument(command, image);
-    and_argument(command, block)
-}
+pub static WORDS: Words = Words {
+    name: NAME,
+    about: "Prints a command file, made of lines of words",
+    long_about: LONG_ABOUT,
+    example: EXAMPLE,
+    arguments: &[
+        Argument {
+            id: FILE,
+            long: "",
+            short: None,
+            takes: Takes::Place,
+            help: "The lines of words",
+        },
+        Argument {
+            id: IMAGE,
+            long: IMAGE,
+            short: None,
+            takes: Takes::Optional("IMAGE"),
+            help: "The image whose blocks the lines speak of, in place of --block",
+        },
+        BLOCK_ARGUMENT,
+    ],
+    one_of: &[],
+};
 
-/// Prints the command file that the lines of a file ask for, and makes no file: each has the bytes that it had. Where
-/// another thing than standard output fails, nothing is printed.
+/// Prints the command file that the lines of a file ask for, with blocks of this size where a line says nothing of it, and makes no
+/// file: each has the bytes that it had. Where another thing than standard output fails, nothing is printed.
 ///
 /// # Errors
 ///
-/// The file or the image can't be read, the image is refused, a line asks for no entry and is no event, a file that a line names can't be
-/// read or isn't blocks, standard output fails, or memory is wanting.
+/// The file can't be read, a line asks for no entry and is no event, a file that a line names can't be read or isn't blocks, standard
+/// output fails, or memory is wanting.
 pub fn entries<'a, F: Files, O: Write>(
     alloc: Global,
     matches: &ArgMatches<'a>,
+    block: BlockSize,
     files: &mut F,
     out: &mut O,
 ) -> Result<(), Failure<'a>>
@@ -95,29 +99,10 @@ pub fn entries<'a, F: Files, O: Write>(
     ensures contents { F.contents files.new ≡ F.contents files.old }
     ensures silent { IfErr result (λ failure. failure ≢ Failure.CannotPrint → O.contents out.new ≡ O.contents out.old) }
 {
-    let block = asked_block(alloc, matches, files)?;
     let path = required(matches, FILE);
     let file = read(path, files)?;
     let text = text_of_file(alloc, path, file.as_slice(), block, files)?;
     printed(out.write_all(text.as_slice()))
-}
-
-/// The size of a block where a line says nothing of it.
-fn asked_block<'a, F: Files>(
-    alloc: Global,
-    matches: &ArgMatches<'a>,
-    files: &mut F,
-) -> Result<BlockSize, Failure<'a>>
-    ensures made { F.made files.new ≡ F.made files.old }
-    ensures contents { F.contents files.new ≡ F.contents files.old }
-{
-    match matches.get_str(IMAGE) {
-        Some(path) => {
-            let device = device_file::load(alloc, path, files)?;
-            Ok(device.image().geometry().block())
-        }
-        None => block_size(number_or_hexadecimal(matches, BLOCK_OPTION)?),
-    }
 }
 
 /// The command file that the lines of a file with this name ask for.
@@ -146,7 +131,7 @@ fn text_of_lines<'a, F: Files>(
     ensures made { F.made files.new ≡ F.made files.old }
     ensures contents { F.contents files.new ≡ F.contents files.old }
 {
-    let mut command_line = crate::entry::subcommand(alloc)?;
+    let mut command_line = command_over(alloc, &entry::WORDS, &entry::KINDS)?;
     let mut text = CommandText::new(alloc);
     for line in lines {
         match add_line(alloc, &mut command_line, line, block, files, &mut text) {
@@ -172,60 +157,24 @@ fn add_line<'w, F: Files>(
     if line.is_event() {
         return add_event(alloc, command_line, line.text, text);
     }
+    let words = words_of(command_line, line, block)?;
+    let data = read_data(alloc, &words, files)?;
+    add_entry(alloc, command_line, &words, data, text)
+}
+
+/// What the words of a line say, with blocks of this size where they say nothing of it.
+fn words_of<'w>(
+    command_line: &mut Command<'w>,
+    line: &'w WordedLine<'w>,
+    block: BlockSize,
+) -> Result<EntryWords<'w>, Failure<'w>> {
     let matches = command_line.try_get_matches_from_mut(line.words.as_slice())?;
     let Some((name, matches)) = matches.subcommand() else {
         return Err(no_command(command_line));
     };
     if matches.get_str(INTO).is_some() {
-        return Err(no_file_named(command_line));
+        let text = "a line of words has no --into";
+        return Err(wrong_words(command_line, ErrorKind::UnknownArgument, text));
     }
-    add_words(alloc, command_line, name, matches, block, files, text)
-}
-
-/// Why a line that names a command file is wrong.
-fn no_file_named<'a>(line: &mut Command<'a>) -> Failure<'a> {
-    match line.error(ErrorKind::UnknownArgument, "a line of words has no --into") {
-        Ok(error) => Failure::from(error),
-        Err(error) => Failure::from(error),
-    }
-}
-
-/// Adds what the words of the kind of entry that has this name ask for.
-fn add_words<'w, F: Files>(
-    alloc: Global,
-    command_line: &mut Command<'w>,
-    name: &str,
-    matches: &ArgMatches<'w>,
-    block: BlockSize,
-    files: &mut F,
-    text: &mut CommandText,
-) -> Result<(), Failure<'w>>
-    ensures made { F.made files.new ≡ F.made files.old }
-    ensures contents { F.contents files.new ≡ F.contents files.old }
-{
-    let identifiers = Identifiers::of_words(matches)?;
-    match name {
-        transfers::APPEND => {
-            let moved = moved_blocks(matches, block, files)?;
-            add_append(alloc, command_line, identifiers, &moved, text)
-        }
-        transfers::WRITE => {
-            let moved = moved_blocks(matches, block, files)?;
-            add_write(alloc, command_line, identifiers, &moved, text)
-        }
-        transfers::READ => {
-            let range = transfers::range(matches)?;
-            add_read(alloc, command_line, identifiers, range, block, text)
-        }
-        _ => {
-            let asked = words_asked(alloc, command_line, name, matches, files)?;
-            text.add(
-                alloc,
-                command_line,
-                identifiers,
-                asked.command,
-                asked.input.as_slice(),
-            )
-        }
-    }
+    EntryWords::of(command_line, name, matches, Some(block))
 }

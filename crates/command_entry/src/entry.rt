@@ -7,13 +7,16 @@ ghost use Rattle.command_entry.specs.Done.{IsDone, IsDoneSomewhere};
 
 use crate::adding::add;
 use crate::asked::Asked;
-use crate::identifiers::{INTO, Identifiers};
+use crate::data_file::read_data;
+use crate::kinds::INTO;
+pub use crate::kinds::KINDS;
 use crate::printing::print;
-use crate::{programs, transfers, zones};
+use crate::words::EntryWords;
 use clap::{ArgMatches, Command};
-use command_files::arguments::{and_command, no_command};
+use command_files::arguments::no_command;
 use command_files::{Failure, Files};
-use std::alloc::{AllocError, Global};
+use command_words::Words;
+use std::alloc::Global;
 use std::io::Write;
 
 /// The command's name.
@@ -38,27 +41,15 @@ Example: a command file that appends a block to the zone of block 8, and reads i
   zscli entry read --lba 8 --blocks 1 --into work.cmd
   zscli exec zoned.img work.cmd";
 
-/// How the command stands on the command line.
-///
-/// # Errors
-///
-/// Want of memory.
-pub fn subcommand<'a>(alloc: Global) -> Result<Command<'a>, AllocError> {
-    let command = Command::new(alloc, NAME)
-        .about("Prints a line of a command file, made of words, or adds it to one")
-        .long_about(LONG_ABOUT)
-        .after_help(EXAMPLE)
-        .subcommand_required(true)
-        .arg_required_else_help(true);
-    let command = and_command(Ok(command), transfers::append_command(alloc));
-    let command = and_command(command, transfers::write_command(alloc));
-    let command = and_command(command, transfers::read_command(alloc));
-    let command = zones::and_actions(alloc, command);
-    let command = and_command(command, zones::report_command(alloc));
-    let command = and_command(command, programs::load_command(alloc));
-    let command = and_command(command, programs::run_command(alloc));
-    and_command(command, programs::result_command(alloc))
-}
+/// How the command stands on the command line, above [`KINDS`].
+pub static WORDS: Words = Words {
+    name: NAME,
+    about: "Prints a line of a command file, made of words, or adds it to one",
+    long_about: LONG_ABOUT,
+    example: EXAMPLE,
+    arguments: &[],
+    one_of: &[],
+};
 
 /// Prints one line, which is read back as the submission of an entry that is decoded to a command, and makes no file;
 /// or prints nothing, and makes one file, a command file with such a line behind what it had. Every other file has the
@@ -101,8 +92,10 @@ fn submit<'a, F: Files, O: Write>(
     ensures kept { OnErr result (F.made files.new ≡ F.made files.old) }
     ensures contents { OnErr result (F.contents files.new ≡ F.contents files.old) }
 {
-    let identifiers = Identifiers::of_words(matches)?;
-    let Asked { command, input } = words_asked(alloc, command_line, name, matches, files)?;
+    let words = EntryWords::of(command_line, name, matches, None)?;
+    let data = read_data(alloc, &words, files)?;
+    let Asked { command, input } = Asked::of(command_line, &words, data)?;
+    let identifiers = words.numbers.identifiers;
     match matches.get_str(INTO) {
         Some(path) => add(
             alloc,
@@ -121,43 +114,5 @@ fn submit<'a, F: Files, O: Write>(
             input.as_slice(),
             out,
         ),
-    }
-}
-
-/// What the words of the kind of entry that has this name ask for.
-pub(crate) fn words_asked<'a, F: Files>(
-    alloc: Global,
-    command_line: &mut Command<'a>,
-    name: &str,
-    matches: &ArgMatches<'a>,
-    files: &mut F,
-) -> Result<Asked, Failure<'a>>
-    ensures made { F.made files.new ≡ F.made files.old }
-    ensures contents { F.contents files.new ≡ F.contents files.old }
-{
-    match name {
-        transfers::APPEND => transfers::append(matches, files),
-        transfers::WRITE => transfers::write(matches, files),
-        programs::LOAD => programs::load(matches, files),
-        _ => without_files(alloc, command_line, name, matches),
-    }
-}
-
-/// What the words of a kind of entry ask for that needs no file.
-fn without_files<'a>(
-    alloc: Global,
-    command_line: &mut Command<'a>,
-    name: &str,
-    matches: &ArgMatches<'a>,
-) -> Result<Asked, Failure<'a>> {
-    match name {
-        transfers::READ => transfers::read(alloc, matches),
-        zones::REPORT => zones::report(alloc, matches),
-        programs::RUN => programs::run(alloc, matches),
-        programs::RESULT => programs::result_of(alloc, matches),
-        _ => match zones::action_of(name) {
-            Some(action) => zones::send(alloc, action, matches),
-            None => Err(no_command(command_line)),
-        },
     }
 }

@@ -1,10 +1,11 @@
 //! Lines that stand in a command file as they are.
 
 use crate::command_text::CommandText;
+use crate::wrong_line::wrong_words;
 use clap::Command;
 use clap::error::ErrorKind;
 use command_files::Failure;
-use event_text::{LineFault, ParseFault, parse};
+use event_text::{ParseFault, parse};
 use std::alloc::Global;
 
 /// Adds a line of an event as it stands.
@@ -16,17 +17,10 @@ pub(crate) fn add_event<'a>(
 ) -> Result<(), Failure<'a>> {
     match parse(alloc, line) {
         Ok(_) => Ok(text.add_line(line)?),
-        Err(ParseFault::Line { fault, .. }) => no_event(alloc, command_line, fault),
+        Err(ParseFault::Line { fault, .. }) => {
+            let text = format!(in alloc; "{fault}")?;
+            Err(wrong_words(command_line, ErrorKind::InvalidValue, text.as_str()))
+        }
         Err(ParseFault::Memory) => Err(Failure::NoMemory),
     }
-}
-
-/// Why the words of an event that it is refused for are wrong.
-fn no_event<'a>(
-    alloc: Global,
-    command_line: &mut Command<'a>,
-    fault: LineFault,
-) -> Result<(), Failure<'a>> {
-    let text = format!(in alloc; "{fault}")?;
-    Err(Failure::from(command_line.error(ErrorKind::InvalidValue, text.as_str())?))
 }

@@ -4,20 +4,8 @@ ghost use Rattle.std.specs.Prelude.{◌≡◌, ◌<◌, ◌^◌, ℕ, true, fals
 ghost use Rattle.std.specs.List.{filter_map, reduce};
 ghost use Rattle.command_entry.specs.Identifiers.{IsNextIdentifier, identifier_in, identifiers, is_used};
 
-use crate::numbers::identifier;
-use clap::{ArgMatches, Command};
-use command_files::Failure;
-use command_files::arguments::{and_argument, option};
 use device_events::Event;
 use nvme_entry::Entry;
-use std::alloc::{AllocError, Global};
-
-/// The option that names the command file to which the line is added.
-pub(crate) const INTO: &str = "into";
-
-const QUEUE: &str = "queue";
-
-const CID: &str = "cid";
 
 /// What a completion repeats of its submission.
 #[derive(Clone, Copy)]
@@ -29,16 +17,6 @@ pub(crate) struct Identifiers {
 }
 
 impl Identifiers {
-    /// Those that the words name; a queue that they don't name is 1.
-    pub(crate) fn of_words<'a>(matches: &ArgMatches<'a>) -> Result<Identifiers, Failure<'a>> {
-        let queue = identifier(matches, QUEUE)?;
-        let cid = match matches.get_str(CID) {
-            Some(_) => Some(identifier(matches, CID)?),
-            None => None,
-        };
-        Ok(Identifiers { queue, cid })
-    }
-
     /// Those of another entry for the same words: the same queue, and no identifier that the words name.
     pub(crate) fn behind(self) -> Identifiers {
         Identifiers {
@@ -46,26 +24,6 @@ impl Identifiers {
             cid: None,
         }
     }
-}
-
-/// A command that takes the words of [`Identifiers`] too, and a command file to which the line is added.
-pub(crate) fn and_identifiers<'a>(
-    alloc: Global,
-    command: Result<Command<'a>, AllocError>,
-) -> Result<Command<'a>, AllocError> {
-    let queue = option(alloc, QUEUE, "Q")
-        .default_value("1")
-        .help("The submission queue, from 0 to 65535");
-    let cid = option(alloc, CID, "C").help(
-        "The command identifier, from 0 to 65535, which the completion repeats; by default 1, and with --into one \
-         more than the highest of the queue in the file",
-    );
-    let into = option(alloc, INTO, "COMMANDS").help(
-        "The command file to whose end the line is added, in place of printing it",
-    );
-    let command = and_argument(command, queue);
-    let command = and_argument(command, cid);
-    and_argument(command, into)
 }
 
 /// The command identifier that counts on from those that submissions to a queue have: one more than the highest, or behind 65535 the

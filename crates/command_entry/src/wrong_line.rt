@@ -1,7 +1,17 @@
-//! What the user is told of a line of words that is wrong.
+//! What the user is told of words that are wrong, and of a line of them.
 
+use clap::Command;
+use clap::error::ErrorKind;
 use command_files::{Conclusion, Failure, conclude};
 use std::alloc::{AllocError, Global};
+
+/// The failure of words that are wrong in this way, as the text says.
+pub(crate) fn wrong_words<'a>(line: &mut Command<'a>, kind: ErrorKind, text: &str) -> Failure<'a> {
+    match line.error(kind, text) {
+        Ok(error) => Failure::from(error),
+        Err(error) => Failure::from(error),
+    }
+}
 
 /// The failure of a line of a file with this name, whose words have one of their own: the line's number, and the first lines of
 /// what is told of the words.

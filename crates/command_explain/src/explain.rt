@@ -7,13 +7,14 @@ use crate::completion_words::{Answered, print_completion};
 use crate::json::{print_completion_json, print_other_json};
 use crate::pairing::Pairing;
 use crate::submissions::{Submission, submissions};
-use clap::{Arg, ArgAction, ArgMatches, Command};
-use command_files::arguments::{and_argument, option, required};
+use clap::ArgMatches;
+use command_files::arguments::required;
 use command_files::{Failure, Files, printed, read};
+use command_words::{Argument, Takes, Words};
 use device_events::Reply;
 use event_text::{RepliesFault, ToldReply, event_lines, parse, replies};
 use nvme_entry::Completion;
-use std::alloc::{AllocError, Global};
+use std::alloc::Global;
 use std::io::{self, Write};
 
 /// The command's name.
@@ -66,29 +67,36 @@ Example, in the folder of the sources:
   zscli explain replies --commands examples/pushdown.cmd";
 
 /// How the command stands on the command line.
-///
-/// # Errors
-///
-/// Want of memory.
-pub fn subcommand<'a>(alloc: Global) -> Result<Command<'a>, AllocError> {
-    let file = Arg::new(alloc, FILE)
-        .required(true)
-        .help("What `exec` printed");
-    let commands = option(alloc, COMMANDS, "COMMANDS").help(
-        "The command file that `exec` was given",
-    );
-    let json = Arg::new(alloc, JSON)
-        .long(JSON)
-        .action(ArgAction::SetTrue)
-        .help("Print each as a JSON object");
-    let command = Command::new(alloc, NAME)
-        .about("Says in words what `exec` printed")
-        .long_about(LONG_ABOUT)
-        .after_help(EXAMPLE);
-    let command = and_argument(Ok(command), file);
-    let command = and_argument(command, commands);
-    and_argument(command, json)
-}
+pub static WORDS: Words = Words {
+    name: NAME,
+    about: "Says in words what `exec` printed",
+    long_about: LONG_ABOUT,
+    example: EXAMPLE,
+    arguments: &[
+        Argument {
+            id: FILE,
+            long: "",
+            short: None,
+            takes: Takes::Place,
+            help: "What `exec` printed",
+        },
+        Argument {
+            id: COMMANDS,
+            long: COMMANDS,
+            short: None,
+            takes: Takes::Optional("COMMANDS"),
+            help: "The command file that `exec` was given",
+        },
+        Argument {
+            id: JSON,
+            long: JSON,
+            short: None,
+            takes: Takes::Nothing,
+            help: "Print each as a JSON object",
+        },
+    ],
+    one_of: &[],
+};
 
 /// Runs the command, which makes no file: each has the bytes that it had. What is printed isn't said.
 ///

@@ -4,6 +4,7 @@ ghost use Rattle.std.specs.Prelude.{◌≡◌, ◌≢◌, IfErr, OnErr};
 ghost use Rattle.command_files.specs.Made.{MakesAtMostOne, MakesOneName};
 ghost use Rattle.zscli.specs.Ended.{end_of};
 
+use crate::entries_block::asked_block;
 use clap::error::ErrorKind;
 use clap::{ArgMatches, Command};
 use command_demo::demo;
@@ -246,11 +247,25 @@ fn perform_without_image<'a, F: Files, O: Write>(
         verify::NAME => verify::verify(alloc, matches, files, out),
         unpack::NAME => unpack::unpack(alloc, matches, files, out),
         entry::NAME => entry::entry(alloc, line, matches, files, out),
-        entries::NAME => entries::entries(alloc, matches, files, out),
+        entries::NAME => perform_entries(alloc, matches, files, out),
         explain::NAME => explain::explain(alloc, matches, files, out),
         demo::NAME => demo::demo(alloc, matches, out),
         _ => Err(no_command(line)),
     }
+}
+
+/// Does `entries`, with the blocks that are asked for.
+fn perform_entries<'a, F: Files, O: Write>(
+    alloc: Global,
+    matches: &ArgMatches<'a>,
+    files: &mut F,
+    out: &mut O,
+) -> Result<(), Failure<'a>>
+    ensures made { F.made files.new ≡ F.made files.old }
+    ensures contents { F.contents files.new ≡ F.contents files.old }
+{
+    let block = asked_block(alloc, matches, files)?;
+    entries::entries(alloc, matches, block, files, out)
 }
 
 /// The words in front of all commands.
@@ -263,47 +278,36 @@ static LINE: Words = Words {
     one_of: &[],
 };
 
-/// A command on the line: by its words, or by its name where its module makes its parser.
-#[derive(Clone, Copy)]
-enum Row {
-    Words(&'static Words),
-    Name(&'static str),
-}
-
 /// How a command line is written.
 fn command_line<'a>(alloc: Global) -> Result<Command<'a>, AllocError> {
+    let alone: &'static [Words] = &[];
     let commands = [
-        Row::Words(&format::WORDS),
-        Row::Words(&zones::WORDS),
-        Row::Words(&report::WORDS),
-        Row::Words(&upgrade::WORDS),
-        Row::Words(&exec::WORDS),
-        Row::Words(&serve::WORDS),
-        Row::Words(&fold::WORDS),
-        Row::Words(&asm::WORDS),
-        Row::Words(&disasm::WORDS),
-        Row::Words(&link::WORDS),
-        Row::Words(&trace::WORDS),
-        Row::Words(&verify::WORDS),
-        Row::Words(&unpack::WORDS),
-        Row::Name(entry::NAME),
-        Row::Name(entries::NAME),
-        Row::Name(explain::NAME),
-        Row::Words(&demo::WORDS),
+        (&format::WORDS, alone),
+        (&zones::WORDS, alone),
+        (&report::WORDS, alone),
+        (&upgrade::WORDS, alone),
+        (&exec::WORDS, alone),
+        (&serve::WORDS, alone),
+        (&fold::WORDS, alone),
+        (&asm::WORDS, alone),
+        (&disasm::WORDS, alone),
+        (&link::WORDS, alone),
+        (&trace::WORDS, alone),
+        (&verify::WORDS, alone),
+        (&unpack::WORDS, alone),
+        (&entry::WORDS, &entry::KINDS),
+        (&entries::WORDS, alone),
+        (&explain::WORDS, alone),
+        (&demo::WORDS, alone),
     ];
-    let mut line = command_over(alloc, &LINE, &[])?.version(VERSION);
-    for row in commands {
-        line = line.subcommand(parser(alloc, row)?)?;
+    let mut line = command_over(alloc, &LINE, alone)?.version(VERSION);
+    for (words, below) in commands {
+        let command = if below.is_empty() {
+            command_words::command(alloc, words)?
+        } else {
+            command_over(alloc, words, below)?
+        };
+        line = line.subcommand(command)?;
     }
     Ok(line)
-}
-
-/// The parser of a command.
-fn parser<'a>(alloc: Global, row: Row) -> Result<Command<'a>, AllocError> {
-    match row {
-        Row::Words(words) => command_words::command(alloc, words),
-        Row::Name(entry::NAME) => entry::subcommand(alloc),
-        Row::Name(entries::NAME) => entries::subcommand(alloc),
-        Row::Name(_) => explain::subcommand(alloc),
-    }
 }

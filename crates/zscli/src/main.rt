@@ -2,6 +2,7 @@
 #![tactic(auto)]
 
 mod commands;
+mod entries_block;
 #[cfg(test)]
 mod tests;
 

@@ -1,0 +1,33 @@
+//! The command `entries` with the blocks of an image.
+
+ghost use Rattle.std.specs.Prelude.{◌≡◌};
+
+use clap::ArgMatches;
+use command_entry::entries;
+use command_files::arguments::{BLOCK_OPTION, block_size, number_or_hexadecimal};
+use command_files::{Failure, Files};
+use command_images::device_file;
+use program_interface::BlockSize;
+use std::alloc::Global;
+
+/// The size of a block where a line says nothing of it: that of the image that the words name, or else the one that they give.
+///
+/// # Errors
+///
+/// The image can't be read or is refused, no block has as many bytes, or memory is wanting.
+pub fn asked_block<'a, F: Files>(
+    alloc: Global,
+    matches: &ArgMatches<'a>,
+    files: &mut F,
+) -> Result<BlockSize, Failure<'a>>
+    ensures made { F.made files.new ≡ F.made files.old }
+    ensures contents { F.contents files.new ≡ F.contents files.old }
+{
+    match matches.get_str(entries::IMAGE) {
+        Some(path) => {
+            let device = device_file::load(alloc, path, files)?;
+            Ok(device.image().geometry().block())
+        }
+        None => block_size(number_or_hexadecimal(matches, BLOCK_OPTION)?),
+    }
+}
