@@ -127,7 +127,7 @@ const DATA_ARGUMENT: Argument = Argument {
     help: "The file: whole blocks, at most 131072 bytes",
 };
 
-/// The size of a block, where a command has one without being told.
+/// The option that gives the bytes of a block, 512 where it isn't given.
 pub(crate) const BLOCK_ARGUMENT: Argument = Argument {
     id: BLOCK_OPTION,
     long: BLOCK_OPTION,

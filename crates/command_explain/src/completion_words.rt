@@ -18,10 +18,39 @@ pub(crate) enum Answered<'a> {
     /// The command file with this name has no submission left that has its queue and its command identifier.
     NotThere(&'a str),
     /// The submission that it is taken to answer.
-    Paired(Paired<'a>),
+    Taken(Taken<'a>),
 }
 
-/// Prints what a completion and its data tell of its command.
+/// A submission that a completion is taken to answer.
+#[derive(Clone, Copy)]
+pub(crate) struct Taken<'a> {
+    pub(crate) paired: Paired<'a>,
+    /// Its command; none where its entry is no command.
+    pub(crate) command: Option<Command>,
+    /// Can it have this answer?
+    pub(crate) fits: bool,
+}
+
+impl<'a> Taken<'a> {
+    /// The submission with which a completion with so many bytes of data is paired.
+    pub(crate) fn of(completion: &Completion, bytes: usize, paired: Paired<'a>) -> Taken<'a> {
+        let (command, fits) = match Entry::decode(&paired.submission.entry) {
+            Ok(command) => (Some(command), can_answer(completion, bytes, &command)),
+            Err(status) => (
+                None,
+                completion.status == status && has_no_dwords(completion),
+            ),
+        };
+        Taken {
+            paired,
+            command,
+            fits,
+        }
+    }
+}
+
+/// Prints what a completion and its data tell of its command: of a submission that it is taken to answer in the words of its command
+/// where this can have such an answer, and else what is certain whatever the command is.
 pub(crate) fn print_completion<O: Write>(
     completion: &Completion,
     data: &[u8],
@@ -32,83 +61,62 @@ pub(crate) fn print_completion<O: Write>(
     let cid = completion.cid;
     write!(out, "queue {queue}, command {cid}: ")?;
     match answered {
-        Answered::Unnamed => print_unnamed(completion, data, out),
-        Answered::NotThere(path) => {
-            write!(out, "no submission of {path} is left for it: ")?;
-            print_unnamed(completion, data, out)
-        }
-        Answered::Paired(paired) => print_paired(completion, data, paired, out),
-    }
-}
-
-/// Prints what a completion tells of the submission that it is taken to answer: in the words of its command where this can have
-/// such an answer, and else what is certain whatever the command is.
-fn print_paired<O: Write>(
-    completion: &Completion,
-    data: &[u8],
-    paired: &Paired<'_>,
-    out: &mut O,
-) -> io::Result<()> {
-    match Entry::decode(&paired.submission.entry) {
-        Ok(command) => {
-            let fits = can_answer(completion, data.len(), &command);
-            print_doubt(completion, paired, fits, out)?;
-            let words = CommandWords(&command);
-            write!(out, "{words}: ")?;
-            if fits {
-                print_answer(completion, data, &command, out)
-            } else {
-                print_unnamed(completion, data, out)
+        Answered::Unnamed => {}
+        Answered::NotThere(path) => write!(out, "no submission of {path} is left for it: ")?,
+        Answered::Taken(taken) => {
+            print_doubt(completion, taken, out)?;
+            match &taken.command {
+                Some(command) => {
+                    let words = CommandWords(command);
+                    write!(out, "{words}: ")?;
+                    if taken.fits {
+                        return print_answer(completion, data, command, out);
+                    }
+                }
+                None => write!(out, "an entry that is no command: ")?,
             }
         }
-        Err(status) => {
-            let fits = completion.status == status && has_no_dwords(completion);
-            print_doubt(completion, paired, fits, out)?;
-            write!(out, "an entry that is no command: ")?;
-            print_unnamed(completion, data, out)
-        }
     }
+    print_unnamed(completion, data, out)
 }
 
-/// Prints why it is a guess that a submission is answered, where it is one. `fits` says whether it can have such an answer.
+/// Prints why it is a guess that a submission is answered, where it is one.
 fn print_doubt<O: Write>(
     completion: &Completion,
-    paired: &Paired<'_>,
-    fits: bool,
+    taken: &Taken<'_>,
     out: &mut O,
 ) -> io::Result<()> {
-    let path = paired.path;
-    let line = paired.submission.line;
-    let queue = completion.queue;
-    let cid = completion.cid;
-    if !fits {
+    let path = taken.paired.path;
+    let line = taken.paired.submission.line;
+    if !taken.fits {
         return write!(
             out,
             "{path}, line {line} (a guess: it cannot have this answer): "
         );
     }
-    match paired.doubt {
-        None => Ok(()),
+    let (submissions, completions) = match taken.paired.doubt {
+        None => return Ok(()),
         Some(
             Doubt::Counts {
                 submissions,
                 completions,
             },
-        ) => {
-            let submissions = Counted(submissions, "submission");
+        ) => (submissions, Some(completions)),
+        Some(Doubt::BehindRun { submissions }) => (submissions, None),
+    };
+    let queue = completion.queue;
+    let cid = completion.cid;
+    let submissions = Counted(submissions, "submission");
+    write!(
+        out,
+        "{path}, line {line} (a guess: queue {queue} has {submissions} with identifier {cid} there, "
+    )?;
+    match completions {
+        Some(completions) => {
             let completions = Counted(completions, "completion");
-            write!(
-                out,
-                "{path}, line {line} (a guess: queue {queue} has {submissions} with identifier {cid} there, and {completions} here): "
-            )
+            write!(out, "and {completions} here): ")
         }
-        Some(Doubt::BehindRun { submissions }) => {
-            let submissions = Counted(submissions, "submission");
-            write!(
-                out,
-                "{path}, line {line} (a guess: queue {queue} has {submissions} with identifier {cid} there, one behind a run): "
-            )
-        }
+        None => write!(out, "one behind a run): "),
     }
 }
 

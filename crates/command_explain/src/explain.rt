@@ -3,8 +3,8 @@
 ghost use Rattle.std.specs.Prelude.{◌≡◌};
 ghost use Rattle.command_explain.specs.steps.Told.{told_of_replies};
 
-use crate::completion_words::{Answered, print_completion};
-use crate::json::{print_completion_json, print_other_json};
+use crate::completion_words::{Answered, Taken, print_completion};
+use crate::json::print_completion_json;
 use crate::pairing::Pairing;
 use crate::submissions::{Submission, submissions};
 use clap::ArgMatches;
@@ -176,19 +176,16 @@ fn print_reply<O: Write>(
     form: Form,
     out: &mut O,
 ) -> io::Result<()> {
-    match (reply, form) {
-        (Reply::Complete { queue, entry, .. }, _) => match completion_from(queue, &entry) {
-            Some(completion) => {
-                let answered = answered(pairing, &completion);
-                match form {
-                    Form::Words => print_completion(&completion, data, &answered, out),
-                    Form::Json => print_completion_json(&completion, data.len(), &answered, out),
-                }
-            }
-            None => print_unknown(queue, form, out),
-        },
-        (_, Form::Words) => print_other(reply, out),
-        (_, Form::Json) => print_other_json(reply, out),
+    let Reply::Complete { queue, entry, .. } = reply else {
+        return print_other(reply, form, out);
+    };
+    let Some(completion) = completion_from(queue, &entry) else {
+        return print_unknown(queue, form, out);
+    };
+    let answered = answered(pairing, &completion, data.len());
+    match form {
+        Form::Words => print_completion(&completion, data, &answered, out),
+        Form::Json => print_completion_json(&completion, data.len(), &answered, out),
     }
 }
 
@@ -203,20 +200,29 @@ fn print_unknown<O: Write>(queue: u16, form: Form, out: &mut O) -> io::Result<()
     }
 }
 
-/// Prints a reply that is no completion in words.
-fn print_other<O: Write>(reply: Reply, out: &mut O) -> io::Result<()> {
-    match reply {
-        Reply::Pending { run } => writeln!(
-            out,
-            "pending {run}: run {run} was admitted, or had a turn, and has turns left"
+/// Prints a reply that is no completion.
+fn print_other<O: Write>(reply: Reply, form: Form, out: &mut O) -> io::Result<()> {
+    let (words, json) = match reply {
+        Reply::Pending { run } => {
+            return match form {
+                Form::Words => writeln!(
+                    out,
+                    "pending {run}: run {run} was admitted, or had a turn, and has turns left"
+                ),
+                Form::Json => writeln!(out, "{{\"reply\":\"pending\",\"run\":{run}}}"),
+            };
+        }
+        Reply::Idle => ("idle: a turn for a run that is not active", "idle"),
+        Reply::FaultTaken => ("done: a zone has its fault", "done"),
+        Reply::FaultRefused => (
+            "refused: a fault of a zone that does not exist, that a run uses, or that is Offline and cannot become Read Only",
+            "refused",
         ),
-        Reply::Idle => writeln!(out, "idle: a turn for a run that is not active"),
-        Reply::FaultTaken => writeln!(out, "done: a zone has its fault"),
-        Reply::FaultRefused => writeln!(
-            out,
-            "refused: a fault of a zone that does not exist, that a run uses, or that is Offline and cannot become Read Only"
-        ),
-        Reply::Complete { .. } => Ok(()),
+        Reply::Complete { .. } => return Ok(()),
+    };
+    match form {
+        Form::Words => writeln!(out, "{words}"),
+        Form::Json => writeln!(out, "{{\"reply\":\"{json}\"}}"),
     }
 }
 
@@ -230,12 +236,16 @@ fn completion_from(queue: u16, entry: &[u8; 16]) -> Option<Completion> {
     }
 }
 
-/// What the command file tells of the command that a completion answers.
-fn answered<'a>(pairing: &mut Option<Pairing<'a>>, completion: &Completion) -> Answered<'a> {
+/// What the command file tells of the command that a completion with so many bytes of data answers.
+fn answered<'a>(
+    pairing: &mut Option<Pairing<'a>>,
+    completion: &Completion,
+    bytes: usize,
+) -> Answered<'a> {
     match pairing {
         None => Answered::Unnamed,
         Some(pairing) => match pairing.pair(completion) {
-            Some(paired) => Answered::Paired(paired),
+            Some(paired) => Answered::Taken(Taken::of(completion, bytes, paired)),
             None => Answered::NotThere(pairing.path()),
         },
     }

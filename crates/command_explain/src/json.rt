@@ -1,11 +1,8 @@
-//! Replies as JSON objects. Their values are numbers, `true`, `false`, `null`, and words of this program in which no character
+//! Completions as JSON objects. Their values are numbers, `true`, `false`, `null`, and words of this program in which no character
 //! has to be escaped.
 
-use crate::completion_words::{Answered, appended_lba};
-use crate::fitting::{can_answer, has_no_dwords};
-use crate::pairing::Paired;
-use device_events::Reply;
-use nvme_entry::{Command, Completion, Entry, StandardCommand, Status};
+use crate::completion_words::{Answered, Taken, appended_lba};
+use nvme_entry::{Command, Completion, StandardCommand, Status};
 use std::io::{self, Write};
 
 /// Prints a completion with so many bytes of data as one JSON object on a line.
@@ -19,7 +16,7 @@ pub(crate) fn print_completion_json<O: Write>(
     match answered {
         Answered::Unnamed => {}
         Answered::NotThere(_) => write!(out, ",\"line\":null")?,
-        Answered::Paired(paired) => print_paired(completion, bytes, paired, out)?,
+        Answered::Taken(taken) => print_taken(completion, taken, out)?,
     }
     writeln!(out, "}}")
 }
@@ -48,43 +45,24 @@ fn print_fields<O: Write>(completion: &Completion, bytes: usize, out: &mut O) ->
     )
 }
 
-/// Prints the fields of the submission that a completion is taken to answer.
-fn print_paired<O: Write>(
+/// Prints the fields of the submission that a completion is taken to answer: where that succeeded, also what its dwords tell, of an
+/// append its first block, of a run its records and blocks.
+fn print_taken<O: Write>(
     completion: &Completion,
-    bytes: usize,
-    paired: &Paired<'_>,
+    taken: &Taken<'_>,
     out: &mut O,
 ) -> io::Result<()> {
-    let line = paired.submission.line;
-    let command = Entry::decode(&paired.submission.entry);
-    match Entry::decode(&paired.submission.entry) {
-        Ok(command) => {
-            let fits = can_answer(completion, bytes, &command);
-            let guess = !fits || paired.doubt.is_some();
-            let name = name_of(&command);
-            write!(
-                out,
-                ",\"line\":{line},\"guess\":{guess},\"command\":\"{name}\""
-            )?;
-            if fits && completion.status == Status::SUCCESS {
-                print_gained(completion, &command, out)?;
-            }
-            Ok(())
-        }
-        Err(status) => {
-            let fits = completion.status == status && has_no_dwords(completion);
-            let guess = !fits || paired.doubt.is_some();
-            write!(out, ",\"line\":{line},\"guess\":{guess},\"command\":null")
-        }
+    let line = taken.paired.submission.line;
+    let guess = !taken.fits || taken.paired.doubt.is_some();
+    write!(out, ",\"line\":{line},\"guess\":{guess},\"command\":")?;
+    let Some(command) = &taken.command else {
+        return write!(out, "null");
+    };
+    let name = name_of(command);
+    write!(out, "\"{name}\"")?;
+    if !taken.fits || completion.status != Status::SUCCESS {
+        return Ok(());
     }
-}
-
-/// Prints what the dwords of a command that succeeded tell: of an append its first block, of a run its records and blocks.
-fn print_gained<O: Write>(
-    completion: &Completion,
-    command: &Command,
-    out: &mut O,
-) -> io::Result<()> {
     match command {
         Command::Standard(StandardCommand::Append { .. }) => {
             let lba = appended_lba(completion);
@@ -110,16 +88,5 @@ fn name_of(command: &Command) -> &'static str {
         Command::Run(_) => "run",
         Command::Load(_) => "load",
         Command::Result(_) => "result",
-    }
-}
-
-/// Prints a reply that is no completion as one JSON object on a line.
-pub(crate) fn print_other_json<O: Write>(reply: Reply, out: &mut O) -> io::Result<()> {
-    match reply {
-        Reply::Pending { run } => writeln!(out, "{{\"reply\":\"pending\",\"run\":{run}}}"),
-        Reply::Idle => writeln!(out, "{{\"reply\":\"idle\"}}"),
-        Reply::FaultTaken => writeln!(out, "{{\"reply\":\"done\"}}"),
-        Reply::FaultRefused => writeln!(out, "{{\"reply\":\"refused\"}}"),
-        Reply::Complete { .. } => Ok(()),
     }
 }
