@@ -8,23 +8,22 @@ ghost use Rattle.command_files.specs.UserTold.{IsNotInRange, SpellsNone, SpellsN
 use crate::failure::Failure;
 use crate::numbers::decimal_or_hexadecimal;
 use clap::error::ErrorKind;
-use clap::{Arg, ArgAction, ArgMatches, Command};
+use clap::{ArgMatches, Command};
 use command_words::{Argument, Takes};
 use image_store::GeometryRefusal;
 use program_interface::BlockSize;
-use std::alloc::{AllocError, Global};
 use text_lines::decimal;
 
-/// The option that [`block_option`] describes.
+/// The name of [`BLOCK_ARGUMENT`].
 pub const BLOCK_OPTION: &str = "block";
 
-/// The option that [`emit_option`] describes.
+/// The name of [`EMIT_ARGUMENT`].
 pub const EMIT_OPTION: &str = "emit";
 
-/// The option that [`argument_option`] describes.
+/// The name of [`RUN_ARGUMENT`].
 pub const ARGUMENT_OPTION: &str = "argument";
 
-/// The argument that [`program_argument`] describes.
+/// The name of [`PROGRAM_ARGUMENT`].
 pub const PROGRAM: &str = "PROGRAM";
 
 /// The option that gives the bytes of a block, which is required.
@@ -62,67 +61,6 @@ pub const PROGRAM_ARGUMENT: Argument = Argument {
     takes: Takes::Place,
     help: "The program, as instruction bytes",
 };
-
-/// The option `--NAME VALUE`, whose value help shows by this word.
-pub fn option<'a>(alloc: Global, name: &'a str, value: &'a str) -> Arg<'a> {
-    Arg::new(alloc, name)
-        .long(name)
-        .value_name(value)
-        .action(ArgAction::Set)
-}
-
-/// The option that gives the bytes of a block, which is required.
-pub fn block_option<'a>(alloc: Global) -> Arg<'a> {
-    option(alloc, BLOCK_OPTION, "B")
-        .required(true)
-        .help("Bytes of a block: a power of 2 from 512 to 16384")
-}
-
-/// The option that gives the most bytes that may be emitted for a block, which is required.
-pub fn emit_option<'a>(alloc: Global) -> Arg<'a> {
-    option(alloc, EMIT_OPTION, "E").required(true).help(
-        "The most bytes that may be emitted for a block, two for each record counted: at most a block's",
-    )
-}
-
-/// The option that gives a run's argument, 0 where it isn't given.
-pub fn argument_option<'a>(alloc: Global) -> Arg<'a> {
-    option(alloc, ARGUMENT_OPTION, "A").default_value("0").help(
-        "The argument of the run, a number that the program is told",
-    )
-}
-
-/// The argument that names the file of a program, which is required.
-pub fn program_argument<'a>(alloc: Global) -> Arg<'a> {
-    Arg::new(alloc, PROGRAM)
-        .required(true)
-        .help("The program, as instruction bytes")
-}
-
-/// A command that takes this argument too.
-///
-/// # Errors
-///
-/// Want of memory, also that of the command: it passes through, so that what adds arguments one after another has one
-/// way out.
-pub fn and_argument<'a>(
-    command: Result<Command<'a>, AllocError>,
-    argument: Arg<'a>,
-) -> Result<Command<'a>, AllocError> {
-    command?.arg(argument)
-}
-
-/// A command that has this one below it too.
-///
-/// # Errors
-///
-/// Want of memory, which passes through as with [`and_argument`].
-pub fn and_command<'a>(
-    command: Result<Command<'a>, AllocError>,
-    below: Result<Command<'a>, AllocError>,
-) -> Result<Command<'a>, AllocError> {
-    command?.subcommand(below?)
-}
 
 /// Why a command line that names no command is wrong.
 pub fn no_command<'a>(line: &mut Command<'a>) -> Failure<'a> {
