@@ -60,27 +60,31 @@ pub(crate) enum Kind {
     Result,
 }
 
-/// The kinds, in the order of [`KINDS`].
-const ORDER: &[Kind] = &[
-    Kind::Append,
-    Kind::Write,
-    Kind::Read,
-    Kind::Send(Action::Open),
-    Kind::Send(Action::Close),
-    Kind::Send(Action::Finish),
-    Kind::Send(Action::Reset),
-    Kind::Send(Action::Offline),
-    Kind::Report,
-    Kind::Load,
-    Kind::Run,
-    Kind::Result,
+/// The kinds by their names, which [`KINDS`] has too.
+const NAMED: &[(&str, Kind)] = &[
+    ("append", Kind::Append),
+    ("write", Kind::Write),
+    ("read", Kind::Read),
+    ("open", Kind::Send(Action::Open)),
+    ("close", Kind::Send(Action::Close)),
+    ("finish", Kind::Send(Action::Finish)),
+    ("reset", Kind::Send(Action::Reset)),
+    ("offline", Kind::Send(Action::Offline)),
+    ("report", Kind::Report),
+    ("load", Kind::Load),
+    ("run", Kind::Run),
+    ("result", Kind::Result),
 ];
 
 impl Kind {
     /// The kind with this name, if there is one.
     pub(crate) fn named(name: &str) -> Option<Kind> {
-        let at = KINDS.iter().position(|words| words.name == name)?;
-        ORDER.get(at).copied()
+        for (word, kind) in NAMED {
+            if *word == name {
+                return Some(*kind);
+            }
+        }
+        None
     }
 
     /// Does the data of a file stand beside its entries?
