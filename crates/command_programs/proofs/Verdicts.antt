@@ -1,11 +1,10 @@
 -- What `verify` prints of a program whose bytes are known.
-use Rattle.std.proofs.Common.{◌≡◌, ℕ, List, ◌++◌, Option, Some, None, Result, Ok, Err, OnOk, ap, sym, subst, ◌∙◌, append-nil, append_assoc}
+use Rattle.std.proofs.Common.{◌≡◌, ℕ, List, ◌++◌, Option, Some, None, Result, Ok, Err, OnOk, sym, subst, append-nil}
 use Rattle.std.specs.Prelude.{codes}
-use Rattle.std.specs.Fmt.{decimal}
 use Rattle.std.specs.Io.KnownBytes.{Appends}
 use Rattle.clap.specs.Matches.{found_of, first_value}
 use Rattle.clap.specs.declared.parser.matches.ArgMatches.{ArgMatches}
-use Rattle.accepted_programs.specs.Accepted.{reason_number, refusal}
+use Rattle.accepted_programs.specs.Accepted.{refusal}
 use Rattle.accepted_programs.specs.Emitted.{most_emitted}
 use Rattle.accepted_programs.specs.declared.reason.Refusal.{Refusal}
 use Rattle.instruction_set.specs.Program.{instruction_count}
@@ -33,11 +32,6 @@ prints_acceptance (Worded explained facts) instructions emitted words before aft
 }
 prints_acceptance Json instructions emitted words before after printed = printed
 
--- four texts behind another
-four_behind : (h a b c d : List ℕ) → h ++ a ++ b ++ c ++ d ≡ h ++ (a ++ b ++ c ++ d)
-four_behind h a b c d =
-    ap (λ (t : List ℕ). t ++ c ++ d) (append_assoc h a b) ∙ ap (λ (t : List ℕ). t ++ d) (append_assoc h (a ++ b) c) ∙ append_assoc h (a ++ b ++ c) d
-
 -- a text that says that one is refused was printed
 prints_refusal : (form : Form) (instructions : ℕ) (first : Refusal) (words : List ℕ) (before after : Option (List ℕ))
     → Appends before after (refusal_text form instructions first words) → PrintsFirstRefusal form instructions first before after
@@ -46,12 +40,7 @@ prints_refusal (Worded explained facts) instructions first words before after pr
   words = words;
   grows = subst (λ (t : List ℕ). Appends before after t) (sym (append-nil (refused_line first ++ words))) printed;
 }
-prints_refusal Json instructions first words before after printed = record {
-  words = words;
-  grows = subst (λ (t : List ℕ). Appends before after (t ++ words ++ codes "}\n"))
-      (four_behind (codes "{\"accepted\":false,\"instruction_count\":" ++ decimal instructions) (codes ",\"slot\":") (decimal first.slot)
-      (codes ",\"reason\":") (decimal (reason_number first.reason))) printed;
-}
+prints_refusal Json instructions first words before after printed = record { words = words; grows = printed }
 
 module _ {D : Type 0} (operations : Operations D) (program : List (Option Instruction)) (sizes : Sizes) (form : Form) (instructions : ℕ)
     (words text : List ℕ) (before after : Option (List ℕ)) (counted : instructions ≡ instruction_count program) where

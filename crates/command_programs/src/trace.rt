@@ -11,7 +11,7 @@ ghost use Rattle.program_interface.specs.declared.area.TheConstants.{SCRATCH_BYT
 ghost use Rattle.program_meaning.specs.State.{at_start};
 ghost use Rattle.command_files.specs.Arguments.{number_of};
 ghost use Rattle.command_programs.specs.Asked.{IsLimit, is_set};
-ghost use Rattle.command_programs.specs.Traced.{PrintsTrace, exit_line, first_and_only, slot_line, trace_lines, trap_line};
+ghost use Rattle.command_programs.specs.Traced.{PrintsTrace, exit_line, first_and_only, group_text, slot_line, trace_lines, trap_line};
 
 use crate::flags::is_set;
 use crate::printing::print;
@@ -312,7 +312,11 @@ impl Tracer<'_> {
                 let text = instruction_text(self.alloc, instruction)?;
                 format!(in self.alloc; "{slot:4}  {text}: {cause}\ntrap {slot} {number}\n")
             }
-            _ => format!(in self.alloc; "trap {slot} {number}\n"),
+            _ => {
+                let mut text = String::new(self.alloc);
+                writeln!(text, "trap {slot} {number}")?;
+                Ok(text)
+            }
         }
     }
 }
@@ -334,10 +338,21 @@ fn print_exit<'a, O: Write>(
 fn exit_text(alloc: Global, r0: u64, steps: u64, group: &[u8]) -> Result<String, AllocError>
     ensures { IfOk result (λ text. string_bytes text ≡ exit_line r0 steps group.now) }
 {
+    let group = group_text(alloc, group)?;
+    let mut text = String::new(alloc);
+    write!(text, "exit {r0} {steps} ")?;
+    text.push_str(group.as_str())?;
+    text.push_str("\n")?;
+    Ok(text)
+}
+
+/// What was emitted, in hexadecimal; `-` for nothing.
+fn group_text(alloc: Global, group: &[u8]) -> Result<String, AllocError>
+    ensures { IfOk result (λ text. string_bytes text ≡ group_text group.now) }
+{
     if group.is_empty() {
-        return format!(in alloc; "exit {r0} {steps} -\n");
+        String::from_str(alloc, "-")
+    } else {
+        hex::encode(alloc, group)
     }
-    let digits = hex::encode(alloc, group)?;
-    let digits = digits.as_str();
-    format!(in alloc; "exit {r0} {steps} {digits}\n")
 }

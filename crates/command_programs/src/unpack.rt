@@ -1,6 +1,7 @@
 //! The command `unpack`: the records of output blocks.
 
-ghost use Rattle.std.specs.Prelude.{◌≡◌, Ok, IfOk, OnOk};
+ghost use Rattle.std.specs.Prelude.{◌≡◌, ◌++◌, codes, Ok, IfOk, OnOk};
+ghost use Rattle.std.specs.Fmt.{decimal};
 ghost use Rattle.std.specs.String.{string_bytes};
 ghost use Rattle.emit_append.specs.Unpacking.{record_bytes, unpacked};
 ghost use Rattle.command_programs.specs.Printed.{PrintsRecords, blocks_file_of, record_lines, record_object, records_document, records_text};
@@ -140,10 +141,19 @@ fn document_of(alloc: Global, records: &[Vec<u8>]) -> Result<String, AllocError>
 fn object_of(alloc: Global, bytes: &[u8]) -> Result<String, AllocError>
     ensures { IfOk result (λ text. string_bytes text ≡ record_object bytes.now) }
 {
-    let length = bytes.len();
     let digits = hex::encode(alloc, bytes)?;
-    let digits = digits.as_str();
-    format!(in alloc; "{{\"length\":{length},\"bytes\":\"{digits}\"}}")
+    let mut text = length_field(alloc, bytes.len())?;
+    text.push_str(",\"bytes\":\"")?;
+    text.push_str(digits.as_str())?;
+    text.push_str("\"}")?;
+    Ok(text)
+}
+
+/// The beginning of the object of a record of so many bytes.
+fn length_field(alloc: Global, length: usize) -> Result<String, AllocError>
+    ensures { IfOk result (λ text. string_bytes text ≡ codes "{\"length\":" ++ decimal length) }
+{
+    format!(in alloc; "{{\"length\":{length}")
 }
 
 /// What the user is told of a file of these bytes, which are no output blocks of this size: its name, and the byte that

@@ -3,6 +3,7 @@
 ghost use Rattle.std.specs.Prelude.{◌≡◌, IfOk};
 ghost use Rattle.std.specs.String.{string_bytes};
 ghost use Rattle.command_profile.specs.Profile.{operations_of};
+ghost use Rattle.command_programs.specs.Printed.{refused_front, refused_line};
 ghost use Rattle.command_programs.specs.steps.Verdict.{IsVerdict, acceptance_text, refusal_text};
 
 use crate::refused_instruction::{Known, RefusedInstruction, known_of};
@@ -176,10 +177,19 @@ pub(crate) fn acceptance_text(
 {
     match form {
         Form::Line => format!(in alloc; "accepted {instructions}\n"),
-        Form::Worded { .. } => format!(in alloc; "accepted {instructions}\n{words}"),
-        Form::Json => format!(in alloc;
-            "{{\"accepted\":true,\"instruction_count\":{instructions},\"most_emitted\":{most_emitted}}}\n"
-        ),
+        Form::Worded { .. } => {
+            let mut text = format!(in alloc; "accepted {instructions}\n")?;
+            text.push_str(words)?;
+            Ok(text)
+        }
+        Form::Json => {
+            let mut text = String::new(alloc);
+            writeln!(
+                text,
+                "{{\"accepted\":true,\"instruction_count\":{instructions},\"most_emitted\":{most_emitted}}}"
+            )?;
+            Ok(text)
+        }
     }
 }
 
@@ -193,13 +203,38 @@ pub(crate) fn refusal_text(
 ) -> Result<String, AllocError>
     ensures { IfOk result (λ text. string_bytes text ≡ refusal_text form instructions refusal words.now) }
 {
-    let Refusal { slot, reason } = refusal;
-    let number = reason.number();
     match form {
-        Form::Line => format!(in alloc; "refused {slot} {number}\n"),
-        Form::Worded { .. } => format!(in alloc; "refused {slot} {number}\n{words}"),
-        Form::Json => format!(in alloc;
-            "{{\"accepted\":false,\"instruction_count\":{instructions},\"slot\":{slot},\"reason\":{number}{words}}}\n"
-        ),
+        Form::Line => refused_line(alloc, refusal),
+        Form::Worded { .. } => {
+            let mut text = refused_line(alloc, refusal)?;
+            text.push_str(words)?;
+            Ok(text)
+        }
+        Form::Json => {
+            let mut text = refused_front(alloc, instructions, refusal)?;
+            text.push_str(words)?;
+            text.push_str("}\n")?;
+            Ok(text)
+        }
     }
+}
+
+/// The slot of a refusal, and the number of its reason, on a line.
+fn refused_line(alloc: Global, refusal: Refusal) -> Result<String, AllocError>
+    ensures { IfOk result (λ text. string_bytes text ≡ refused_line refusal) }
+{
+    let (slot, number) = (refusal.slot, refusal.reason.number());
+    let mut text = String::new(alloc);
+    writeln!(text, "refused {slot} {number}")?;
+    Ok(text)
+}
+
+/// The same as the first fields of a JSON object.
+fn refused_front(alloc: Global, instructions: usize, refusal: Refusal) -> Result<String, AllocError>
+    ensures { IfOk result (λ text. string_bytes text ≡ refused_front instructions refusal) }
+{
+    let (slot, number) = (refusal.slot, refusal.reason.number());
+    let mut text = format!(in alloc; "{{\"accepted\":false,\"instruction_count\":{instructions}")?;
+    write!(text, ",\"slot\":{slot},\"reason\":{number}")?;
+    Ok(text)
 }

@@ -1,13 +1,12 @@
 -- What `verify` finds of a program, and the texts that say it.
 use Rattle.std.specs.Prelude.{◌≡◌, ℕ, List, ◌++◌, codes, Option, Some, None}
-use Rattle.std.specs.Fmt.{decimal}
-use Rattle.accepted_programs.specs.Accepted.{reason_number, refusal}
+use Rattle.accepted_programs.specs.Accepted.{refusal}
 use Rattle.accepted_programs.specs.Emitted.{most_emitted}
 use Rattle.accepted_programs.specs.declared.reason.Refusal.{Refusal}
 use Rattle.instruction_set.specs.declared.instruction.Instruction.{Instruction}
 use Rattle.program_interface.specs.RunSizes.{Sizes}
 use Rattle.word_domain.specs.Domain.{Operations}
-use Rattle.command_programs.specs.Printed.{accepted_line, accepted_object, refused_line}
+use Rattle.command_programs.specs.Printed.{accepted_line, accepted_object, refused_front, refused_line}
 use Rattle.command_programs.specs.declared.verdict.Verdict.{Verdict}
 use Rattle.command_programs.specs.declared.verdict.Verdict.TheVariants.{Accepted, Refused}
 use Rattle.command_programs.specs.declared.verify.Form.{Form}
@@ -29,6 +28,4 @@ acceptance_text Json instructions emitted words = accepted_object instructions e
 abbrev pub refusal_text : Form → ℕ → Refusal → List ℕ → List ℕ
 refusal_text Line instructions first words = refused_line first
 refusal_text (Worded explained facts) instructions first words = refused_line first ++ words
-refusal_text Json instructions first words =
-    codes "{\"accepted\":false,\"instruction_count\":" ++ decimal instructions ++ codes ",\"slot\":" ++ decimal first.slot
-    ++ codes ",\"reason\":" ++ decimal (reason_number first.reason) ++ words ++ codes "}\n"
+refusal_text Json instructions first words = refused_front instructions first ++ words ++ codes "}\n"
