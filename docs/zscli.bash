@@ -11,7 +11,7 @@ _zscli() {
         "entry") [ "$COMP_CWORD" -gt 2 ] && words+=" ${COMP_WORDS[2]}" ;;
     esac
     case "$words" in
-        "zscli") commands="format zones report upgrade exec serve fold asm disasm link trace verify unpack entry entries explain" options="--help --version" ;;
+        "zscli") commands="format zones report upgrade exec serve fold asm disasm link trace verify unpack entry entries explain demo" options="--help --version" ;;
         "zscli format") commands="" options="--block --zones --size --capacity --open --active --force --help" ;;
         "zscli zones") commands="" options="--help" ;;
         "zscli report") commands="" options="--json --help" ;;
@@ -40,6 +40,7 @@ _zscli() {
         "zscli entry result") commands="" options="--slot --queue --cid --into --help" ;;
         "zscli entries") commands="" options="--image --block --help" ;;
         "zscli explain") commands="" options="--commands --json --help" ;;
+        "zscli demo") commands="" options="--hex --help" ;;
     esac
     case "$word" in
         -*) COMPREPLY=($(compgen -W "$options" -- "$word")) ;;
