@@ -1,11 +1,11 @@
 //! Completions in words.
 
-use crate::command_words::CommandWords;
 use crate::fitting::{can_answer, has_no_dwords};
 use crate::pairing::Paired;
 use crate::refusal_words::ReasonWords;
 use crate::report_words::print_report;
 use crate::uses::Doubt;
+use crate::worded_command::CommandWords;
 use command_files::Counted;
 use nvme_entry::{Command, Completion, Entry, StandardCommand, Status};
 use std::io::{self, Write};

@@ -1,7 +1,6 @@
 //! The command that says in words, or as JSON, what `exec` printed.
 #![tactic(auto)]
 
-mod command_words;
 mod completion_words;
 pub mod explain;
 mod fitting;
@@ -12,6 +11,7 @@ mod report_words;
 mod submissions;
 mod uses;
 mod waiting;
+mod worded_command;
 
-pub use command_words::CommandWords;
 pub use completion_words::print_answer;
+pub use worded_command::CommandWords;

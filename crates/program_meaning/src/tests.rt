@@ -79,22 +79,18 @@ fn all_ones_are_the_greatest_word(rt: HostRuntime) {
 
 /// Compares what is made of each pair with the words of a list.
 fn check_words(rt: &impl Abort, arithmetic: Arithmetic, words: &str) {
-    let mut compared = 0;
+    assert_eq!(rt; words.split(' ').count(), PAIRS.len());
     for ((x, y), word) in PAIRS.iter().zip(words.split(' ')) {
         check_spelled(rt, arithmetic, *x, *y, word);
-        compared += 1;
     }
-    assert_eq!(rt; compared, PAIRS.len());
 }
 
 /// Compares what is made of the first of each pair with the words of a list.
 fn check_unary(rt: &impl Abort, arithmetic: Arithmetic, words: &str) {
-    let mut compared = 0;
+    assert_eq!(rt; words.split(' ').count(), PAIRS.len());
     for ((x, _), word) in PAIRS.iter().zip(words.split(' ')) {
         check_spelled(rt, arithmetic, *x, *x, word);
-        compared += 1;
     }
-    assert_eq!(rt; compared, PAIRS.len());
 }
 
 fn check_spelled(rt: &impl Abort, arithmetic: Arithmetic, x: u64, y: u64, word: &str) {
@@ -107,16 +103,14 @@ fn check_spelled(rt: &impl Abort, arithmetic: Arithmetic, x: u64, y: u64, word: 
 
 /// Compares which pairs a relation holds for with the digits of a list.
 fn check_relation(rt: &impl Abort, width: Width, relation: Relation, holds: &str) {
-    let mut compared = 0;
+    assert_eq!(rt; holds.len(), PAIRS.len());
     for ((x, y), digit) in PAIRS.iter().zip(holds.bytes()) {
         assert_eq!(rt;
             is_taken(width, relation, *x, *y),
             digit == b'1',
             "{width:?} {relation:?} of {x:x} and {y:x}"
         );
-        compared += 1;
     }
-    assert_eq!(rt; compared, PAIRS.len());
 }
 
 #[test]
