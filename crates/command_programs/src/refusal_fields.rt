@@ -3,72 +3,76 @@
 
 use crate::refused_instruction::{Detail, RefusedInstruction};
 use command_facts::{ReadRegister, Told};
+use instruction_set::Register;
 use program_interface::Area;
 use std::alloc::AllocError;
 use word_domain::Offsets;
 
-/// A field whose value is a number.
-type Field = (&'static str, i128);
-
-impl RefusedInstruction<'_> {
+impl RefusedInstruction {
     /// Adds the reason's words, the instruction, which has this text, the reason's numbers, and what is known of each
     /// register that the instruction reads, as fields behind others.
     pub(crate) fn push_fields(&self, text: &str, out: &mut String) -> Result<(), AllocError> {
-        let (reason, detail) = (self.reason, self.detail());
+        let reason = self.reason;
         write!(out, ",\"words\":\"{reason}\",\"instruction\":\"{text}\"")?;
-        for field in self.numbers(detail) {
-            if let Some((name, value)) = field {
-                write!(out, ",\"{name}\":{value}")?;
-            }
-        }
-        push_offsets_allowed(detail, out)?;
+        push_numbers(self.slots, self.detail(), out)?;
         let [first, second] = self.known.registers;
         out.push_str(",\"registers\":[")?;
         push_known("", first, out)?;
         push_known(",", second, out)?;
         out.push_str("]")
     }
+}
 
-    /// The numbers of the reason that are there at all times.
-    fn numbers(&self, detail: Detail) -> [Option<Field>; 3] {
-        match detail {
-            Detail::Plain | Detail::Room(None) => [None, None, None],
-            Detail::Target(target) => {
-                let slots = ("slot_count", self.slots as i128);
-                [Some(("target", target)), Some(slots), None]
-            }
-            Detail::Address { base, bytes, .. } | Detail::ReadOnly { base, bytes } => {
-                let base = ("base", i128::from(base.number()));
-                [Some(base), Some(("bytes", i128::from(bytes))), None]
-            }
-            Detail::Helper(helper) => [Some(("helper", i128::from(helper))), None, None],
-            Detail::Room(Some(room)) => [Some(("longest", i128::from(room.max(0)))), None, None],
-            Detail::Limit {
-                emitted,
-                record,
-                limit,
-            } => [
-                Some(("emitted", i128::from(emitted))),
-                Some(("record", i128::from(record))),
-                Some(("limit", i128::from(limit))),
-            ],
-        }
+/// Adds the numbers of the reason, of a program of so many slots.
+fn push_numbers(slots: usize, detail: Detail, out: &mut String) -> Result<(), AllocError> {
+    match detail {
+        Detail::Plain => Ok(()),
+        Detail::Target(target) => write!(out, ",\"target\":{target},\"slot_count\":{slots}"),
+        Detail::Address {
+            base,
+            bytes,
+            allowed,
+        } => push_access(base, bytes, allowed, out),
+        Detail::ReadOnly { base, bytes } => push_access(base, bytes, None, out),
+        Detail::Helper(helper) => write!(out, ",\"helper\":{helper}"),
+        Detail::Room(room) => push_longest(room, out),
+        Detail::Limit {
+            emitted,
+            record,
+            limit,
+        } => write!(
+            out,
+            ",\"emitted\":{emitted},\"record\":{record},\"limit\":{limit}"
+        ),
     }
 }
 
-/// Adds where the register of an access may point, or how many bytes an emit can take where that isn't known.
-fn push_offsets_allowed(detail: Detail, out: &mut String) -> Result<(), AllocError> {
-    match detail {
-        Detail::Address {
-            allowed: Some(offsets),
-            ..
-        } => {
-            out.push_str(",\"allowed\":{")?;
+/// Adds the register of an address, the bytes that are accessed there, and where it may point.
+fn push_access(
+    base: Register,
+    bytes: u8,
+    allowed: Option<Offsets>,
+    out: &mut String,
+) -> Result<(), AllocError> {
+    let number = base.number();
+    write!(out, ",\"base\":{number},\"bytes\":{bytes},\"allowed\":")?;
+    match allowed {
+        Some(offsets) => {
+            out.push_str("{")?;
             push_offsets(offsets, out)
         }
-        Detail::Address { .. } | Detail::ReadOnly { .. } => out.push_str(",\"allowed\":null"),
-        Detail::Room(None) => out.push_str(",\"longest\":null"),
-        _ => Ok(()),
+        None => out.push_str("null"),
+    }
+}
+
+/// Adds how many bytes an emit can take, if that is known.
+fn push_longest(room: Option<i64>, out: &mut String) -> Result<(), AllocError> {
+    match room {
+        Some(room) => {
+            let longest = room.max(0);
+            write!(out, ",\"longest\":{longest}")
+        }
+        None => out.push_str(",\"longest\":null"),
     }
 }
 

@@ -2,24 +2,22 @@
 
 use crate::refused_instruction::{Detail, RefusedInstruction};
 use accepted_programs::Reason;
+use command_facts::ReadRegister;
 use command_files::Counted;
 use instruction_set::Register;
 use program_interface::FRAME_LENGTH_BYTES;
 use std::alloc::AllocError;
 use word_domain::Offsets;
 
-impl RefusedInstruction<'_> {
+impl RefusedInstruction {
     /// Adds the instruction, which has this text, behind its slot, and then the reason and what is known there.
     pub(crate) fn push_lines(&self, text: &str, out: &mut String) -> Result<(), AllocError> {
         let (slot, reason) = (self.slot, self.reason);
         write!(out, "{slot:4}  {text}\n{reason}: ")?;
         self.push_detail(out)?;
-        for read in self.known.registers {
-            if let Some(read) = read {
-                writeln!(out, "{read}")?;
-            }
-        }
-        Ok(())
+        let [first, second] = self.known.registers;
+        push_known(first, out)?;
+        push_known(second, out)
     }
 
     fn push_detail(&self, out: &mut String) -> Result<(), AllocError> {
@@ -53,6 +51,14 @@ impl RefusedInstruction<'_> {
         } else {
             out.push_str("\n")
         }
+    }
+}
+
+/// What is known of a register, on a line, if there is one.
+fn push_known(read: Option<ReadRegister>, out: &mut String) -> Result<(), AllocError> {
+    match read {
+        Some(read) => writeln!(out, "{read}"),
+        None => Ok(()),
     }
 }
 

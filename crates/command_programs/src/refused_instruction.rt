@@ -11,10 +11,10 @@ use word_domain::{Bounds, Domain, Offsets};
 
 /// An instruction that is refused, of a program of so many slots, the reason, and what is known at its slot.
 #[derive(Drop)]
-pub(crate) struct RefusedInstruction<'p> {
+pub(crate) struct RefusedInstruction {
     pub(crate) slots: usize,
     pub(crate) slot: usize,
-    pub(crate) instruction: &'p Instruction,
+    pub(crate) instruction: Instruction,
     pub(crate) reason: Reason,
     pub(crate) sizes: RunSizes,
     pub(crate) known: Known,
@@ -78,7 +78,7 @@ pub(crate) fn known_of<D: Domain>(instruction: Option<&Instruction>, facts: &Fac
     }
 }
 
-impl RefusedInstruction<'_> {
+impl RefusedInstruction {
     /// The numbers of the reason.
     pub(crate) fn detail(&self) -> Detail {
         match self.reason {
@@ -171,8 +171,8 @@ fn offsets_allowed(area: Area, length: u32, offset: i16, size: u8) -> Offsets {
 }
 
 /// The helper that an instruction calls, if it calls one.
-fn helper_of(instruction: &Instruction) -> Detail {
-    match *instruction {
+fn helper_of(instruction: Instruction) -> Detail {
+    match instruction {
         Instruction::Call { helper } => Detail::Helper(helper),
         _ => Detail::Plain,
     }

@@ -146,7 +146,7 @@ fn words_of_refusal(
         let refused = RefusedInstruction {
             slots: program.slots(),
             slot,
-            instruction,
+            instruction: *instruction,
             reason,
             sizes,
             known,
