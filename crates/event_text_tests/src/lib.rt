@@ -1,4 +1,4 @@
-//! The tests of `event_text`, a crate of their own, so that `event_text` is proved once.
+//! The tests of `event_text` and `text_lines`, a crate of their own, so that these are proved once.
 #![tactic(auto)]
 
 #[cfg(test)]

@@ -1,5 +1,7 @@
 //! Which lines of a command file are events, and what is said of the others.
 
+mod excerpt;
+
 use event_text::{ParseFault, parse};
 use std::alloc::Global;
 use std::process::Abort;

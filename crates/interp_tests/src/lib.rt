@@ -1,4 +1,4 @@
-//! The tests of `interp`, a crate of their own, so that `interp` is proved once.
+//! The tests of `interp`, `program_meaning` and `program_interface`, a crate of their own, so that these are proved once.
 #![tactic(auto)]
 
 #[cfg(test)]

@@ -1,6 +1,8 @@
 //! Worked examples, and what gcc makes of loads and stores.
 
+mod context;
 mod vectors;
+mod words;
 
 use ebpf_asm::assemble;
 use ebpf_decode::decode;

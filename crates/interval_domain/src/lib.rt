@@ -13,6 +13,3 @@ mod text;
 pub use constants::Constants;
 pub use fact::Fact;
 pub use intervals::Intervals;
-
-#[cfg(test)]
-mod tests;

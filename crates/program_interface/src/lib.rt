@@ -10,8 +10,6 @@ mod frame;
 pub mod laws;
 mod registers;
 mod run_sizes;
-#[cfg(test)]
-mod tests;
 
 pub use area::{Area, CONTEXT_BYTES, SCRATCH_BYTES, STACK_BYTES};
 pub use block_size::{BLOCK_SIZES, BlockSize, LARGEST_BLOCK};

@@ -15,6 +15,3 @@ pub use end::End;
 pub use place::Place;
 pub use trap_free::TrapFree;
 pub use word::{Arithmetic, alu, extend, is_taken};
-
-#[cfg(test)]
-mod tests;

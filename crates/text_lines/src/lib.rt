@@ -7,8 +7,6 @@ mod excerpt;
 pub mod laws;
 mod lines;
 mod number;
-#[cfg(test)]
-mod tests;
 
 pub use cutting::{cut, trim, trim_start, word};
 pub use excerpt::Excerpt;

@@ -15,6 +15,7 @@ use word_domain::Domain;
 
 mod addresses;
 mod bounds;
+mod index;
 mod rules;
 mod runs;
 

@@ -1,4 +1,4 @@
-//! The tests of `zns_commands`, a crate of their own, so that `zns_commands` is proved once.
+//! The tests of `zns_commands`, `zone_state` and `zone_resources`, a crate of their own, so that these are proved once.
 #![tactic(auto)]
 
 #[cfg(test)]

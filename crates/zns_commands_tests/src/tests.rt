@@ -1,6 +1,8 @@
 //! Worked commands and faults.
 
+mod resources;
 mod script;
+mod zone_states;
 
 use script::*;
 use std::test::Fail;

@@ -11,8 +11,6 @@ mod admission;
 mod counts;
 mod holds;
 pub mod laws;
-#[cfg(test)]
-mod tests;
 
 pub use admission::{Limits, Wanted, admit};
 pub use counts::Counts;

@@ -1,7 +1,7 @@
 //! Sentences of statuses, names of states, and a zone that is filled.
 
-use super::*;
 use std::test::Fail;
+use zone_state::*;
 
 /// What people read for a status of each type, and for two that no device gives.
 const SENTENCES: &[(Status, &str)] = &[

@@ -2,12 +2,12 @@
 
 mod vectors;
 
-use crate::{Arithmetic, alu, is_taken};
 use instruction_set::Operation::{
     Add, ArithmeticShift, Divide, LeftShift, Modulo, SignedDivide, SignedModulo,
 };
 use instruction_set::Width::{Bits32, Bits64};
 use instruction_set::{Operation, Relation, SignExtension, Swap, SwapSize, Width};
+use program_meaning::{Arithmetic, alu, is_taken};
 use std::process::Abort;
 use vectors::{OPERATIONS, PAIRS, RELATIONS, UNARY};
 

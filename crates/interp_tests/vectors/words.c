@@ -1,5 +1,5 @@
-// Prints src/tests/vectors.rt: what gcc makes of the operations, on a little-endian host.
-// gcc -O1 -fwrapv words.c && ./a.out > ../src/tests/vectors.rt && rm a.out && rt fmt
+// Prints src/tests/words/vectors.rt: what gcc makes of the operations, on a little-endian host.
+// gcc -O1 -fwrapv words.c && ./a.out > ../src/tests/words/vectors.rt && rm a.out && rt fmt
 #include "pairs.h"
 #include <stdio.h>
 
@@ -63,8 +63,7 @@ static void truths(u64 (*wide)(u64, u64), u64 (*narrow)(u32, u32)) {
 
 int main(void) {
   printf("//! What gcc makes of the operations, printed by `vectors/words.c`.\n\n");
-  printf("use crate::word::Arithmetic;\n");
-  printf("use instruction_set::{Operation, Relation, SignExtension, Swap, SwapSize, Width};\n\n");
+  printf("use instruction_set::{Operation, Relation, SignExtension, Swap, SwapSize, Width};\nuse program_meaning::Arithmetic;\n\n");
   printf("/// The words of the destination and the source.\n");
   printf("pub const PAIRS: &[(u64, u64)] = &[\n");
   for (size_t i = 0; i < N; i++) printf("(0x%lx, 0x%lx),\n", pairs[i][0], pairs[i][1]);

@@ -1,7 +1,7 @@
 //! An excerpt of a text, as a message shows it.
 
-use super::*;
 use std::test::Fail;
+use text_lines::Excerpt;
 
 #[test]
 fn an_excerpt_is_shown(rt: HostRuntime) -> Result<(), Fail> {

@@ -1,7 +1,7 @@
 //! What gcc makes of the operations, printed by `vectors/words.c`.
 
-use crate::word::Arithmetic;
 use instruction_set::{Operation, Relation, SignExtension, Swap, SwapSize, Width};
+use program_meaning::Arithmetic;
 
 /// The words of the destination and the source.
 pub const PAIRS: &[(u64, u64)] = &[

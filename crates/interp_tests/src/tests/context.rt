@@ -1,6 +1,6 @@
 //! The context that a program is given, as worked out by hand.
 
-use crate::{BlockSize, Context};
+use program_interface::{BlockSize, Context};
 
 #[test]
 fn tells_a_program_of_its_block(rt: HostRuntime) {

@@ -2,8 +2,8 @@
 
 ghost use Rattle.std.specs.Prelude.{◌≡◌, ◌≤◌, ◌^◌, IfOk, length};
 
-use super::*;
 use std::test::Fail;
+use zone_resources::*;
 use zone_state::{Action, Status, Zone, ZoneState};
 
 const LIMITS: Limits = Limits {

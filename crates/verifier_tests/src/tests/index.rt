@@ -1,7 +1,7 @@
 //! An index into a block, as a filter reads it: a byte that a compare bounds, added to the block's address.
 
-use crate::Intervals;
 use instruction_set::{Operation, Relation, Size, Width};
+use interval_domain::Intervals;
 use program_interface::{Area, BlockSize};
 use program_meaning::Arithmetic;
 use word_domain::Domain;
