@@ -10,7 +10,7 @@ use command_words::{Argument, Takes, Words};
 use device_events::{Event, Reply};
 use image_store::{Geometry, Image, Limits};
 use interval_domain::Intervals;
-use nvme_entry::{Command, Completion, Entry, MOST_TRANSFER, Status};
+use nvme_entry::{Completion, Entry, MOST_TRANSFER, Status};
 use runner::Device;
 use std::alloc::{AllocError, Global};
 use std::io::{self, Write};
@@ -55,7 +55,10 @@ pub fn demo<'a, O: Write>(
         open_limit: 3,
         active_limit: 3,
     };
-    let geometry = Geometry::new(BLOCK, 4, 64, 64, limits).map_err(Failure::GeometryRefused)?;
+    let geometry = match Geometry::new(BLOCK, 4, 64, 64, limits) {
+        Ok(geometry) => geometry,
+        Err(refusal) => return Err(Failure::GeometryRefused(refusal)),
+    };
     let image = Image::empty(alloc, geometry)?;
     let mut device = Device::<Intervals>::new(alloc, image);
     let hex = matches.get_flag(HEX);
@@ -126,30 +129,32 @@ fn print_completion<O: Write>(
     if completion.status != Status::SUCCESS {
         return print_refusal(alloc, completion.status, out);
     }
-    match command_of(event) {
-        Some(command) => {
+    let Event::Submit {
+        entry: submitted,
+        ..
+    } = event
+    else {
+        return print_run(completion, out);
+    };
+    match Entry::decode(submitted) {
+        Ok(command) => {
             write!(out, "  ")?;
             print_answer(&completion, data, &command, out)
         }
-        None => {
-            let queue = completion.queue;
-            let cid = completion.cid;
-            let records = Counted(u64::from(completion.dw0), "record");
-            let blocks = Counted(u64::from(completion.dw1), "block");
-            writeln!(
-                out,
-                "  the last block; queue {queue}, command {cid}: {records} in {blocks}"
-            )
-        }
+        Err(status) => writeln!(out, "  {status}"),
     }
 }
 
-/// The command that an event submits, if it does.
-fn command_of(event: &Event) -> Option<Command> {
-    match event {
-        Event::Submit { entry, .. } => Entry::decode(entry).ok(),
-        Event::Turn { .. } | Event::Fault { .. } => None,
-    }
+/// Prints that a run has ended, by its completion.
+fn print_run<O: Write>(completion: Completion, out: &mut O) -> io::Result<()> {
+    let queue = completion.queue;
+    let cid = completion.cid;
+    let records = Counted(u64::from(completion.dw0), "record");
+    let blocks = Counted(u64::from(completion.dw1), "block");
+    writeln!(
+        out,
+        "  the last block; queue {queue}, command {cid}: {records} in {blocks}"
+    )
 }
 
 /// Prints why a command was refused, without the numbers of the status.
