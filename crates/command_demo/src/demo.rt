@@ -62,14 +62,25 @@ pub fn demo<'a, O: Write>(
     let image = Image::empty(alloc, geometry)?;
     let mut device = Device::<Intervals>::new(alloc, image);
     let hex = matches.get_flag(HEX);
-    let mut output = vec![in alloc; 0; MOST_TRANSFER]?;
     for event in &events(alloc)? {
-        let reply = device.apply(event, output.as_mut_slice());
-        printed(print_event(alloc, event, hex, out))?;
-        printed(print_reply(alloc, event, reply, output.as_slice(), hex, out))?;
+        show(alloc, &mut device, event, hex, out)?;
     }
     printed(writeln!(out))?;
     printed(print_zones(alloc, device.image(), out))
+}
+
+/// Does an event, and prints what is asked and what is answered.
+fn show<'a, O: Write>(
+    alloc: Global,
+    device: &mut Device<Intervals>,
+    event: &Event,
+    hex: bool,
+    out: &mut O,
+) -> Result<(), Failure<'a>> {
+    let mut output = vec![in alloc; 0; MOST_TRANSFER]?;
+    let reply = device.apply(event, output.as_mut_slice());
+    printed(print_event(alloc, event, hex, out))?;
+    printed(print_reply(alloc, event, reply, output.as_slice(), hex, out))
 }
 
 /// Prints what is asked of the device.
