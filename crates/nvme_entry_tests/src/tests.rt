@@ -25,9 +25,8 @@ fn entry_of(dwords: &[(usize, u32)]) -> [u8; 64] {
 fn check(rt: &impl Abort, dwords: &[(usize, u32)], command: Command)
     requires { program_length command ≤ MOST_TRANSFER }
 {
-    let entry = entry_of(dwords);
-    assert_eq!(rt; Entry::decode(&entry), Ok(command));
-    assert_eq!(rt; Entry::encode(command, 0xBEEF), entry);
+    assert_eq!(rt; Entry::decode(&entry_of(dwords)), Ok(command));
+    assert_eq!(rt; Entry::encode(command, 0xBEEF), entry_of(dwords));
 }
 
 #[test]
