@@ -22,21 +22,11 @@ fn entry_of(dwords: &[(usize, u32)]) -> [u8; 64] {
 }
 
 /// Asks that the command is the one of the entry with these dwords, whose identifier is BEEFh.
-fn check(rt: &impl Abort, dwords: &[(usize, u32)], command: Command)
-    requires { program_length command ≤ MOST_TRANSFER }
+fn check(rt: &impl Abort, dwords: &[(usize, u32)], command: &Command)
+    requires { program_length command.now ≤ MOST_TRANSFER }
 {
-    check_decoded(rt, dwords, command);
-    check_encoded(rt, dwords, command);
-}
-
-fn check_decoded(rt: &impl Abort, dwords: &[(usize, u32)], command: Command) {
-    assert_eq!(rt; Entry::decode(&entry_of(dwords)), Ok(command));
-}
-
-fn check_encoded(rt: &impl Abort, dwords: &[(usize, u32)], command: Command)
-    requires { program_length command ≤ MOST_TRANSFER }
-{
-    let made = Entry::encode(command, 0xBEEF);
+    assert_eq!(rt; Entry::decode(&entry_of(dwords)), Ok(*command));
+    let made = Entry::encode(*command, 0xBEEF);
     assert_eq!(rt; made, entry_of(dwords));
 }
 
@@ -47,14 +37,14 @@ fn commands_of_the_standards(rt: HostRuntime) -> Result<(), Fail> {
         blocks: BlockCount::from_zero_based(0x0102),
     };
     let dwords = [(0, 0xBEEF_0001), (1, 1), (10, 8), (11, 2), (12, 0x0102)];
-    check(&rt, &dwords, Command::Standard(write));
+    check(&rt, &dwords, &Command::Standard(write));
     let reset = StandardCommand::Send {
         lba: 9,
         action: Action::Reset,
         select_all: true,
     };
     let dwords = [(0, 0xBEEF_0079), (1, 1), (10, 9), (13, 0x0104)];
-    check(&rt, &dwords, Command::Standard(reset));
+    check(&rt, &dwords, &Command::Standard(reset));
     let report = StandardCommand::Receive {
         lba: 9,
         dwords: DwordCount::from_zero_based(32767).ok_or("the most dwords")?,
@@ -69,7 +59,7 @@ fn commands_of_the_standards(rt: HostRuntime) -> Result<(), Fail> {
         (12, 32767),
         (13, partial),
     ];
-    check(&rt, &dwords, Command::Standard(report));
+    check(&rt, &dwords, &Command::Standard(report));
     Ok(())
 }
 
@@ -93,16 +83,16 @@ fn commands_for_programs(rt: HostRuntime) -> Result<(), Fail> {
         (14, 16),
         (15, 2),
     ];
-    check(&rt, &dwords, Command::Run(run));
+    check(&rt, &dwords, &Command::Run(run));
     let load = LoadCommand {
         slot,
         limit: 66,
         bytes: 131_072,
     };
     let dwords = [(0, 0xBEEF_00C1), (1, 1), (10, 7), (11, 66), (12, 131_072)];
-    check(&rt, &dwords, Command::Load(load));
+    check(&rt, &dwords, &Command::Load(load));
     let dwords = [(0, 0xBEEF_00C2), (1, 1), (10, 7)];
-    check(&rt, &dwords, Command::Result(slot));
+    check(&rt, &dwords, &Command::Result(slot));
     Ok(())
 }
 
