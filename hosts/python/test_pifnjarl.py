@@ -27,7 +27,7 @@ import store
 
 
 def order(number: int, region: int, text: str) -> bytes:
-    """An order of README's example, in a block of its own."""
+    """An order of the first run, in a block of its own."""
     return (b"order %02d" % number + region.to_bytes(4, "little") + text.encode()).ljust(512)
 
 
@@ -280,7 +280,7 @@ class Frames(Over):
 
 
 class Pages(Over):
-    """What README.md and docs/embedding.md show."""
+    """What docs/first_run.md and docs/embedding.md show."""
 
     def run_block(self, block: str) -> str:
         """What a block of Python prints, in a folder with the orders and the filter."""
@@ -298,16 +298,16 @@ class Pages(Over):
 
     def test_the_blocks_of_python_print_what_stands_below_them(self) -> None:
         """Each block that imports pifnjarl is run."""
-        for page in ("README.md", "docs/embedding.md"):
+        for page in ("docs/first_run.md", "docs/embedding.md"):
             blocks = blocks_of((ROOT / page).read_text())
             for block, below in zip(blocks, blocks[1:]):
                 if block.startswith("import pifnjarl"):
                     self.assertEqual(self.run_block(block), below, page)
 
     def test_python_has_the_replies_of_the_example(self) -> None:
-        """As README's shell has them: the lines that `explain` prints, and the records."""
+        """As the first run has them in a shell: the lines that `explain` prints, and the records."""
         device = self.device()
-        shown = (ROOT / "README.md").read_text()
+        shown = (ROOT / "docs/first_run.md").read_text()
         self.assertIn(f"the first is at LBA {device.append(0, ORDERS)}\n", shown)
         device.open(64)
         device.load(0, self.filter(), emit=66)

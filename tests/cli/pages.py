@@ -8,7 +8,7 @@ after `> `, and what they print. All examples of a page are one transcript, FOLD
 finds at the root of the repository, whose path is the variable ROOT: `examples`, `hosts` and `zscli`. cram prints the status of a
 command that fails: a page shows it by `|| echo status $?`.
 
-A page without an example gives no transcript. Neither does one whose tools are missing, other than README.md: a line says so.
+A page without an example gives no transcript. Neither does one whose tools are missing, other than first_run.md: a line says so.
 """
 
 import re
@@ -70,7 +70,7 @@ def main(folder: Path, pages: List[Path]) -> None:
     for page in pages:
         blocks = examples(page.read_text(encoding="utf-8"))
         missing = [tool for tool in tools(blocks) if shutil.which(tool) is None]
-        if missing and page.name != "README.md":
+        if missing and page.name != "first_run.md":
             print(f"{page}: not run, since there is no {' and no '.join(missing)}")
         elif blocks:
             (folder / f"{page.name}.t").write_text(transcript(blocks), encoding="utf-8")

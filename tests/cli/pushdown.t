@@ -1,4 +1,4 @@
-A pushdown, byte for byte: the example of the README, with the bytes of its program, and the same of lines as they come.
+A pushdown, byte for byte: the example of docs/first_run.md, with the bytes of its program, and the same of lines as they come.
 
 Four orders, each at the start of a block of 512 bytes: a name, a region in 4 bytes, and a text.
 

@@ -28,10 +28,10 @@ class Pages(unittest.TestCase):
     def test_a_page_whose_tools_are_missing_is_named(self) -> None:
         with TemporaryDirectory() as name, mock.patch("shutil.which", return_value=None), mock.patch("builtins.print") as told:
             folder = Path(name)
-            for page in ("README.md", "a.md"):
+            for page in ("first_run.md", "a.md"):
                 (folder / page).write_text("    $ make\n")
-            pages.main(folder, [folder / "README.md", folder / "a.md"])
-            self.assertEqual(sorted(file.name for file in folder.glob("*.t")), ["README.md.t"])
+            pages.main(folder, [folder / "first_run.md", folder / "a.md"])
+            self.assertEqual(sorted(file.name for file in folder.glob("*.t")), ["first_run.md.t"])
             told.assert_called_once_with(f"{folder / 'a.md'}: not run, since there is no clang and no make")
 
 
