@@ -8,18 +8,18 @@ program=loads
 . "$here/dpdk.sh"
 "$work/dpdk" write "$work"
 head -c 4096 /dev/zero >"$work/block.bin"
-loads=$here/../crates/bench_loads/out/bench_loads
+programs=$here/../crates/bench_programs/out/bench_programs
 rounds=10
 repeats=20
 # builds the program where it has to
-(cd "$here/../crates/bench_loads" && rt run -- "$work/straight-1000.bin" "$work/block.bin" 0 0 >/dev/null)
+(cd "$here/../crates/bench_programs" && rt run -- "$work/straight-1000.bin" "$work/block.bin" 0 0 loads >/dev/null)
 for name in straight-1000 straight-4000 branchy-1000 branchy-4000 spilling-4000; do
     wanted=$("$work/dpdk" time $name 1 1 | sed -n 1p)
-    if [ "$wanted" != "$("$loads" "$work/$name.bin" "$work/block.bin" 0 0 | sed -n 1p)" ]; then
+    if [ "$wanted" != "$("$programs" "$work/$name.bin" "$work/block.bin" 0 0 loads | sed -n 1p)" ]; then
         echo "$name: what is printed differs" >&2
         exit 1
     fi
-    ours=$(least 2 "$loads" "$work/$name.bin" "$work/block.bin" $rounds $repeats)
+    ours=$(least 2 "$programs" "$work/$name.bin" "$work/block.bin" $rounds $repeats loads)
     theirs=$(least 2 "$work/dpdk" time $name $rounds $repeats)
     echo "$name: $ours ns, DPDK $theirs ns, ratio $(awk "BEGIN { printf \"%.2f\", $ours / $theirs }")"
 done

@@ -12,9 +12,8 @@ program=runs
 . "$here/dpdk.sh"
 "$work/dpdk" write "$work"
 . "$here/best.sh"
-bench=$here/../crates/bench_runs/out/bench_runs
-# builds the program where it has to
-(cd "$here/../crates/bench_runs" && rt run -- "$work/filter.bin") > "$work/completion"
+. "$here/device.sh"
+"$bench" "$work/filter.bin" > "$work/completion"
 matches=$("$work/dpdk" time 4096 1 1 | sed -n 1p)
 if [ "$(sed 's/ .*//' "$work/completion")" != "${matches% *}" ]; then
     echo "what is printed differs" >&2

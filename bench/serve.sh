@@ -53,9 +53,8 @@ drained() {
     cp "$work/empty.img" "$work/zoned.img"
     "$work/serve" turns "$work/filter.bin" 4096 "$zscli" serve "$work/zoned.img" --frames --drain
 }
-bench=$here/../crates/bench_runs/out/bench_runs
-# builds the program where it has to
-(cd "$here/../crates/bench_runs" && rt run -- "$work/filter.bin") > "$work/alone"
+. "$here/device.sh"
+"$bench" "$work/filter.bin" > "$work/alone"
 if [ "$(cat "$work/alone")" != "$(drained | sed -n 1p)" ]; then
     echo "what the runs come to differs" >&2
     exit 1

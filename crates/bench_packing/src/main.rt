@@ -5,7 +5,6 @@ ghost use Rattle.std.specs.Prelude.{◌≡◌, ◌≤◌, ◌<◌, length, IfOk}
 
 mod packing;
 
-use bench_common::percent;
 use packing::{BLOCK, copy_all, copy_groups, pack_groups};
 use std::alloc::Global;
 use std::time::Instant;
@@ -97,4 +96,9 @@ fn measure(
 
 fn nanos_since(rt: &HostRuntime, start: Instant) -> io::Result<u128> {
     Ok(start.elapsed(rt)?.as_nanos())
+}
+
+/// The rate of what took the second time, as a part of the rate of what took the first, in percent.
+fn percent(first: u128, second: u128) -> u128 {
+    first.saturating_mul(100) / second.max(1)
 }

@@ -1,13 +1,17 @@
 //! Loads a program and runs it over a block. Prints R0, the number of steps, the length of the group and its frames, and,
-//! after some rounds, the least time of a block run in picoseconds.
+//! after some rounds, the least time of a block run in picoseconds. Or only loads it, and prints the number of instructions and the
+//! least time of a load in nanoseconds.
 //!
-//! bench_programs PROGRAM BLOCK ROUNDS REPEATS FORM, which is `checked` or `prepared`
+//! bench_programs PROGRAM BLOCK ROUNDS REPEATS FORM, which is `checked`, `prepared` or `loads`
 #![tactic(auto)]
 
+mod asked;
+mod loads;
 mod runs;
 
-use bench_common::{load, read_words};
+use asked::{Asked, read_words};
 use interval_domain::Intervals;
+use loads::load;
 use program_interface::{CONTEXT_BYTES, LARGEST_BLOCK, RunSizes, SCRATCH_BYTES};
 use runs::{Form, repeat, run};
 use std::rt::Clock;
@@ -16,27 +20,17 @@ use std::{env, io};
 use verified_run::{Prepared, Stack};
 use verifier::Verified;
 
-/// The form that a word names.
-fn form_of(word: &str) -> io::Result<Form> {
-    match word {
-        "checked" => Ok(Form::Checked),
-        "prepared" => Ok(Form::Prepared),
-        _ => Err(io::Error::other("the form is checked or prepared")),
-    }
-}
-
 /// The nanoseconds of some block runs.
 fn round(
     rt: &impl Clock,
     program: &Prepared<Verified<Intervals>>,
     form: Form,
-    block: &[u8],
-    repeats: u32,
+    asked: &Asked,
     scratch: &mut [u8; SCRATCH_BYTES],
     group: &mut [u8; LARGEST_BLOCK],
 ) -> io::Result<u128> {
     let start = Instant::now(rt)?;
-    let done = repeat(program, form, block, repeats, scratch, group);
+    let done = repeat(program, form, &asked.block, asked.repeats, scratch, group);
     let spent = start.elapsed(rt)?.as_nanos();
     if !done {
         return Err(io::Error::other("a block run was not done"));
@@ -44,12 +38,8 @@ fn round(
     Ok(spent)
 }
 
-fn main(rt: HostRuntime) -> io::Result<()> {
-    let mut args = env::args(&rt)?;
-    args.next();
-    let asked = read_words(&rt, &mut args)?;
-    let form = form_of(&args.next().ok_or(io::Error::other("no form"))?)?;
-    let block = asked.block.as_slice();
+/// Runs the program in a form, and prints what it leaves and what a block run takes.
+fn time_runs(rt: &HostRuntime, asked: &Asked, form: Form) -> io::Result<()> {
     let Some(sizes) = RunSizes::new(asked.size, asked.size.bytes()) else {
         return Err(io::Error::other("the limit is more than a block"));
     };
@@ -57,13 +47,14 @@ fn main(rt: HostRuntime) -> io::Result<()> {
     let context = [0; CONTEXT_BYTES];
     let mut scratch = [0; SCRATCH_BYTES];
     let mut group = [0; LARGEST_BLOCK];
+    let stack = &mut Stack::new();
     let Some(exit) = run(
         &program,
         form,
-        block,
+        &asked.block,
         &context,
         &mut scratch,
-        &mut Stack::new(),
+        stack,
         &mut group,
     ) else {
         return Err(io::Error::other("a block run was not done"));
@@ -74,21 +65,42 @@ fn main(rt: HostRuntime) -> io::Result<()> {
     )?;
     let mut least = u128::MAX;
     for _ in 0..asked.rounds {
-        least = least.min(round(
-            &rt,
-            &program,
-            form,
-            block,
-            asked.repeats,
-            &mut scratch,
-            &mut group,
-        )?);
+        least = least.min(round(rt, &program, form, asked, &mut scratch, &mut group)?);
     }
-    if asked.rounds > 0 && asked.repeats > 0 {
-        println!(rt;
-            "{} ps",
-            least.saturating_mul(1000) / u128::from(asked.repeats)
-        )?;
+    print_least(rt, asked, least.saturating_mul(1000), "ps")
+}
+
+/// Loads the program, and prints its instructions and what a load takes.
+fn time_loads(rt: &HostRuntime, asked: &Asked) -> io::Result<()> {
+    let Some(sizes) = RunSizes::new(asked.size, 0) else {
+        return Err(io::Error::other("a limit of 0 bytes was refused"));
+    };
+    let verified = load(rt.alloc(), &asked.program, sizes)?;
+    println!(rt; "accepted {}", verified.program().instruction_count())?;
+    let mut least = u128::MAX;
+    for _ in 0..asked.rounds {
+        least = least.min(loads::round(rt, asked)?);
     }
-    Ok(())
+    print_least(rt, asked, least, "ns")
+}
+
+/// Prints the least time of a round, for each of its repeats, where there were any.
+fn print_least(rt: &HostRuntime, asked: &Asked, least: u128, unit: &str) -> io::Result<()> {
+    if asked.rounds == 0 || asked.repeats == 0 {
+        return Ok(());
+    }
+    println!(rt; "{} {unit}", least / u128::from(asked.repeats))
+}
+
+fn main(rt: HostRuntime) -> io::Result<()> {
+    let mut args = env::args(&rt)?;
+    args.next();
+    let asked = read_words(&rt, &mut args)?;
+    let form = args.next().ok_or(io::Error::other("no form"))?;
+    match form.as_str() {
+        "checked" => time_runs(&rt, &asked, Form::Checked),
+        "prepared" => time_runs(&rt, &asked, Form::Prepared),
+        "loads" => time_loads(&rt, &asked),
+        _ => Err(io::Error::other("the form is checked, prepared or loads")),
+    }
 }

@@ -1,21 +1,14 @@
-//! What the programs that `bench/` times share: the words that some are given, the load of a program, and the comparison of
-//! two times.
-#![tactic(auto)]
+//! What is asked for: a program, a block and how often.
 
-use ebpf_decode::decode;
-use interval_domain::Intervals;
-use program_interface::{BlockSize, RunSizes};
+use program_interface::BlockSize;
 use std::alloc::Global;
 use std::env::Args;
-use std::fmt::Display;
-use std::fs;
-use std::io::{self, ErrorKind};
 use std::rt::Files;
-use verifier::{Verified, verify};
+use std::{fs, io};
 
 /// What is timed: a program over a block, so often in each of some rounds.
 #[derive(Drop)]
-pub struct Timed {
+pub struct Asked {
     /// The bytes of the program.
     pub program: Vec<u8>,
     /// The block.
@@ -28,20 +21,12 @@ pub struct Timed {
     pub repeats: u32,
 }
 
-/// The error that tells a fault in its own words.
-pub fn told<D: Display + Drop>(alloc: Global, fault: D) -> io::Error {
-    match format!(in alloc; "{fault}") {
-        Ok(words) => io::Error::other(words.as_str()),
-        Err(_) => io::Error::from(ErrorKind::OutOfMemory),
-    }
-}
-
 /// The number that a word spells in decimal.
 ///
 /// # Errors
 ///
 /// The word spells none of 32 bits, or memory is wanting.
-pub fn number(alloc: Global, word: &str) -> io::Result<u32> {
+fn number(alloc: Global, word: &str) -> io::Result<u32> {
     match word.parse::<u32>() {
         Ok(number) => Ok(number),
         Err(_) => {
@@ -51,13 +36,13 @@ pub fn number(alloc: Global, word: &str) -> io::Result<u32> {
     }
 }
 
-/// Reads what the words PROGRAM BLOCK ROUNDS REPEATS say, and the two files.
+/// Reads what the words `PROGRAM BLOCK ROUNDS REPEATS` say, and the two files.
 ///
 /// # Errors
 ///
 /// A word lacks, or is no number where one is due; a file can't be read; no block has the second one's length; or memory is
 /// wanting.
-pub fn read_words<R: Files + AllocGlobal>(rt: &R, words: &mut Args) -> io::Result<Timed> {
+pub fn read_words<R: Files + AllocGlobal>(rt: &R, words: &mut Args) -> io::Result<Asked> {
     let program = words.next().ok_or(io::Error::other("no program"))?;
     let file = words.next().ok_or(io::Error::other("no block"))?;
     let rounds = words.next().ok_or(io::Error::other("no rounds"))?;
@@ -67,7 +52,7 @@ pub fn read_words<R: Files + AllocGlobal>(rt: &R, words: &mut Args) -> io::Resul
     let program = fs::read(rt, &program)?;
     let block = fs::read(rt, &file)?;
     let size = size_as_block(rt.alloc(), &file, block.len())?;
-    Ok(Timed {
+    Ok(Asked {
         program,
         block,
         size,
@@ -87,25 +72,4 @@ fn size_as_block(alloc: Global, file: &str, bytes: usize) -> io::Result<BlockSiz
             Err(io::Error::other(words.as_str()))
         }
     }
-}
-
-/// Decodes and verifies a program for runs of these sizes.
-///
-/// # Errors
-///
-/// The bytes are no program, or it is refused, or memory is wanting.
-pub fn load(alloc: Global, bytes: &[u8], sizes: RunSizes) -> io::Result<Verified<Intervals>> {
-    let program = match decode(alloc, bytes) {
-        Ok(program) => program,
-        Err(fault) => return Err(told(alloc, fault)),
-    };
-    match verify::<Intervals>(alloc, program, sizes) {
-        Ok(verified) => Ok(verified),
-        Err(fault) => Err(told(alloc, fault)),
-    }
-}
-
-/// The rate of what took the second time, as a part of the rate of what took the first, in percent.
-pub fn percent(first: u128, second: u128) -> u128 {
-    first.saturating_mul(100) / second.max(1)
 }
