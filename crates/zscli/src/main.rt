@@ -3,8 +3,6 @@
 
 mod commands;
 mod entries_block;
-#[cfg(test)]
-mod tests;
 
 use command_files::{Disk, Failure, conclude};
 use commands::{command, ended};

@@ -1,0 +1,75 @@
+/* A library that is loaded before the C library (LD_PRELOAD): calls of a program fail where the transcripts ask for it.
+
+     FAILING_OUTPUT   standard output takes so many writes, and then fails with EIO
+     FAILING_ROOM     no file grows over so many bytes: a write beyond them fails with ENOSPC
+     FAILING_READS    of a file so many bytes can be read, and then reading fails with EIO */
+#define _GNU_SOURCE
+#include <errno.h>
+#include <fcntl.h>
+#include <stdbool.h>
+#include <stdlib.h>
+#include <sys/stat.h>
+#include <sys/syscall.h>
+#include <unistd.h>
+
+static off_t outputs = -1, room = -1, readable = -1; /* -1: no bound */
+
+static off_t bound(const char *variable)
+{
+    const char *text = getenv(variable);
+    return text == NULL ? -1 : (off_t)strtol(text, NULL, 10);
+}
+
+__attribute__((constructor)) static void begin(void)
+{
+    outputs = bound("FAILING_OUTPUT");
+    room = bound("FAILING_ROOM");
+    readable = bound("FAILING_READS");
+}
+
+static bool is_file(int descriptor)
+{
+    struct stat about;
+    return fstat(descriptor, &about) == 0 && S_ISREG(about.st_mode);
+}
+
+/* Where the next read or write of a descriptor begins. */
+static off_t place(int descriptor)
+{
+    bool appends = (fcntl(descriptor, F_GETFL) & O_APPEND) != 0;
+    return lseek(descriptor, 0, appends ? SEEK_END : SEEK_CUR);
+}
+
+/* How many of so many bytes from an offset on are within a bound; where none is, the call fails with an error. */
+static ssize_t within(off_t bound, off_t at, size_t count, int error)
+{
+    if (at + (off_t)count <= bound)
+        return (ssize_t)count;
+    if (at < bound)
+        return bound - at;
+    errno = error;
+    return -1;
+}
+
+ssize_t write(int descriptor, const void *bytes, size_t count)
+{
+    if (descriptor == STDOUT_FILENO && outputs >= 0 && outputs-- == 0) {
+        outputs = 0;
+        errno = EIO;
+        return -1;
+    }
+    if (descriptor > STDERR_FILENO && room >= 0 && count > 0 && is_file(descriptor)) {
+        ssize_t fits = within(room, place(descriptor), count, ENOSPC);
+        return fits < 0 ? fits : syscall(SYS_write, descriptor, bytes, fits);
+    }
+    return syscall(SYS_write, descriptor, bytes, count);
+}
+
+ssize_t read(int descriptor, void *bytes, size_t count)
+{
+    if (descriptor > STDERR_FILENO && readable >= 0 && is_file(descriptor)) {
+        ssize_t fits = within(readable, place(descriptor), count, EIO);
+        return fits < 0 ? fits : syscall(SYS_read, descriptor, bytes, fits);
+    }
+    return syscall(SYS_read, descriptor, bytes, count);
+}

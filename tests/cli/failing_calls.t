@@ -1,0 +1,148 @@
+Calls of the system that fail at a chosen place. `failing NAME=NUMBER` runs a command with a library loaded before the C library:
+standard output takes OUTPUT writes, no file grows over ROOM bytes, of a file READS bytes can be read.
+
+  $ failing() {
+  >   bound=$1
+  >   shift
+  >   env LD_PRELOAD="$FAILING" "FAILING_$bound" "$@"
+  > }
+  $ format() {
+  >   zscli format "$@" --block 512 --zones 4 --size 8 --capacity 6 --open 2 --active 3
+  > }
+
+An image with three blocks in zone 0, which is Closed, and with zone 1 open. A run of three turns fills a block of zone 1 at each.
+
+  $ format three
+  $ head -c 1536 /dev/zero > data
+  $ zscli entry append --lba 0 --data data --block 512 > events
+  $ zscli entry close --lba 0 >> events
+  $ zscli entry open --lba 8 >> events
+  $ zscli exec three events > out
+  $ printf 'mov r1, r2\nmov r2, 510\ncall 1\nmov r0, 0\nexit\n' > text
+  $ zscli asm text copying
+  $ zscli entry load --slot 0 --program copying --emit 512 --cid 1 > events
+  $ zscli entry run --slot 0 --from 0 --blocks 3 --to 8 --cid 2 >> events
+
+The Load and the Run are answered by a line each, and then the turns are given. The turn is done whose line isn't printed, and none
+after it.
+
+  $ for outputs in 0 2 3; do
+  >   cp three image
+  >   failing OUTPUT=$outputs zscli exec image events
+  >   zscli zones image
+  > done
+  cannot write -
+  0 closed 3
+  1 explicit 0
+  2 empty 0
+  3 empty 0
+  cpl 1 00000000000000000000010001000000
+  pending 0
+  cannot write -
+  0 closed 3
+  1 explicit 0
+  2 empty 0
+  3 empty 0
+  cpl 1 00000000000000000000010001000000
+  pending 0
+  pending 0
+  cannot write -
+  0 closed 3
+  1 explicit 1
+  2 empty 0
+  3 empty 0
+  $ cp three image
+  $ failing OUTPUT=4 zscli exec image events > out
+  cannot write -
+  [1]
+  $ zscli zones image
+  0 closed 3
+  1 explicit 3
+  2 empty 0
+  3 empty 0
+  $ cp three image
+  $ failing OUTPUT=5 zscli exec image events > out
+  $ zscli zones image
+  0 closed 3
+  1 explicit 3
+  2 empty 0
+  3 empty 0
+
+A failing output is said before refused commands are. A report ends at the zone that isn't printed.
+
+  $ format image
+  $ echo 'turn 0' > events
+  $ zscli entry read --lba 64 --blocks 1 >> events
+  $ failing OUTPUT=1 zscli exec image events --fail
+  idle
+  cannot write -
+  [1]
+  $ failing OUTPUT=2 zscli exec image events --fail > out
+  events, line 2: the first command that was refused
+  commands refused 1
+  [4]
+  $ failing OUTPUT=4 zscli report image > out
+  cannot write -
+  [1]
+
+An image that can't be read to its end stays as it was.
+
+  $ format image
+  $ echo 'fault 0 offline' > events
+  $ failing READS=40 zscli exec image events
+  cannot read image
+  [1]
+  $ failing READS=40 zscli zones image
+  cannot read image
+  [1]
+  $ zscli zones image
+  0 empty 0
+  1 empty 0
+  2 empty 0
+  3 empty 0
+
+Where a new image has no room, the old one stays, also where standard output fails first. Nothing is left beside it.
+
+  $ failing ROOM=80 zscli exec image events
+  done
+  image: no room is left
+  cannot write image
+  [1]
+  $ failing ROOM=80 env FAILING_OUTPUT=0 zscli exec image events
+  image: no room is left
+  cannot write image
+  [1]
+  $ failing ROOM=90 zscli serve image < events
+  done
+  image: no room is left
+  cannot write image
+  [1]
+  $ printf '\003\002\0\0\003\0\0\0\0\0\0\0\0\0\0\0' > frames
+  $ failing ROOM=90 zscli serve image --frames < frames > out
+  image: no room is left
+  cannot write image
+  [1]
+  $ zscli zones image
+  0 empty 0
+  1 empty 0
+  2 empty 0
+  3 empty 0
+  $ zscli disasm copying > listing
+  $ failing ROOM=15 zscli asm listing made
+  made: no room is left
+  cannot write made
+  [1]
+  $ echo 'turn 0' > work
+  $ failing ROOM=15 zscli entry result --slot 0 --into work
+  work: no room is left
+  cannot write work
+  [1]
+
+Where no event changes anything the image isn't written, and needs no room.
+
+  $ printf 'fault 4 offline\nturn 0' > events
+  $ failing ROOM=0 zscli exec image events
+  refused
+  idle
+  $ ls image*
+  image
