@@ -1,9 +1,0 @@
-use Rattle.std.proofs.Common.{◌∙◌, sym, subst, ℕ}
-use Rattle.stored_file.specs.Unsynced.{LeftSince}
-use Rattle.durable_device_tests.proofs.devices.opened.Goals as goal
-
-pub open-requires : goal.open-requires
-open-requires c =
-    let file = c.in_ok-new.field-0 in
-    let unchanged = c.in_ok-new.ensures in
-    record { restarted = λ x left. unchanged.2 x (subst (λ (n : ℕ). LeftSince file.first.items file.changes.items n x) unchanged.1 left) ∙ sym unchanged.0 }
