@@ -91,3 +91,30 @@ The size of a block is the line's own, or else that of an image, or that of `--b
   $ printf 'append --lba 8 --data data --block 4096\n' > words
   $ head -n 1 made > first
   $ zscli entries words --block 512 | cmp - first
+
+Each kind of entry has the words that `zscli entry` has for it.
+
+  $ head -c 512 /dev/zero > data
+  $ head -c 16 /dev/zero > program
+  $ cat > words <<'END'
+  > append --lba 1 --data data
+  > write --lba 2 --data data
+  > read --lba 3 --blocks 4
+  > open --lba 5
+  > close --lba 6
+  > finish --all
+  > reset --lba 7
+  > offline --lba 8
+  > report --lba 9 --state full --partial --dwords 48
+  > load --slot 1 --program program --emit 66
+  > run --slot 1 --from 10 --blocks 11 --to 12 --argument 13
+  > result --slot 2
+  > END
+  $ cid=0
+  $ while read -r line; do
+  >   cid=$((cid + 1))
+  >   zscli entry $line --cid $cid
+  > done < words > made
+  $ zscli entries words | cmp - made
+  $ wc -l < made
+  12
