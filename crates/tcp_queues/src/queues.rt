@@ -86,6 +86,14 @@ impl Queues {
         self.places[number].sent(count);
     }
 
+    /// Has a host this connection?
+    pub fn is_open(&self, number: usize) -> bool
+        requires { number < MOST_CONNECTIONS }
+        ensures { result ≡ (place_at number self.now).is_open }
+    {
+        self.places[number].is_open()
+    }
+
     /// Has a connection ended? Then it is to be closed once all is sent.
     pub fn is_ended(&self, number: usize) -> bool
         requires { number < MOST_CONNECTIONS }
