@@ -1,3 +1,4 @@
+mod Names
 mod Parts
 mod Tables
 mod Whole

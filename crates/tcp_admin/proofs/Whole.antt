@@ -55,12 +55,15 @@ identity_apart id s is = (
                                   (
                                     omega arith,
                                     (
-                                      omega (arith, is.name),
+                                      omega arith,
                                       (
-                                        omega arith,
+                                        omega (arith, is.name),
                                         (
                                           omega arith,
-                                          omega arith,
+                                          (
+                                            omega arith,
+                                            omega arith,
+                                          ),
                                         ),
                                       ),
                                     ),
@@ -86,7 +89,7 @@ identity_apart id s is = (
 structure_apart : (structure : Structure) (nsid id : ℕ) (s : Subsystem) (n : NamespaceFormat) → IsSubsystem s
     → AreApart 0 (structure_fields structure nsid id s n) 4096
 structure_apart Namespace nsid id s n is =
-    (omega arith, (omega arith, (omega arith, (omega arith, (omega (arith, is.nguid), omega arith)))))
+    (omega arith, (omega arith, (omega arith, (omega arith, (omega arith, (omega (arith, is.nguid), omega arith))))))
 structure_apart Controller nsid id s n is = identity_apart id s is
 structure_apart NamespaceList nsid id s n is = list_apart (nsid == 0)
 structure_apart (NamespaceListOf csi) nsid id s n is = list_apart (nsid == 0 && csi == zoned)

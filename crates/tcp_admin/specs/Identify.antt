@@ -27,9 +27,10 @@ zoned = 2
 abbrev pub name_fields : Subsystem → List Field
 name_fields s = bytes_at 4 s.serial_number ∷ bytes_at 24 s.model ∷ bytes_at 64 s.firmware ∷ []
 
--- MDTS, 2 ^ 5 times the 4096 bytes that CAP.MPSMIN tells; CNTLID; VER; CNTRLTYPE, an I/O controller
+-- CMIC, the subsystem may have several controllers (bit 1); MDTS, 2 ^ 5 times the 4096 bytes that CAP.MPSMIN gives; CNTLID; VER;
+-- CNTRLTYPE, an I/O controller
 abbrev pub controller_fields : ℕ → List Field
-controller_fields id = byte_at 77 5 ∷ number_at 78 2 id ∷ number_at 80 4 version ∷ byte_at 111 1 ∷ []
+controller_fields id = byte_at 76 2 ∷ byte_at 77 5 ∷ number_at 78 2 id ∷ number_at 80 4 version ∷ byte_at 111 1 ∷ []
 
 -- ACL and AERL, zero-based, four of each; FRMW, one slot, which is read only; LPA, the effects log (bit 1); KAS, in 100 ms
 abbrev pub admin_fields : List Field
@@ -49,11 +50,13 @@ identity_fields id s = name_fields s ++ controller_fields id ++ admin_fields ++ 
 
 -- ---- the namespace (NVMe Base 2.0, 5.17.2.2 and 5.17.2.4)
 
--- NSZE, NCAP and NUSE: all blocks; NGUID; LBADS of LBA format 0. NLBAF and FLBAS are 0: that is the only format
+-- NSZE, NCAP and NUSE: all blocks; NMIC, several controllers may have the namespace (bit 0); NGUID; LBADS of LBA format 0. NLBAF and FLBAS
+-- are 0: that is the only format
+abbrev pub size_fields : NamespaceFormat → List Field
+size_fields n = number_at 0 8 n.blocks ∷ number_at 8 8 n.blocks ∷ number_at 16 8 n.blocks ∷ []
+
 abbrev pub namespace_fields : Subsystem → NamespaceFormat → List Field
-namespace_fields s n =
-    number_at 0 8 n.blocks ∷ number_at 8 8 n.blocks ∷ number_at 16 8 n.blocks ∷ bytes_at 104 s.nguid ∷ byte_at 130 n.block_size_log2
-    ∷ []
+namespace_fields s n = size_fields n ++ byte_at 30 1 ∷ bytes_at 104 s.nguid ∷ byte_at 130 n.block_size_log2 ∷ []
 
 -- Namespace Identification Descriptors, NIDT, NIDL and from the fifth byte on NID: NGUID (02h, 16 bytes) and CSI (04h, one byte)
 abbrev pub descriptor_fields : Subsystem → List Field

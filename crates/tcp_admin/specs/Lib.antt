@@ -2,6 +2,7 @@ pub mod Pages
 pub mod Transfers
 pub mod Properties
 pub mod Identify
+pub mod Identity
 pub mod Logs
 pub mod Features
 pub mod Answers

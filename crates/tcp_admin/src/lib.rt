@@ -8,6 +8,7 @@ mod controller;
 mod features;
 mod fields;
 mod identify;
+mod identity;
 mod laws;
 mod logs;
 mod pages;

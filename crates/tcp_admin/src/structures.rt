@@ -1,7 +1,7 @@
 //! The data structures of Identify, byte by byte.
 
 ghost use Rattle.std.specs.Prelude.{◌≡◌, ◌-◌, [], length};
-ghost use Rattle.tcp_admin.specs.Identify.{admin_fields, command_sets_fields, controller_fields, descriptor_fields, fabrics_fields, identity_fields, list_fields, name_fields, namespace_fields, queue_fields, zoned_controller_fields, zoned_fields};
+ghost use Rattle.tcp_admin.specs.Identify.{admin_fields, command_sets_fields, controller_fields, descriptor_fields, fabrics_fields, identity_fields, list_fields, name_fields, namespace_fields, queue_fields, size_fields, zoned_controller_fields, zoned_fields};
 ghost use Rattle.tcp_admin.specs.Pages.{laid, page};
 
 use crate::admin::MOST_ADMIN_DATA;
@@ -11,6 +11,12 @@ use crate::subsystem::{NamespaceFormat, Subsystem};
 
 /// A data structure of Identify.
 pub(crate) type Page = [u8; MOST_ADMIN_DATA];
+
+/// CMIC: the subsystem may have several controllers.
+const SEVERAL_CONTROLLERS: u8 = 2;
+
+/// NMIC: several controllers may have the namespace.
+const SHARED: u8 = 1;
 
 /// MDTS and ZASL: a command moves at most 2 ^ 5 times 4096 bytes.
 const MOST_TRANSFER: u8 = 5;
@@ -41,11 +47,12 @@ fn put_names(page: &mut [u8], subsystem: &Subsystem)
     put(page, 64, &subsystem.firmware);
 }
 
-/// MDTS, CNTLID, VER and CNTRLTYPE.
+/// CMIC, MDTS, CNTLID, VER and CNTRLTYPE.
 fn put_controller(page: &mut [u8], id: u16)
     requires { length page.old ≡ MOST_ADMIN_DATA }
     ensures { page.new ≡ laid (controller_fields id) page.old }
 {
+    put(page, 76, &[SEVERAL_CONTROLLERS]);
     put(page, 77, &[MOST_TRANSFER]);
     put_u16(page, 78, id);
     put_u32(page, 80, VERSION);
@@ -87,17 +94,26 @@ fn put_fabrics(page: &mut [u8], subsystem: &Subsystem)
     put(page, 1803, &[1]);
 }
 
-/// Identify Namespace (NVMe Base 2.0, 5.17.2.2): NSZE, NCAP, NUSE, NGUID, and LBADS of LBA format 0.
+/// Identify Namespace (NVMe Base 2.0, 5.17.2.2): NSZE, NCAP, NUSE, NMIC, NGUID, and LBADS of LBA format 0.
 pub(crate) fn namespace(subsystem: &Subsystem, format: &NamespaceFormat) -> Page
     ensures { result ≡ page MOST_ADMIN_DATA (namespace_fields subsystem.now format.now) }
 {
     let mut page = zero_page();
-    put_u64(&mut page, 0, format.blocks);
-    put_u64(&mut page, 8, format.blocks);
-    put_u64(&mut page, 16, format.blocks);
+    put_sizes(&mut page, format);
+    put(&mut page, 30, &[SHARED]);
     put(&mut page, 104, &subsystem.nguid);
     put(&mut page, 130, &[format.block_size_log2]);
     page
+}
+
+/// NSZE, NCAP and NUSE.
+fn put_sizes(page: &mut [u8], format: &NamespaceFormat)
+    requires { length page.old ≡ MOST_ADMIN_DATA }
+    ensures { page.new ≡ laid (size_fields format.now) page.old }
+{
+    put_u64(page, 0, format.blocks);
+    put_u64(page, 8, format.blocks);
+    put_u64(page, 16, format.blocks);
 }
 
 /// Namespace Identification Descriptors (NVMe Base 2.0, 5.17.2.4): NGUID, and CSI.
