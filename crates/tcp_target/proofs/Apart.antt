@@ -1,6 +1,5 @@
 -- Each queue has a connection of its own, in every state of a target.
-use Rattle.std.proofs.Common.{◌≡◌, ℕ, ◌-◌, ◌==◌, Bool, true, false, cond, zero, suc, List, replicate, Option, None, Some, Result, Ok, Err, refl}
-use Rattle.std.specs.Prelude.{slice_index_or}
+use Rattle.std.proofs.Common.{◌≡◌, ℕ, ◌==◌, true, false, cond, zero, suc, List, replicate, Option, None, Some, Result, Ok, Err, refl, subst, sym}
 use Rattle.tcp_capsules.specs.Direction.{identifier_of}
 use Rattle.tcp_connection.specs.declared.queue.Outcome.{Outcome}
 use Rattle.tcp_admin.specs.declared.answer.Answer.{Answer}
@@ -13,15 +12,17 @@ use Rattle.tcp_connect.specs.declared.request.ConnectRequest.{ConnectRequest}
 use Rattle.tcp_connect.specs.Request.{request_in}
 use Rattle.tcp_associations.specs.declared.role.Role.{Role}
 use Rattle.tcp_associations.specs.declared.role.Role.TheVariants.{Unconnected, Admin, Io, Ended}
-use Rattle.tcp_associations.specs.Associations.{ended, no_associations, role_at}
+use Rattle.tcp_associations.specs.Associations.{no_associations, role_at}
 use Rattle.tcp_places.specs.Places.{ready_at}
 use Rattle.tcp_queues.specs.Commands.{connect_answer_at, connect_data_at, connected}
-use Rattle.tcp_queues.specs.Queues.{QueuesState, free_number, opened_at, place_at, received_at}
+use Rattle.tcp_queues.specs.Queues.{QueuesState, free_number, opened_at, place_at, received_at, sent_at}
 use Rattle.tcp_target.specs.Apart.{AreSound, HasQueuesApart, QueuesStayApart}
 use Rattle.tcp_target.specs.Commands.{completed_by, connected_with, with_made}
-use Rattle.tcp_target.specs.Events.{count_of, heard_at, heard_on}
-use Rattle.tcp_target.specs.Target.{TargetState, controller_at, heard, ticked, waited, waited_with, with_controller, with_queues}
-use Rattle.tcp_target.proofs.Associations.{ended_sound, joined_sound, left_sound, readied_sound}
+use Rattle.tcp_target.specs.Events.{count_of, heard_at, heard_on, opened_as}
+use Rattle.tcp_target.specs.Time.{ticked}
+use Rattle.tcp_target.specs.Target.{TargetState, controller_at, heard, heard_on_io, with_controller, with_queues}
+use Rattle.tcp_target.proofs.Ticking.{taken_queues, ticked_queues}
+use Rattle.tcp_target.proofs.Associations.{joined_sound, left_sound, readied_sound}
 use Rattle.tcp_target.proofs.Roles.{role_in}
 use Rattle.tcp_target.proofs.Served.{HoldsOfEach, of_served}
 
@@ -47,7 +48,7 @@ begins = record {
 
 -- ---- what leaves associations as they are
 
-opens : (t : TargetState) (number : Option ℕ) → HasQueuesApart t → AreSound (opened_at number t.queues).associations
+opens : (t : TargetState) (number : Option ℕ) → HasQueuesApart t → HasQueuesApart (opened_as number (with_queues (opened_at number t.queues) t))
 opens t None sound = sound
 opens t (Some number) sound = sound
 
@@ -70,7 +71,7 @@ module _ (number : ℕ) (entry : List ℕ) (t : TargetState) (sound : HasQueuesA
   made : (request : ConnectRequest) (answer : Result Connected Outcome) (u : TargetState) → HasQueuesApart u → HasQueuesApart (with_made request answer u)
   made request (Err outcome) u same = same
   made request (Ok c) u same =
-      elim (c.queue.id == 0) as (λ b. HasQueuesApart (cond b (heard c.controller (with_controller c.controller (properties.begun c.controller request.keep_alive_timeout) u)) u)) [
+      elim (c.queue.id == 0) as (λ b. HasQueuesApart (cond b (heard c.controller (with_controller c.controller (properties.begun c.controller request.keep_alive_timeout) u)) (heard_on_io c.controller u))) [
         | true ↦ same
         | false ↦ same
       ]
@@ -99,24 +100,8 @@ module _ (number : ℕ) (entry : List ℕ) (t : TargetState) (sound : HasQueuesA
 
 -- ---- time
 
-ended_where : (b : Bool) (id : ℕ) (q : QueuesState) → AreSound q.associations → AreSound (cond b (record q { associations = ended id q.associations }) q).associations
-ended_where true id q sound = ended_sound q.associations sound id
-ended_where false id q sound = sound
-
-waited_sound : (milliseconds id : ℕ) (t : TargetState) → HasQueuesApart t → HasQueuesApart (waited milliseconds id t)
-waited_sound milliseconds id t sound =
-    let left = slice_index_or t.patience id 0 - milliseconds in
-    elim ((controller_at id t).keep_alive == 0) as (λ b. HasQueuesApart (cond b t (waited_with id left t))) [
-      | true ↦ sound
-      | false ↦ ended_where (left == 0) id t.queues sound
-    ]
-
 ticks : (milliseconds : ℕ) (t : TargetState) → HasQueuesApart t → HasQueuesApart (ticked milliseconds t)
-ticks milliseconds t sound =
-    let one = waited milliseconds 1 t in
-    let two = waited milliseconds 2 one in
-    let three = waited milliseconds 3 two in
-    waited_sound milliseconds 4 three (waited_sound milliseconds 3 two (waited_sound milliseconds 2 one (waited_sound milliseconds 1 t sound)))
+ticks milliseconds t sound = subst (λ (q : QueuesState). AreSound q.associations) (sym (ticked_queues milliseconds t)) sound
 
 pub queues_stay_apart : QueuesStayApart
 queues_stay_apart = record {
@@ -125,7 +110,8 @@ queues_stay_apart = record {
   receives = λ number piece t sound.
       heard_at_sound number (count_of number piece t) (with_queues (received_at number piece t.queues) t) sound;
   serves = λ number t sound. of_served HasQueuesApart number t (ready_at (place_at number t.queues)) sound (λ entry. each number entry t sound);
-  sends = λ number count t sound. sound;
+  sends = λ number count t sound. (let u : TargetState = with_queues (sent_at number count t.queues) t in
+      subst (λ (q : QueuesState). AreSound q.associations) (sym (taken_queues number count u)) sound);
   hands_over = λ number t sound. sound;
   executes = λ number entry outcome bytes t sound. sound;
   ends_run = λ number command outcome t sound. sound;

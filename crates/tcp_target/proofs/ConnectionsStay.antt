@@ -1,5 +1,5 @@
 -- What happens on one connection leaves all others as they were.
-use Rattle.std.proofs.Common.{ℕ, ◌==◌, true, false, cond, List, Result, Ok, Err, refl}
+use Rattle.std.proofs.Common.{ℕ, ◌==◌, true, false, cond, List, Result, Ok, Err, refl, subst, sym}
 use Rattle.std.proofs.lemmas.List.{get_or-set_other}
 use Rattle.tcp_capsules.specs.Direction.{identifier_of}
 use Rattle.tcp_connection.specs.declared.queue.Outcome.{Outcome}
@@ -16,11 +16,12 @@ use Rattle.tcp_associations.specs.Associations.{role_at}
 use Rattle.tcp_places.specs.Places.{ready_at, vacant}
 use Rattle.tcp_queues.specs.Commands.{connect_answer_at, connected}
 use Rattle.tcp_queues.specs.Laws.{OthersAreSame}
-use Rattle.tcp_queues.specs.Queues.{place_at, received_at}
+use Rattle.tcp_queues.specs.Queues.{QueuesState, place_at, received_at, sent_at}
 use Rattle.tcp_target.specs.Commands.{completed_by, connected_with, served, with_made}
 use Rattle.tcp_target.specs.Events.{count_of, heard_at, heard_on}
 use Rattle.tcp_target.specs.Laws.{ConnectionsStay}
-use Rattle.tcp_target.specs.Target.{TargetState, controller_at, heard, with_controller, with_queues}
+use Rattle.tcp_target.specs.Target.{TargetState, controller_at, heard, heard_on_io, with_controller, with_queues}
+use Rattle.tcp_target.proofs.Ticking.{taken_queues}
 use Rattle.tcp_target.proofs.Served.{HoldsOfEach, of_served}
 
 module _ (number : ℕ) where
@@ -46,7 +47,7 @@ module _ (number : ℕ) where
         → OthersAreSame number t.queues (with_made request answer u).queues
     made request (Err outcome) u same = same
     made request (Ok c) u same =
-        elim (c.queue.id == 0) as (λ b. OthersAreSame number t.queues (cond b (heard c.controller (with_controller c.controller (properties.begun c.controller request.keep_alive_timeout) u)) u).queues) [
+        elim (c.queue.id == 0) as (λ b. OthersAreSame number t.queues (cond b (heard c.controller (with_controller c.controller (properties.begun c.controller request.keep_alive_timeout) u)) (heard_on_io c.controller u)).queues) [
           | true ↦ same
           | false ↦ same
         ]
@@ -80,7 +81,9 @@ connections_stay = record {
   receives = λ number piece t. heard_at_same number t (with_queues (received_at number piece t.queues) t) (count_of number piece t)
       (λ other unlike. get_or-set_other t.queues.places number other _ vacant unlike);
   serves = λ number t. serves number t;
-  sends = λ number count t other unlike. get_or-set_other t.queues.places number other _ vacant unlike;
+  sends = λ number count t. (let u : TargetState = with_queues (sent_at number count t.queues) t in
+      subst (λ (q : QueuesState). OthersAreSame number t.queues q) (sym (taken_queues number count u))
+      (λ other unlike. get_or-set_other t.queues.places number other _ vacant unlike));
   hands_over = λ number t other unlike. get_or-set_other t.queues.places number other _ vacant unlike;
   executes = λ number entry outcome bytes t other unlike. get_or-set_other t.queues.places number other _ vacant unlike;
   ends_run = λ number command outcome t other unlike. get_or-set_other t.queues.places number other _ vacant unlike;

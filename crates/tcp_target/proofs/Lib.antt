@@ -1,4 +1,7 @@
 mod Served
+mod Mapped
+mod Counted
+pub mod Ticking
 mod ConnectionsStay
 mod Roles
 mod Connects

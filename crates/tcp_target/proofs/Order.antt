@@ -1,5 +1,5 @@
 -- What happens to a target keeps the order of the commands of each connection.
-use Rattle.std.proofs.Common.{◌≡◌, ℕ, ◌-◌, ◌<◌, ◌==◌, Bool, true, false, cond, set, zero, suc, List, [], ◌∷◌, length, Option, None, Some, refl, sym, ap, subst, ◌∙◌, inl, inr}
+use Rattle.std.proofs.Common.{◌≡◌, ℕ, ◌<◌, ◌==◌, Bool, true, false, cond, set, zero, suc, List, [], ◌∷◌, length, Option, None, Some, refl, sym, ap, subst, ◌∙◌, inl, inr}
 use Rattle.std.specs.Prelude.{slice_index_or}
 use Rattle.std.proofs.lemmas.Bool.{cases_lt}
 use Rattle.std.proofs.lemmas.List.{get_or_past, get_or-set_same}
@@ -19,15 +19,16 @@ use Rattle.tcp_places.specs.Events as places
 use Rattle.tcp_places.specs.Order.{brought_at}
 use Rattle.tcp_places.proofs.Proved.{PlaceMoves, answer_moves, execute_moves, go_moves, receive_moves}
 use Rattle.tcp_queues.specs.Commands.{given_by, given_to_device, is_fabrics, is_for_device, result_of}
-use Rattle.tcp_queues.specs.Ends.{controller_ended}
-use Rattle.tcp_queues.specs.Queues.{QueuesState, place_at, received_at, with_place}
+use Rattle.tcp_queues.specs.Queues.{QueuesState, place_at, received_at, sent_at, with_place}
 use Rattle.zone_state.specs.declared.status.Status.{Status}
 use Rattle.zone_state.specs.declared.status.TheConstants.Status.{INVALID_COMMAND_OPCODE}
 use Rattle.tcp_target.specs.declared.outcomes.TheConstants.{COMMAND_SEQUENCE_ERROR}
 use Rattle.tcp_target.specs.Commands.{refused_with, served, served_as, served_by, served_io}
 use Rattle.tcp_target.specs.Events.{count_of, heard_at, heard_on, received, run_ended, sent}
 use Rattle.tcp_target.specs.Events as target
-use Rattle.tcp_target.specs.Target.{TargetState, controller_at, ticked, waited, waited_with, with_queues}
+use Rattle.tcp_target.specs.Target.{TargetState, with_queues}
+use Rattle.tcp_target.specs.Time.{ticked}
+use Rattle.tcp_target.proofs.Ticking.{taken_queues, ticked_queues}
 use Rattle.tcp_target.proofs.Roles.{role_in}
 
 -- a connection that a host has came from one state to another by this, and a host has it still
@@ -101,7 +102,10 @@ module _ (number : ℕ) (t : TargetState) (held : (place_at number t.queues).is_
 
   -- bytes were sent
   pub sends : (count : ℕ) → MovesAt number [] [] t (sent number count t)
-  sends count = put_at [] [] (places.sent count p) (sent number count t) refl (stays p.connection) held
+  sends count =
+      put_at [] [] (places.sent count p) (sent number count t)
+      (ap (λ (q : QueuesState). place_at number q) (taken_queues number count (with_queues (sent_at number count t.queues) t)))
+      (stays p.connection) held
 
   -- a command goes to the device
   pub hands_over : (execution : Execution) → ready_at p ≡ Some execution
@@ -158,22 +162,5 @@ module _ (number : ℕ) (t : TargetState) (held : (place_at number t.queues).is_
 
 -- ---- time
 
-ended_places : (b : Bool) (id : ℕ) (q : QueuesState) → (cond b (controller_ended id q) q).places ≡ q.places
-ended_places true id q = refl
-ended_places false id q = refl
-
-waited_places : (milliseconds id : ℕ) (t : TargetState) → (waited milliseconds id t).queues.places ≡ t.queues.places
-waited_places milliseconds id t =
-    let left = slice_index_or t.patience id 0 - milliseconds in
-    elim ((controller_at id t).keep_alive == 0) as (λ b. (cond b t (waited_with id left t)).queues.places ≡ t.queues.places) [
-      | true ↦ refl
-      | false ↦ ended_places (left == 0) id t.queues
-    ]
-
 pub ticks : (number milliseconds : ℕ) (t : TargetState) → place_at number (ticked milliseconds t).queues ≡ place_at number t.queues
-ticks number milliseconds t =
-    let one = waited milliseconds 1 t in
-    let two = waited milliseconds 2 one in
-    let three = waited milliseconds 3 two in
-    ap (λ (all : List PlaceState). slice_index_or all number vacant)
-    (waited_places milliseconds 4 three ∙ waited_places milliseconds 3 two ∙ waited_places milliseconds 2 one ∙ waited_places milliseconds 1 t)
+ticks number milliseconds t = ap (λ (q : QueuesState). place_at number q) (ticked_queues milliseconds t)

@@ -1,5 +1,5 @@
 -- The connection of an I/O queue awaits capsules that are an entry alone, in every state of a target.
-use Rattle.std.proofs.Common.{◌≡◌, ℕ, ◌-◌, ◌==◌, ◌&&◌, Bool, true, false, cond, zero, suc, nat_le, nat_lt, List, [], ◌∷◌, length, set, not, Option, None, Some, Result, Ok, Err, refl, sym, ap, subst, ◌∙◌, inl, inr}
+use Rattle.std.proofs.Common.{◌≡◌, ℕ, ◌==◌, ◌&&◌, Bool, true, false, cond, zero, suc, nat_le, nat_lt, List, [], ◌∷◌, length, set, not, Option, None, Some, Result, Ok, Err, refl, sym, ap, subst, ◌∙◌, inl, inr}
 use Rattle.std.specs.Prelude.{slice_index_or}
 use Rattle.std.proofs.lemmas.Bool.{and_parts}
 use Rattle.std.proofs.lemmas.List.{get_or-set_same}
@@ -37,11 +37,13 @@ use Rattle.tcp_places.proofs.Proved.{answer_moves, execute_moves, go_moves, rece
 use Rattle.tcp_queues.specs.Commands.{connect_answer_at, connect_data_at, connected_by, result_of}
 use Rattle.tcp_queues.specs.Commands as queues
 use Rattle.tcp_queues.specs.Ends.{closed_at, controller_ended}
-use Rattle.tcp_queues.specs.Queues.{QueuesState, free_number, opened_at, place_at, received_at, with_place}
+use Rattle.tcp_queues.specs.Queues.{QueuesState, free_number, opened_at, place_at, received_at, sent_at, with_place}
 use Rattle.tcp_target.specs.Commands.{completed_by, connected_with, refused_with, served, served_by, served_get, served_set, set_outcome, value_outcome, with_made}
 use Rattle.tcp_target.specs.Events.{count_of, heard_at, heard_on}
 use Rattle.tcp_target.specs.Events as target
-use Rattle.tcp_target.specs.Target.{TargetState, controller_at, heard, ticked, waited, waited_with, with_controller, with_queues}
+use Rattle.tcp_target.specs.Target.{TargetState, controller_at, heard, heard_on_io, with_controller, with_queues}
+use Rattle.tcp_target.specs.Time.{ticked}
+use Rattle.tcp_target.proofs.Ticking.{opened_queues, taken_queues, ticked_queues}
 use Rattle.tcp_target.proofs.Order.{left_role, within}
 use Rattle.tcp_target.proofs.Roles.{left_io, left_io_io, role_in, role_mapped, role_set}
 use Rattle.tcp_target.proofs.Served.{HoldsOfEach, of_served_as}
@@ -54,9 +56,9 @@ not_open true is is_open = cc
 not_open false is is_open = cc
 
 module _ (q : QueuesState) (fine : AreFine q) where
-  pub opens_fine : (n : Option ℕ) → free_number q ≡ n → AreFine (opened_at n q)
-  opens_fine None is = fine
-  opens_fine (Some n) is =
+  opened_fine : (n : Option ℕ) → free_number q ≡ n → AreFine (opened_at n q)
+  opened_fine None is = fine
+  opened_fine (Some n) is =
       let r : QueuesState = opened_at (Some n) q in
       let p : PlaceState = place_at n q in
       let free : is_free p ≡ true = (position-Some is_free q.places n vacant is).1 in
@@ -216,7 +218,7 @@ module _ (number : ℕ) (t : TargetState) (fine : AreFine t.queues) (execution :
   made : (request : ConnectRequest) (a : Result Connected Outcome) (u : TargetState) → AreFine u.queues → AreFine (with_made request a u).queues
   made request (Err outcome) u same = same
   made request (Ok c) u same =
-      elim (c.queue.id == 0) as (λ b. AreFine (cond b (heard c.controller (with_controller c.controller (properties.begun c.controller request.keep_alive_timeout) u)) u).queues) [
+      elim (c.queue.id == 0) as (λ b. AreFine (cond b (heard c.controller (with_controller c.controller (properties.begun c.controller request.keep_alive_timeout) u)) (heard_on_io c.controller u)).queues) [
         | true ↦ same
         | false ↦ same
       ]
@@ -251,6 +253,11 @@ serves_fine number t fine = serves_by number t fine (ready_at (place_at number t
 
 -- ---- what else happens on a connection
 
+pub opens_fine : (t : TargetState) → AreFine t.queues → AreFine (target.opened t).queues
+opens_fine t fine =
+    let n : Option ℕ = free_number t.queues in
+    subst (λ (q : QueuesState). AreFine q) (sym (opened_queues n (with_queues (opened_at n t.queues) t))) (opened_fine t.queues fine n refl)
+
 module _ (number : ℕ) (t : TargetState) (fine : AreFine t.queues) where
   heard_fine : (u : TargetState) (role : Role) → AreFine u.queues → AreFine (heard_on role u).queues
   heard_fine u Unconnected same = same
@@ -280,8 +287,10 @@ module _ (number : ℕ) (t : TargetState) (fine : AreFine t.queues) where
   pub sends_fine : (count : ℕ) → AreFine (target.sent number count t).queues
   sends_fine count =
       let p : PlaceState = place_at number t.queues in
-      fine_put number (places.sent count p) t.queues (target.sent number count t).queues refl [] [] (stays p.connection) refl
-      (λ n. same_io (role_at n t.queues.associations)) fine
+      let r : QueuesState = sent_at number count t.queues in
+      subst (λ (q : QueuesState). AreFine q) (sym (taken_queues number count (with_queues r t)))
+      (fine_put number (places.sent count p) t.queues r refl [] [] (stays p.connection) refl
+      (λ n. same_io (role_at n t.queues.associations)) fine)
 
   pub hands_over_fine : (execution : Execution) → ready_at (place_at number t.queues) ≡ Some execution
       → AreFine (target.handed_over number t).queues
@@ -310,21 +319,5 @@ module _ (number : ℕ) (t : TargetState) (fine : AreFine t.queues) where
 
 -- ---- time
 
-ended_where : (b : Bool) (id : ℕ) (q : QueuesState) → AreFine q → AreFine (cond b (controller_ended id q) q)
-ended_where true id q fine = ends_fine q fine id
-ended_where false id q fine = fine
-
-waits_fine : (milliseconds id : ℕ) (t : TargetState) → AreFine t.queues → AreFine (waited milliseconds id t).queues
-waits_fine milliseconds id t fine =
-    let left_over = slice_index_or t.patience id 0 - milliseconds in
-    elim ((controller_at id t).keep_alive == 0) as (λ b. AreFine (cond b t (waited_with id left_over t)).queues) [
-      | true ↦ fine
-      | false ↦ ended_where (left_over == 0) id t.queues fine
-    ]
-
 pub ticks_fine : (milliseconds : ℕ) (t : TargetState) → AreFine t.queues → AreFine (ticked milliseconds t).queues
-ticks_fine milliseconds t fine =
-    let one = waited milliseconds 1 t in
-    let two = waited milliseconds 2 one in
-    let three = waited milliseconds 3 two in
-    waits_fine milliseconds 4 three (waits_fine milliseconds 3 two (waits_fine milliseconds 2 one (waits_fine milliseconds 1 t fine)))
+ticks_fine milliseconds t fine = subst (λ (q : QueuesState). AreFine q) (sym (ticked_queues milliseconds t)) fine

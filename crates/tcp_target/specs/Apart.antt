@@ -9,7 +9,8 @@ use Rattle.tcp_associations.specs.Associations.{role_at}
 use Rattle.tcp_associations.specs.Table.{is_ready, with_id}
 use Rattle.tcp_target.specs.Commands.{served}
 use Rattle.tcp_target.specs.Events.{closed, executed, handed_over, opened, received, run_ended, sent}
-use Rattle.tcp_target.specs.Target.{TargetState, begun, ticked}
+use Rattle.tcp_target.specs.Target.{TargetState, begun}
+use Rattle.tcp_target.specs.Time.{ticked}
 
 -- no two connections have the admin queue of one controller, nor one of its I/O queues
 pub record AreApart (s : Associations) : Type 0 where

@@ -23,7 +23,7 @@ use Rattle.tcp_queues.specs.Commands.{answered, connect_answer_at, connected, is
 use Rattle.tcp_queues.specs.Ends.{readied_at}
 use Rattle.tcp_queues.specs.Queues.{QueuesState, place_at}
 use Rattle.tcp_target.specs.declared.outcomes.TheConstants.{COMMAND_SEQUENCE_ERROR}
-use Rattle.tcp_target.specs.Target.{TargetState, controller_at, heard, with_controller, with_queues}
+use Rattle.tcp_target.specs.Target.{TargetState, controller_at, heard, heard_on_io, with_controller, with_queues}
 
 -- a command is completed
 abbrev pub answered_with : ℕ → List ℕ → Outcome → List ℕ → TargetState → TargetState
@@ -34,12 +34,13 @@ refused_with number entry status t = answered_with number entry (refusal status)
 
 -- ---- before Connect (NVMe Base 2.0, 6.3)
 
--- a Connect to an admin queue that succeeds makes a controller, which isn't enabled, and begins to wait for its host
+-- a Connect to an admin queue that succeeds makes a controller, which isn't enabled, and begins to wait for its host; one to an I/O queue
+-- comes of the controller's host
 abbrev pub with_made : ConnectRequest → Result Connected Outcome → TargetState → TargetState
 with_made request (Ok c) t =
     if c.queue.id == 0
     then heard c.controller (with_controller c.controller (properties.begun c.controller request.keep_alive_timeout) t)
-    else t
+    else heard_on_io c.controller t
 with_made request (Err outcome) t = t
 
 abbrev pub connected_with : ℕ → List ℕ → ConnectRequest → TargetState → TargetState
@@ -86,7 +87,7 @@ served_fabrics number id entry t =
     if slice_index entry 4 == 0x01 then refused_with number entry COMMAND_SEQUENCE_ERROR t
     else refused_with number entry INVALID_COMMAND_OPCODE t
 
--- an admin command is completed with its data, or kept; KATO may be another behind it
+-- an admin command is completed with its data, or kept; KATO may be another after it, from which its host is waited for anew
 abbrev pub completed_by : Answer → ℕ → List ℕ → List ℕ → QueuesState → QueuesState
 completed_by (Completed outcome) number entry bytes q = answered number (identifier_of entry) outcome bytes q
 completed_by Kept number entry bytes q = kept_at number q

@@ -1,4 +1,7 @@
+pub mod Clocks
 pub mod Target
+pub mod Time
+pub mod Counted
 pub mod Events
 pub mod Commands
 pub mod Laws

@@ -1,18 +1,21 @@
 -- An NVMe/TCP target.
-use Rattle.std.specs.Prelude.{ℕ, ◌-◌, ◌*◌, ◌/◌, ◌==◌, List, replicate, if◌then◌else◌, slice_index_or, slice_set}
+use Rattle.std.specs.Prelude.{ℕ, List, None, replicate, slice_index_or, slice_set}
 use Rattle.tcp_admin.specs.declared.controller.Controller.{Controller}
 use Rattle.tcp_admin.specs.declared.subsystem.NamespaceFormat.{NamespaceFormat}
 use Rattle.tcp_admin.specs.declared.subsystem.Subsystem.{Subsystem}
 use Rattle.tcp_admin.specs.Properties as properties
 use Rattle.tcp_queues.specs.Queues.{QueuesState, no_queues}
-use Rattle.tcp_queues.specs.Ends.{controller_ended}
+use Rattle.tcp_target.specs.declared.clocks.ConnectionClock.{ConnectionClock}
+use Rattle.tcp_target.specs.declared.clocks.ControllerClock.{ControllerClock}
+use Rattle.tcp_target.specs.Clocks.{started_connection, started_controller}
 
--- its queues; its controllers, by their identifiers; for how many milliseconds more each waits to hear of its host; what it is,
--- and what its namespace is like
+-- its queues; its controllers, by their identifiers; the clocks of its connections, by their numbers, and those of its controllers; what
+-- it is, and what its namespace is like
 pub record TargetState : Type 0 where
   pub queues : QueuesState
   pub controllers : List Controller
-  pub patience : List ℕ
+  pub connection_clocks : List ConnectionClock
+  pub controller_clocks : List ControllerClock
   pub subsystem : Subsystem
   pub format : NamespaceFormat
 
@@ -24,7 +27,8 @@ abbrev pub begun : Subsystem → NamespaceFormat → TargetState
 begun subsystem format = record {
   queues = no_queues;
   controllers = replicate 5 no_controller;
-  patience = replicate 5 0;
+  connection_clocks = replicate 40 started_connection;
+  controller_clocks = replicate 5 started_controller;
   subsystem = subsystem;
   format = format;
 }
@@ -40,25 +44,24 @@ with_controller id c t = record t { controllers = slice_set t.controllers id c }
 abbrev pub with_queues : QueuesState → TargetState → TargetState
 with_queues q t = record t { queues = q }
 
--- ---- Keep Alive (NVMe Base 2.0, 3.9)
+-- ---- clocks
 
--- a host is taken for lost where nothing comes on its admin queue for one and a half times KATO, unless that is 0
-abbrev pub patience_of : Controller → ℕ
-patience_of c = c.keep_alive * 3 / 2
+abbrev pub connection_clock_at : ℕ → TargetState → ConnectionClock
+connection_clock_at number t = slice_index_or t.connection_clocks number started_connection
 
+abbrev pub with_connection_clock : ℕ → ConnectionClock → TargetState → TargetState
+with_connection_clock number clock t = record t { connection_clocks = slice_set t.connection_clocks number clock }
+
+abbrev pub controller_clock_at : ℕ → TargetState → ControllerClock
+controller_clock_at id t = slice_index_or t.controller_clocks id started_controller
+
+abbrev pub with_controller_clock : ℕ → ControllerClock → TargetState → TargetState
+with_controller_clock id clock t = record t { controller_clocks = slice_set t.controller_clocks id clock }
+
+-- something has come of a controller's host on its admin queue,
 abbrev pub heard : ℕ → TargetState → TargetState
-heard id t = record t { patience = slice_set t.patience id (patience_of (controller_at id t)) }
+heard id t = with_controller_clock id started_controller t
 
--- so many milliseconds go by
-abbrev pub waited_with : ℕ → ℕ → TargetState → TargetState
-waited_with id left t = record t {
-  queues = if left == 0 then controller_ended id t.queues else t.queues;
-  patience = slice_set t.patience id left;
-}
-
-abbrev pub waited : ℕ → ℕ → TargetState → TargetState
-waited milliseconds id t =
-    if (controller_at id t).keep_alive == 0 then t else waited_with id (slice_index_or t.patience id 0 - milliseconds) t
-
-abbrev pub ticked : ℕ → TargetState → TargetState
-ticked milliseconds t = waited milliseconds 4 (waited milliseconds 3 (waited milliseconds 2 (waited milliseconds 1 t)))
+-- or on one of its I/O queues
+abbrev pub heard_on_io : ℕ → TargetState → TargetState
+heard_on_io id t = (let clock = controller_clock_at id t in with_controller_clock id (record clock { queues = None }) t)

@@ -57,16 +57,18 @@ impl Target {
         self.make(request, answer);
     }
 
-    /// Makes the controller of an admin queue that is connected.
+    /// Makes the controller of an admin queue that is connected; of an I/O queue the controller's host was heard.
     fn make(&mut self, request: ConnectRequest, answer: Result<Connected, Outcome>)
         ensures { self.new ≡ with_made request answer self.old }
     {
-        if let Ok(connected) = answer
-            && connected.queue.id == 0
-        {
+        if let Ok(connected) = answer {
             let id = connected.controller;
-            self.set_controller(id, Controller::new(id, request.keep_alive_timeout));
-            self.hear(id);
+            if connected.queue.id == 0 {
+                self.set_controller(id, Controller::new(id, request.keep_alive_timeout));
+                self.hear(id);
+            } else {
+                self.hear_on_io(id);
+            }
         }
     }
 }

@@ -5,10 +5,10 @@ ghost use Rattle.std.specs.Option.{option_map};
 ghost use Rattle.tcp_connection.specs.Queue.{is_ended};
 ghost use Rattle.tcp_places.specs.Places.{has_room, ready_at};
 ghost use Rattle.tcp_queues.specs.Commands.{connect_data_at, given_to_device};
-ghost use Rattle.tcp_queues.specs.Ends.{is_cut_off};
 ghost use Rattle.tcp_queues.specs.Queues.{free_number, place_at};
-ghost use Rattle.tcp_target.specs.Events.{closed, count_of, executed, handed_over, heard_at, heard_on, opened, received, run_ended, sent};
+ghost use Rattle.tcp_target.specs.Events.{closed, count_of, executed, handed_over, heard_at, heard_on, opened, received, run_ended, sent, taken_by_host};
 
+use crate::clocks::ConnectionClock;
 use crate::target::Target;
 use tcp_associations::{MOST_CONNECTIONS, Role};
 use tcp_capsules::ENTRY_BYTES;
@@ -24,7 +24,9 @@ impl Target {
         ensures state { self.new ≡ opened self.old }
         ensures within { IfSome result (λ number. number < MOST_CONNECTIONS) }
     {
-        self.queues.open()
+        let number = self.queues.open()?;
+        self.set_connection_clock(number, ConnectionClock::new());
+        Some(number)
     }
 
     /// Takes bytes that came on a connection, up to the end of a PDU, and gives how many they are: none while too much is to be sent,
@@ -40,7 +42,7 @@ impl Target {
         count
     }
 
-    /// Something has come of a host, where bytes came on an admin queue.
+    /// Something has come of a host, where bytes came on a queue of a controller.
     fn hear_at(&mut self, number: usize, count: usize)
         ensures { self.new ≡ heard_at number count self.old }
     {
@@ -50,13 +52,17 @@ impl Target {
         }
     }
 
-    /// Something has come of a host, where this is an admin queue.
+    /// Something has come of a host, where this is such a queue.
     fn hear_on(&mut self, role: Role)
         ensures { self.new ≡ heard_on role self.old }
     {
         match role {
             Role::Admin { controller } => self.hear(controller),
-            Role::Unconnected | Role::Io { .. } | Role::Ended => {}
+            Role::Io {
+                controller,
+                queue: _,
+            } => self.hear_on_io(controller),
+            Role::Unconnected | Role::Ended => {}
         }
     }
 
@@ -75,6 +81,21 @@ impl Target {
         ensures { self.new ≡ sent number count self.old }
     {
         self.queues.sent(number, count);
+        self.take_at(number, count);
+    }
+
+    /// A host goes on to take what is to be sent, where bytes were taken.
+    fn take_at(&mut self, number: usize, count: usize)
+        requires { number < MOST_CONNECTIONS }
+        ensures { self.new ≡ taken_by_host number count self.old }
+    {
+        if count != 0 {
+            let clock = ConnectionClock {
+                taken: None,
+                ..self.connection_clock(number)
+            };
+            self.set_connection_clock(number, clock);
+        }
     }
 
     /// Has a connection ended? Then it is to be closed once all is sent.
@@ -83,13 +104,6 @@ impl Target {
         ensures { result ≡ is_ended (place_at number self.now.queues).connection.phase }
     {
         self.queues.is_ended(number)
-    }
-
-    /// Is a connection cut off, since its controller has ended or was stopped? Then it is to be closed at once.
-    pub fn is_cut_off(&self, number: usize) -> bool
-        ensures { result ≡ is_cut_off number self.now.queues }
-    {
-        self.queues.is_cut_off(number)
     }
 
     /// Says that a connection is closed, by whomever. No other gets its number until the device has none of its commands.

@@ -2,15 +2,16 @@
 #![tactic(auto)]
 
 mod admin;
+mod clocks;
 mod connecting;
 mod events;
 mod laws;
 mod outcomes;
-mod patience;
 mod pieces;
 mod ready;
 mod target;
+mod time;
 
-pub use laws::{connections_stay, queues_stay_apart};
+pub use laws::{connections_stay, queues_stay_apart, time_is_counted};
 pub use pieces::pieces_join;
 pub use target::Target;

@@ -3,9 +3,11 @@
 ghost use Rattle.std.specs.Prelude.{◌≡◌, ◌≤◌, IfOk, length};
 ghost use Rattle.tcp_target.specs.Target.{begun};
 
+use crate::clocks::{ConnectionClock, ControllerClock};
 use std::alloc::{AllocError, Global};
 use std::marker::Model;
 use tcp_admin::{Controller, MOST_ADMIN_DATA, NamespaceFormat, Subsystem};
+use tcp_associations::MOST_CONNECTIONS;
 use tcp_queues::Queues;
 
 /// The places for controllers: one for each identifier, and for 0, which none has.
@@ -18,8 +20,10 @@ pub struct Target {
     pub(crate) queues: Queues,
     /// The controllers, by their identifiers.
     pub(crate) controllers: [Controller; PLACES],
-    /// For how many milliseconds more the controllers wait to hear of their hosts, by their identifiers.
-    pub(crate) patience: [u64; PLACES],
+    /// The clocks of the connections, by their numbers.
+    pub(crate) connection_clocks: [ConnectionClock; MOST_CONNECTIONS],
+    /// Those of the controllers, by their identifiers.
+    pub(crate) controller_clocks: [ControllerClock; PLACES],
     pub(crate) subsystem: Subsystem,
     pub(crate) format: NamespaceFormat,
     /// Room for the data of an admin command.
@@ -32,7 +36,7 @@ impl Model for Target {
 
     ghost Value = { TargetState };
 
-    ghost view = { λ t. record { queues = t.queues; controllers = t.controllers; patience = t.patience; subsystem = t.subsystem; format = t.format } };
+    ghost view = { λ t. record { queues = t.queues; controllers = t.controllers; connection_clocks = t.connection_clocks; controller_clocks = t.controller_clocks; subsystem = t.subsystem; format = t.format } };
 
     ghost invariant = { λ t. 4096 ≤ vec_capacity t.page };
 }
@@ -53,10 +57,25 @@ impl Target {
         Ok(Target {
             queues: Queues::new(alloc)?,
             controllers: [Controller::new(0, 0); PLACES],
-            patience: [0; PLACES],
+            connection_clocks: [ConnectionClock::new(); MOST_CONNECTIONS],
+            controller_clocks: [ControllerClock::new(); PLACES],
             subsystem,
             format,
             page: Vec::with_capacity(alloc, MOST_ADMIN_DATA)?,
         })
+    }
+
+    /// Has the target be another subsystem from now on, as before its first connection.
+    pub fn set_subsystem(&mut self, subsystem: Subsystem)
+        ensures { self.new ≡ record self.old { subsystem = subsystem } }
+    {
+        self.subsystem = subsystem;
+    }
+
+    /// SUBNQN, the name of the subsystem.
+    pub fn nqn(&self) -> &[u8]
+        ensures { result.now ≡ self.now.subsystem.nqn }
+    {
+        self.subsystem.nqn.as_bytes()
     }
 }
