@@ -20,7 +20,8 @@ use Rattle.tcp_queues.specs.Queues.{QueuesState, free_number, opened_at, place_a
 use Rattle.tcp_target.specs.Commands.{served}
 use Rattle.tcp_target.specs.Events as target
 use Rattle.tcp_target.specs.Laws.{ConnectionsStay}
-use Rattle.tcp_target.specs.Target.{TargetState, ticked, with_queues}
+use Rattle.tcp_target.specs.Target.{TargetState, with_queues}
+use Rattle.tcp_target.specs.Time.{ticked}
 use Rattle.tcp_target.proofs.Order.{MovesAt, ends_run, executes, hands_over, left_role, receives, same_at, sends, serves, ticks}
 use Rattle.tcp_target.proofs.Fine.{AreFine, begins_fine}
 use Rattle.tcp_target.proofs.Used.{closes_fine, ends_run_fine, executes_fine, hands_over_fine, opens_fine, receives_fine, sends_fine, serves_fine, ticks_fine}
@@ -229,11 +230,11 @@ module _ (law : ConnectionsStay) (number : ℕ) where
         by [] [] old.target (ap (λ (s : ServedState). s.target) done) (same_at number old.target old.target held refl)
 
     -- a number that a host has is not free
-    opens : (n : Option ℕ) → free_number old.target.queues ≡ n → MovesAt number [] [] old.target (with_queues (opened_at n old.target.queues) old.target)
+    opens : (n : Option ℕ) → free_number old.target.queues ≡ n → MovesAt number [] [] old.target (target.opened_as n (with_queues (opened_at n old.target.queues) old.target))
     opens None is = same_at number old.target old.target held refl
     opens (Some n) is =
         let free : is_free (place_at n old.target.queues) ≡ true = (position-Some is_free old.target.queues.places n vacant is).1 in
-        let u : TargetState = with_queues (opened_at (Some n) old.target.queues) old.target in
+        let u : TargetState = target.opened_as (Some n) (with_queues (opened_at (Some n) old.target.queues) old.target) in
         elim (n == number) as (λ b. (n == number) ≡ b → MovesAt number [] [] old.target u) [
           | true ↦ (λ same.
               let shut : not (place_at number old.target.queues).is_open ≡ true =
@@ -309,7 +310,7 @@ module _ (law : ConnectionsStay) (number : ℕ) where
 
 stay_fine : Stays (λ t. AreFine t.queues)
 stay_fine = record {
-  opens = λ t fine. opens_fine t.queues fine (free_number t.queues) refl;
+  opens = opens_fine;
   receives = λ number piece t fine. receives_fine number t fine piece;
   serves = serves_fine;
   sends = λ number count t fine. sends_fine number t fine count;

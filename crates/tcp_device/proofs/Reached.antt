@@ -10,7 +10,8 @@ use Rattle.tcp_queues.specs.Commands.{given_by, given_to_device, is_for_device}
 use Rattle.tcp_queues.specs.Queues.{QueuesState, place_at}
 use Rattle.tcp_target.specs.Commands.{served}
 use Rattle.tcp_target.specs.Events.{closed, executed, handed_over, opened, received, run_ended, sent}
-use Rattle.tcp_target.specs.Target.{TargetState, ticked}
+use Rattle.tcp_target.specs.Target.{TargetState}
+use Rattle.tcp_target.specs.Time.{ticked}
 use Rattle.tcp_device.specs.Deeds.{AreDone, Closed, Deed, Does, Opened, Received, Resumed, Sent, Served, Ticked, Turned}
 use Rattle.tcp_device.specs.Outcome.{outcome_in}
 use Rattle.tcp_device.specs.Served.{ResumesGiven, ServesGiven, TurnsGiven, completed_by, ended_by, ended_with, next_run}

@@ -8,7 +8,7 @@ use Rattle.device_events.specs.declared.reply.Reply.TheVariants as reply
 use Rattle.tcp_connection.specs.Executing.{Execution}
 use Rattle.tcp_queues.specs.Commands.{given_to_device}
 use Rattle.tcp_target.specs.Events as target
-use Rattle.tcp_target.specs.Target.{ticked}
+use Rattle.tcp_target.specs.Time.{ticked}
 use Rattle.tcp_device.specs.Served.{Resumes, ResumesGiven, Serves, ServesGiven, Turns, TurnsGiven, next_run}
 use Rattle.tcp_device.specs.State.{CommandOfRun, ServedState, with_target}
 

@@ -2,9 +2,9 @@
 
 ghost use Rattle.std.specs.Prelude.{◌≡◌, ◌≤◌, ◌<◌, IfSome, length};
 ghost use Rattle.tcp_connection.specs.Queue.{is_ended};
-ghost use Rattle.tcp_queues.specs.Ends.{is_cut_off};
 ghost use Rattle.tcp_queues.specs.Queues.{free_number, place_at};
 ghost use Rattle.tcp_target.specs.Events.{count_of};
+ghost use Rattle.tcp_target.specs.Time.{is_given_up};
 ghost use Rattle.tcp_device.specs.Deeds.{Closed, Does, Opened, Received, Sent, Ticked};
 
 use crate::served::ServedTarget;
@@ -57,11 +57,12 @@ impl ServedTarget {
         self.target.is_ended(number)
     }
 
-    /// Is a connection cut off, since its controller has ended or was stopped? Then it is to be closed at once.
-    pub fn is_cut_off(&self, number: usize) -> bool
-        ensures { result ≡ is_cut_off number self.now.target.queues }
+    /// Is a connection to be closed at once, as [`tcp_target::Target::is_given_up`] says?
+    pub fn is_given_up(&self, number: usize) -> bool
+        requires { number < MOST_CONNECTIONS }
+        ensures { result ≡ is_given_up number self.now.target }
     {
-        self.target.is_cut_off(number)
+        self.target.is_given_up(number)
     }
 
     /// Says that a connection is closed, by whomever. Runs of its commands go on, and their completions are dropped; no other
@@ -73,7 +74,7 @@ impl ServedTarget {
         self.target.close(number);
     }
 
-    /// Says that so many milliseconds went by: the controllers of hosts that were silent too long end (NVMe Base 2.0, 3.9).
+    /// Says that so many milliseconds went by, the last of which end now. What came and what was taken until then is to be said before.
     pub fn tick(&mut self, milliseconds: u32)
         ensures { Does (Ticked milliseconds) self.old self.new }
     {

@@ -3,7 +3,7 @@
 ghost use Rattle.std.specs.Prelude.{◌≡◌, IfOk};
 ghost use Rattle.image_store.specs.Namespace.{shape};
 ghost use Rattle.tcp_device.specs.Format.{IsFormatOf};
-ghost use Rattle.tcp_device.specs.State.{begun, begun_on};
+ghost use Rattle.tcp_device.specs.State.{begun, begun_on, with_target};
 
 use crate::pending::PendingCommand;
 use nvme_entry::MOST_TRANSFER;
@@ -88,6 +88,20 @@ impl ServedTarget {
         ensures { result.now ≡ self.now.device }
     {
         &self.device
+    }
+
+    /// Has the target be another subsystem from now on, as before its first connection.
+    pub fn set_subsystem(&mut self, subsystem: Subsystem)
+        ensures { self.new ≡ with_target (record self.old.target { subsystem = subsystem }) self.old }
+    {
+        self.target.set_subsystem(subsystem);
+    }
+
+    /// SUBNQN, the name of the subsystem.
+    pub fn nqn(&self) -> &[u8]
+        ensures { result.now ≡ self.now.target.subsystem.nqn }
+    {
+        self.target.nqn()
     }
 
     /// The namespace as an image, as it is now.
