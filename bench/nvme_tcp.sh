@@ -1,5 +1,5 @@
 #!/bin/sh
-# Times the target of hosts/nvme_tcp over loopback, beside the same program without a device, which answers at once, and with --durable:
+# Times the target of hosts/nvme_tcp over loopback, beside the same program without a device, which answers at once, and with a journal:
 # Appends and Reads of 4 KiB and of 128 KiB, one and 32 of them under way, on one queue. Of each the least of several rounds and launches;
 # the image is in memory.
 set -eu
@@ -9,7 +9,7 @@ work=$(mktemp -d /dev/shm/nvme_tcp.XXXXXX)
 trap 'rm -r "$work"' EXIT
 cc -O2 -Wall -o "$work/host" "$here/nvme_tcp.c"
 cc -std=c11 -O2 -Wall -Wextra -I "$here/../hosts/c" -o "$work/answers" "$here/../hosts/nvme_tcp/nvme_tcp.c" \
-    "$here/../hosts/nvme_tcp/image_file.c" "$here/../hosts/c/kept_file.c" "$here/nvme_tcp_answers.c"
+    "$here/../hosts/c/image_file.c" "$here/../hosts/c/kept_file.c" "$here/nvme_tcp_answers.c"
 "$here/../hosts/nvme_tcp/build.sh" "$work"
 "$here/../zscli" format "$work/empty.img" --block 4096 --zones 4 --size 4096 --capacity 4096 --open 4 --active 4
 
@@ -31,13 +31,13 @@ for size in 4096 131072; do
     for depth in 1 32; do
         for line in 1 2; do
             [ "$line" = 1 ] && what=Append || what=Read
-            kept=
+            kept=--memory
             ours=$(least "$line" timed "$work/nvme_tcp" "$size" $((33554432 / size)) "$depth")
             answers=$(least "$line" timed "$work/answers" "$size" $((33554432 / size)) "$depth")
-            kept=--durable
+            kept=
             durable=$(least "$line" timed "$work/nvme_tcp" "$size" $((33554432 / size)) "$depth")
             echo "$what of $((size / 1024)) KiB, $depth under way: $ours ns, without a device $answers ns, rate $(ratio "$answers" "$ours");" \
-                "with --durable $durable ns, rate $(ratio "$ours" "$durable")"
+                "with a journal $durable ns, rate $(ratio "$ours" "$durable")"
         done
     done
 done

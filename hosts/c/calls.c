@@ -1,9 +1,16 @@
-/* Calls that are refused, faults, and want of memory: calls IMAGE. Prints what fails, and how many checks there were. */
+/* Calls that are refused, faults, want of memory, and what saving replaces: calls IMAGE. IMAGE.saved and IMAGE.saved.unfinished are written.
+   Prints what fails, and how many checks there were. */
+#define _GNU_SOURCE
 #include "pifnjarl_device.h"
 
+#include <errno.h>
+#include <fcntl.h>
 #include <stdio.h>
 #include <stdlib.h>
 #include <string.h>
+#include <sys/file.h>
+#include <sys/stat.h>
+#include <unistd.h>
 
 static unsigned passed, failed;
 static long requests_left = -1;
@@ -103,6 +110,44 @@ static void images(void)
     pifnjarl_close(other);
 }
 
+/* A file of one byte, of which nobody may do anything but its owner; its descriptor. */
+static int small_file(const char *path)
+{
+    int file = open(path, O_RDWR | O_CREAT | O_TRUNC, 0600);
+    CHECK(file >= 0 && write(file, "x", 1) == 1);
+    return file;
+}
+
+static int has_bytes(const char *path, off_t count)
+{
+    struct stat about;
+    return stat(path, &about) == 0 && about.st_size == count;
+}
+
+/* What is saved takes the place of a file with its permissions and its owner, also where a program that was killed left an unfinished one;
+   that of a program that writes it stays. */
+static void saving(const char *image)
+{
+    char path[4096], unfinished[4096];
+    struct stat about;
+    size_t count = 0;
+    uid_t owner = geteuid() == 0 ? 12345 : geteuid();
+    snprintf(path, sizeof path, "%s.saved", image);
+    snprintf(unfinished, sizeof unfinished, "%s.saved.unfinished", image);
+    CHECK(pifnjarl_save(device, NULL, 0, &count) == PIFNJARL_WRONG_SIZE);
+    close(small_file(path));
+    CHECK(chown(path, owner, (gid_t)-1) == 0 && chmod(path, 0640) == 0);
+    int other = small_file(unfinished);
+    CHECK(flock(other, LOCK_EX) == 0);
+    CHECK(pifnjarl_save_path(device, path) == PIFNJARL_CANNOT_WRITE && errno == EBUSY);
+    CHECK(has_bytes(path, 1) && has_bytes(unfinished, 1));
+    close(other);
+    CHECK(pifnjarl_save_path(device, path) == PIFNJARL_DONE);
+    CHECK(has_bytes(path, (off_t)count) && access(unfinished, F_OK) != 0);
+    CHECK(stat(path, &about) == 0 && (about.st_mode & 07777) == 0640 && about.st_uid == owner);
+    CHECK(pifnjarl_save_path(device, path) == PIFNJARL_DONE && has_bytes(path, (off_t)count));
+}
+
 int main(int count, char **words)
 {
     if (count != 2 || pifnjarl_open_path("/nowhere/image", &device) != PIFNJARL_CANNOT_READ || device != NULL
@@ -111,6 +156,7 @@ int main(int count, char **words)
     refusals();
     events();
     images();
+    saving(words[1]);
     pifnjarl_close(device);
     printf("%u checks, %u failed\n", passed + failed, failed);
     return failed != 0;

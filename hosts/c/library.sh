@@ -26,5 +26,5 @@ archive() {
     ar rcs "$made" "$parts"/*.o
 }
 
-archive device_library libpifnjarl.a pifnjarl_device "$@"
+archive device_library libpifnjarl.a 'pifnjarl_device image_file' "$@"
 archive durable_library libpifnjarl_durable.a 'pifnjarl_durable kept_file' "$@"

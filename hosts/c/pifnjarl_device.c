@@ -1,13 +1,12 @@
 /* The part of the library that is C: memory for a handle, null pointers, files, and words. The rest is crates/device_library. */
 #define _POSIX_C_SOURCE 200809L
 #include "pifnjarl_device.h"
+#include "image_file.h"
 
 #include <errno.h>
 #include <fcntl.h>
 #include <stdbool.h>
-#include <stdio.h>
 #include <stdlib.h>
-#include <string.h>
 #include <sys/stat.h>
 #include <unistd.h>
 
@@ -139,40 +138,6 @@ enum pifnjarl_result pifnjarl_save(struct pifnjarl_device *device, void *image, 
     return count > room ? PIFNJARL_WRONG_SIZE : PIFNJARL_DONE;
 }
 
-/* Writes bytes to a file, and brings them to the disk. */
-static bool write_all(int file, const unsigned char *bytes, size_t count)
-{
-    while (count > 0) {
-        ssize_t done = write(file, bytes, count);
-        if (done < 0 && errno == EINTR)
-            continue;
-        if (done < 0)
-            return false;
-        bytes += done;
-        count -= (size_t)done;
-    }
-    return fsync(file) == 0;
-}
-
-/* Writes bytes to a file that isn't there yet, with the permissions of the one that it is to replace. */
-static bool write_anew(const char *unfinished, const char *path, const unsigned char *bytes, size_t count)
-{
-    struct stat before;
-    int file = open(unfinished, O_WRONLY | O_CREAT | O_EXCL | O_CLOEXEC, 0666);
-    if (file < 0)
-        return false;
-    bool written = (stat(path, &before) != 0 || fchmod(file, before.st_mode & 07777) == 0) && write_all(file, bytes, count);
-    if (close(file) != 0)
-        written = false;
-    if (!written || rename(unfinished, path) != 0) {
-        int cause = errno;
-        unlink(unfinished);
-        errno = cause;
-        return false;
-    }
-    return true;
-}
-
 enum pifnjarl_result pifnjarl_save_path(struct pifnjarl_device *device, const char *path)
 {
     size_t count;
@@ -182,18 +147,12 @@ enum pifnjarl_result pifnjarl_save_path(struct pifnjarl_device *device, const ch
     if (saved != PIFNJARL_WRONG_SIZE)
         return saved;
     unsigned char *bytes = malloc(count);
-    size_t name_bytes = strlen(path) + sizeof ".unfinished";
-    char *unfinished = malloc(name_bytes);
-    if (bytes == NULL || unfinished == NULL) {
-        saved = PIFNJARL_WANT_OF_MEMORY;
-    } else {
-        saved = pifnjarl_save(device, bytes, count, &count);
-        snprintf(unfinished, name_bytes, "%s.unfinished", path);
-        if (saved == PIFNJARL_DONE && !write_anew(unfinished, path, bytes, count))
-            saved = PIFNJARL_CANNOT_WRITE;
-    }
+    if (bytes == NULL)
+        return PIFNJARL_WANT_OF_MEMORY;
+    saved = pifnjarl_save(device, bytes, count, &count);
+    if (saved == PIFNJARL_DONE && !image_file_replace(path, bytes, count))
+        saved = errno == ENOMEM ? PIFNJARL_WANT_OF_MEMORY : PIFNJARL_CANNOT_WRITE;
     int cause = errno;
-    free(unfinished);
     free(bytes);
     errno = cause;
     return saved;

@@ -44,7 +44,8 @@ enum pifnjarl_result {
     PIFNJARL_NUMBER_TOO_LARGE = 35, /* a queue over 65535, or a run over 255 */
     PIFNJARL_NULL_POINTER = 36,     /* another pointer is null where something has to be */
     PIFNJARL_CANNOT_READ = 37,      /* the file can't be read; errno tells why */
-    PIFNJARL_CANNOT_WRITE = 38      /* the file can't be written, and is as it was; errno tells why */
+    PIFNJARL_CANNOT_WRITE = 38      /* the file can't be written, and is as it was; errno tells why. Where only the name couldn't be
+                                       brought to the disk, the new file is in place */
 };
 
 enum pifnjarl_kind {
@@ -91,7 +92,9 @@ uint32_t pifnjarl_lowest_run(struct pifnjarl_device *device);
    where room is 0. It wants memory for another copy meanwhile. */
 enum pifnjarl_result pifnjarl_save(struct pifnjarl_device *device, void *image, size_t room, size_t *image_bytes);
 
-/* Writes the image as it is now to a file: to PATH.unfinished, which takes the place of PATH when it is whole and on the disk. */
+/* Writes the image as it is now to a file: to PATH.unfinished, which takes the place of PATH, with its permissions and its owner, when it
+   is whole and on the disk; and brings the name to the disk. Where PATH is a link, the file that it leads to is replaced. A PATH.unfinished
+   that a program left which was killed is removed first; while another program writes it, nothing is written, and errno is EBUSY. */
 enum pifnjarl_result pifnjarl_save_path(struct pifnjarl_device *device, const char *path);
 
 /* Ends a device, and with it its programs and runs. What wasn't saved is lost. Null is no device, and nothing is done. */
