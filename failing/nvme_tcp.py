@@ -1,5 +1,5 @@
 #!/usr/bin/env python3
-"""Kills `nvme_tcp --durable` at random moments, again and again, and looks for each acknowledged block.
+"""Kills `nvme_tcp` at random moments, again and again, and looks for each acknowledged block.
 
     NVME_TCP_TARGET=nvme_tcp ZSCLI=zscli failing/nvme_tcp.py [ROUNDS]        200 rounds where none is given
 

@@ -1,7 +1,7 @@
-/* Serves an image as an NVMe/TCP target: nvme_tcp IMAGE [--durable] [--listen ADDRESS:PORT]. All that is known of NVMe stands in
+/* Serves an image as an NVMe/TCP target: nvme_tcp IMAGE [--memory] [--listen ADDRESS:PORT]. All that is known of NVMe stands in
    crates/tcp_library: here bytes are moved between sockets and it, in one thread, with a tick each second and turns of runs in
-   between. The image is locked while it is served. It is saved upon SIGTERM or SIGINT; or with --durable a journal takes its place, and
-   what is sent to hosts answers only what is on the disk. */
+   between. The image is locked while it is served. A journal takes its place, and what is sent to hosts answers only what is on the disk;
+   or with --memory the image is saved once, upon the signal that ends the program: SIGTERM, SIGINT, SIGHUP or SIGQUIT. */
 #define _GNU_SOURCE
 #include "image_file.h"
 #include "kept_file.h"
@@ -26,7 +26,7 @@
 #define TURNS 32        /* turns between two looks at the sockets */
 #define KEPT_TURNS 1024 /* and as many where these wait for the disk */
 #define SECOND 1000
-#define USAGE "usage: nvme_tcp IMAGE [--durable] [--listen ADDRESS:PORT]"
+#define USAGE "usage: nvme_tcp IMAGE [--memory] [--listen ADDRESS:PORT]"
 
 /* what is waited for beside connections */
 enum { LISTENER = TARGET_CONNECTIONS, SIGNALS, POLLED };
@@ -415,19 +415,38 @@ static bool run(struct image *image, const char *path, const char *place, int si
     return done && saved;
 }
 
-/* The words of the command line. False where they are wrong. */
+/* The words of the command line; --durable says what is so without it. False where they are wrong. */
 static bool read_words(int words, char **word, struct image *image, const char **place)
 {
+    bool has_durable = false;
+    image->is_durable = true;
     for (int next = 2; next < words; next++) {
-        if (strcmp(word[next], "--durable") == 0 && !image->is_durable)
-            image->is_durable = true;
+        if (strcmp(word[next], "--memory") == 0 && image->is_durable)
+            image->is_durable = false;
+        else if (strcmp(word[next], "--durable") == 0 && !has_durable)
+            has_durable = true;
         else if (strcmp(word[next], "--listen") == 0 && next + 1 < words && *place == NULL)
             *place = word[++next];
         else
             return false;
     }
     image->has_runs = image->is_durable;
-    return words >= 2;
+    return words >= 2 && (image->is_durable || !has_durable);
+}
+
+/* A descriptor that is ready when a signal has come which ends the program; -1 where there is none. */
+static int signals_to_end(void)
+{
+    struct sigaction hangup;
+    sigset_t ends;
+    sigemptyset(&ends);
+    sigaddset(&ends, SIGTERM);
+    sigaddset(&ends, SIGINT);
+    sigaddset(&ends, SIGQUIT);
+    if (sigaction(SIGHUP, NULL, &hangup) == 0 && hangup.sa_handler != SIG_IGN) /* nohup has it ignored */
+        sigaddset(&ends, SIGHUP);
+    sigprocmask(SIG_BLOCK, &ends, NULL);
+    return signalfd(-1, &ends, SFD_CLOEXEC);
 }
 
 int main(int words, char **word)
@@ -438,12 +457,7 @@ int main(int words, char **word)
         fprintf(stderr, "%s\n", USAGE);
         return 2;
     }
-    sigset_t ends;
-    sigemptyset(&ends);
-    sigaddset(&ends, SIGTERM);
-    sigaddset(&ends, SIGINT);
-    sigprocmask(SIG_BLOCK, &ends, NULL);
-    int signals = signalfd(-1, &ends, SFD_CLOEXEC);
+    int signals = signals_to_end();
     if (signals < 0) {
         complain_of_call("cannot open", word[1]);
         return 1;

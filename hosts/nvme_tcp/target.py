@@ -14,7 +14,7 @@ import unittest
 from contextlib import ExitStack, contextmanager
 from functools import partial
 from pathlib import Path
-from typing import Callable, ClassVar, Dict, Iterator, Optional
+from typing import Callable, ClassVar, Dict, Iterator, Optional, Sequence
 
 from nvme_tcp_connection import Address, Completion, Refused
 from nvme_tcp_host import Host
@@ -48,22 +48,34 @@ def format_image(
     subprocess.run([os.environ["ZSCLI"], "format", str(image), *options], check=True, stdout=subprocess.DEVNULL)
 
 
-def _limit_files(most_bytes: int) -> None:
-    """Has each write fail that makes a file longer than so many bytes."""
-    signal.signal(signal.SIGXFSZ, signal.SIG_IGN)
-    resource.setrlimit(resource.RLIMIT_FSIZE, (most_bytes, most_bytes))
+def _prepare(most_bytes: Optional[int]) -> None:
+    """Has SIGHUP come, also where these tests are kept from it, and each write fail that makes a file longer than so many bytes."""
+    signal.signal(signal.SIGHUP, signal.SIG_DFL)
+    if most_bytes is not None:
+        signal.signal(signal.SIGXFSZ, signal.SIG_IGN)
+        resource.setrlimit(resource.RLIMIT_FSIZE, (most_bytes, most_bytes))
 
 
 class Target:
     """A target that has started: `address` is where it listens."""
 
-    def __init__(self, image: Path, *, is_quiet: bool = False, is_durable: bool = False, most_bytes: Optional[int] = None) -> None:
-        """Starts the program on an image, at a port that is free; what it says on standard error is shown unless it is quiet. Where
-        most bytes are told, no file that it writes may have more."""
-        words = [os.environ["NVME_TCP_TARGET"], str(image), "--listen", "127.0.0.1:0", *(["--durable"] if is_durable else [])]
-        limit = None if most_bytes is None else partial(_limit_files, most_bytes)
+    def __init__(
+        self,
+        image: Path,
+        *,
+        is_quiet: bool = False,
+        is_durable: bool = False,
+        most_bytes: Optional[int] = None,
+        words: Optional[Sequence[str]] = None,
+    ) -> None:
+        """Starts the program on an image, at a port that is free, in memory or durable, or with other words; what it says on standard
+        error is shown unless it is quiet. Where most bytes are told, no file that it writes may have more."""
+        if words is None:
+            words = [] if is_durable else ["--memory"]
+        command = [os.environ["NVME_TCP_TARGET"], str(image), "--listen", "127.0.0.1:0", *words]
+        errors = subprocess.DEVNULL if is_quiet else None
         self._program = subprocess.Popen(
-            words, stdout=subprocess.PIPE, stderr=subprocess.DEVNULL if is_quiet else None, text=True, preexec_fn=limit
+            command, stdout=subprocess.PIPE, stderr=errors, text=True, preexec_fn=partial(_prepare, most_bytes)
         )
         self.address = self._address()
 
