@@ -20,9 +20,10 @@ with a run when it is told to, one block at a turn.
     ...     run.turn(), run.wait()
     (False, Result(records=0, blocks=0))
 
-The image is saved by `save`, and where the device ends: behind `with`, or by `shut`. With `durable=True` a method returns when what it
-did is on the disk: after a crash the device that is opened again has it, with its programs, results and runs. The program is `zscli` of the repository in
-which this file stands, or the one that the variable `PIFNJARL_ZSCLI` names.
+The image is saved by `save`, and where the device ends: by `shut`, or behind `with`, also where an exception or Ctrl-C leads out of it.
+With `durable=True` a method returns when what it did is on the disk: after a crash the device that is opened again has it, with its
+programs, results and runs. The program is `zscli` of the repository in which this file stands, or the one that the variable
+`PIFNJARL_ZSCLI` names.
 """
 
 from __future__ import annotations
@@ -31,7 +32,7 @@ import os
 import struct
 import subprocess
 import tempfile
-from contextlib import contextmanager
+from contextlib import contextmanager, suppress
 from enum import Enum, IntEnum
 from pathlib import Path
 from typing import ClassVar, Dict, Iterator, List, NamedTuple, Optional, Tuple, Type, Union
@@ -334,8 +335,10 @@ class _Stream:
     """A program that serves a device. Frames go to it in the order of the calls, and what answers them comes in the same order."""
 
     def __init__(self, words: List[str]) -> None:
-        """Starts the program by the words of its command line."""
-        self._program = subprocess.Popen(words, stdin=subprocess.PIPE, stdout=subprocess.PIPE, stderr=subprocess.PIPE)
+        """Starts the program by the words of its command line, in a session of its own: a signal that a terminal sends to this
+        program, as for Ctrl-C, doesn't end that one before it has saved."""
+        pipe = subprocess.PIPE
+        self._program = subprocess.Popen(words, stdin=pipe, stdout=pipe, stderr=pipe, start_new_session=True)
         assert self._program.stdin is not None and self._program.stdout is not None
         self._to, self._from = self._program.stdin, self._program.stdout
 
@@ -552,9 +555,14 @@ class Device:
         self._runs: Dict[Tuple[int, int], Run] = {}
         durably = ["--durable"] if durable else []
         self._stream = _Stream([zscli(program), "serve", os.fspath(image), "--frames", *durably])
-        # what answers this says that the image is loaded; no run is left whose identifier a command could get
-        self.drain()
-        self.geometry = _geometry(image)
+        try:
+            # what answers this says that the image is loaded; no run is left whose identifier a command could get
+            self.drain()
+            self.geometry = _geometry(image)
+        except BaseException:
+            with suppress(DeviceError):
+                self.shut()
+            raise
 
     def __enter__(self) -> Device:
         return self

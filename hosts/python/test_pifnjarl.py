@@ -10,6 +10,7 @@ import os
 import random
 import re
 import shutil
+import signal
 import subprocess
 import sys
 import tempfile
@@ -128,6 +129,39 @@ class Devices(Over):
             again.run(0, first, 4, to=64, argument=1).wait()
         with pifnjarl.Device(self.image, durable=True) as again:
             self.assertEqual([record[:8] for record in again.records(65, 1)], [b"order 02"])
+
+    def test_ctrl_c_saves(self) -> None:
+        """The signal goes to all programs of the terminal's foreground, and comes within a command. What was done is in the image."""
+        script = self.folder / "script.py"
+        script.write_text(
+            "import signal, pifnjarl\n"
+            "signal.signal(signal.SIGINT, signal.default_int_handler)\n"
+            "with pifnjarl.Device('zoned.img') as device:\n"
+            "    print(device.append(64, b'x' * 512), flush=True)\n"
+            "    while True:\n"
+            "        device.read(64, 64)\n"
+        )
+        variables = {**os.environ, "PYTHONPATH": str(HERE), "PIFNJARL_ZSCLI": str(Path(pifnjarl.zscli()).resolve())}
+        words = [sys.executable, "-B", str(script)]
+        pipe = subprocess.PIPE
+        with subprocess.Popen(
+            words, cwd=self.folder, env=variables, stdout=pipe, stderr=pipe, text=True, start_new_session=True
+        ) as program:
+            assert program.stdout is not None
+            self.assertEqual(program.stdout.readline(), "64\n")
+            os.killpg(program.pid, signal.SIGINT)
+            _, told = program.communicate()
+        self.assertIn("KeyboardInterrupt", told)
+        self.assertNotIn("DeviceError", told)
+        self.assertEqual(self.device().read(64, 1), b"x" * 512)
+
+    def test_an_exception_saves(self) -> None:
+        """`with` ends the device then too."""
+        with self.assertRaises(ZeroDivisionError):
+            with pifnjarl.Device(self.image) as device:
+                device.append(64, b"x" * 512)
+                device.append(0, bytes(1 // 0))
+        self.assertEqual(self.device().read(64, 1), b"x" * 512)
 
     def test_a_run_that_is_left_ends_with_the_device(self) -> None:
         """What it has still to append is in the image."""
