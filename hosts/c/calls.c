@@ -1,5 +1,5 @@
-/* Calls that are refused, faults, want of memory, and what saving replaces: calls IMAGE. IMAGE.saved and IMAGE.saved.unfinished are written.
-   Prints what fails, and how many checks there were. */
+/* Calls that are refused, faults, want of memory, and what saving replaces: calls IMAGE. IMAGE.saved and IMAGE.saved.unfinished are
+   written. Prints what fails, and how many checks there were. */
 #define _GNU_SOURCE
 #include "pifnjarl_device.h"
 
