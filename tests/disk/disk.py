@@ -2,7 +2,7 @@
 
 A file is pages of 4096 bytes, each in sectors of 512. Of a page it is known what programs read there, and what may be on the disk: what
 the last sync brought there, and each content since. A crash leaves any of these, for the page as a whole or for each sector by itself;
-where several are possible also one from before the last sync. A length that was set since the last sync is anything between. A name
+of a page that was written since also what was there before. A length that was set since the last sync is anything between. A name
 leads where it led at the folder's last sync, or anywhere since.
 
 A sync that fails leaves what may be on the disk as it was, and the pages as if they were there: a later sync brings none of them to the
@@ -21,6 +21,7 @@ disk that isn't written again.
 from __future__ import annotations
 
 import random
+from enum import Enum
 from typing import Dict, List, Optional
 
 from calls import Call, Kind
@@ -29,22 +30,24 @@ PAGE, SECTOR = 4096, 512
 _NOTHING = bytes(PAGE)
 
 
+class Mood(Enum):
+    """What of the writes since a sync is on the disk."""
+
+    ALL = "all"
+    NONE = "none"
+    FIRST = "those up to one"
+    LAST = "those from one on"
+    MIXED = "some, and parts of some"
+
+
 class Chance(random.Random):
-    """What a crash comes to, of all that it may. Each has a mood, so that crashes that leave nearly all or nearly nothing are tried
-    as often as others."""
+    """What a crash comes to, of all that it may: one mood for all files, and a moment that parts their writes."""
 
     def __init__(self, seed: object) -> None:
         """The same for the same seed."""
         super().__init__(repr(seed))
-        moods = [(1.0, 0.0, 0.0), (0.0, 1.0, 0.0), (0.9, 0.1, 0.0), (0.1, 0.9, 0.0), (0.3, 0.3, 0.3)]
-        self.newest, self.oldest, self.torn = self.choice(moods)
-
-    def one_of(self, contents: List[bytes]) -> bytes:
-        """One of the contents, the first of which is the oldest."""
-        at = self.random()
-        if at < self.newest:
-            return contents[-1]
-        return contents[0] if at < self.newest + self.oldest else self.choice(contents)
+        self.mood = self.choices(list(Mood), (3, 3, 4, 5, 5))[0]
+        self.moment = 0
 
 
 class Page:
@@ -54,32 +57,43 @@ class Page:
         """A page that is on the disk."""
         self.read = read
         self.may_be = [read]
+        self.moments = [0]
         self.stale: List[bytes] = []
         self.is_dirty = False
 
-    def write(self, at: int, data: bytes) -> None:
+    def write(self, at: int, data: bytes, moment: int) -> None:
         """Bytes are written within the page."""
         self.read = self.read[:at] + data + self.read[at + len(data) :]
         self.may_be.append(self.read)
+        self.moments.append(moment)
         self.is_dirty = True
 
     def sync(self) -> None:
         """A sync is done: the page is on the disk, if it was written since the last one, be that done or failed."""
         if self.is_dirty:
             self.stale.append(self.may_be[0])
-            self.may_be = [self.read]
-            self.is_dirty = False
+            self.may_be, self.moments, self.is_dirty = [self.read], [0], False
 
     def crash(self, chance: Chance) -> bytes:
         """What a crash leaves."""
         if len(self.may_be) == 1:
             return self.may_be[0]
-        if chance.random() < chance.torn:
-            contents = [*self.stale[-2:], *self.may_be]
+        if chance.mood is Mood.ALL:
+            return self.may_be[-1]
+        if chance.mood is Mood.FIRST:
+            return [content for content, moment in zip(self.may_be, self.moments) if moment <= chance.moment][-1]
+        if chance.mood is Mood.LAST:
+            return self.may_be[-1 if self.moments[-1] >= chance.moment else 0]
+        if chance.mood is Mood.MIXED:
+            return self._mixed(chance)
+        return self.may_be[0]
+
+    def _mixed(self, chance: Chance) -> bytes:
+        """Any content, or of each sector any."""
+        contents = [*self.stale[-2:], *self.may_be]
+        if chance.random() < 0.5:
             return b"".join(chance.choice(contents)[at : at + SECTOR] for at in range(0, PAGE, SECTOR))
-        if self.stale and chance.random() < 0.1:
-            return chance.choice(self.stale)
-        return chance.one_of(self.may_be)
+        return chance.choice([self.may_be[0], self.read, chance.choice(contents)])
 
 
 class File:
@@ -96,7 +110,12 @@ class File:
         """What programs read."""
         return b"".join(page.read for page in self.pages)[: self.length].ljust(self.length, b"\0")
 
-    def write(self, at: int, data: bytes) -> None:
+    @property
+    def moments(self) -> List[int]:
+        """When what isn't on the disk was written."""
+        return [moment for page in self.pages for moment in page.moments[1:]]
+
+    def write(self, at: int, data: bytes, moment: int) -> None:
         """Bytes are written at an offset."""
         end = at + len(data)
         while len(self.pages) * PAGE < end:
@@ -104,16 +123,16 @@ class File:
         while at < end:
             number, within = divmod(at, PAGE)
             count = min(PAGE - within, end - at)
-            self.pages[number].write(within, data[len(data) - (end - at) :][:count])
+            self.pages[number].write(within, data[len(data) - (end - at) :][:count], moment)
             at += count
         self._set_length(max(self.length, end))
 
-    def truncate(self, length: int) -> None:
+    def truncate(self, length: int, moment: int) -> None:
         """The length is set."""
         for number, page in enumerate(self.pages):
             kept = max(0, min(PAGE, length - number * PAGE))
             if kept < PAGE and any(page.read[kept:]):
-                page.write(kept, bytes(PAGE - kept))
+                page.write(kept, bytes(PAGE - kept), moment)
         self._set_length(length)
 
     def sync(self) -> None:
@@ -131,8 +150,8 @@ class File:
         """What a crash leaves."""
         length = self.length
         if len(self.lengths) > 1:
-            low, high = min(self.lengths), max(self.lengths)
-            length = chance.choice([self.lengths[0], self.length, self.length, chance.randint(low, high)])
+            between = chance.randint(min(self.lengths), max(self.lengths))
+            length = chance.choice([self.lengths[0], self.length, self.length, between])
         whole = b"".join(page.crash(chance) for page in self.pages)
         return whole[:length].ljust(length, b"\0")
 
@@ -149,6 +168,7 @@ class Disk:
         """Files that are on the disk."""
         self._names: Dict[str, List[Optional[File]]] = {name: [File(content)] for name, content in contents.items()}
         self._inodes: Dict[int, File] = {}
+        self._moment = 0
 
     def read(self) -> Dict[str, bytes]:
         """What programs read of each file."""
@@ -156,12 +176,13 @@ class Disk:
 
     def take(self, call: Call) -> None:
         """A call is made."""
+        self._moment += 1
         if call.kind is Kind.OPENED:
             self._open(call)
         elif call.kind is Kind.WRITTEN:
-            self._inodes[call.inode].write(call.place, call.data)
+            self._inodes[call.inode].write(call.place, call.data, self._moment)
         elif call.kind is Kind.TRUNCATED:
-            self._inodes[call.inode].truncate(call.place)
+            self._inodes[call.inode].truncate(call.place, self._moment)
         elif call.kind is Kind.SYNCED:
             self._sync(call)
         elif call.kind is Kind.RENAMED:
@@ -176,6 +197,8 @@ class Disk:
         """What a crash leaves of each file. A file is left as one, whatever names lead to it."""
         left: Dict[File, bytes] = {}
         found = {}
+        files = {file for leads in self._names.values() for file in leads if file is not None}
+        chance.moment = chance.choice(sorted(moment for file in files for moment in file.moments) or [0])
         for name, leads in sorted(self._names.items()):
             file = chance.choice([leads[0], leads[-1], chance.choice(leads)])
             if file is not None:
@@ -191,7 +214,7 @@ class Disk:
         assert file is not None, call
         self._inodes[call.inode] = file
         if call.place < file.length:
-            file.truncate(call.place)
+            file.truncate(call.place, self._moment)
 
     def _sync(self, call: Call) -> None:
         if call.is_folder:

@@ -28,7 +28,7 @@ IMAGE = "zoned.img"
 MOST_AT_ONCE = 4096
 """The most bytes that a pipe takes whole, so that they are read whole, and are one batch."""
 
-PATIENCE = 120
+PATIENCE = 600
 """The seconds in which a program has to end."""
 
 

@@ -27,6 +27,9 @@ from stories import Contents, Lost, Story, executed, failing, folded, formatted,
 POINTS_OF_A_STORY = 40
 """How many points are tried of one story."""
 
+BEFORE = "before any of the points, in story"
+"""What is printed where a story itself goes wrong."""
+
 Telling = Callable[[object, str], Story]
 """What tells a story, from a seed and the kind of the syncs that aren't made."""
 
@@ -76,7 +79,7 @@ def tried(name: str, seed: int, numbers: List[int], skip: str = "") -> List[str]
     try:
         story = STORIES[name]((seed, which), skip)
     except Lost as error:
-        return [f"{name}, seed {seed}, before any crash, in story {which}: {error}"] * len(numbers)
+        return [f"{name}, seed {seed}, {BEFORE} {which}: {error}"] * len(numbers)
     wrong = []
     for point in points(story, (seed, name), numbers):
         stretch = story.stretches[point.stretch]

@@ -51,9 +51,12 @@ class LeftOut(unittest.TestCase):
 
 
 def is_seen(name: str, kind: str) -> bool:
-    """Is something lost by a program that doesn't make syncs of a kind?"""
-    size = run.POINTS_OF_A_STORY
-    return any(run.tried(name, 1, list(range(at, at + POINTS)), kind) for at in range(0, MOST_STORIES * size, size))
+    """Is something lost at some point by a program that doesn't make syncs of a kind? Before power fails nothing is."""
+    for at in range(0, MOST_STORIES * run.POINTS_OF_A_STORY, run.POINTS_OF_A_STORY):
+        wrong = run.tried(name, 1, list(range(at, at + POINTS)), kind)
+        if wrong:
+            return run.BEFORE not in wrong[0]
+    return False
 
 
 class Disks(unittest.TestCase):
