@@ -20,8 +20,7 @@ with a run when it is told to, one block at a turn.
     ...     run.turn(), run.wait()
     (False, Result(records=0, blocks=0))
 
-The image is saved by `save`, and where the device ends: by `shut`, or behind `with`, also where an exception or Ctrl-C leads out of it.
-With `durable=True` a method returns when what it did is on the disk: after a crash the device that is opened again has it, with its
+The image is saved by `save`, and where the device ends: by `shut`, or after `with`, also if an exception or Ctrl-C leaves it. With `durable=True` a method returns when what it did is on the disk: after a crash the device that is opened again has it, with its
 programs, results and runs. The program is `zscli` of the repository in which this file stands, or the one that the variable
 `PIFNJARL_ZSCLI` names.
 """

@@ -162,7 +162,7 @@ class _Maker:
 
 
 def random_units(chance: random.Random, least: int, *, runs_at_most: int, has_faults: bool) -> List[List[Event]]:
-    """Units of events, behind each of which no run is active; of at least so many events in all. Runs are among the first ones."""
+    """Units of events, after each of which no run is active; of at least so many events in all. Runs are among the first ones."""
     maker, units, count = _Maker(chance), [], 0
     while count < least:
         units.append(maker.unit(count < runs_at_most))

@@ -1,4 +1,4 @@
-/* Serves a device that is kept in a file: kept_frames IMAGE. Standard input has batches of frames (docs/device.md), each behind its
+/* Serves a device that is kept in a file: kept_frames IMAGE. Standard input has batches of frames (docs/device.md), each after its
    length in 4 bytes, the least first; the frames of the replies go to standard output, batch by batch. A batch of no frames folds the
    journal. It ends with status 0 at the end of the input, and with 1 where anything fails. */
 #include "pifnjarl_durable.h"

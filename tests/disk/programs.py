@@ -33,11 +33,11 @@ PATIENCE = 600
 
 
 KINDS = ("payload", "gate", "opening", "new", "folder", "name")
-"""The kinds of a sync, as shadow.c tells them."""
+"""The kinds of a sync, as shadow.c names them."""
 
 
 class Trouble(NamedTuple):
-    """What is done to a program: it is killed at a call, and a sync fails, each told by a number or a kind, and syncs of a kind aren't
+    """What is done to a program: it is killed at a call, and a sync fails, each given by a number or a kind, and syncs of a kind aren't
     made."""
 
     kill: str = ""
@@ -51,7 +51,7 @@ class Trouble(NamedTuple):
 
 
 class Step(NamedTuple):
-    """A call, and which states a crash behind it may leave: numbers of events, of which the first was acknowledged."""
+    """A call, and which states a crash after it may leave: numbers of events, of which the first was acknowledged."""
 
     call: Call
     allowed: Tuple[int, ...]
@@ -100,10 +100,10 @@ class Progress:
 
     def allowed(self) -> Tuple[int, ...]:
         """All that was acknowledged, and at most what is left of a batch more."""
-        behind = [number for number, end in enumerate(self.ends) if end > self.acknowledged]
-        if not behind:
+        after = [number for number, end in enumerate(self.ends) if end > self.acknowledged]
+        if not after:
             return (self.acknowledged,)
-        batch, end = behind[0] - 1, self.ends[behind[0]]
+        batch, end = after[0] - 1, self.ends[after[0]]
         if self.whole[batch] and self.acknowledged == self.ends[batch]:
             return (self.acknowledged, end)
         return tuple(range(self.acknowledged, end + 1))
@@ -192,7 +192,7 @@ class KeptFrames(Piped):
 
 
 class OverTcp(Piped):
-    """The target over TCP. Turns happen by themselves there, so that a Run is answered behind them."""
+    """The target over TCP. Turns happen by themselves there, so that a Run is answered after them."""
 
     name = "nvme_tcp"
     has_turns = False
@@ -242,17 +242,17 @@ class OverTcp(Piped):
 
     def _feed(self, address: Tuple[str, int], first: int, batches: Sequence[Sequence[Event]], identifiers: Dict[int, int]) -> None:
         """Submits the commands of each batch when those of the one before are answered; notes the identifier of each event's command,
-        so that a completion tells how many events are acknowledged by it."""
+        so that a completion says how many events are acknowledged by it."""
         with Host(address) as host:
-            queue, behind = host.queue(1), first
+            queue, after = host.queue(1), first
             for batch in batches:
                 waiting = []
                 for event in batch:
-                    behind += 1
+                    after += 1
                     if event.kind is Request.SUBMISSION:
                         length = BLOCK if event.opcode == Opcode.READ else 0
                         waiting.append(queue.submit(event.opcode, *event.dwords, data=event.data, length=length))
-                    identifiers[waiting[-1]] = behind
+                    identifiers[waiting[-1]] = after
                 for identifier in waiting:
                     queue.completion(identifier)
 
@@ -270,7 +270,7 @@ class OverTcp(Piped):
 
 
 def completed(stream: bytes) -> Iterator[int]:
-    """The identifiers of the commands whose completions a target sent on the connection of an I/O queue, behind that of its Connect.
+    """The identifiers of the commands whose completions a target sent on the connection of an I/O queue, after that of its Connect.
 
     >>> one = struct.pack("<BBBBI12xHxx", 5, 0, 24, 0, 24, 7)
     >>> list(completed(bytes([1, 0, 8, 0, 8, 0, 0, 0]) + one + one + one[:20]))

@@ -1,7 +1,7 @@
 #!/usr/bin/env python3
 """Crashes of programs that keep a device in a file, over a disk that is known: tests/disk/run.py [--points N] [--seed S] [NAME ..]
 
-For each program that is named, or all, so many points are tried: behind some call of it power fails, and what the disk may have then is
+For each program that is named, or all, so many points are tried: after some call of it power fails, and what the disk may have then is
 opened by the program again. It has to have all that was acknowledged, and at most the batch that was under way. Where it hasn't, the
 point is printed with the call, what was done to the programs before, and the words that try it again. The last line is
 'N passed, M failed'.
@@ -30,10 +30,10 @@ POINTS_OF_A_STORY = 40
 BEFORE = "before any of the points, in story"
 """What is printed where a story itself goes wrong."""
 
-Telling = Callable[[object, str], Story]
-"""What tells a story, from a seed and the kind of the syncs that aren't made."""
+Maker = Callable[[object, str], Story]
+"""What makes a story, from a seed and the kind of the syncs that aren't made."""
 
-STORIES: Dict[str, Telling] = {
+STORIES: Dict[str, Maker] = {
     "serve": lambda seed, skip="": kept(Piped(), seed, skip),
     "kept_frames": lambda seed, skip="": kept(KeptFrames(), seed, skip),
     "nvme_tcp": lambda seed, skip="": kept(OverTcp(), seed, skip),
@@ -49,7 +49,7 @@ STORIES: Dict[str, Telling] = {
 
 
 class Point(NamedTuple):
-    """A point of a story: its number, the stretch and the call behind which power fails, and what the disk has then."""
+    """A point of a story: its number, the stretch and the call after which power fails, and what the disk has then."""
 
     number: int
     stretch: int
@@ -87,7 +87,7 @@ def tried(name: str, seed: int, numbers: List[int], skip: str = "") -> List[str]
         words = story.judge(point.contents, step.allowed)
         if words:
             wrong.append(
-                f"{name}, seed {seed}, point {point.number} ({stretch.words}behind call {point.call}, {step.call}): {words}\n"
+                f"{name}, seed {seed}, point {point.number} ({stretch.words}after call {point.call}, {step.call}): {words}\n"
                 f"    again: tests/disk/test.sh --seed {seed} --point {point.number} {name}"
             )
     return wrong
@@ -121,8 +121,8 @@ def main() -> int:
             begun = {name: all_tried(name, words.seed, words.points, workers) for name in names}
             wrong = {name: ended() for name, ended in begun.items()}
         count = words.points
-    for name, told in wrong.items():
-        print("\n".join([f"{name}: {count - len(told)} points passed, {len(told)} failed", *told]))
+    for name, lines in wrong.items():
+        print("\n".join([f"{name}: {count - len(lines)} points passed, {len(lines)} failed", *lines]))
     failed = sum(map(len, wrong.values()))
     print(f"{count * len(names) - failed} passed, {failed} failed")
     return 1 if failed else 0

@@ -10,7 +10,7 @@
      SHADOW_SKIP     syncs of this kind aren't made, and are answered as done
 
    The kinds of a sync: `payload` (of what was written), `gate` (of an open gate), `opening` (of a file to which nothing was written), `new`
-   (of a file that has no name of its own yet), `folder` (behind a rename or a link) and `name` (of the folder, else). */
+   (of a file that has no name of its own yet), `folder` (after a rename or a link) and `name` (of the folder, else). */
 #define _GNU_SOURCE
 #include <dlfcn.h>
 #include <errno.h>
@@ -133,7 +133,7 @@ static struct watched *file_of(ino_t inode)
     return NULL;
 }
 
-/* The file of a descriptor, if it is one of the folder's; of any descriptor `about` is told. */
+/* The file of a descriptor, if it is one of the folder's; `about` is set for any descriptor. */
 static struct watched *watched(int descriptor, struct stat *about)
 {
     int cause = errno;
@@ -263,7 +263,7 @@ static ssize_t write_file(struct watched *file, int descriptor, const void *byte
     return done;
 }
 
-/* Notes what a host or standard output was told. */
+/* Notes what was sent to a host or written to standard output. */
 static void said(int descriptor, const struct stat *about, const void *bytes, ssize_t done)
 {
     if (done > 0 && (descriptor == STDOUT_FILENO || S_ISSOCK(about->st_mode)))

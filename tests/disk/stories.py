@@ -1,4 +1,4 @@
-"""Stories: what programs did to an image, call by call, and what is to be found of it after a crash behind each call.
+"""Stories: what programs did to an image, call by call, and what is to be found of it after a crash after each call.
 
 A story has stretches, each of which begins with files that are on the disk. Within one, programs end, are killed and fail, and what
 they wrote is read on; from one to the next the power fails.
@@ -92,11 +92,11 @@ def moment(chance: Chance, most: int) -> str:
 
 
 class References:
-    """What a device has after the first of some events, by a program that keeps nothing: one that does them all, and is asked behind each
+    """What a device has after the first of some events, by a program that keeps nothing: one that does them all, and is asked after each
     for all that it has."""
 
     def __init__(self, units: Sequence[Sequence[Event]]) -> None:
-        """Events in units, behind each of which no run is active."""
+        """Events in units, after each of which no run is active."""
         self.events = [event for unit in units for event in unit]
         asked = look()
         sent = b"".join([*asked, *(event.frame + b"".join(asked) for event in self.events)])
@@ -104,30 +104,30 @@ class References:
             words = [program("ZSCLI"), "serve", str(folder / IMAGE), "--frames"]
             answers = list(replies(subprocess.run(words, input=sent, stdout=subprocess.PIPE, timeout=PATIENCE, check=True).stdout))
         count = len(asked)
-        behind = [tuple(answers[at : at + count]) for at in range(0, len(answers), count + 1)]
-        assert len(behind) == len(self.events) + 1, "the reference doesn't answer"
+        after = [tuple(answers[at : at + count]) for at in range(0, len(answers), count + 1)]
+        assert len(after) == len(self.events) + 1, "the reference doesn't answer"
         self._seen: List[Tuple[bytes, ...]] = []
-        for number, had in enumerate(behind):
-            self._seen.append((*had, *behind[_end_of_run(units, number)]))
+        for number, had in enumerate(after):
+            self._seen.append((*had, *after[_end_of_run(units, number)]))
 
     def seen(self, number: int) -> Tuple[bytes, ...]:
-        """Behind so many of them, and when the run that is active then has had its turns."""
+        """After so many of them, and when the run that is active then has had its turns."""
         return self._seen[number]
 
     def found(self, what: Tuple[bytes, ...], allowed: Sequence[int]) -> int:
-        """Behind how many of them this is what a device has: one of the numbers that are allowed."""
+        """After how many of them this is what a device has: one of the numbers that are allowed."""
         for number in allowed:
             if what == self.seen(number):
                 return number
         if not what:
             raise Lost("the file isn't opened")
         others = [number for number in range(len(self.events) + 1) if what == self.seen(number)]
-        told = f"that of {others[-1]} events" if others else "none that the events lead to"
-        raise Lost(f"the device is {told}; {allowed[0]} were acknowledged, and {allowed[-1]} sent at most")
+        which = f"that of {others[-1]} events" if others else "none that the events lead to"
+        raise Lost(f"the device is {which}; {allowed[0]} were acknowledged, and {allowed[-1]} sent at most")
 
 
 def _end_of_run(units: Sequence[Sequence[Event]], number: int) -> int:
-    """Behind how many events the run has had its turns that is active behind this number of them; this number where none is.
+    """After how many events the run has had its turns that is active after this number of them; this number where none is.
 
     >>> run, turn = command(Opcode.RUN, 0), Event(Request.TURN)
     >>> [_end_of_run([[run, turn, turn], [turn]], number) for number in range(5)]
@@ -162,7 +162,7 @@ class Keeping:
 
     def serve(self, most: int, kill: str = "", fail: str = "") -> None:
         """A program serves batches of about so many events, which end with a unit, or is killed or has a sync that fails: at a moment that
-        is told, or `SOMEWHERE`."""
+        is given, or `SOMEWHERE`."""
         batches = self._batches(most)
         # a batch is two writes and two syncs, and opening some more
         killed = moment(self.chance, 12 + 4 * len(batches)) if kill == SOMEWHERE else kill
@@ -187,12 +187,12 @@ class Keeping:
         self._found((self.number,))
 
     def fail_power(self) -> None:
-        """The power fails behind some call. What is on the disk then has to be a device; no run is active in it."""
+        """The power fails after some call. What is on the disk then has to be a device; no run is active in it."""
         for _ in range(50):
             stretch = self.stretches[-1]
-            behind = self.chance.randrange(len(stretch.steps))
-            contents = disk_behind(stretch, behind).crash(self.chance)
-            number = self.references.found(self._look(contents), stretch.steps[behind].allowed)
+            after = self.chance.randrange(len(stretch.steps))
+            contents = disk_after(stretch, after).crash(self.chance)
+            number = self.references.found(self._look(contents), stretch.steps[after].allowed)
             if number in self._ends():
                 self.number = self.acknowledged = number
                 self._begin(contents)
@@ -212,7 +212,7 @@ class Keeping:
         return Story(self.stretches, self.judge)
 
     def _ends(self) -> List[int]:
-        """The numbers of events behind which no run is active."""
+        """The numbers of events after which no run is active."""
         return [0, *(sum(map(len, self.units[: count + 1])) for count in range(len(self.units)))]
 
     def _batches(self, most: int) -> List[List[Event]]:
@@ -240,7 +240,7 @@ class Keeping:
         stretch = self.stretches[-1]
         for step in session.steps:
             if step.allowed[0] == self.number:
-                # what an earlier program left, and nobody was told
+                # what an earlier program left, and didn't acknowledge
                 step = step._replace(allowed=(*range(self.acknowledged, self.number), *step.allowed))
             self.acknowledged = step.allowed[0]
             stretch.steps.append(step)
@@ -262,8 +262,8 @@ class Keeping:
         return self.references.found(self._look(self.contents), allowed)
 
 
-def disk_behind(stretch: Stretch, last: int) -> Disk:
-    """The disk behind the call of a number."""
+def disk_after(stretch: Stretch, last: int) -> Disk:
+    """The disk after the call of a number."""
     disk = Disk(stretch.contents)
     for step in stretch.steps[: last + 1]:
         disk.take(step.call)

@@ -1,6 +1,6 @@
 #!/bin/sh
 # Makes the library of the shadow disk and the programs of C that it looks at, and runs its tests: test_disk.py, and run.py with the words
-# that stand behind this name, or for 200 points of each program. ZSCLI names the program of the command line: by default the one that the
+# that stand after this name, or for 200 points of each program. ZSCLI names the program of the command line: by default the one that the
 # gate proves and builds. The last line is 'N passed, M failed'.
 set -u
 here=$(cd "$(dirname "$0")" && pwd)
