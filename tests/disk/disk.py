@@ -183,7 +183,7 @@ class Disk:
             self._inodes[call.inode].write(call.place, call.data, self._moment)
         elif call.kind is Kind.TRUNCATED:
             self._inodes[call.inode].truncate(call.place, self._moment)
-        elif call.kind is Kind.SYNCED:
+        elif call.kind is Kind.SYNCED and not call.is_skipped:
             self._sync(call)
         elif call.kind is Kind.RENAMED:
             self._lead(call.to, self._file(call.name))

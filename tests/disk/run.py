@@ -57,13 +57,30 @@ class Point(NamedTuple):
     contents: Contents
 
 
-def points(story: Story, seed: object, numbers: Iterable[int]) -> List[Point]:
-    """The points of these numbers."""
+REACH = {"payload": 1, "gate": 4, "new": 3, "folder": 40, "name": 40}
+"""How many calls after a sync of a kind that is skipped may show that: the points of a story without it are there."""
+
+
+def _places(story: Story, skip: str) -> List[Tuple[int, int]]:
+    """Where points may be: the stretches and calls of a story."""
+    found = []
+    for number, stretch in enumerate(story.stretches):
+        last = -1 if skip else len(stretch.steps)
+        for call, step in enumerate(stretch.steps):
+            last = call + REACH[skip] if step.call.is_skipped else last
+            if call <= last:
+                found.append((number, call))
+    return found
+
+
+def points(story: Story, seed: object, numbers: Iterable[int], skip: str = "") -> List[Point]:
+    """The points of these numbers; none where syncs of a kind are to be skipped and there are none."""
     chances = {number: Chance((seed, "point", number)) for number in numbers}
     places: Dict[Tuple[int, int], List[int]] = defaultdict(list)
-    all_places = [(stretch, call) for stretch, it in enumerate(story.stretches) for call in range(len(it.steps))]
+    all_places = _places(story, skip)
     for number, chance in chances.items():
-        places[chance.choice(all_places)].append(number)
+        if all_places:
+            places[chance.choice(all_places)].append(number)
     found = []
     for at, stretch in enumerate(story.stretches):
         disk = Disk(stretch.contents)
@@ -81,7 +98,7 @@ def tried(name: str, seed: int, numbers: List[int], skip: str = "") -> List[str]
     except Lost as error:
         return [f"{name}, seed {seed}, {BEFORE} {which}: {error}"] * len(numbers)
     wrong = []
-    for point in points(story, (seed, name), numbers):
+    for point in points(story, (seed, name), numbers, skip):
         stretch = story.stretches[point.stretch]
         step = stretch.steps[point.call]
         words = story.judge(point.contents, step.allowed)

@@ -31,7 +31,7 @@
 
 /* calls.py has the same numbers */
 enum kind { OPENED = 1, WRITTEN, TRUNCATED, SYNCED, RENAMED, LINKED, UNLINKED, SAID };
-enum flags { IS_NEW = 1, IS_FOLDER = 2, HAS_FAILED = 4 };
+enum flags { IS_NEW = 1, IS_FOLDER = 2, HAS_FAILED = 4, IS_SKIPPED = 8 };
 enum { NOTES_FILE = 900, MOST_FILES = 256, GATE_BYTES = 4096 };
 
 struct note {
@@ -372,10 +372,8 @@ static int sync_noted(int descriptor, long call)
         file->last = NOTHING;
     else
         has_renamed = false;
-    if (is_skipped)
-        return 0;
     note((struct note){.kind = SYNCED,
-                       .flags = (file == NULL ? IS_FOLDER : 0) | (fails ? HAS_FAILED : 0),
+                       .flags = (file == NULL ? IS_FOLDER : 0) | (fails ? HAS_FAILED : 0) | (is_skipped ? IS_SKIPPED : 0),
                        .inode = file == NULL ? folder.st_ino : file->inode},
          NULL, NULL);
     /* the notes say what is on the disk: that this one waits for it too would take its time for nothing */
