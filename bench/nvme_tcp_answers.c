@@ -107,6 +107,7 @@ size_t target_library_call(unsigned char *target, uint32_t kind, size_t which, s
     c->unsent += count;
     if (c->unsent == c->unsent_end) c->unsent = c->unsent_end = c->out;
     return count;
+  case TARGET_NAME: return 1;
   case TARGET_COMMIT: return 1;
   case TARGET_SAVE: return 1;
   default: return 0;

@@ -8,5 +8,5 @@ shift
 built=$("$here/../built.sh" tcp_library)
 kit=$(dirname "$(dirname "$(realpath "$(command -v rt)")")")
 mkdir -p "$folder"
-${CC:-gcc} -std=c11 -O2 -Wall -Wextra -Werror "$@" -I "$here/../c" "$here/nvme_tcp.c" "$here/../c/image_file.c" "$here/../c/kept_file.c" "$built" "$kit/c/liblibc_c.a" \
+${CC:-gcc} -std=c11 -O2 -Wall -Wextra -Werror "$@" -I "$here/../c" "$here/nvme_tcp.c" "$here/image_uuid.c" "$here/../c/image_file.c" "$here/../c/kept_file.c" "$built" "$kit/c/liblibc_c.a" \
     -o "$folder/nvme_tcp"

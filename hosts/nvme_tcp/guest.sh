@@ -1,15 +1,17 @@
 #!/bin/sh
 # Boots Debian's Linux under QEMU with a target on this machine's loopback as its disk, and prints its console:
 #
-#     guest.sh PORT [PROGRAM]
+#     guest.sh PORT NQN [PROGRAM]
 #
-# guest_session.sh is what it does with the disk; PROGRAM is the filter that it loads, or examples/filter.bin. The image wants zones of
+# NQN is the name that the target prints. guest_session.sh is what it does with the disk; PROGRAM is the filter that it loads, or
+# examples/filter.bin. The image wants zones of
 # a power of two of blocks, at least eight of them, and 4 MiB of writable blocks in each for f2fs. Wants apt, dpkg,
 # gcc and qemu-system-x86 of Debian 12, and python3. What it downloads, 75 MB, it keeps in GUEST_CACHE. No part of the gate.
 set -eu
 port=$1
+nqn=$2
 here=$(cd "$(dirname "$0")" && pwd)
-program=${2:-$here/../../examples/filter.bin}
+program=${3:-$here/../../examples/filter.bin}
 cache=${GUEST_CACHE:-${XDG_CACHE_HOME:-$HOME/.cache}/nvme_tcp_guest}
 work=$(mktemp -d)
 trap 'rm -rf "$work"' EXIT
@@ -82,7 +84,7 @@ for module in virtio_pci virtio_net virtio_blk crc32c_generic crc32_generic nvme
 ip link set lo up
 ip addr add 10.0.2.15/24 dev eth0
 ip link set eth0 up
-sh /guest_session.sh "$(sed 's/.*target_port=\([0-9]*\).*/\1/' /proc/cmdline)"
+sh /guest_session.sh "$(sed 's/.*target_port=\([0-9]*\).*/\1/' /proc/cmdline)" "$(sed 's/.*target_nqn=\([^ ]*\).*/\1/' /proc/cmdline)"
 poweroff -f
 INIT
 chmod +x "$guest/init"
@@ -92,7 +94,7 @@ chmod +x "$guest/init"
 
 head -c 134217728 /dev/zero > "$work/conventional"
 timeout "${GUEST_SECONDS:-300}" qemu-system-x86_64 -accel "${GUEST_ACCELERATOR:-tcg}" -smp 2 -m 1024 -no-reboot -display none -serial stdio -monitor none \
-    -kernel "$root/boot/vmlinuz-$release" -initrd "$work/initramfs" -append "console=ttyS0 quiet panic=-1 target_port=$port" \
+    -kernel "$root/boot/vmlinuz-$release" -initrd "$work/initramfs" -append "console=ttyS0 quiet panic=-1 target_port=$port target_nqn=$nqn" \
     -netdev user,id=net -device virtio-net-pci,netdev=net \
     -drive "if=none,id=disk,format=raw,file=$work/conventional" \
     -device virtio-blk-pci,drive=disk,logical_block_size=4096,physical_block_size=4096 < /dev/null | tr -d '\r'

@@ -1,7 +1,7 @@
 # What Linux does with the disk: `guest.sh` runs it in a guest, as root. Each line that begins with # is a command, and what follows is
-# what it printed. PORT is the target's, on the machine that the guest knows as 10.0.2.2.
+# what it printed. PORT is the target's, on the machine that the guest knows as 10.0.2.2, and NQN its subsystem's.
 port=$1
-nqn=nqn.2014-08.org.nvmexpress:uuid:0f2b6a34-8c1d-4e7a-9b35-7a6f6e6a6172
+nqn=$2
 disk=/dev/nvme0n1
 queue=/sys/block/nvme0n1/queue
 
@@ -25,7 +25,10 @@ for second in 1 2 3 4 5 6 7 8 9 10; do
 done
 run nvme list
 shell "grep -H . $queue/zoned $queue/nr_zones $queue/chunk_sectors $queue/zone_append_max_bytes $queue/max_hw_sectors_kb $queue/max_open_zones $queue/max_active_zones $queue/logical_block_size $queue/write_cache"
-shell "echo mq-deadline > $queue/scheduler"
+# with native multipath commands go to the queue of the controller's path
+path=/sys/block/nvme0c0n1/queue
+[ -e "$path" ] || path=$queue
+shell "echo mq-deadline > $path/scheduler; cat $path/scheduler"
 block=$(cat "$queue/logical_block_size")
 zone=$(($(cat "$queue/chunk_sectors") * 512 / block))
 zones=$(cat "$queue/nr_zones")

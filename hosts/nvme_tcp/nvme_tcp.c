@@ -4,11 +4,13 @@
    or with --memory the image is saved once, upon the signal that ends the program: SIGTERM, SIGINT, SIGHUP or SIGQUIT. */
 #define _GNU_SOURCE
 #include "image_file.h"
+#include "image_uuid.h"
 #include "kept_file.h"
 #include "target_library.h"
 
 #include <arpa/inet.h>
 #include <errno.h>
+#include <limits.h>
 #include <netinet/in.h>
 #include <netinet/tcp.h>
 #include <poll.h>
@@ -25,7 +27,7 @@
 #define OUTGOING 262144 /* bytes that are sent at once */
 #define TURNS 32        /* turns between two looks at the sockets */
 #define KEPT_TURNS 1024 /* and as many where these wait for the disk */
-#define SECOND 1000
+#define SECOND 1000000  /* microseconds */
 #define USAGE "usage: nvme_tcp IMAGE [--memory] [--listen ADDRESS:PORT]"
 
 /* what is waited for beside connections */
@@ -50,6 +52,7 @@ static struct connection connections[TARGET_CONNECTIONS];
 static bool active[TARGET_CONNECTIONS]; /* there may be something to do on it */
 static bool served[TARGET_CONNECTIONS]; /* it is one of those on which something is being done */
 static unsigned char outgoing[OUTGOING];
+static uint64_t at_disk; /* how many microseconds the disk took since hosts were last read */
 
 /* ---- errors */
 
@@ -96,6 +99,14 @@ static bool make_calls(unsigned char *target, struct image *image)
     return made;
 }
 
+/* The microseconds of a clock that only goes on. */
+static uint64_t now(void)
+{
+    struct timespec at;
+    clock_gettime(CLOCK_MONOTONIC, &at);
+    return (uint64_t)at.tv_sec * 1000000 + (uint64_t)at.tv_nsec / 1000;
+}
+
 /* Brings what was done to the disk, where it is kept there. */
 static bool commit(unsigned char *target, struct image *image)
 {
@@ -104,7 +115,10 @@ static bool commit(unsigned char *target, struct image *image)
         complain_of_call("cannot write", image->kept.path);
         return false;
     }
-    return make_calls(target, image);
+    uint64_t began = now();
+    bool made = make_calls(target, image);
+    at_disk += now() - began;
+    return made;
 }
 
 /* Opens a target on the image that is held, in memory of malloc. */
@@ -154,8 +168,8 @@ static void drop(unsigned char *target, size_t number)
     target_close(target, number);
 }
 
-/* Takes the connections that hosts begin, as long as a number is free. */
-static void accept_hosts(unsigned char *target, int listener)
+/* Takes the connections that hosts begin, as long as a number is free. False where the system has no room for one more: the others wait. */
+static bool accept_hosts(unsigned char *target, int listener)
 {
     int host;
     while ((host = accept4(listener, NULL, NULL, SOCK_NONBLOCK | SOCK_CLOEXEC)) >= 0) {
@@ -170,6 +184,7 @@ static void accept_hosts(unsigned char *target, int listener)
         connections[number].first = 0;
         connections[number].end = 0;
     }
+    return errno != EMFILE && errno != ENFILE && errno != ENOBUFS && errno != ENOMEM;
 }
 
 /* Reads what a host sent, where all that came before is taken. False where the connection is over. */
@@ -289,44 +304,67 @@ static int listen_at(const char *place)
     return listener;
 }
 
-/* Says where it listens. */
-static bool announce(int listener)
+/* Says where it listens, and by which name hosts know it. */
+static bool announce(unsigned char *target, int listener)
 {
+    unsigned char name[TARGET_NAME_BYTES];
+    int name_bytes = (int)target_nqn(target, name, sizeof name);
     char address[INET_ADDRSTRLEN];
     struct sockaddr_in at;
     socklen_t size = sizeof at;
     if (getsockname(listener, (struct sockaddr *)&at, &size) != 0 || inet_ntop(AF_INET, &at.sin_addr, address, sizeof address) == NULL)
         return false;
-    return printf("listening on %s:%u\n", address, (unsigned)ntohs(at.sin_port)) > 0 && fflush(stdout) == 0;
+    return printf("listening on %s:%u\n%.*s\n", address, (unsigned)ntohs(at.sin_port), name_bytes, (const char *)name) > 0
+        && fflush(stdout) == 0;
 }
 
-/* The milliseconds of a clock that only goes on. */
-static uint64_t now(void)
+/* what is waited for beside connections, or -1, and what happened there and at connections */
+struct watch {
+    int listener;
+    int signals;
+    short happened[POLLED];
+};
+
+/* Adds a descriptor to those that are polled, and gives how many they are. */
+static nfds_t watch_one(struct pollfd *polled, size_t *of, nfds_t count, int descriptor, short events, size_t what)
 {
-    struct timespec at;
-    clock_gettime(CLOCK_MONOTONIC, &at);
-    return (uint64_t)at.tv_sec * 1000 + (uint64_t)at.tv_nsec / 1000000;
+    if (descriptor < 0)
+        return count;
+    polled[count] = (struct pollfd){.fd = descriptor, .events = events};
+    of[count] = what;
+    return count + 1;
 }
 
-/* Waits for so many milliseconds at most, for something to happen. */
-static bool wait(unsigned char *target, struct pollfd *polled, int milliseconds)
+/* Waits for so many milliseconds at most, for something to happen. Only descriptors that there are are polled, since a process may poll no
+   more than it may have. */
+static void wait(unsigned char *target, struct watch *watch, int milliseconds)
 {
+    struct pollfd polled[POLLED];
+    size_t of[POLLED];
+    nfds_t count = 0;
     for (size_t number = 0; number < TARGET_CONNECTIONS; number++) {
         struct connection *c = &connections[number];
         short events = c->first == c->end ? POLLIN : 0;
         if (c->socket >= 0 && target_has_unsent(target, number))
             events |= POLLOUT;
-        polled[number] = (struct pollfd){.fd = c->socket, .events = events};
+        count = watch_one(polled, of, count, c->socket, events, number);
     }
-    return poll(polled, POLLED, milliseconds) >= 0;
+    count = watch_one(polled, of, count, watch->listener, POLLIN, LISTENER);
+    count = watch_one(polled, of, count, watch->signals, POLLIN, SIGNALS);
+    memset(watch->happened, 0, sizeof watch->happened);
+    if (poll(polled, count, milliseconds) >= 0)
+        for (nfds_t one = 0; one < count; one++)
+            watch->happened[of[one]] = polled[one].revents;
+    else if (errno != EINTR)
+        poll(NULL, 0, milliseconds);
 }
 
 /* Reads from each connection at which something happened. */
-static void read_hosts(unsigned char *target, const struct pollfd *polled)
+static void read_hosts(unsigned char *target, const struct watch *watch)
 {
     for (size_t number = 0; number < TARGET_CONNECTIONS; number++) {
-        short events = polled[number].revents;
-        active[number] = polled[number].fd >= 0 && events != 0;
+        short events = watch->happened[number];
+        active[number] = events != 0;
         if (active[number] && (events & ~POLLOUT) != 0 && !read_host(&connections[number])) {
             drop(target, number);
             active[number] = false;
@@ -357,32 +395,59 @@ static bool give_turns(unsigned char *target, struct image *image)
     return goes_on || (given && image->is_durable);
 }
 
+/* The time for which hosts might have been heard, and wasn't told to the target yet, in microseconds; and when they were last read. */
+struct clock {
+    uint64_t untold;
+    uint64_t last;
+};
+
+/* Counts the time since hosts were last read, without that of the disk, and no more than a wait takes: what the program does itself is no
+   host's silence. What came until now has been read. */
+static void count(struct clock *clock)
+{
+    uint64_t at = now();
+    uint64_t gone = at - clock->last;
+    gone -= gone < at_disk ? gone : at_disk;
+    clock->untold += gone < SECOND ? gone : SECOND;
+    clock->last = at;
+    at_disk = 0;
+}
+
+/* Lets the target count each second. Says whether one was told. */
+static bool tick(unsigned char *target, struct clock *clock)
+{
+    if (clock->untold < SECOND)
+        return false;
+    target_tick(target, (size_t)(clock->untold / 1000));
+    clock->untold %= 1000;
+    return true;
+}
+
 /* Serves hosts until a signal comes. False where the disk failed. */
 static bool serve(unsigned char *target, struct image *image, int listener, int signals)
 {
-    struct pollfd polled[POLLED] = {0};
-    polled[LISTENER] = (struct pollfd){.fd = listener, .events = POLLIN};
-    polled[SIGNALS] = (struct pollfd){.fd = signals, .events = POLLIN};
+    struct watch watch = {.listener = listener, .signals = signals};
     for (size_t number = 0; number < TARGET_CONNECTIONS; number++)
         connections[number].socket = -1;
-    uint64_t last = now();
+    struct clock clock = {.last = now()};
     bool is_busy = false;
-    while (polled[SIGNALS].revents == 0) {
-        if (wait(target, polled, is_busy ? 0 : SECOND)) {
-            read_hosts(target, polled);
-            if (polled[LISTENER].revents != 0)
-                accept_hosts(target, listener);
-        }
+    while (watch.happened[SIGNALS] == 0) {
+        wait(target, &watch, is_busy ? 0 : SECOND / 1000);
+        read_hosts(target, &watch);
+        bool accepts = watch.happened[LISTENER] == 0 || accept_hosts(target, listener);
+        count(&clock);
         if (!serve_hosts(target, image))
             return false;
+        bool ticked = tick(target, &clock);
+        bool closed = false;
         while (close_hosts(target))
-            continue;
+            closed = true;
+        /* without a descriptor hosts wait until one is closed, or for the next second */
+        if (ticked || closed)
+            watch.listener = listener;
+        else if (!accepts)
+            watch.listener = -1;
         is_busy = give_turns(target, image);
-        uint64_t at = now();
-        if (at - last >= SECOND) {
-            target_tick(target, (size_t)(at - last));
-            last = at;
-        }
     }
     return true;
 }
@@ -396,6 +461,22 @@ static bool hold(struct image *image, const char *path)
     return opened == KEPT_OPENED;
 }
 
+/* Has the target take the names that come of the image's UUID. */
+static bool name_target(unsigned char *target, const struct image *image)
+{
+    char path[PATH_MAX];
+    unsigned char uuid[IMAGE_UUID_BYTES];
+    errno = ENAMETOOLONG;
+    bool taken = (size_t)snprintf(path, sizeof path, "%s.uuid", image->kept.path) < sizeof path && image_uuid_take(path, uuid);
+    if (!taken)
+        complain("cannot take a UUID from", path, errno == EINVAL ? "it has none" : strerror(errno));
+    else if (!target_name(target, uuid))
+        complain("cannot serve", image->kept.path, "memory is wanting");
+    else
+        return true;
+    return false;
+}
+
 /* Serves the image at `path` until a signal comes, and saves it where it isn't kept. */
 static bool run(struct image *image, const char *path, const char *place, int signals)
 {
@@ -404,9 +485,10 @@ static bool run(struct image *image, const char *path, const char *place, int si
     unsigned char *target = open_target(image);
     if (target == NULL)
         return false;
-    int listener = listen_at(place);
-    bool listens = listener >= 0 && announce(listener);
-    if (!listens)
+    bool named = name_target(target, image);
+    int listener = named ? listen_at(place) : -1;
+    bool listens = listener >= 0 && announce(target, listener);
+    if (named && !listens)
         complain_of_call("cannot listen at", place);
     bool done = listens && serve(target, image, listener, signals);
     bool saved = !listens || image->is_durable || save(target, image->kept.path);

@@ -38,26 +38,40 @@ FILTER = bytes.fromhex(
 """A program that emits the first 64 bytes of each block whose number in bytes 8 to 11 is the run's argument."""
 
 
+UUID = "0f2b6a34-8c1d-4e7a-9b35-7a6f6e6a6172"
+"""The UUID of an image whose target has the name `SUBSYSTEM_NQN`."""
+
+
 def format_image(
     image: Path, block: int = BLOCK, zones: int = ZONES, zone_size: int = ZONE_SIZE, most_open: int = 0, most_active: int = 0
 ) -> None:
-    """Makes an image of Empty zones, all blocks of which can be written; all can be open, and active, where no other number is said."""
+    """Makes an image of Empty zones, all blocks of which can be written; all can be open, and active, where no other number is said. Its
+    UUID is `UUID`."""
     active = most_active or zones
     numbers = {"block": block, "zones": zones, "size": zone_size, "capacity": zone_size, "open": most_open or active, "active": active}
     options = [word for name, number in numbers.items() for word in (f"--{name}", str(number))]
     subprocess.run([os.environ["ZSCLI"], "format", str(image), *options], check=True, stdout=subprocess.DEVNULL)
+    uuid_file(image).write_text(UUID + "\n")
 
 
-def _prepare(most_bytes: Optional[int]) -> None:
-    """Has SIGHUP come, also where these tests are kept from it, and each write fail that makes a file longer than so many bytes."""
+def uuid_file(image: Path) -> Path:
+    """The file beside an image that has its UUID."""
+    return image.with_name(image.name + ".uuid")
+
+
+def _prepare(most_bytes: Optional[int], most_files: Optional[int]) -> None:
+    """Has SIGHUP come, also where these tests are kept from it; and each write fail that makes a file longer than so many bytes, and each
+    call that opens one more file than so many."""
     signal.signal(signal.SIGHUP, signal.SIG_DFL)
     if most_bytes is not None:
         signal.signal(signal.SIGXFSZ, signal.SIG_IGN)
         resource.setrlimit(resource.RLIMIT_FSIZE, (most_bytes, most_bytes))
+    if most_files is not None:
+        resource.setrlimit(resource.RLIMIT_NOFILE, (most_files, most_files))
 
 
 class Target:
-    """A target that has started: `address` is where it listens."""
+    """A target that has started: `address` is where it listens, and `nqn` the name of its subsystem."""
 
     def __init__(
         self,
@@ -67,17 +81,26 @@ class Target:
         is_durable: bool = False,
         most_bytes: Optional[int] = None,
         words: Optional[Sequence[str]] = None,
+        most_files: Optional[int] = None,
+        variables: Optional[Dict[str, str]] = None,
     ) -> None:
         """Starts the program on an image, at a port that is free, in memory or durable, or with other words; what it says on standard
-        error is shown unless it is quiet. Where most bytes are told, no file that it writes may have more."""
+        error is shown unless it is quiet. Where most bytes are told, no file that it writes may have more; where most files are, it has no
+        descriptor of a higher number. Its environment has these variables too."""
         if words is None:
             words = [] if is_durable else ["--memory"]
         command = [os.environ["NVME_TCP_TARGET"], str(image), "--listen", "127.0.0.1:0", *words]
-        errors = subprocess.DEVNULL if is_quiet else None
         self._program = subprocess.Popen(
-            command, stdout=subprocess.PIPE, stderr=errors, text=True, preexec_fn=partial(_prepare, most_bytes)
+            command,
+            stdout=subprocess.PIPE,
+            stderr=subprocess.DEVNULL if is_quiet else None,
+            text=True,
+            preexec_fn=partial(_prepare, most_bytes, most_files),
+            env={**os.environ, **(variables or {})},
         )
         self.address = self._address()
+        assert self._program.stdout is not None
+        self.nqn = self._program.stdout.readline().rstrip("\n")
 
     def __enter__(self) -> Target:
         return self
@@ -94,6 +117,11 @@ class Target:
         """How much memory the program has, as Linux tells it."""
         status = Path(f"/proc/{self._program.pid}/status").read_text()
         return 1024 * int(status.partition("VmRSS:")[2].split()[0])
+
+    def processor_seconds(self) -> float:
+        """How much of the processor's time the program took, as Linux tells it."""
+        fields = Path(f"/proc/{self._program.pid}/stat").read_text().rpartition(")")[2].split()
+        return (int(fields[11]) + int(fields[12])) / os.sysconf("SC_CLK_TCK")
 
     def stop(self, by: signal.Signals = signal.SIGTERM) -> int:
         """Ends the program by a signal, and gives its exit status. Does nothing more where it has ended."""

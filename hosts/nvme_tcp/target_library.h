@@ -14,6 +14,8 @@
 
 #define TARGET_CONNECTIONS 40 /* numbers of connections are below it */
 #define TARGET_RUNS 8         /* and those of runs below this */
+#define TARGET_UUID_BYTES 16
+#define TARGET_NAME_BYTES 223 /* the most bytes of the subsystem's name */
 
 /* what opening came to: done, or no target: want of memory, a journal that is damaged, or the number of the first fault of the image */
 #define TARGET_OPENED 0
@@ -45,7 +47,9 @@ enum target_kind {
     TARGET_SIZE = 15,
     TARGET_BYTES = 16,
     TARGET_DONE = 17,
-    TARGET_FAILED = 18
+    TARGET_FAILED = 18,
+    TARGET_NAME = 19,
+    TARGET_NQN = 20
 };
 
 /* How many bytes of memory a target needs. */
@@ -131,7 +135,22 @@ static inline void target_close(unsigned char *target, size_t number)
     target_ask(target, TARGET_CLOSE, number, 0);
 }
 
-/* Says that so many milliseconds went by. */
+/* Has the target take the names that come of a UUID: SUBNQN, the serial number and NGUID; to be called before the first connection begins.
+   False where memory is wanting. */
+static inline bool target_name(unsigned char *target, const unsigned char uuid[TARGET_UUID_BYTES])
+{
+    unsigned char none[1];
+    return target_library_call(target, TARGET_NAME, 0, 0, uuid, TARGET_UUID_BYTES, none, 0) != 0;
+}
+
+/* Puts the name of the subsystem, SUBNQN, into `out`, as far as it has room, and gives how many bytes. */
+static inline size_t target_nqn(unsigned char *target, unsigned char *out, size_t room)
+{
+    return target_library_call(target, TARGET_NQN, 0, 0, (const unsigned char *)"", 0, out, room);
+}
+
+/* Says that so many milliseconds went by, the last of which end now. What came until then is handed on before, and what was sent is told.
+   The first tick after something came, or was sent, doesn't count for it, since that may have been within it. */
 static inline void target_tick(unsigned char *target, size_t milliseconds)
 {
     target_ask(target, TARGET_TICK, 0, milliseconds);

@@ -32,7 +32,7 @@ class AdminQueues(Over):
         """Each byte, but for the serial number, the model and the firmware, which are text."""
         came = self.host.identify(0x01)
         self.assertRegex(came[4:72].decode("ascii"), "^[ -~]{68}$")
-        fields = {4: came[4:72], 77: b"\5", 78: little(1, 2), 80: little(0x10400, 4), 111: b"\1", 258: b"\3\3\3\2", 320: b"\x0a"}
+        fields = {4: came[4:72], 76: b"\2\5", 78: little(1, 2), 80: little(0x10400, 4), 111: b"\1", 258: b"\3\3\3\2", 320: b"\x0a"}
         fields.update({512: b"\x66\x44", 514: little(128, 2), 516: little(1, 4), 536: little(1, 4), 768: SUBSYSTEM_NQN.encode()})
         fields.update({1792: little(4, 4), 1796: little(1, 4), 1803: b"\1"})
         self.assertEqual(came, page(fields))
@@ -42,7 +42,7 @@ class AdminQueues(Over):
         nguid = self.host.identify(0x03, namespace=1)[4:20]
         self.assertNotEqual(nguid, bytes(16))
         blocks = little(target.ZONES * target.ZONE_SIZE, 8)
-        self.assertEqual(self.host.identify(0x00, namespace=1), page({0: blocks * 3, 104: nguid, 130: b"\x09"}))
+        self.assertEqual(self.host.identify(0x00, namespace=1), page({0: blocks * 3, 30: b"\1", 104: nguid, 130: b"\x09"}))
         self.assertEqual(self.host.identify(0x03, namespace=1), page({0: b"\2\x10", 4: nguid, 20: b"\4\1\0\0\2"}))
         zoned = page({4: little(3, 4), 8: little(3, 4), 2816: little(target.ZONE_SIZE, 8)})
         self.assertEqual(self.host.identify(0x05, 2, namespace=1), zoned)

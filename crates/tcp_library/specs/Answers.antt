@@ -3,10 +3,10 @@ use Rattle.std.specs.Prelude.{ℕ, Bool, true, false, ◌≡◌, ◌≤◌, ◌<
 use Rattle.std.specs.Option.{option_map_or}
 use Rattle.image_text.specs.Text.{text}
 use Rattle.tcp_connection.specs.Queue.{is_ended}
-use Rattle.tcp_queues.specs.Ends.{is_cut_off}
 use Rattle.tcp_queues.specs.Queues.{free_number, place_at}
 use Rattle.tcp_target.specs.Events.{count_of}
 use Rattle.tcp_target.specs.Ready.{is_ready}
+use Rattle.tcp_target.specs.Time.{is_given_up}
 use Rattle.tcp_device.specs.Deeds.{Closed, Deed, Does, Opened, Received, Sent, Served, Ticked, Turned}
 use Rattle.handed_file.specs.declared.handed_file.FileCall.{FileCall}
 use Rattle.handed_file.specs.declared.handed_file.FileCall.TheVariants.{Write, Shorten, Sync, Replace}
@@ -14,7 +14,7 @@ use Rattle.tcp_device.specs.Served.{next_run}
 use Rattle.tcp_device.specs.State.{ServedState}
 use Rattle.tcp_library.specs.declared.kind.Kind.{Kind}
 use Rattle.tcp_library.specs.declared.kind.Kind.TheVariants as kind
-use Rattle.tcp_library.specs.Sessions.{Commits, GoesOn, MaySend, TakesDone, TakesFailed, waiting_calls}
+use Rattle.tcp_library.specs.Sessions.{Commits, GoesOn, IsNamed, MaySend, TakesDone, TakesFailed, waiting_calls}
 use Rattle.tcp_library.specs.Sessions as session
 use Rattle.tcp_library.specs.declared.session.Session.{Session}
 
@@ -93,7 +93,7 @@ sent_of number count s = min count (length (unsent_on number s))
 -- a connection is to be closed at once: 2; once all is sent: 1; or it goes on: 0
 abbrev pub ending_of : ℕ → ServedState → ℕ
 ending_of number s =
-    if is_cut_off number s.target.queues then 2 else as_number (is_ended (place_at number s.target.queues).connection.phase)
+    if is_given_up number s.target then 2 else as_number (is_ended (place_at number s.target.queues).connection.phase)
 
 -- as many milliseconds, and at most these
 abbrev pub milliseconds_of : ℕ → ℕ
@@ -181,3 +181,5 @@ Answers kind.Size asked old new answer = Told (length (bytes_of_next old.session
 Answers kind.Bytes asked old new answer = Gave (drop asked.count (bytes_of_next old.session)) old new answer
 Answers kind.Done asked old new answer = Notes TakesDone old new answer
 Answers kind.Failed asked old new answer = Notes TakesFailed old new answer
+Answers kind.Name asked old new answer = DoesBy (IsNamed asked.piece) old new answer
+Answers kind.Nqn asked old new answer = Gave old.session.served.target.subsystem.nqn old new answer

@@ -24,4 +24,6 @@ kind_of number =
     else if number == 16 then Some kind.Bytes
     else if number == 17 then Some kind.Done
     else if number == 18 then Some kind.Failed
+    else if number == 19 then Some kind.Name
+    else if number == 20 then Some kind.Nqn
     else None

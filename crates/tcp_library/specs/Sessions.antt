@@ -10,6 +10,9 @@ use Rattle.device_meaning.specs.State.{State}
 use Rattle.durable_device.specs.Kept.{IsKept, StandsFor}
 use Rattle.tcp_device.specs.Deeds.{Deed}
 use Rattle.tcp_device.specs.Deeds as deed
+use Rattle.tcp_device.specs.State.{with_target}
+use Rattle.tcp_admin.specs.Identity.{IsNamedBy}
+use Rattle.tcp_admin.specs.declared.subsystem.Subsystem.{Subsystem}
 use Rattle.tcp_durable.specs.Resuming.{Resumes}
 use Rattle.tcp_durable.specs.Waiting.{IsCommittedBut}
 use Rattle.tcp_durable.specs.declared.keeper.Keeper.{Keeper}
@@ -58,6 +61,19 @@ pub record MaySend (s : Session) : Type 0 where
 pub record IsInMemory (s : Session) : Type 0 where
   pub memory : s.keeper ≡ None
   pub usable : s.failed ≡ false
+
+-- ---- what it is
+
+-- the target has the names of a UUID from now on,
+pub record HasNames (uuid : List ℕ) (old new : Session) (answer : Bool) : Type 0 where
+  pub subsystem : Subsystem
+  pub names : IsNamedBy uuid subsystem
+  pub rest : new ≡ record old { served = with_target (record old.served.target { subsystem = subsystem }) old.served }
+  pub told : answer ≡ true
+
+-- or keeps those that it had, where these are no 16 bytes, or memory is wanting
+abbrev pub IsNamed : List ℕ → Session → Session → Bool → Type 0
+IsNamed uuid old new answer = HasNames uuid old new answer ⊎ ((new ≡ old) × (answer ≡ false))
 
 -- ---- what is done
 

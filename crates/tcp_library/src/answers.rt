@@ -51,6 +51,8 @@ pub fn answer(
         Kind::Bytes => put(behind(bytes_of_next(session), count), out),
         Kind::Done => done(session),
         Kind::Failed => failed(session),
+        Kind::Name => as_number(session.name(alloc, piece)),
+        Kind::Nqn => put(session.served.nqn(), out),
     }
 }
 
@@ -98,7 +100,7 @@ fn ending(served: &ServedTarget, number: usize) -> usize
     requires { number < MOST_CONNECTIONS }
     ensures { result ≡ ending_of number served.now }
 {
-    if served.is_cut_off(number) {
+    if served.is_given_up(number) {
         2
     } else {
         as_number(served.is_ended(number))

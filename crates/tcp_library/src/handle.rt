@@ -1,6 +1,7 @@
 //! A target that C holds.
 
-ghost use Rattle.std.specs.Prelude.{◌≡◌, ◌^◌, IfOk, None};
+ghost use Rattle.std.specs.Prelude.{◌≡◌, ◌^◌, IfOk, IfSome, None};
+ghost use Rattle.tcp_admin.specs.Identity.{IsNamedBy};
 ghost use Rattle.tcp_device.specs.Format.{IsFormatOf};
 ghost use Rattle.tcp_library.specs.Opening.{IsMade, IsMadeKept, IsTargetOf};
 
@@ -13,13 +14,21 @@ use std::alloc::{AllocError, Global};
 use tcp_admin::{NamespaceFormat, QualifiedName, Subsystem};
 use tcp_device::ServedTarget;
 
-/// The name of the target (NVMe Base 2.0, 4.5).
+/// The name of the target until it has another (NVMe Base 2.0, 4.5).
 const NAME: &[u8] = b"nqn.2014-08.org.nvmexpress:uuid:0f2b6a34-8c1d-4e7a-9b35-7a6f6e6a6172";
 
 /// NGUID of its namespace (NVMe Base 2.0, 5.17.2.1): the UUID of its name.
 const NGUID: [u8; 16] = [
     0x0F, 0x2B, 0x6A, 0x34, 0x8C, 0x1D, 0x4E, 0x7A, 0x9B, 0x35, 0x7A, 0x6F, 0x6E, 0x6A, 0x61, 0x72,
 ];
+
+/// The bytes of a UUID.
+const UUID_BYTES: usize = 16;
+
+/// The model, and the firmware's revision.
+const MODEL: [u8; 40] = *b"Pifnjarl                                ";
+
+const FIRMWARE: [u8; 8] = *b"1       ";
 
 /// What opening came to: there is a target.
 pub const DONE: u32 = 0;
@@ -86,15 +95,26 @@ fn target_of(alloc: Global, image: Image) -> Result<ServedTarget, AllocError>
     ServedTarget::new(alloc, image, subsystem(alloc)?, format)
 }
 
-/// What the target is. The texts are the serial number, the model and the firmware's revision.
+/// What the target is until it has the names of a UUID.
 pub(crate) fn subsystem(alloc: Global) -> Result<Subsystem, AllocError> {
     Ok(Subsystem {
         nqn: QualifiedName::new(alloc, NAME)?,
         serial_number: *b"1                   ",
-        model: *b"Pifnjarl                                ",
-        firmware: *b"1       ",
+        model: MODEL,
+        firmware: FIRMWARE,
         nguid: NGUID,
     })
+}
+
+/// What the target is by a UUID; `None` where these are no 16 bytes, or memory is wanting.
+pub(crate) fn subsystem_with(alloc: Global, uuid: &[u8]) -> Option<Subsystem>
+    ensures { IfSome result (IsNamedBy uuid.now) }
+{
+    if uuid.len() == UUID_BYTES {
+        Subsystem::with_uuid(alloc, uuid, MODEL, FIRMWARE).ok()
+    } else {
+        None
+    }
 }
 
 /// What the namespace of an image is like.

@@ -45,6 +45,10 @@ pub enum Kind {
     Done,
     /// To take it for failed.
     Failed,
+    /// To take the names that come of a UUID.
+    Name,
+    /// For the name of the subsystem.
+    Nqn,
 }
 
 impl Kind {
@@ -71,6 +75,8 @@ impl Kind {
             16 => Some(Kind::Bytes),
             17 => Some(Kind::Done),
             18 => Some(Kind::Failed),
+            19 => Some(Kind::Name),
+            20 => Some(Kind::Nqn),
             _ => None,
         }
     }

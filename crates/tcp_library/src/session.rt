@@ -5,6 +5,7 @@ ghost use Rattle.tcp_device.specs.Deeds.{Served, Turned};
 ghost use Rattle.tcp_device.specs.Served.{next_run};
 ghost use Rattle.tcp_target.specs.Ready.{is_ready};
 
+use crate::handle::subsystem_with;
 use handed_file::{FileCall, HandedFile};
 use std::alloc::Global;
 use tcp_associations::MOST_CONNECTIONS;
@@ -26,7 +27,7 @@ pub struct Session {
 impl Session {
     ghost use Rattle.tcp_queues.specs.Queues.{place_at};
     ghost use Rattle.tcp_library.specs.Answers.{next_of};
-    ghost use Rattle.tcp_library.specs.Sessions.{Commits, Does, GoesOn, IsInMemory, MaySend, TakesDone, TakesFailed, WillBeKept, waiting_calls};
+    ghost use Rattle.tcp_library.specs.Sessions.{Commits, Does, GoesOn, IsInMemory, IsNamed, MaySend, TakesDone, TakesFailed, WillBeKept, waiting_calls};
 
     /// A target whose device is in memory alone.
     pub fn in_memory(served: ServedTarget) -> Session
@@ -38,6 +39,22 @@ impl Session {
             served,
             keeper: None,
             failed: false,
+        }
+    }
+
+    /// Has the target take the names that come of a UUID, as before its first connection, and says whether it has: it keeps those that
+    /// it had where these are no 16 bytes, or memory is wanting.
+    pub fn name(&mut self, alloc: Global, uuid: &[u8]) -> bool
+        requires { WillBeKept self.old }
+        ensures named { IsNamed uuid.now self.old self.new result }
+        ensures kept { WillBeKept self.new }
+    {
+        match subsystem_with(alloc, uuid) {
+            Some(subsystem) => {
+                self.served.set_subsystem(subsystem);
+                true
+            }
+            None => false,
         }
     }
 
