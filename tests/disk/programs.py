@@ -191,6 +191,13 @@ class KeptFrames(Piped):
         return True
 
 
+class Place(NamedTuple):
+    """Where a target listens, and the name of its subsystem."""
+
+    address: Tuple[str, int]
+    name: str
+
+
 class OverTcp(Piped):
     """The target over TCP. Turns happen by themselves there, so that a Run is answered after them."""
 
@@ -207,10 +214,10 @@ class OverTcp(Piped):
         notes = folder.with_suffix(".notes")
         notes.unlink(missing_ok=True)
         identifiers: Dict[int, int] = {}
-        served, address = self._started(folder / IMAGE, environment(folder, notes, trouble))
+        served, place = self._started(folder / IMAGE, environment(folder, notes, trouble))
         try:
-            if address is not None:
-                self._feed(address, first, batches, identifiers)
+            if place is not None:
+                self._feed(place, first, batches, identifiers)
         except (HostError, OSError):
             pass
         status = self._ended(served)
@@ -219,17 +226,18 @@ class OverTcp(Piped):
 
     def look(self, image: Path) -> Tuple[bytes, ...]:
         """The target opens the file, and goes on with its run for a while; then `zscli` looks at the device."""
-        served, address = self._started(image, dict(os.environ))
-        if self._ended(served) != 0 or address is None:
+        served, place = self._started(image, dict(os.environ))
+        if self._ended(served) != 0 or place is None:
             return ()
         return Piped().look(image)
 
-    def _started(self, image: Path, variables: Dict[str, str]) -> Tuple[subprocess.Popen[bytes], Optional[Tuple[str, int]]]:
-        """The program, and where it listens; nowhere if it has ended."""
+    def _started(self, image: Path, variables: Dict[str, str]) -> Tuple[subprocess.Popen[bytes], Optional[Place]]:
+        """The program, and where it is; nowhere if it has ended."""
         served = subprocess.Popen(self.words(image), stdout=subprocess.PIPE, stderr=subprocess.DEVNULL, env=variables)
         assert served.stdout is not None
         port = served.stdout.readline().decode().rpartition(":")[2]
-        return served, ("127.0.0.1", int(port)) if port else None
+        name = served.stdout.readline().decode().rstrip()
+        return served, Place(("127.0.0.1", int(port)), name) if name else None
 
     def _ended(self, served: subprocess.Popen[bytes]) -> int:
         """Ends the program, if it hasn't ended, and gives its status."""
@@ -240,10 +248,10 @@ class OverTcp(Piped):
         served.stdout.close()
         return status
 
-    def _feed(self, address: Tuple[str, int], first: int, batches: Sequence[Sequence[Event]], identifiers: Dict[int, int]) -> None:
+    def _feed(self, place: Place, first: int, batches: Sequence[Sequence[Event]], identifiers: Dict[int, int]) -> None:
         """Submits the commands of each batch when those of the one before are answered; notes the identifier of each event's command,
         so that a completion says how many events are acknowledged by it."""
-        with Host(address) as host:
+        with Host(place.address, subsystem=place.name) as host:
             queue, after = host.queue(1), first
             for batch in batches:
                 waiting = []
