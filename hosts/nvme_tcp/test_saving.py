@@ -12,7 +12,7 @@ import unittest
 from pathlib import Path
 
 from nvme_tcp_host import Host
-from target import BLOCK, Target, format_image
+from target import BLOCK, Target, format_image, uuid_file
 
 JOURNAL = b"ZNSJRN01"
 """What a journal begins with."""
@@ -44,9 +44,9 @@ class Saving(Image):
     """What is saved, and where."""
 
     def assert_saved(self) -> None:
-        """The image has a block more, and nothing is beside it."""
+        """The image has a block more, and nothing but its UUID is beside it."""
         self.assertEqual(len(self.image.read_bytes()), len(self.before) + BLOCK)
-        self.assertEqual(list(self.folder.glob("zoned.img*")), [self.image])
+        self.assertEqual(sorted(self.folder.glob("zoned.img*")), [self.image, uuid_file(self.image)])
 
     def test_signals_save(self) -> None:
         for by in ENDS:
