@@ -47,6 +47,10 @@ STORIES: Dict[str, Maker] = {
 }
 """What is tried, by its name."""
 
+BY_NAME_ALONE = {name for name in STORIES if name.endswith("_failing")}
+"""What is tried only where it is named: a program that goes on after another's sync failed may lose what it acknowledged, since what it
+read was not on the disk. docs/durability.md says so."""
+
 
 class Point(NamedTuple):
     """A point of a story: its number, the stretch and the call after which power fails, and what the disk has then."""
@@ -129,7 +133,7 @@ def main() -> int:
     if unknown:
         parser.error(f"nothing is called {unknown[0]}")
     print(f"seed {words.seed}", flush=True)
-    names = words.names or list(STORIES)
+    names = words.names or [name for name in STORIES if name not in BY_NAME_ALONE]
     if words.point is not None:
         wrong = {name: tried(name, words.seed, [words.point]) for name in names}
         count = 1
