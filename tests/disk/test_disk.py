@@ -26,14 +26,15 @@ from disk import Chance, Disk
 LEFT_OUT = {
     "serve": ("payload", "gate", "new", "folder", "name"),
     "kept_frames": ("payload", "gate", "new", "folder", "name"),
-    "nvme_tcp": ("payload", "gate", "new", "folder", "name"),
+    "nvme_tcp": ("payload", "gate", "new", "folder"),
     "fold": ("new",),
     "format": ("new", "folder"),
     "exec": ("new", "folder"),
     "saves": ("new", "folder"),
 }
 """The kinds of syncs that a story shows by a loss, if they aren't made: shadow.c says which they are. (What `fold` makes has another form
-and the same state, so that nothing is lost where its name is the old one.)"""
+and the same state, so that nothing is lost where its name is the old one. The target folds what it opens, so that nothing rests on the
+name that it found.)"""
 
 MOST_STORIES, POINTS = 30, 10
 """In how many stories a loss has to be found, and by how many points of each."""
