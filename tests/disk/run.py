@@ -47,9 +47,9 @@ STORIES: Dict[str, Maker] = {
 }
 """What is tried, by its name."""
 
-BY_NAME_ALONE = {name for name in STORIES if name.endswith("_failing")}
+BY_NAME_ALONE = {"serve_failing", "kept_frames_failing"}
 """What is tried only where it is named: a program that goes on after another's sync failed may lose what it acknowledged, since what it
-read was not on the disk. docs/durability.md says so."""
+read was not on the disk. docs/durability.md says so. The target folds what it opens, and loses nothing."""
 
 
 class Point(NamedTuple):
