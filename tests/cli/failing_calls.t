@@ -146,3 +146,12 @@ Where no event changes anything the image isn't written, and needs no room.
   idle
   $ ls image*
   image
+
+An image of 256 MiB of blocks, where the system gives the program less.
+
+  $ (ulimit -v 200000; zscli format large --block 4096 --zones 4 --size 16384 --capacity 16384 --open 4 --active 4)
+  no memory
+  [1]
+  $ ls large*
+  ls: cannot access 'large*': No such file or directory
+  [2]
