@@ -1,9 +1,9 @@
 #!/usr/bin/env python3
-"""Makes the manual page docs/zscli.1 and docs/zscli.bash, which completes command lines, from the sources of the help texts.
+"""Makes the manual page docs/zscli.1 from the sources of the help texts.
 
 It reads the tables of words (`WORDS`, and `KINDS` of commands that have others below them) of the commands in the list of
-crates/zscli/src/commands.rt, as they are written. It writes both files, or with --check compares them, and ends with status 1 where
-one differs.
+crates/zscli/src/commands.rt, as they are written. It writes the page, or with --check compares it, and ends with status 1 where it
+differs.
 """
 
 import re
@@ -204,9 +204,9 @@ def listed(value: Value) -> List[Value]:
 def command_of(told: Value, below: Optional[List[Value]] = None) -> Command:
     """A command by its table, with those below it by theirs."""
     assert isinstance(told, dict)
-    texts = [text(told[name]) for name in ("name", "about", "long_about", "example")]
+    name, about, long_about, example = (text(told[name]) for name in ("name", "about", "long_about", "example"))
     args = [argument_of(it) for it in listed(told["arguments"])]
-    return Command(*texts, args=args, below=[command_of(it) for it in below or []])
+    return Command(name, about, long_about, example, args=args, below=[command_of(it) for it in below or []])
 
 
 def command_line() -> Command:
@@ -274,69 +274,20 @@ def manual(line: Command) -> str:
     return f"{head}{name}{synopsis}.SH COMMANDS\n{commands}.SH EXIT STATUS\n{''.join(statuses())}"
 
 
-def options(command: Command) -> List[str]:
-    """The options of a command."""
-    return [f"--{arg.long}" for arg in command.args if arg.long is not None] + ["--help"] + (["--version"] if command.version else [])
-
-
-def cases(command: Command, words: str) -> Iterator[str]:
-    """What can stand behind the words of a command, and of those below it."""
-    yield f'        "{words}") commands="{" ".join(below.name for below in command.below)}" options="{" ".join(options(command))}" ;;\n'
-    for below in command.below:
-        yield from cases(below, f"{words} {below.name}")
-
-
-def valued(command: Command) -> Iterator[Arg]:
-    """The options with a value, of a command and those below it."""
-    yield from (arg for arg in command.args if arg.long is not None and not arg.flag)
-    for below in command.below:
-        yield from valued(below)
-
-
-FILES = {"FILE", "IMAGE", "COMMANDS", "PROGRAM"}
-
-
-def completion(line: Command) -> str:
-    """The bash completion: names of commands and options, words of options that have a few, and else names of files."""
-    words = {f"--{arg.long}": " ".join(arg.words) for arg in valued(line) if arg.words}
-    files = sorted({f"--{arg.long}" for arg in valued(line) if arg.value in FILES})
-    others = sorted({f"--{arg.long}" for arg in valued(line)} - set(words) - set(files))
-    chosen = "".join(f'        {option}) COMPREPLY=($(compgen -W "{offered}" -- "$word")); return ;;\n' for option, offered in words.items())
-    groups = " | ".join(f'"{below.name}"' for below in line.below if below.below)
-    return f"""# Made by docs/make.sh of the help texts: completes the words of {line.name} in bash.
-_{line.name}() {{
-    local word=${{COMP_WORDS[COMP_CWORD]}} before=${{COMP_WORDS[COMP_CWORD-1]}} words={line.name} commands="" options=""
-    case "$before" in
-{chosen}        {" | ".join(files)}) COMPREPLY=($(compgen -f -- "$word")); return ;;
-        {" | ".join(others)}) return ;;
-    esac
-    [ "$COMP_CWORD" -gt 1 ] && words+=" ${{COMP_WORDS[1]}}"
-    case "${{COMP_WORDS[1]}}" in
-        {groups}) [ "$COMP_CWORD" -gt 2 ] && words+=" ${{COMP_WORDS[2]}}" ;;
-    esac
-    case "$words" in
-{"".join(cases(line, line.name))}    esac
-    case "$word" in
-        -*) COMPREPLY=($(compgen -W "$options" -- "$word")) ;;
-        *) if [ -n "$commands" ]; then COMPREPLY=($(compgen -W "$commands" -- "$word")); else COMPREPLY=($(compgen -f -- "$word")); fi ;;
-    esac
-}}
-complete -o filenames -F _{line.name} {line.name}
-"""
+def kept(name: str, made: str) -> bool:
+    """Writes a file of docs/, or with --check says whether it is what is made."""
+    file = ROOT / "docs" / name
+    if "--check" not in sys.argv[1:]:
+        file.write_text(made)
+    elif not file.exists() or file.read_text() != made:
+        print(f"docs/{name} isn't what docs/make.sh makes of the help texts")
+        return False
+    return True
 
 
 def main() -> int:
-    """Writes both files, or compares them."""
-    line = command_line()
-    status = 0
-    for name, made in (("zscli.1", manual(line)), ("zscli.bash", completion(line))):
-        file = ROOT / "docs" / name
-        if "--check" not in sys.argv[1:]:
-            file.write_text(made)
-        elif not file.exists() or file.read_text() != made:
-            print(f"docs/{name} isn't what docs/make.sh makes of the help texts")
-            status = 1
-    return status
+    """Writes the page, or compares it."""
+    return 0 if kept("zscli.1", manual(command_line())) else 1
 
 
 if __name__ == "__main__":
