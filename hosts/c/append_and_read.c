@@ -1,67 +1,53 @@
 /* Appends a block to zone 0 of an image, reads it back, and saves the image: append_and_read IMAGE SAVED */
 #include "pifnjarl_device.h"
 
+#include <inttypes.h>
 #include <stdio.h>
+#include <stdlib.h>
 #include <string.h>
 
-enum { BLOCK_BYTES = 512, READ = 0x02, APPEND = 0x7d };
+static unsigned char output[PIFNJARL_TRANSFER_BYTES], entry[PIFNJARL_ENTRY_BYTES];
+static struct pifnjarl_device *device;
+static struct pifnjarl_reply reply;
 
-static unsigned char output[PIFNJARL_TRANSFER_BYTES];
-
-static void put(unsigned char *at, uint64_t number, int bytes)
+/* Submits an entry to queue 1, and ends the program where it isn't done; its completion. */
+static struct pifnjarl_completion submit(const char *what, const void *made, const void *data, size_t data_bytes)
 {
-    for (int i = 0; i < bytes; i++)
-        at[i] = (unsigned char)(number >> 8 * i);
-}
-
-/* An entry of one block (docs/device.md). */
-static void entry_of_block(unsigned char entry[PIFNJARL_ENTRY_BYTES], int opcode, unsigned identifier, uint64_t lba)
-{
-    memset(entry, 0, PIFNJARL_ENTRY_BYTES);
-    put(entry, (unsigned)opcode, 1);
-    put(entry + 2, identifier, 2);
-    put(entry + 4, 1, 4); /* the namespace */
-    put(entry + 40, lba, 8);
-}
-
-static unsigned status_of(const struct pifnjarl_reply *reply)
-{
-    return (unsigned)(reply->completion[14] | reply->completion[15] << 8) >> 1;
-}
-
-static int ends(const char *what, enum pifnjarl_result result)
-{
-    printf("%s: %s\n", what, pifnjarl_words(result));
-    return 1;
+    struct pifnjarl_event event = {
+        .kind = PIFNJARL_SUBMIT, .number = 1, .entry = made, .data = data, .data_bytes = data_bytes};
+    enum pifnjarl_result result = pifnjarl_do(device, &event, &reply, output, sizeof output);
+    struct pifnjarl_completion completion = pifnjarl_completion(reply.completion);
+    if (result == PIFNJARL_COMPLETION && completion.status == 0)
+        return completion;
+    printf("%s: %s\n", what,
+           result == PIFNJARL_COMPLETION ? pifnjarl_status_text(completion.status) : pifnjarl_words(result));
+    exit(1);
 }
 
 int main(int count, char **words)
 {
-    struct pifnjarl_device *device;
-    struct pifnjarl_reply reply;
-    unsigned char entry[PIFNJARL_ENTRY_BYTES], block[BLOCK_BYTES];
-    struct pifnjarl_event event = {.kind = PIFNJARL_SUBMIT, .number = 1, .entry = entry};
+    struct pifnjarl_geometry geometry;
     if (count != 3)
         return 2;
     enum pifnjarl_result result = pifnjarl_open_path(words[1], &device);
-    if (result != PIFNJARL_DONE)
-        return ends(words[1], result);
+    if (result != PIFNJARL_DONE) {
+        printf("%s: %s\n", words[1], pifnjarl_words(result));
+        return 1;
+    }
+    pifnjarl_geometry(device, &geometry);
+    printf("%" PRIu32 " zones of %" PRIu32 " blocks of %" PRIu32 " bytes\n", geometry.zones, geometry.zone_blocks,
+           geometry.block_bytes);
+    unsigned char *block = malloc(geometry.block_bytes);
+    if (block == NULL)
+        return 1;
+    memset(block, 'a', geometry.block_bytes);
 
-    memset(block, 'a', BLOCK_BYTES);
-    entry_of_block(entry, APPEND, 1, 0);
-    event.data = block;
-    event.data_bytes = BLOCK_BYTES;
-    result = pifnjarl_do(device, &event, &reply, output, sizeof output);
-    printf("append: %s, status %x, to LBA %u\n", pifnjarl_words(result), status_of(&reply), reply.completion[0]);
+    uint64_t lba = pifnjarl_lba(submit("append", pifnjarl_append(entry, 1, 0, 1), block, geometry.block_bytes));
+    printf("append: to LBA %" PRIu64 "\n", lba);
+    submit("read", pifnjarl_read(entry, 2, lba, 1), NULL, 0);
+    printf("read: %zu bytes, %s\n", reply.data_bytes, memcmp(output, block, geometry.block_bytes) == 0 ? "the same" : "others");
+    free(block);
 
-    entry_of_block(entry, READ, 2, reply.completion[0]);
-    event.data_bytes = 0;
-    result = pifnjarl_do(device, &event, &reply, output, sizeof output);
-    printf("read: %s, status %x, %zu bytes, %s\n", pifnjarl_words(result), status_of(&reply), reply.data_bytes,
-           memcmp(output, block, BLOCK_BYTES) == 0 ? "the same" : "others");
-
-    result = pifnjarl_do(device, &event, &reply, output, BLOCK_BYTES);
-    printf("an output of a block: %s\n", pifnjarl_words(result));
     result = pifnjarl_save_path(device, words[2]);
     printf("save: %s\n", pifnjarl_words(result));
     pifnjarl_close(device);

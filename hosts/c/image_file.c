@@ -115,13 +115,13 @@ static bool sync_folder(const char *path)
     return done;
 }
 
-static bool replace(const struct names *names, const unsigned char *bytes, size_t count)
+static enum image_file_result replace(const struct names *names, const unsigned char *bytes, size_t count)
 {
     struct stat before;
     bool is_there = stat(names->path, &before) == 0;
     int file = create(names->unfinished, is_there ? 0600 : 0666);
     if (file < 0)
-        return false;
+        return IMAGE_FILE_AS_IT_WAS;
     bool placed = (!is_there || take_after(file, &before)) && write_all(file, bytes, count)
                   && rename(names->unfinished, names->path) == 0;
     int cause = errno;
@@ -129,17 +129,24 @@ static bool replace(const struct names *names, const unsigned char *bytes, size_
         unlink(names->unfinished);
     close(file); /* and with it the lock */
     errno = cause;
-    return placed && sync_folder(names->folder);
+    if (!placed)
+        return IMAGE_FILE_AS_IT_WAS;
+    return sync_folder(names->folder) ? IMAGE_FILE_REPLACED : IMAGE_FILE_NOT_SYNCED;
 }
 
-bool image_file_replace(const char *path, const unsigned char *bytes, size_t count)
+enum image_file_result image_file_put(const char *path, const unsigned char *bytes, size_t count)
 {
     struct names names = {0};
-    bool done = name(&names, path) && replace(&names, bytes, count);
+    enum image_file_result done = name(&names, path) ? replace(&names, bytes, count) : IMAGE_FILE_AS_IT_WAS;
     int cause = errno;
     free(names.path);
     free(names.unfinished);
     free(names.folder);
     errno = cause;
     return done;
+}
+
+bool image_file_replace(const char *path, const unsigned char *bytes, size_t count)
+{
+    return image_file_put(path, bytes, count) == IMAGE_FILE_REPLACED;
 }

@@ -7,6 +7,7 @@
 #include <fcntl.h>
 #include <stdbool.h>
 #include <stdlib.h>
+#include <string.h>
 #include <sys/stat.h>
 #include <unistd.h>
 
@@ -23,6 +24,12 @@ void device_library_end(unsigned char *device);
 
 /* where a slice of no bytes lies */
 static unsigned char nowhere[1];
+
+/* The numbers of the namespace are after the handle, at a multiple of 16. */
+static size_t place_of_geometry(void)
+{
+    return (device_library_handle_bytes() + 15) / 16 * 16;
+}
 
 static bool lacks(const void *bytes, size_t count)
 {
@@ -47,10 +54,12 @@ enum pifnjarl_result pifnjarl_open(const void *image, size_t image_bytes, struct
     if (lacks(image, image_bytes))
         return PIFNJARL_NULL_POINTER;
     /* memory of malloc is aligned to 16 */
-    unsigned char *handle = malloc(device_library_handle_bytes());
+    unsigned char *handle = malloc(place_of_geometry() + sizeof(struct pifnjarl_geometry));
     if (handle == NULL)
         return PIFNJARL_WANT_OF_MEMORY;
     device_library_open(handle, read_at(image), image_bytes);
+    struct pifnjarl_geometry geometry = pifnjarl_geometry_of(read_at(image), image_bytes);
+    memcpy(handle + place_of_geometry(), &geometry, sizeof geometry);
     enum pifnjarl_result opened = device_library_opened(handle);
     if (opened != PIFNJARL_DONE)
         pifnjarl_close((struct pifnjarl_device *)handle);
@@ -105,6 +114,16 @@ enum pifnjarl_result pifnjarl_open_path(const char *path, struct pifnjarl_device
     return opened;
 }
 
+enum pifnjarl_result pifnjarl_geometry(const struct pifnjarl_device *device, struct pifnjarl_geometry *geometry)
+{
+    if (device == NULL)
+        return PIFNJARL_NO_DEVICE;
+    if (geometry == NULL)
+        return PIFNJARL_NULL_POINTER;
+    memcpy(geometry, (const unsigned char *)device + place_of_geometry(), sizeof *geometry);
+    return PIFNJARL_DONE;
+}
+
 enum pifnjarl_result pifnjarl_do(struct pifnjarl_device *device, const struct pifnjarl_event *event, struct pifnjarl_reply *reply,
                                  void *output, size_t output_bytes)
 {
@@ -138,6 +157,16 @@ enum pifnjarl_result pifnjarl_save(struct pifnjarl_device *device, void *image, 
     return count > room ? PIFNJARL_WRONG_SIZE : PIFNJARL_DONE;
 }
 
+static enum pifnjarl_result put(const char *path, const unsigned char *bytes, size_t count)
+{
+    switch (image_file_put(path, bytes, count)) {
+    case IMAGE_FILE_REPLACED: return PIFNJARL_DONE;
+    case IMAGE_FILE_NOT_SYNCED: return PIFNJARL_CANNOT_SYNC;
+    case IMAGE_FILE_AS_IT_WAS: break;
+    }
+    return errno == ENOMEM ? PIFNJARL_WANT_OF_MEMORY : PIFNJARL_CANNOT_WRITE;
+}
+
 enum pifnjarl_result pifnjarl_save_path(struct pifnjarl_device *device, const char *path)
 {
     size_t count;
@@ -150,8 +179,8 @@ enum pifnjarl_result pifnjarl_save_path(struct pifnjarl_device *device, const ch
     if (bytes == NULL)
         return PIFNJARL_WANT_OF_MEMORY;
     saved = pifnjarl_save(device, bytes, count, &count);
-    if (saved == PIFNJARL_DONE && !image_file_replace(path, bytes, count))
-        saved = errno == ENOMEM ? PIFNJARL_WANT_OF_MEMORY : PIFNJARL_CANNOT_WRITE;
+    if (saved == PIFNJARL_DONE)
+        saved = put(path, bytes, count);
     int cause = errno;
     free(bytes);
     errno = cause;
@@ -190,6 +219,7 @@ const char *pifnjarl_words(enum pifnjarl_result result)
     case PIFNJARL_NULL_POINTER: return "null pointer";
     case PIFNJARL_CANNOT_READ: return "cannot read";
     case PIFNJARL_CANNOT_WRITE: return "cannot write";
+    case PIFNJARL_CANNOT_SYNC: return "cannot sync the folder";
     }
     return "no result";
 }

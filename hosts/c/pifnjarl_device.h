@@ -1,24 +1,27 @@
-/* The device as a library: a zoned NVMe namespace that also runs small eBPF programs. docs/embedding.md has an introduction, and
-   docs/device.md the entries, the completions and the images.
+/* The device as a library: a zoned NVMe namespace that also runs small eBPF programs. docs/embedding.md has an introduction, docs/device.md
+   the entries, the completions and the images, and pifnjarl_entry.h functions that make entries and read completions.
 
    What the caller owes, which nothing checks:
    - A device is one that pifnjarl_open or pifnjarl_open_path gave, and that isn't closed yet.
    - One call at a time is made on a device. Devices are independent of each other.
    - A pointer that comes with a number of bytes points to as many, and what a call writes to overlaps nothing else that it is given.
    - No call is made from a signal handler, or in the child of a fork of a process with threads.
-   - The stack has room for 1 MiB.
+   - The stack has room for 1 MiB (docs/embedding.md says how much calls take).
 
-   A call gives a number of enum pifnjarl_result. One from 10 on says that nothing was done, and why. */
+   A call gives a number of enum pifnjarl_result. One from 10 on, but for PIFNJARL_CANNOT_SYNC, says that nothing was done, and why. */
 #ifndef PIFNJARL_DEVICE_H
 #define PIFNJARL_DEVICE_H
+
+#include "pifnjarl_entry.h"
 
 #include <stddef.h>
 #include <stdint.h>
 
-#define PIFNJARL_ENTRY_BYTES 64       /* a submission queue entry */
-#define PIFNJARL_COMPLETION_BYTES 16  /* a completion queue entry */
-#define PIFNJARL_TRANSFER_BYTES 131072 /* the most data of a command; what an event's output has room for */
-#define PIFNJARL_NO_RUN 256           /* no run is active */
+#ifdef __cplusplus
+extern "C" {
+#endif
+
+#define PIFNJARL_NO_RUN 256 /* no run is active */
 
 enum pifnjarl_result {
     PIFNJARL_DONE = 0,
@@ -44,8 +47,8 @@ enum pifnjarl_result {
     PIFNJARL_NUMBER_TOO_LARGE = 35, /* a queue over 65535, or a run over 255 */
     PIFNJARL_NULL_POINTER = 36,     /* another pointer is null where something has to be */
     PIFNJARL_CANNOT_READ = 37,      /* the file can't be read; errno tells why */
-    PIFNJARL_CANNOT_WRITE = 38      /* the file can't be written, and is as it was; errno tells why. Where only the name couldn't be
-                                       brought to the disk, the new file is in place */
+    PIFNJARL_CANNOT_WRITE = 38,     /* the file can't be written, and is as it was; errno tells why */
+    PIFNJARL_CANNOT_SYNC = 39       /* the new file is in place, but its name couldn't be brought to the disk; errno tells why */
 };
 
 enum pifnjarl_kind {
@@ -64,7 +67,7 @@ struct pifnjarl_event {
     size_t data_bytes;
 };
 
-/* What is told of a reply beside its data. */
+/* What is told of a reply beside its data. pifnjarl_completion(reply.completion) reads a completion. */
 struct pifnjarl_reply {
     size_t data_bytes; /* how many bytes of data are in front of the output */
     uint32_t number;   /* the queue of a completion, or the run that is pending */
@@ -79,6 +82,9 @@ enum pifnjarl_result pifnjarl_open(const void *image, size_t image_bytes, struct
 
 /* Opens a device on an image in a file. The file isn't held: what others write to it meanwhile is lost by a pifnjarl_save_path. */
 enum pifnjarl_result pifnjarl_open_path(const char *path, struct pifnjarl_device **device);
+
+/* The numbers of the device's namespace. */
+enum pifnjarl_result pifnjarl_geometry(const struct pifnjarl_device *device, struct pifnjarl_geometry *geometry);
 
 /* Does one event, whole, and tells what the device replies. Data of the reply is put in front of the output, where it stays; the
    output has room for PIFNJARL_TRANSFER_BYTES whatever the event. */
@@ -102,5 +108,9 @@ void pifnjarl_close(struct pifnjarl_device *device);
 
 /* A result in words. */
 const char *pifnjarl_words(enum pifnjarl_result result);
+
+#ifdef __cplusplus
+}
+#endif
 
 #endif

@@ -20,21 +20,33 @@ with a run when it is told to, one block at a turn.
     ...     run.turn(), run.wait()
     (False, Result(records=0, blocks=0))
 
-The image is saved by `save`, and where the device ends: by `shut`, or after `with`, also if an exception or Ctrl-C leaves it. With `durable=True` a method returns when what it did is on the disk: after a crash the device that is opened again has it, with its
-programs, results and runs. The program is `zscli` of the repository in which this file stands, or the one that the variable
-`PIFNJARL_ZSCLI` names.
+Several commands are under way at a time with `append_async`, `write_async` and `read_async`: each submits one command, and returns a
+handle, whose `wait` gives what the command came to.
+
+    >>> with example() as device:
+    ...     appends = [device.append_async(16, bytes(512)) for _ in range(3)]
+    ...     [append.wait() for append in appends]
+    [16, 17, 18]
+
+The image is saved by `save`, and where the device ends: by `shut`, or after `with`, whatever exception leaves it. With `durable=True` a
+method returns when what it did is on the disk: after a crash the device that is opened again has it, with its programs, results and
+runs. The program is the one that the variable `PIFNJARL_ZSCLI` names, or `zscli` of the repository that has this file, or of the path.
 """
 
 from __future__ import annotations
 
 import os
+import select
+import shutil
+import signal
 import struct
 import subprocess
 import tempfile
+from collections import deque
 from contextlib import contextmanager, suppress
 from enum import Enum, IntEnum
 from pathlib import Path
-from typing import ClassVar, Dict, Iterator, List, NamedTuple, Optional, Tuple, Type, Union
+from typing import Callable, ClassVar, Deque, Dict, Generic, Iterator, List, NamedTuple, Optional, Tuple, Type, TypeVar, Union
 
 # ---- statuses: an exception for each, called as the status is
 
@@ -55,27 +67,43 @@ class Refused(DeviceError):
     """A command was refused, and changed nothing. Each status is an exception below this one.
 
     `type`, `code` and `name` are the status code type, the status code and the status's name; `dword0` and `dword1` are those of
-    the completion.
+    the completion, and `command` is the command in words. The text is the line of `zscli explain --commands` for the completion.
 
     >>> ZoneIsFull.type, ZoneIsFull.code, str(ZoneIsFull())
-    (1, 185, 'Zone Is Full (type 1h, code B9h)')
+    (1, 185, 'refused: Zone Is Full (type 1h, code B9h): a write to a Full zone')
+    >>> with example() as device:
+    ...     device.finish(0)
+    ...     device.write(16, bytes(512))
+    ...     device.append(0, bytes(512))  # doctest: +ELLIPSIS
+    Traceback (most recent call last):
+    pifnjarl.ZoneIsFull: queue 1, command 3: append of 1 block to the zone of LBA 0: refused: Zone Is Full (type 1h, code B9h): ...
     """
 
     type: ClassVar[int]
     code: ClassVar[int]
     name: ClassVar[str]
 
-    def __init__(self, dword0: int = 0, dword1: int = 0) -> None:
-        super().__init__(dword0, dword1)
+    def __init__(self, dword0: int = 0, dword1: int = 0, command: str = "") -> None:
+        super().__init__(dword0, dword1, command)
         self.dword0 = dword0
         self.dword1 = dword1
+        self.command = command
 
     def __init_subclass__(cls, type: int, code: int, name: str) -> None:
         cls.type, cls.code, cls.name = type, code, name
         _BY_STATUS[type, code] = cls
 
     def __str__(self) -> str:
-        return f"{self.name} (type {self.type:X}h, code {self.code:02X}h)"
+        front = f"{self.command}: " if self.command else ""
+        profile = "; profile" if self.type == 7 else ""
+        # the sentence is that of the class (python -OO drops it)
+        words = (type(self).__doc__ or "").partition("\n")[0].rstrip(".")
+        sentence = f": {words[0].lower()}{words[1:]}" if words else ""
+        return f"{front}refused: {self.name} (type {self.type:X}h, code {self.code:02X}h{profile}){sentence}{self._rest()}"
+
+    def _rest(self) -> str:
+        """What the dwords of the completion add."""
+        return f"; dwords 0 and 1: {self.dword0}, {self.dword1}" if self.dword0 or self.dword1 else ""
 
 
 class InvalidCommandOpcode(Refused, type=0, code=0x01, name="Invalid Command Opcode"):
@@ -141,16 +169,41 @@ class ProgramRefused(Refused, type=7, code=0xC2, name="Program Refused"):
     20 on, of docs/command_line.md.
     """
 
-    def __init__(self, dword0: int = 0, dword1: int = 0) -> None:
-        super().__init__(dword0, dword1)
+    def __init__(self, dword0: int = 0, dword1: int = 0, command: str = "") -> None:
+        super().__init__(dword0, dword1, command)
         self.slot, self.reason = dword0, dword1
 
-    def __str__(self) -> str:
-        return f"{super().__str__()}; slot {self.slot}, reason {self.reason}"
+    def _rest(self) -> str:
+        words = f" ({_REASONS[self.reason]})" if self.reason in _REASONS else ""
+        return f"; slot {self.slot}, reason {self.reason}{words}"
+
+
+# why a program is refused, by the reason's number
+_REASONS = {
+    1: "a jump backward",
+    2: "a jump to no instruction",
+    3: "a program that falls off",
+    4: "a write to R10",
+    5: "a load outside",
+    6: "a store outside, or into the context or the block",
+    7: "a helper other than 1",
+    8: "an emit from an unknown address",
+    9: "an emit of an unknown length",
+    10: "an emit over the limit",
+    20: "the length is no multiple of 8 bytes",
+    21: "there is no instruction",
+    22: "there are more than 4096 slots",
+    23: "no instruction has this opcode",
+    24: "there are the registers 0 to 10 alone",
+    25: "a field that the instruction does not use is not 0",
+    26: "a wide instruction lacks its second slot",
+    27: "a field has a value that the instruction cannot have",
+    28: "the instruction is left out here",
+}
 
 
 class NoRunFree(Refused, type=7, code=0xC3, name="No Run Free"):
-    """As many runs are active as can be, which are eight."""
+    """As many runs are active as can be."""
 
 
 class SourceNotWritten(Refused, type=7, code=0xC4, name="Source Not Written"):
@@ -183,6 +236,7 @@ MOST_TRANSFER = 131072
 """The most bytes of data that one command takes or gives."""
 
 _NAMESPACE = 1
+_SLOTS = 8
 _SELECT_ALL = 1 << 8
 _DESCRIPTOR_BYTES = 64
 _NO_WRITE_POINTER = 2**64 - 1
@@ -268,12 +322,47 @@ def _completion(entry: bytes, data: bytes) -> _Completion:
     return _Completion(dword0, dword1, queue, identifier, (status >> 9 & 7, status >> 1 & 255), data)
 
 
-def _check(completion: _Completion) -> None:
-    """Raises the exception of a completion's status where that isn't success."""
-    if completion.status in _BY_STATUS:
-        raise _BY_STATUS[completion.status](completion.dword0, completion.dword1)
-    if completion.status != (0, 0):
-        raise DeviceError("a status that the device never gives: type {:X}h, code {:02X}h".format(*completion.status))
+def _count(number: int, noun: str) -> str:
+    """So many of these.
+
+    >>> _count(1, "block"), _count(2, "block")
+    ('1 block', '2 blocks')
+    """
+    return f"{number} {noun}" if number == 1 else f"{number} {noun}s"
+
+
+def _words(opcode: _Opcode, dwords10_11: int, dword12: int = 0, dword13: int = 0, dwords14_15: int = 0) -> str:
+    """A command in the words of `zscli explain`.
+
+    >>> _words(_Opcode.READ, 64, 1)
+    'read of 2 blocks from LBA 64 on'
+    """
+    lba, blocks = dwords10_11, _count((dword12 & 0xFFFF) + 1, "block")
+    slot = dword12 >> 16 & 0xFF if opcode == _Opcode.RUN else dwords10_11 & 0xFFFFFFFF
+    if opcode >= _Opcode.RUN and slot >= _SLOTS:
+        return "an entry that is no command"
+    if opcode == _Opcode.ZONE_MANAGEMENT_SEND:
+        action = _Action(dword13 & 0xFF).name.lower()
+        return f"{action} of all zones that Select All takes" if dword13 & _SELECT_ALL else f"{action} of the zone of LBA {lba}"
+    return {
+        _Opcode.WRITE: f"write of {blocks} from LBA {lba} on",
+        _Opcode.READ: f"read of {blocks} from LBA {lba} on",
+        _Opcode.ZONE_MANAGEMENT_RECEIVE: f"report of zones from that of LBA {lba} on",
+        _Opcode.ZONE_APPEND: f"append of {blocks} to the zone of LBA {lba}",
+        _Opcode.RUN: f"run of slot {slot} over {blocks} from LBA {lba} on, to the zone of LBA {dwords14_15}",
+        _Opcode.LOAD: f"load of {_count(dword12, 'byte')} into slot {slot}",
+        _Opcode.RESULT: f"result of slot {slot}",
+    }[opcode]
+
+
+def _refusal(completion: _Completion, words: str) -> Optional[DeviceError]:
+    """The exception of a completion's status, if it isn't success, with the words of its command."""
+    if completion.status == (0, 0):
+        return None
+    if completion.status not in _BY_STATUS:
+        return DeviceError("a status that the device never gives: type {:X}h, code {:02X}h".format(*completion.status))
+    command = f"queue {completion.queue}, command {completion.identifier}: {words}"
+    return _BY_STATUS[completion.status](completion.dword0, completion.dword1, command)
 
 
 def records(blocks: bytes, block: int) -> List[bytes]:
@@ -331,58 +420,135 @@ class _Frame(NamedTuple):
 
 
 class _Stream:
-    """A program that serves a device. Frames go to it in the order of the calls, and what answers them comes in the same order."""
+    """A program that serves a device. Frames go to it in the order of the calls, and what answers them comes in the same order.
+
+    It takes what comes while it sends, so neither program waits for the other with full pipes.
+    """
 
     def __init__(self, words: List[str]) -> None:
         """Starts the program by the words of its command line, in a session of its own: a signal that a terminal sends to this
         program, as for Ctrl-C, doesn't end that one before it has saved."""
         pipe = subprocess.PIPE
-        self._program = subprocess.Popen(words, stdin=pipe, stdout=pipe, stderr=pipe, start_new_session=True)
+        self._program = subprocess.Popen(words, bufsize=0, stdin=pipe, stdout=pipe, stderr=pipe, start_new_session=True)
         assert self._program.stdin is not None and self._program.stdout is not None
-        self._to, self._from = self._program.stdin, self._program.stdout
+        self._to, self._from = self._program.stdin.fileno(), self._program.stdout.fileno()
+        os.set_blocking(self._to, False)
+        self._polled = select.poll()
+        self._polled.register(self._from, select.POLLIN)
+        self._durable = "--durable" in words
+        self._out, self._came = bytearray(), bytearray()
+        # why the program has ended, if it has
+        self.over: Optional[str] = None
+        # set while bytes move: an exception then, as of Ctrl-C, leaves it open whether they did
+        self.moving = False
 
     def send(
         self, request: _Request, part: int = 0, queue: int = 0, number: int = 0, entry: bytes = b"", data: bytes = b""
     ) -> None:
-        """Sends a frame, at the latest before the next one is waited for."""
+        """Sends a frame, at the latest when `push` is called or an answer is waited for."""
         if len(data) > MOST_TRANSFER:
             raise ValueError(f"{len(data)} bytes are more than a command takes")
         try:
             frame = _HEADER.pack(request, part, queue, number, len(data), 0) + entry + data
         except struct.error:
             raise ValueError("a queue, a zone or a number of turns is less than 0, or more than its field holds") from None
-        try:
-            self._to.write(frame)
-        except (BrokenPipeError, ValueError):
-            raise self._ended() from None
+        if self.over is not None:
+            raise DeviceError(self.over)
+        if self.moving:
+            raise DeviceError("an exception has cut off what was sent to the device: shut it, and open it again")
+        self._out += frame
+
+    def push(self) -> None:
+        """Writes what was sent."""
+        while self._out and self._move():
+            pass
+
+    def wait(self) -> None:
+        """Waits until a frame has come."""
+        while not self._has_frame():
+            if not self._move():
+                raise self._ended()
+
+    def poll(self) -> bool:
+        """Has a frame come? Doesn't wait."""
+        while not self._has_frame():
+            if not self._polled.poll(0):
+                return False
+            if not self._move():
+                raise self._ended()
+        return True
 
     def receive(self) -> _Frame:
-        """Waits for a frame."""
-        try:
-            self._to.flush()
-        except (BrokenPipeError, ValueError):
-            raise self._ended() from None
-        kind, run, _, turns, length, _ = _HEADER.unpack(self._bytes(_HEADER.size))
-        completion = _completion(self._bytes(16), self._bytes(length)) if kind == _Answer.COMPLETION else None
-        return _Frame(_Answer(kind), run, turns, completion)
+        """Takes the frame that has come."""
+        kind, run, _, turns, length, _ = _HEADER.unpack_from(self._came)
+        at = _HEADER.size + (16 if kind == _Answer.COMPLETION else 0)
+        entry, data = bytes(self._came[_HEADER.size : at]), bytes(self._came[at : at + length])
+        del self._came[: at + length]
+        return _Frame(_Answer(kind), run, turns, _completion(entry, data) if entry else None)
 
     def end(self) -> None:
         """Ends the stream, and waits until the program has ended. Does nothing where it has."""
-        if self._program.returncode is None:
-            _, told = self._program.communicate()
-            if self._program.returncode != 0:
-                raise DeviceError(told.decode(errors="replace").strip() or f"the program ended with {self._program.returncode}")
+        if self.over is not None:
+            return
+        self.over = "the device is shut"
+        if not self.moving:
+            self.push()
+        told = self._last_words()
+        status = self._program.returncode
+        # 3 is of a frame that an exception has cut off: it wasn't done, and what came before it is saved
+        if status != 0 and not (self.moving and status == 3):
+            self.over = told or self._cause(status)
+            raise DeviceError(self.over)
 
-    def _bytes(self, count: int) -> bytes:
-        """The next bytes that come."""
-        came = self._from.read(count)
-        if len(came) < count:
-            raise self._ended()
-        return came
+    def _last_words(self) -> str:
+        """What the program tells when it has ended. A Ctrl-C meanwhile waits for it too; only a second one doesn't."""
+        try:
+            _, told = self._program.communicate()
+        except KeyboardInterrupt:
+            self._program.communicate()
+            raise
+        return told.decode(errors="replace").strip()
+
+    def _cause(self, status: int) -> str:
+        """Why the program has ended without a word."""
+        if status > 0:
+            return f"zscli ended with status {status}"
+        lost = "what it had answered is on the disk" if self._durable else "the image is as it was saved last"
+        return f"zscli was ended by {signal.Signals(-status).name}: {lost}"
+
+    def _has_frame(self) -> bool:
+        """Is a whole frame among the bytes that came?"""
+        if len(self._came) < _HEADER.size:
+            return False
+        kind, _, _, _, length, _ = _HEADER.unpack_from(self._came)
+        size: int = _HEADER.size + length + (16 if kind == _Answer.COMPLETION else 0)
+        return len(self._came) >= size
+
+    def _move(self) -> bool:
+        """Waits until bytes can go or come, and moves them. False is the end of what comes."""
+        if self._out:
+            self._polled.register(self._to, select.POLLOUT)
+        ready = dict(self._polled.poll())
+        self.moving = True
+        if self._to in ready and self._out:
+            try:
+                del self._out[: os.write(self._to, self._out[:65536])]
+            except BrokenPipeError:
+                # the program has ended; what it answered before may still come
+                self._out.clear()
+        if not self._out and self._to in ready:
+            self._polled.unregister(self._to)
+        more: Optional[bytes] = os.read(self._from, 1 << 18) if self._from in ready else None
+        self._came += more or b""
+        self.moving = False
+        return more != b""
 
     def _ended(self) -> DeviceError:
         """Why nothing goes or comes any more."""
-        self.end()
+        try:
+            self.end()
+        except DeviceError as error:
+            return error
         return DeviceError("the device is shut")
 
 
@@ -443,7 +609,8 @@ def format_image(
 
 
 def zscli(program: Optional[FilePath] = None) -> str:
-    """The program: the one that is named here, or by the variable `PIFNJARL_ZSCLI`, or else that of this repository.
+    """The program: the one that is named here, or by the variable `PIFNJARL_ZSCLI`; else the one that this repository has built; else
+    `zscli` on the path.
 
     >>> zscli("bin/zscli")
     'bin/zscli'
@@ -452,9 +619,12 @@ def zscli(program: Optional[FilePath] = None) -> str:
     if named:
         return named
     built = Path(__file__).resolve().parent.joinpath("../../crates/zscli/out/zscli").resolve()
-    if not built.exists():
-        raise DeviceError(f"there is no {built}: ./zscli --help proves and builds it, and PIFNJARL_ZSCLI can name another")
-    return str(built)
+    found = str(built) if built.exists() else shutil.which("zscli")
+    if found is None:
+        raise DeviceError(
+            f"no program zscli: PIFNJARL_ZSCLI names none, there is no {built} (./zscli --help makes it), and none is on the path"
+        )
+    return found
 
 
 # ---- the device
@@ -465,7 +635,7 @@ ALL_ZONES = None
 EMITS_NOTHING = bytes.fromhex("b700000000000000" "9500000000000000")
 """A program for examples: R0 = 0, exit."""
 
-# requests of turns that are under way: so many, and what answers them, have room in the pipes
+# so many turns are asked for before the answers are looked at
 _MOST_TURNS = 512
 # the states that a fault brings a zone into, in the order of their numbers in a frame, from 1 on
 _FAULTS = [ZoneState.READ_ONLY, ZoneState.OFFLINE]
@@ -476,6 +646,60 @@ class Result(NamedTuple):
 
     records: int
     blocks: int
+
+
+Given = TypeVar("Given")
+
+
+class _Asked:
+    """A request that is under way, and what answers it: of a drain the last frame, `DRAINED`; of a command its refusal too."""
+
+    def __init__(self, words: str = "", drains: bool = False) -> None:
+        self.words, self.drains = words, drains
+        self.answer: Optional[_Frame] = None
+        self.refusal: Optional[DeviceError] = None
+
+    def end(self, frame: _Frame) -> None:
+        """Takes the frame that answers it."""
+        if self.words and frame.completion is not None:
+            self.refusal = _refusal(frame.completion, self.words)
+        self.answer = frame
+
+
+class Submitted(Generic[Given]):
+    """A command that is under way. The device does commands in the order in which they were submitted.
+
+    If nobody waits for a command that is refused, `shut` raises its exception, and so does the end of `with`, after the image is saved.
+
+    >>> with example() as device:
+    ...     reads = [device.read_async(lba, 1) for lba in range(3)]
+    ...     [read.wait() == bytes(512) for read in reads]
+    [True, True, True]
+    """
+
+    def __init__(self, device: Device, asked: _Asked, gives: Callable[[_Completion], Given]) -> None:
+        self._device, self._asked, self._gives = device, asked, gives
+
+    @property
+    def done(self) -> bool:
+        """Has the completion come? Doesn't wait.
+
+        >>> with example() as device:
+        ...     append = device.append_async(0, bytes(512))
+        ...     device.save()
+        ...     append.done
+        True
+        """
+        return self._device._has_come(self._asked)
+
+    def wait(self) -> Given:
+        """Waits until the command is done, and gives what it came to, or raises the exception of its status.
+
+        >>> with example() as device:
+        ...     device.append_async(16, bytes(512)).wait()
+        16
+        """
+        return self._gives(self._device._completion_of(self._asked))
 
 
 class Run:
@@ -552,6 +776,9 @@ class Device:
         self.queue = queue
         self._identifier = 0
         self._runs: Dict[Tuple[int, int], Run] = {}
+        # the requests that aren't answered yet, and the refused commands that nobody has waited for
+        self._under_way: Deque[_Asked] = deque()
+        self._unseen: List[_Asked] = []
         durably = ["--durable"] if durable else []
         self._stream = _Stream([zscli(program), "serve", os.fspath(image), "--frames", *durably])
         try:
@@ -566,8 +793,12 @@ class Device:
     def __enter__(self) -> Device:
         return self
 
-    def __exit__(self, *failure: object) -> None:
-        self.shut()
+    def __exit__(self, kind: Optional[Type[BaseException]], *_: object) -> None:
+        # an exception that leaves `with` isn't covered by a refusal
+        if kind is None:
+            self.shut()
+        else:
+            self._stream.end()
 
     # ---- blocks
 
@@ -580,21 +811,41 @@ class Device:
         ...     device.append(16, bytes(512)), device.append(16, bytes(1024))
         (16, 17)
         """
-        done = [self._submit(_Opcode.ZONE_APPEND, zone, count - 1, data=piece) for count, piece in self._transfers(data)]
-        return done[0].dword0 | done[0].dword1 << 32
+        return [self.append_async(zone, piece).wait() for piece in self._transfers(data)][0]
+
+    def append_async(self, zone: int, data: bytes) -> Submitted[int]:
+        """Submits a Zone Append, and doesn't wait for it. Waiting gives the LBA of its first block.
+
+        >>> with example() as device:
+        ...     first, second = device.append_async(16, bytes(1024)), device.append_async(16, bytes(512))
+        ...     first.wait(), second.wait()
+        (16, 18)
+        """
+        asked = self._submit(_Opcode.ZONE_APPEND, zone, self._blocks(data) - 1, data=data)
+        return Submitted(self, asked, lambda completion: completion.dword0 | completion.dword1 << 32)
 
     def write(self, lba: int, data: bytes) -> None:
         """Write: writes blocks from an LBA on, which is a zone's write pointer. Long data is several commands, as of `append`.
 
         >>> with example() as device:
         ...     device.write(0, bytes(512))
-        ...     device.write(0, bytes(512))
+        ...     device.write(0, bytes(512))  # doctest: +ELLIPSIS
         Traceback (most recent call last):
-        pifnjarl.ZoneInvalidWrite: Zone Invalid Write (type 1h, code BCh)
+        pifnjarl.ZoneInvalidWrite: queue 1, command 2: write of 1 block from LBA 0 on: refused: Zone Invalid Write ...
         """
-        for count, piece in self._transfers(data):
-            self._submit(_Opcode.WRITE, lba, count - 1, data=piece)
-            lba += count
+        for piece in self._transfers(data):
+            self.write_async(lba, piece).wait()
+            lba += self._blocks(piece)
+
+    def write_async(self, lba: int, data: bytes) -> Submitted[None]:
+        """Submits a Write, and doesn't wait for it.
+
+        >>> with example() as device:
+        ...     writes = [device.write_async(lba, bytes(512)) for lba in range(3)]
+        ...     [write.wait() for write in writes], device.report()[0].write_pointer
+        ([None, None, None], 3)
+        """
+        return Submitted(self, self._submit(_Opcode.WRITE, lba, self._blocks(data) - 1, data=data), lambda _: None)
 
     def read(self, lba: int, blocks: int) -> bytes:
         """Read: blocks of one zone. One that isn't written reads as zeros.
@@ -604,7 +855,19 @@ class Device:
         True
         """
         most, end = MOST_TRANSFER // self.geometry.block, lba + blocks
-        return b"".join(self._submit(_Opcode.READ, at, min(most, end - at) - 1).data for at in range(lba, end, most))
+        return b"".join(self.read_async(at, min(most, end - at)).wait() for at in range(lba, end, most))
+
+    def read_async(self, lba: int, blocks: int) -> Submitted[bytes]:
+        """Submits a Read, of at most 131072 bytes, and doesn't wait for it. Waiting gives the blocks.
+
+        >>> with example() as device:
+        ...     first = device.append(0, b"2 lamps".ljust(512))
+        ...     device.read_async(first, 1).wait()[:7]
+        b'2 lamps'
+        """
+        if not 1 <= blocks <= 1 << 16:
+            raise ValueError(f"a read is of 1 to 65536 blocks, and not of {blocks}")
+        return Submitted(self, self._submit(_Opcode.READ, lba, blocks - 1), lambda completion: completion.data)
 
     def records(self, lba: int, blocks: int) -> List[bytes]:
         """Reads blocks that a run appended, and gives the records that are in them.
@@ -644,9 +907,9 @@ class Device:
 
         >>> with example() as device:
         ...     device.finish(0)
-        ...     device.append(0, bytes(512))
+        ...     device.append(0, bytes(512))  # doctest: +ELLIPSIS
         Traceback (most recent call last):
-        pifnjarl.ZoneIsFull: Zone Is Full (type 1h, code B9h)
+        pifnjarl.ZoneIsFull: queue 1, command 2: append of 1 block to the zone of LBA 0: refused: Zone Is Full ...
         """
         self._send(_Action.FINISH, zone)
 
@@ -686,7 +949,7 @@ class Device:
         reported = [None, *ZoneState].index(state) << 8
         zones: List[Zone] = []
         while True:
-            report = self._submit(_Opcode.ZONE_MANAGEMENT_RECEIVE, lba, dwords - 1, reported).data
+            report = self._do(_Opcode.ZONE_MANAGEMENT_RECEIVE, lba, dwords - 1, reported).data
             matching = int.from_bytes(report[:8], "little")
             zones += [_zone(report, _DESCRIPTOR_BYTES * number) for number in range(1, min(matching, room) + 1)]
             if matching <= room:
@@ -703,8 +966,8 @@ class Device:
         """
         if state not in _FAULTS:
             raise ValueError(f"a fault makes a zone READ_ONLY or OFFLINE, and not {state.name}")
-        self._stream.send(_Request.FAULT, part=1 + _FAULTS.index(state), number=zone // self.geometry.zone_size)
-        if self._stream.receive().answer == _Answer.FAULT_REFUSED:
+        asked = self._ask(_Asked(), _Request.FAULT, part=1 + _FAULTS.index(state), number=zone // self.geometry.zone_size)
+        if self._answer_of(asked).answer == _Answer.FAULT_REFUSED:
             raise FaultRefused(f"a fault of the zone of LBA {zone}")
 
     # ---- programs
@@ -713,30 +976,31 @@ class Device:
         """Load: puts a program into a slot. For a block it may emit so many bytes, each record with two bytes of its length.
 
         >>> with example() as device:
-        ...     device.load(0, EMITS_NOTHING[:8], emit=0)
+        ...     device.load(0, EMITS_NOTHING[:8], emit=0)  # doctest: +ELLIPSIS
         Traceback (most recent call last):
-        pifnjarl.ProgramRefused: Program Refused (type 7h, code C2h); slot 0, reason 3
+        pifnjarl.ProgramRefused: queue 1, command 1: load of 8 bytes ... slot 0, reason 3 (a program that falls off)
         """
         if not 0 <= slot < 1 << 32:
             raise ValueError(f"there is no slot {slot}")
-        self._submit(_Opcode.LOAD, slot | emit << 32, len(program), data=program)
+        self._do(_Opcode.LOAD, slot | emit << 32, len(program), data=program)
 
     def run(self, slot: int, lba: int, blocks: int, to: int, argument: int = 0) -> Run:
         """Run: starts the program of a slot over written blocks from an LBA on, into an open zone. A run that isn't waited for
         gets its turns when the device ends.
 
         >>> with example() as device:
-        ...     device.run(0, 0, 1, to=16)
+        ...     device.run(0, 0, 1, to=16)  # doctest: +ELLIPSIS
         Traceback (most recent call last):
-        pifnjarl.NoSuchProgram: No Such Program (type 7h, code C1h)
+        pifnjarl.NoSuchProgram: queue 1, command 1: run of slot 0 over 1 block from LBA 0 on, to the zone of LBA 16: refused: ...
         """
         if not 0 <= slot < 1 << 8:
             raise ValueError(f"there is no slot {slot}")
         if not 1 <= blocks <= 1 << 16:
             raise ValueError(f"a run is over 1 to 65536 blocks, and not over {blocks}")
-        frame = self._answer(_Opcode.RUN, lba, blocks - 1 | slot << 16, argument, to)
-        run = Run(self, frame.run, blocks)
-        self._runs[self.queue, self._identifier] = run
+        queue, asked = self.queue, self._submit(_Opcode.RUN, lba, blocks - 1 | slot << 16, argument, to)
+        identifier = self._identifier
+        run = Run(self, self._answer_of(asked).run, blocks)
+        self._runs[queue, identifier] = run
         return run
 
     def result(self, slot: int) -> bytes:
@@ -747,7 +1011,7 @@ class Device:
         ...     device.result(0) == bytes(1024)
         True
         """
-        return self._submit(_Opcode.RESULT, slot).data
+        return self._do(_Opcode.RESULT, slot).data
 
     def drain(self, turns: int = 2**32 - 1) -> int:
         """Gives the active runs turns, one after another, at most so many in all, and tells how many.
@@ -756,12 +1020,7 @@ class Device:
         ...     device.drain()
         0
         """
-        self._stream.send(_Request.DRAIN, number=turns)
-        while True:
-            frame = self._stream.receive()
-            if frame.answer == _Answer.DRAINED:
-                return frame.turns
-            self._note(frame)
+        return self._answer_of(self._ask(_Asked(drains=True), _Request.DRAIN, number=turns)).turns
 
     # ---- the image
 
@@ -771,11 +1030,12 @@ class Device:
         >>> with example() as device:
         ...     device.save()
         """
-        self._stream.send(_Request.SAVE)
-        self._stream.receive()
+        self._answer_of(self._ask(_Asked(), _Request.SAVE))
 
     def shut(self) -> None:
         """Gives the runs that are left their turns, saves the image, and ends the device. Does nothing where it has ended.
+
+        If a command was refused for which nobody waited, it raises its exception then.
 
         >>> with example() as device:
         ...     device.shut()
@@ -783,49 +1043,110 @@ class Device:
         Traceback (most recent call last):
         pifnjarl.DeviceError: the device is shut
         """
-        self._stream.end()
+        if self._stream.over is not None:
+            return
+        try:
+            while self._under_way:
+                self._take()
+        finally:
+            self._stream.end()
+        for asked in self._unseen:
+            if asked.refusal is not None:
+                raise asked.refusal
 
     # ---- commands
 
-    def _transfers(self, data: bytes) -> Iterator[Tuple[int, bytes]]:
-        """Whole blocks in pieces, each with the number of its blocks, which one command takes."""
+    def _blocks(self, data: bytes) -> int:
+        """How many blocks these are."""
         block = self.geometry.block
         if not data or len(data) % block:
             raise ValueError(f"{len(data)} bytes aren't one or more blocks of {block}")
-        for at in range(0, len(data), MOST_TRANSFER):
-            piece = data[at : at + MOST_TRANSFER]
-            yield len(piece) // block, piece
+        return len(data) // block
+
+    def _transfers(self, data: bytes) -> List[bytes]:
+        """Whole blocks in pieces, which one command takes."""
+        self._blocks(data)
+        return [data[at : at + MOST_TRANSFER] for at in range(0, len(data), MOST_TRANSFER)]
 
     def _send(self, action: _Action, zone: Optional[int]) -> None:
         """Zone Management Send: takes an action on a zone, or on all."""
         if zone is None:
-            self._submit(_Opcode.ZONE_MANAGEMENT_SEND, 0, 0, action | _SELECT_ALL)
+            self._do(_Opcode.ZONE_MANAGEMENT_SEND, 0, 0, action | _SELECT_ALL)
         else:
-            self._submit(_Opcode.ZONE_MANAGEMENT_SEND, zone, 0, action)
+            self._do(_Opcode.ZONE_MANAGEMENT_SEND, zone, 0, action)
 
-    def _submit(self, opcode: _Opcode, *dwords: int, data: bytes = b"") -> _Completion:
+    def _do(self, opcode: _Opcode, *dwords: int, data: bytes = b"") -> _Completion:
         """Submits an entry, and gives its completion, which has to tell success."""
-        completion = self._answer(opcode, *dwords, data=data).completion
+        return self._completion_of(self._submit(opcode, *dwords, data=data))
+
+    def _submit(self, opcode: _Opcode, *dwords: int, data: bytes = b"") -> _Asked:
+        """Submits an entry with an identifier of its own."""
+        identifier = self._identifier % 0xFFFF + 1
+        while (self.queue, identifier) in self._runs:
+            identifier = identifier % 0xFFFF + 1
+        entry = _entry(opcode, identifier, *dwords)
+        asked = self._ask(_Asked(_words(opcode, *dwords)), _Request.SUBMISSION, queue=self.queue, entry=entry, data=data)
+        self._identifier = identifier
+        self._stream.push()
+        return asked
+
+    # ---- requests, and what answers them
+
+    def _ask(
+        self,
+        asked: _Asked,
+        request: _Request,
+        part: int = 0,
+        queue: int = 0,
+        number: int = 0,
+        entry: bytes = b"",
+        data: bytes = b"",
+    ) -> _Asked:
+        """Sends a request, which is under way then."""
+        self._stream.send(request, part, queue, number, entry, data)
+        self._under_way.append(asked)
+        return asked
+
+    def _completion_of(self, asked: _Asked) -> _Completion:
+        """Waits for a command's completion, which has to tell success."""
+        completion = self._answer_of(asked).completion
         assert completion is not None
         return completion
 
-    def _answer(self, opcode: _Opcode, *dwords: int, data: bytes = b"") -> _Frame:
-        """Submits an entry with an identifier of its own, and gives what answers it, which has to tell success."""
-        self._identifier = self._identifier % 0xFFFF + 1
-        while (self.queue, self._identifier) in self._runs:
-            self._identifier = self._identifier % 0xFFFF + 1
-        self._stream.send(_Request.SUBMISSION, queue=self.queue, entry=_entry(opcode, self._identifier, *dwords), data=data)
+    def _answer_of(self, asked: _Asked) -> _Frame:
+        """Waits for what answers a request. If that is a refusal, it is raised."""
+        while asked.answer is None:
+            self._take()
+        if asked.refusal is not None:
+            with suppress(ValueError):
+                self._unseen.remove(asked)
+            raise asked.refusal
+        return asked.answer
+
+    def _has_come(self, asked: _Asked) -> bool:
+        """Has the answer to a request come? Doesn't wait."""
+        self._stream.push()
+        while asked.answer is None and self._stream.poll():
+            self._take()
+        return asked.answer is not None
+
+    def _take(self) -> None:
+        """Waits for the next frame, and gives it to the request that it answers, which is the oldest."""
+        self._stream.wait()
+        self._stream.moving = True
         frame = self._stream.receive()
-        if frame.completion is not None:
-            _check(frame.completion)
-        return frame
+        self._note(frame)
+        if not self._under_way[0].drains or frame.answer == _Answer.DRAINED:
+            asked = self._under_way.popleft()
+            asked.end(frame)
+            if asked.refusal is not None:
+                self._unseen.append(asked)
+        self._stream.moving = False
 
     def _give_turns(self, run: int, count: int) -> None:
         """Gives the run of a number so many turns."""
-        for _ in range(count):
-            self._stream.send(_Request.TURN, part=run)
-        for _ in range(count):
-            self._note(self._stream.receive())
+        turns = [self._ask(_Asked(), _Request.TURN, part=run) for _ in range(count)]
+        self._answer_of(turns[-1])
 
     def _note(self, frame: _Frame) -> None:
         """Ends the run whose completion this is, if it is one."""

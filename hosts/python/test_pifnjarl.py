@@ -3,20 +3,20 @@
 
 from __future__ import annotations
 
-import contextlib
 import doctest
-import io
 import os
 import random
 import re
 import shutil
 import signal
+import struct
 import subprocess
 import sys
 import tempfile
+import traceback
 import unittest
 from pathlib import Path
-from typing import Dict, List, Tuple
+from typing import Callable, Dict, List, Optional, Tuple
 from unittest import mock
 
 HERE = Path(__file__).resolve().parent
@@ -25,6 +25,7 @@ sys.path[:0] = [str(HERE), str(HERE / "examples")]
 import pifnjarl
 import scan
 import store
+import test_page
 
 
 def order(number: int, region: int, text: str) -> bytes:
@@ -33,12 +34,6 @@ def order(number: int, region: int, text: str) -> bytes:
 
 
 ORDERS = b"".join([order(1, 3, "2 lamps"), order(2, 1, "1 desk"), order(3, 3, "40 nails"), order(4, 2, "5 cups")])
-
-
-def blocks_of(page: str) -> List[str]:
-    """The indented blocks of a page, without their indentation."""
-    found = re.findall(r"(?m)(?:^(?: {4}.*)?\n)+", page)
-    return [re.sub(r"(?m)^ {4}", "", block).strip("\n") + "\n" for block in found if block.strip()]
 
 
 class Over(unittest.TestCase):
@@ -217,7 +212,7 @@ class Devices(Over):
         self.assertEqual([run.wait() for run in runs], [(2, 1), (1, 1)])
 
     def test_numbers_that_have_no_place_in_an_entry_are_told(self) -> None:
-        """None of them reaches the device."""
+        """None of them reaches the device, and the next command gets its own answer."""
         device = self.device()
         for call in (
             lambda: device.run(256, 0, 1, to=64),
@@ -225,6 +220,9 @@ class Devices(Over):
             lambda: device.load(1 << 32, bytes(8), emit=0),
             lambda: device.read(-1, 1),
             lambda: device.append(0, bytes(511)),
+            lambda: device.append_async(0, b""),
+            lambda: device.append_async(0, bytes(131072 + 512)),
+            lambda: device.read_async(0, 0),
             lambda: device.load(0, bytes(131080), emit=0),
             lambda: device.drain(turns=-1),
             lambda: device.fault(0, pifnjarl.ZoneState.FULL),
@@ -241,14 +239,20 @@ class Devices(Over):
         with self.assertRaisesRegex(pifnjarl.DeviceError, "shut"):
             device.read(0, 1)
 
-    def test_the_program_is_that_of_this_repository(self) -> None:
-        """Where none is named. It is told where it would be if it isn't built."""
-        with mock.patch.dict(os.environ, PIFNJARL_ZSCLI=""):
+    def test_the_program_is_that_of_this_repository_or_of_the_path(self) -> None:
+        """Where none is named. What isn't found is told."""
+        built = ROOT / "crates/zscli/out/zscli"
+        on_path = self.folder / "zscli"
+        on_path.write_text("")
+        on_path.chmod(0o755)
+        with mock.patch.dict(os.environ, PIFNJARL_ZSCLI="", PATH=str(self.folder)):
+            self.assertEqual(pifnjarl.zscli(), str(built if built.exists() else on_path))
+            on_path.unlink()
             try:
                 found = pifnjarl.zscli()
             except pifnjarl.DeviceError as error:
                 found = str(error)
-        self.assertIn(str(ROOT / "crates/zscli/out/zscli"), found)
+        self.assertIn(str(built), found)
 
     def test_a_copy_beside_a_script_is_enough(self) -> None:
         """It wants the standard library alone, and the program's name, without which it says how it is named."""
@@ -256,9 +260,10 @@ class Devices(Over):
         script = self.folder / "script.py"
         script.write_text("import pifnjarl\nwith pifnjarl.Device('zoned.img') as it:\n    print(it.append(64, bytes(512)))\n")
         named = {"PIFNJARL_ZSCLI": str(Path(pifnjarl.zscli()).resolve())}
-        for variables, printed, told in ((named, "64\n", ""), ({}, "", "PIFNJARL_ZSCLI can name")):
-            words = [sys.executable, "-B", "-S", str(script)]
-            ran = subprocess.run(words, cwd=self.folder, env=variables, capture_output=True, text=True, check=False)
+        nowhere = {"PATH": str(self.folder / "nowhere")}
+        for variables, printed, told in ((named, "64\n", ""), (nowhere, "", "PIFNJARL_ZSCLI names none")):
+            python = [sys.executable, "-B", "-S", str(script)]
+            ran = subprocess.run(python, cwd=self.folder, env=variables, capture_output=True, text=True, check=False)
             self.assertEqual(ran.stdout, printed, ran.stderr)
             self.assertIn(told, ran.stderr)
 
@@ -271,8 +276,257 @@ class Devices(Over):
             words = (refused.__doc__ or "").split("\n")[0].rstrip(".")
             said[refused.type, refused.code] = (refused.name, words[0].lower() + words[1:])
             self.assertEqual(refused.__name__.lower(), refused.name.replace(" ", "").lower())
+            self.assertTrue(str(refused()).startswith(f"refused: {refused.name} (type "))
             self.assertIs(getattr(pifnjarl, refused.__name__), refused)
         self.assertEqual(said, {status: (name, words[0].lower() + words[1:]) for status, (name, words) in told.items()})
+
+
+def mypy() -> Optional[List[str]]:
+    """How mypy is called here, if it can be."""
+    for python in (sys.executable, "/usr/bin/python3"):
+        words = [python, "-m", "mypy"]
+        if Path(python).exists() and subprocess.run([*words, "--version"], capture_output=True, check=False).returncode == 0:
+            return words
+    return None
+
+
+class Words(Over):
+    """What a refusal says: the line of `zscli explain`."""
+
+    def explained(self, replies: List[str], *options: str) -> List[str]:
+        """The lines of `zscli explain` for these of `exec`."""
+        (self.folder / "replies").write_text("".join(f"{line}\n" for line in replies))
+        words = [pifnjarl.zscli(), "explain", str(self.folder / "replies"), *options]
+        return subprocess.run(words, capture_output=True, text=True, check=True).stdout.splitlines()
+
+    def test_each_status_and_each_reason_has_its_words(self) -> None:
+        """Also what the dwords of a completion add."""
+        cases = [(refused, dwords) for refused in pifnjarl.Refused.__subclasses__() for dwords in ((0, 0), (7, 0), (0, 9))]
+        cases += [(pifnjarl.ProgramRefused, (3, reason)) for reason in range(300)]
+        replies = []
+        for refused, (dword0, dword1) in cases:
+            status = refused.type << 9 | refused.code << 1
+            replies.append(f"cpl 5 {struct.pack('<II2xHHH', dword0, dword1, 5, 8, status).hex()}")
+        said = [str(refused(*dwords, "queue 5, command 8")) for refused, dwords in cases]
+        self.assertEqual(said, self.explained(replies))
+
+    def test_each_command_has_its_words(self) -> None:
+        """A command of each kind is refused: `explain --commands` says the same of its entry and its completion."""
+        device = self.device()
+        device.append(0, ORDERS)
+        device.finish(64)
+        calls: List[Callable[[], object]] = [
+            lambda: device.write(3, bytes(512)),
+            lambda: device.write(64, bytes(1024)),
+            lambda: device.read(63, 2),
+            lambda: device.append(64, bytes(512)),
+            lambda: device.append(1, bytes(1024)),
+            lambda: device.open(64),
+            lambda: device.close(64),
+            lambda: device.finish(1),
+            lambda: device.reset(4096),
+            lambda: device.offline(128),
+            lambda: device.report(4096),
+            lambda: device.load(3, bytes(7), emit=0),
+            lambda: device.load(3, pifnjarl.EMITS_NOTHING[:8], emit=1),
+            lambda: device.load(8, pifnjarl.EMITS_NOTHING, emit=1),
+            lambda: device.load(0, b"", emit=1),
+            lambda: device.load(0, bytes(1), emit=1),
+            lambda: device.run(0, 0, 4, to=128, argument=3),
+            lambda: device.run(8, 0, 1, to=128),
+            lambda: device.result(0),
+            lambda: device.result(9),
+        ]
+        commands, replies, said = [], [], []
+        for call in calls:
+            with mock.patch.object(pifnjarl, "_entry", wraps=pifnjarl._entry) as entry, mock.patch.object(
+                pifnjarl, "_completion", wraps=pifnjarl._completion
+            ) as completion:
+                with self.assertRaises(pifnjarl.Refused) as refused:
+                    call()
+            opcode, identifier, *dwords = entry.call_args.args
+            # (the data isn't shown, but is as long as Load's words say)
+            data = "00" * (dwords[1] if opcode == 0xC1 else 0)
+            commands.append(f"submit 1 {pifnjarl._entry(opcode, identifier, *dwords).hex()} {data}".rstrip())
+            replies.append(f"cpl 1 {completion.call_args.args[0].hex()}")
+            said.append(str(refused.exception))
+        (self.folder / "commands").write_text("".join(f"{line}\n" for line in commands))
+        self.assertEqual(said, self.explained(replies, "--commands", str(self.folder / "commands")))
+
+    def test_the_modules_have_types(self) -> None:
+        """`mypy --strict` takes them and their tests."""
+        words = mypy()
+        if words is None:
+            self.skipTest("there is no mypy here")
+        files = [str(path) for path in sorted([*HERE.glob("*.py"), *HERE.glob("examples/*.py")])]
+        ran = subprocess.run([*words, "--strict", "--cache-dir", str(self.folder), *files], capture_output=True, text=True, check=False)
+        self.assertEqual(ran.returncode, 0, ran.stdout)
+
+
+class UnderWay(Over):
+    """Several commands at a time."""
+
+    def test_commands_are_done_in_order(self) -> None:
+        """Whatever order they are waited for in, and with calls that wait between them."""
+        device = self.device()
+        appends = [device.append_async(64, bytes([number]) * 512) for number in range(60)]
+        reads = [device.read_async(64 + number, 1) for number in range(60)]
+        self.assertEqual(device.append(64, bytes(512)), 124)
+        self.assertEqual([read.wait() for read in reversed(reads)], [bytes([number]) * 512 for number in reversed(range(60))])
+        self.assertEqual([append.wait() for append in appends], list(range(64, 124)))
+        device.write_async(0, bytes(512))
+        device.drain()
+        self.assertEqual(device.report()[0].write_pointer, 1)
+
+    def test_more_is_under_way_than_the_pipes_hold(self) -> None:
+        """Megabytes in both directions, before anything is waited for."""
+        pifnjarl.format_image(self.image, zone_size=512, zones=2)
+        device, data = self.device(), random.Random(5).randbytes(131072)
+        appends = [device.append_async(zone, data) for zone in (0, 512, 0, 512)]
+        reads = [device.read_async(256 * (number % 4), 256) for number in range(32)]
+        self.assertEqual([append.wait() for append in appends], [0, 512, 256, 768])
+        self.assertTrue(all(read.wait() == data for read in reads))
+
+    def test_runs_have_turns_while_commands_are_under_way(self) -> None:
+        """Each answer finds what asked for it."""
+        device = self.device()
+        device.append(0, ORDERS)
+        device.open(64)
+        device.load(0, self.filter(), emit=66)
+        run = device.run(0, 0, 4, to=64, argument=3)
+        reads = [device.read_async(lba, 1) for lba in range(4)]
+        self.assertFalse(run.turn())
+        self.assertEqual(device.drain(), 3)
+        self.assertTrue(run.ended)
+        self.assertEqual(b"".join(read.wait() for read in reads), ORDERS)
+
+    def test_a_refusal_is_that_of_its_command(self) -> None:
+        """Those before it and after it are done."""
+        device = self.device()
+        first, full, second = device.append_async(0, bytes(512)), device.write_async(64, b"x" * 512), device.append_async(0, bytes(512))
+        again = device.write_async(64, bytes(512))
+        for _ in range(2):
+            with self.assertRaisesRegex(pifnjarl.ZoneInvalidWrite, "command 4: write of 1 block from LBA 64 on: refused"):
+                again.wait()
+        self.assertEqual((first.wait(), full.wait(), second.wait()), (0, None, 1))
+
+    def test_a_refusal_that_nobody_waited_for_is_raised_at_the_end(self) -> None:
+        """The image is saved before. An exception that leaves `with` comes first."""
+        with self.assertRaises(pifnjarl.ZoneInvalidWrite):
+            with pifnjarl.Device(self.image) as device:
+                device.write_async(1, bytes(512))
+                device.append_async(64, b"x" * 512)
+        with self.assertRaises(ZeroDivisionError):
+            with pifnjarl.Device(self.image) as device:
+                self.assertEqual(device.read(64, 1), b"x" * 512)
+                device.write_async(1, bytes(512))
+                device.append_async(64, b"y" * 512)
+                device.append(0, bytes(1 // 0))
+        with self.device() as device:
+            self.assertEqual(device.read(65, 1), b"y" * 512)
+            refused = device.write_async(1, bytes(512))
+            self.assertRaises(pifnjarl.ZoneInvalidWrite, refused.wait)
+
+    def test_done_does_not_wait(self) -> None:
+        """It comes true."""
+        device = self.device()
+        append = device.append_async(0, bytes(512))
+        while not append.done:
+            pass
+        self.assertEqual(append.wait(), 0)
+
+    def test_what_was_waited_for_is_on_the_disk(self) -> None:
+        """Of a durable device that is killed."""
+        device = pifnjarl.Device(self.image, durable=True)
+        appends = [device.append_async(0, bytes([number]) * 512) for number in range(40)]
+        appends[-1].wait()
+        device._stream._program.kill()
+        self.assertRaises(pifnjarl.DeviceError, device.save)
+        with pifnjarl.Device(self.image, durable=True) as again:
+            self.assertEqual(again.read(0, 40), b"".join(bytes([number]) * 512 for number in range(40)))
+
+
+class Interrupted:
+    """In the place of what waits for the pipes: an exception comes at a call of it, as Ctrl-C raises one."""
+
+    def __init__(self, polled: object, calls: int) -> None:
+        self._polled, self._calls = polled, calls
+
+    def poll(self, *timeout: int) -> object:
+        """Counts."""
+        self._calls -= 1
+        if self._calls == 0:
+            raise KeyboardInterrupt
+        return getattr(self._polled, "poll")(*timeout)
+
+    def __getattr__(self, name: str) -> object:
+        return getattr(self._polled, name)
+
+
+class Ends(Over):
+    """How a device ends."""
+
+    def test_an_exception_within_a_command_saves(self) -> None:
+        """Wherever it comes: what was done is in the image, and the exception alone is raised."""
+        pifnjarl.format_image(self.image, zone_size=256, zones=2)
+        for calls in range(1, 12):
+            with self.assertRaises(KeyboardInterrupt) as raised:
+                with pifnjarl.Device(self.image) as device:
+                    device.append(256, bytes([calls]) * 512)
+                    setattr(device._stream, "_polled", Interrupted(device._stream._polled, calls))
+                    while True:
+                        device.reset(0)
+                        device.append_async(0, bytes(131072)).wait()
+            self.assertIsNone(raised.exception.__context__)
+            with pifnjarl.Device(self.image) as device:
+                self.assertEqual(device.read(255 + calls, 1), bytes([calls]) * 512)
+
+    def test_a_device_goes_on_after_an_exception_that_was_caught(self) -> None:
+        """The answer that comes late is that of its command."""
+        for calls in range(1, 4):
+            with pifnjarl.Device(self.image) as device:
+                polled = device._stream._polled
+                setattr(device._stream, "_polled", Interrupted(polled, calls))
+                try:
+                    device.append(64, bytes(512 * 30))
+                    device.reset(64)
+                    device.append(64, bytes(512 * 30))
+                    self.fail("no exception came")
+                except KeyboardInterrupt:
+                    setattr(device._stream, "_polled", polled)
+                device.reset(64)
+                self.assertEqual(device.append(64, b"z" * 512), 64)
+                self.assertEqual(device.read(64, 2), b"z" * 512 + bytes(512))
+
+    def test_a_program_that_was_killed_is_told(self) -> None:
+        """By one error, whose text says by what, however often it is asked."""
+        for durable, words in ((False, "SIGKILL: the image is as it was saved last"), (True, "SIGKILL: what it had answered is on the")):
+            with self.assertRaisesRegex(pifnjarl.DeviceError, words) as raised:
+                with pifnjarl.Device(self.image, durable=durable) as device:
+                    device.append(64, bytes(512))
+                    device._stream._program.kill()
+                    device._stream._program.wait()
+                    with self.assertRaisesRegex(pifnjarl.DeviceError, words):
+                        device.append(64, bytes(131072))
+                    device.read(64, 1)
+            shown = "".join(traceback.format_exception(None, raised.exception, raised.exception.__traceback__))
+            self.assertNotIn("During handling", shown)
+            self.assertNotIn("BrokenPipe", shown)
+
+    def test_what_the_program_told_is_told(self) -> None:
+        """An image that can't be written: the last words of the program are the error's, whatever is called then."""
+        (self.folder / "inner").mkdir()
+        image = self.folder / "inner/zoned.img"
+        pifnjarl.format_image(image)
+        device = pifnjarl.Device(image)
+        device.append(64, bytes(512))
+        shutil.rmtree(image.parent)
+        calls: List[Callable[[], object]] = [device.save, device.report, device.save]
+        for call in calls:
+            with self.assertRaisesRegex(pifnjarl.DeviceError, "cannot write .*zoned.img") as raised:
+                call()
+            self.assertIsNone(raised.exception.__context__)
+        device.shut()
 
 
 class Frames(Over):
@@ -314,29 +568,7 @@ class Frames(Over):
 
 
 class Pages(Over):
-    """What docs/first_run.md and docs/embedding.md show."""
-
-    def run_block(self, block: str) -> str:
-        """What a block of Python prints, in a folder with the orders and the filter."""
-        (self.folder / "orders.bin").write_bytes(ORDERS)
-        (self.folder / "examples").mkdir()
-        (self.folder / "examples/filter.bin").write_bytes(self.filter())
-        printed, was = io.StringIO(), Path.cwd()
-        os.chdir(self.folder)
-        try:
-            with contextlib.redirect_stdout(printed):
-                exec(block, {})
-        finally:
-            os.chdir(was)
-        return printed.getvalue()
-
-    def test_the_blocks_of_python_print_what_stands_below_them(self) -> None:
-        """Each block that imports pifnjarl is run."""
-        for page in ("docs/first_run.md", "docs/embedding.md"):
-            blocks = blocks_of((ROOT / page).read_text())
-            for block, below in zip(blocks, blocks[1:]):
-                if block.startswith("import pifnjarl"):
-                    self.assertEqual(self.run_block(block), below, page)
+    """What docs/first_run.md shows in a shell. (The blocks of Python there and in docs/embedding.md are run by tests/cli.)"""
 
     def test_python_has_the_replies_of_the_example(self) -> None:
         """As the first run has them in a shell: the lines that `explain` prints, and the records."""
@@ -350,7 +582,7 @@ class Pages(Over):
         device.queue = 2
         with self.assertRaises(pifnjarl.ZoneHeld) as held:
             device.reset(0)
-        self.assertIn(f"refused: {held.exception}".replace("h)", "h; profile)"), shown)
+        self.assertIn("queue 2, command 1: " + str(held.exception).partition(": ")[2] + "\n", shown)
         self.assertEqual([run.turn(), run.turn()], [False, True])
         records, blocks = run.wait()
         self.assertIn(f": {records} records in {blocks} block\n", shown)
@@ -362,7 +594,8 @@ class Examples(Over):
 
     def test_a_store_keeps_what_was_put(self) -> None:
         """Puts and deletes of any length, as a dictionary has them, also when it is opened again; one that is full says so."""
-        rng, wanted = random.Random(7), {}
+        rng = random.Random(7)
+        wanted: Dict[bytes, bytes] = {}
         pifnjarl.format_image(self.image, zones=4, zone_size=16, most_active=1)
         for _ in range(4):
             with pifnjarl.Device(self.image) as device:
@@ -386,12 +619,13 @@ class Examples(Over):
     def test_they_print_what_they_found(self) -> None:
         """As programs."""
         for name, words in (("store.py", "50 keys, all as they were put"), ("scan.py", "the same orders")):
-            ran = subprocess.run([sys.executable, HERE / "examples" / name], capture_output=True, text=True, check=False)
+            ran = subprocess.run([sys.executable, str(HERE / "examples" / name)], capture_output=True, text=True, check=False)
             self.assertIn(words, ran.stdout, ran.stderr)
 
 
 def load_tests(loader: unittest.TestLoader, tests: unittest.TestSuite, pattern: object) -> unittest.TestSuite:
-    """The examples of docstrings are tests too."""
+    """The examples of docstrings are tests too, and so is what is tested of the page."""
+    tests.addTests(loader.loadTestsFromModule(test_page))
     for module in (pifnjarl, store):
         tests.addTests(doctest.DocTestSuite(module))
     return tests
