@@ -27,6 +27,19 @@ void *__wrap_malloc(size_t size)
     return __real_malloc(size);
 }
 
+/* And this in fsync's: the disk fails for a folder, where it is to. */
+static int folders_fail;
+int __real_fsync(int file);
+int __wrap_fsync(int file);
+int __wrap_fsync(int file)
+{
+    struct stat about;
+    if (!folders_fail || fstat(file, &about) != 0 || !S_ISDIR(about.st_mode))
+        return __real_fsync(file);
+    errno = EIO;
+    return -1;
+}
+
 static void check(int holds, const char *what)
 {
     if (holds) {
@@ -67,6 +80,7 @@ static void refusals(void)
     CHECK(happens(PIFNJARL_TURN, 256) == PIFNJARL_NUMBER_TOO_LARGE);
     CHECK(memcmp(before, output, sizeof output) == 0);
     CHECK(pifnjarl_lowest_run(NULL) == PIFNJARL_NO_RUN);
+    CHECK(pifnjarl_geometry(NULL, NULL) == PIFNJARL_NO_DEVICE && pifnjarl_geometry(device, NULL) == PIFNJARL_NULL_POINTER);
     CHECK(pifnjarl_save_path(device, "/nowhere/image") == PIFNJARL_CANNOT_WRITE);
     pifnjarl_close(NULL);
 }
@@ -80,6 +94,26 @@ static void events(void)
     CHECK(happens(PIFNJARL_FAULT_READ_ONLY, 3) == PIFNJARL_FAULT_REFUSED);
     CHECK(happens(PIFNJARL_FAULT_OFFLINE, UINT32_MAX) == PIFNJARL_FAULT_REFUSED);
     CHECK(pifnjarl_lowest_run(device) == PIFNJARL_NO_RUN);
+}
+
+/* The numbers of an image that is in place of the old one, which a report of the zones agrees with. */
+static void geometries(void)
+{
+    struct pifnjarl_geometry geometry;
+    CHECK(pifnjarl_geometry(device, &geometry) == PIFNJARL_DONE);
+    CHECK(geometry.block_bytes == 512 && geometry.zones == 4 && geometry.zone_blocks == 64 && geometry.zone_capacity == 64);
+    CHECK(geometry.most_open == 3 && geometry.most_active == 3);
+    struct pifnjarl_event event = {.kind = PIFNJARL_SUBMIT, .number = 1};
+    event.entry = pifnjarl_zone_receive(entry, 7, 0, 5 * PIFNJARL_DESCRIPTOR_BYTES, PIFNJARL_REPORT_ALL, 0);
+    CHECK(pifnjarl_do(device, &event, &reply, output, sizeof output) == PIFNJARL_COMPLETION);
+    CHECK(pifnjarl_completion(reply.completion).cid == 7 && pifnjarl_completion(reply.completion).status == 0);
+    CHECK(reply.data_bytes == 5 * PIFNJARL_DESCRIPTOR_BYTES && pifnjarl_report_zones(output) == geometry.zones);
+    struct pifnjarl_zone zone = pifnjarl_report_zone(output, 2);
+    CHECK(zone.start == 128 && zone.capacity == 64 && zone.write_pointer == 128 && zone.state == PIFNJARL_ZONE_EMPTY);
+    zone = pifnjarl_report_zone(output, 3);
+    CHECK(zone.start == 192 && zone.write_pointer == UINT64_MAX && zone.state == PIFNJARL_ZONE_OFFLINE);
+    event.entry = pifnjarl_append(entry, 8, 0, 0);
+    CHECK(pifnjarl_do(device, &event, &reply, output, sizeof output) == PIFNJARL_NULL_POINTER);
 }
 
 /* An image that is saved opens again, and is saved as the same; each request for memory is refused in turn. */
@@ -146,6 +180,14 @@ static void saving(const char *image)
     CHECK(has_bytes(path, (off_t)count) && access(unfinished, F_OK) != 0);
     CHECK(stat(path, &about) == 0 && (about.st_mode & 07777) == 0640 && about.st_uid == owner);
     CHECK(pifnjarl_save_path(device, path) == PIFNJARL_DONE && has_bytes(path, (off_t)count));
+    close(small_file(path));
+    folders_fail = 1;
+    CHECK(pifnjarl_save_path(device, path) == PIFNJARL_CANNOT_SYNC && errno == EIO && has_bytes(path, (off_t)count));
+    folders_fail = 0;
+    requests_left = 2;
+    CHECK(pifnjarl_save_path(device, path) == PIFNJARL_WANT_OF_MEMORY);
+    requests_left = -1;
+    CHECK(strcmp(pifnjarl_words(PIFNJARL_CANNOT_SYNC), "cannot sync the folder") == 0);
 }
 
 int main(int count, char **words)
@@ -155,6 +197,7 @@ int main(int count, char **words)
         return 2;
     refusals();
     events();
+    geometries();
     images();
     saving(words[1]);
     pifnjarl_close(device);

@@ -3,6 +3,7 @@
 #define _GNU_SOURCE
 #include "pifnjarl_durable.h"
 
+#include <errno.h>
 #include <stdint.h>
 #include <stdio.h>
 #include <stdlib.h>
@@ -10,12 +11,12 @@
 #include <sys/wait.h>
 #include <unistd.h>
 
-enum { BLOCK_BYTES = 512, HEADER_BYTES = 16, ENTRY_BYTES = 64, COMPLETION_BYTES = 16, RESULT_BYTES = 1024, BATCH = 3 };
-enum { READ = 0x02, SEND = 0x79, APPEND = 0x7d, RUN = 0xc0, LOAD = 0xc1, RESULT = 0xc2 };
-enum { PENDING = 2 }; /* the kind of a frame, as is that of a turn */
+enum { BLOCK_BYTES = 512, BATCH = 3 };
+enum { FRAME_OF_ENTRY = PIFNJARL_FRAME_BYTES + PIFNJARL_ENTRY_BYTES, REPLY = PIFNJARL_FRAME_BYTES + PIFNJARL_COMPLETION_BYTES };
 
 static unsigned passed, failed;
-static long calls_left = -1;
+static long calls_left = -1, memory_left = -1;
+static int sync_fails;
 
 static void check(int holds, const char *what)
 {
@@ -53,7 +54,30 @@ int __wrap_fsync(int file);
 int __wrap_fsync(int file)
 {
     count_call();
+    if (sync_fails) {
+        errno = EIO;
+        return -1;
+    }
     return __real_fsync(file);
+}
+
+/* Nor is there memory, where none is left. */
+void *__real_malloc(size_t size);
+void *__wrap_malloc(size_t size);
+void *__wrap_malloc(size_t size)
+{
+    if (memory_left == 0)
+        errno = ENOMEM;
+    return memory_left == 0 ? NULL : __real_malloc(size);
+}
+
+void *__real_realloc(void *old, size_t size);
+void *__wrap_realloc(void *old, size_t size);
+void *__wrap_realloc(void *old, size_t size)
+{
+    if (memory_left == 0)
+        errno = ENOMEM;
+    return memory_left == 0 ? NULL : __real_realloc(old, size);
 }
 
 int __real_rename(const char *from, const char *to);
@@ -72,57 +96,38 @@ int __wrap_ftruncate(int file, off_t length)
     return __real_ftruncate(file, length);
 }
 
-static void put(unsigned char *at, uint64_t number, int bytes)
+static unsigned char entry[PIFNJARL_ENTRY_BYTES];
+
+/* The frame of an entry without data. */
+static size_t frame_of(unsigned char *frame, const void *made)
 {
-    for (int i = 0; i < bytes; i++)
-        at[i] = (unsigned char)(number >> 8 * i);
+    return pifnjarl_frame_submit(frame, 0, made, NULL, 0);
 }
 
-/* The frame of an entry (docs/device.md) of these dwords from the tenth on, with its data. */
-static size_t frame_of(unsigned char *frame, int opcode, const uint32_t dwords[6], const void *data, size_t data_bytes)
-{
-    memset(frame, 0, HEADER_BYTES + ENTRY_BYTES);
-    put(frame, 1, 1);
-    put(frame + 8, data_bytes, 4);
-    put(frame + HEADER_BYTES, (unsigned)opcode, 1);
-    put(frame + HEADER_BYTES + 4, 1, 4); /* the namespace */
-    for (int dword = 0; dword < 6; dword++)
-        put(frame + HEADER_BYTES + 40 + 4 * dword, dwords[dword], 4);
-    memcpy(frame + HEADER_BYTES + ENTRY_BYTES, data, data_bytes);
-    return HEADER_BYTES + ENTRY_BYTES + data_bytes;
-}
-
-/* That of one block in zone 0. */
-static size_t frame_of_block(unsigned char *frame, int opcode, uint32_t lba, int data)
+/* That of an append of a block to zone 0. */
+static size_t frame_of_append(unsigned char *frame, int data)
 {
     unsigned char block[BLOCK_BYTES];
     memset(block, data, sizeof block);
-    return frame_of(frame, opcode, (uint32_t[6]){lba}, block, opcode == APPEND ? sizeof block : 0);
-}
-
-/* A turn of run 0. */
-static size_t frame_of_turn(unsigned char *frame)
-{
-    memset(frame, 0, HEADER_BYTES);
-    put(frame, 2, 1);
-    return HEADER_BYTES;
+    return pifnjarl_frame_submit(frame, 0, pifnjarl_append(entry, 0, 0, 1), block, sizeof block);
 }
 
 /* Appends blocks to zone 0 in one batch, and says whether all are told as appended. */
 static int append(struct pifnjarl_durable *device, int blocks, int data)
 {
-    unsigned char frames[BATCH * (HEADER_BYTES + ENTRY_BYTES + BLOCK_BYTES)] = {0};
-    unsigned char replies[BATCH * (HEADER_BYTES + COMPLETION_BYTES)];
-    size_t count = 0;
+    unsigned char frames[BATCH * (FRAME_OF_ENTRY + BLOCK_BYTES)] = {0};
+    unsigned char replies[BATCH * REPLY];
+    struct pifnjarl_answered answered;
+    size_t count = 0, read = 0;
     for (int block = 0; block < blocks; block++)
-        count += frame_of_block(frames + count, APPEND, 0, data);
+        count += frame_of_append(frames + count, data);
     if (pifnjarl_durable_serve(device, frames, count) != PIFNJARL_DURABLE_DONE)
         return 0;
     size_t size = pifnjarl_durable_replies(device, 0, replies, sizeof replies);
-    int good = size == (size_t)blocks * (HEADER_BYTES + COMPLETION_BYTES);
+    int good = size == (size_t)blocks * REPLY;
     for (int block = 0; good && block < blocks; block++) {
-        const unsigned char *completion = replies + block * (HEADER_BYTES + COMPLETION_BYTES) + HEADER_BYTES;
-        good = (completion[14] | completion[15] << 8) >> 1 == 0;
+        read += pifnjarl_frame_read(replies + read, size - read, &answered);
+        good = answered.kind == PIFNJARL_ANSWER_COMPLETION && answered.completion.status == 0;
     }
     return good;
 }
@@ -132,13 +137,13 @@ static int append(struct pifnjarl_durable *device, int blocks, int data)
 static int blocks_of(struct pifnjarl_durable *device)
 {
     for (int block = 0;; block++) {
-        unsigned char frame[HEADER_BYTES + ENTRY_BYTES], reply[HEADER_BYTES + COMPLETION_BYTES + BLOCK_BYTES];
-        frame_of_block(frame, READ, (uint32_t)block, 0);
+        unsigned char frame[FRAME_OF_ENTRY], reply[REPLY + BLOCK_BYTES];
+        frame_of(frame, pifnjarl_read(entry, 0, (uint64_t)block, 1));
         if (pifnjarl_durable_serve(device, frame, sizeof frame) != PIFNJARL_DURABLE_DONE)
             return -1;
         if (pifnjarl_durable_replies(device, 0, reply, sizeof reply) != sizeof reply)
             return block;
-        const unsigned char *data = reply + HEADER_BYTES + COMPLETION_BYTES;
+        const unsigned char *data = reply + REPLY;
         if (memcmp(data, data + 1, BLOCK_BYTES - 1) != 0)
             return -1;
         if (data[0] == 0)
@@ -234,41 +239,34 @@ static const unsigned char program[] = {
 
 /* Leaves a device with a program, whose result is that of a run over one block, and with a run over two that has a turn left. The zone is
    the one behind that of the blocks. */
-static void use(struct pifnjarl_durable *device, uint32_t zone)
+static void use(struct pifnjarl_durable *device)
 {
     unsigned char frames[1024], replies[1024];
-    size_t completion = HEADER_BYTES + COMPLETION_BYTES;
-    size_t count = frame_of(frames, SEND, (uint32_t[6]){zone, 0, 0, 3}, "", 0);
-    count += frame_of(frames + count, LOAD, (uint32_t[6]){0, 0, sizeof program}, program, sizeof program);
-    for (uint32_t more = 0; more < 2; more++) {
-        count += frame_of(frames + count, RUN, (uint32_t[6]){0, 0, more, 0, zone}, "", 0);
-        count += frame_of_turn(frames + count);
+    uint64_t zone = pifnjarl_durable_geometry(device).zone_blocks;
+    size_t count = frame_of(frames, pifnjarl_zone_send(entry, 0, zone, PIFNJARL_OPEN_ZONE));
+    count += pifnjarl_frame_submit(frames + count, 0, pifnjarl_load(entry, 0, 0, 0, sizeof program), program, sizeof program);
+    for (uint32_t blocks = 1; blocks <= 2; blocks++) {
+        count += frame_of(frames + count, pifnjarl_run(entry, 0, 0, 0, blocks, 0, zone));
+        count += pifnjarl_frame_turn(frames + count, 0);
     }
     CHECK(append(device, 2, 'A'));
     CHECK(pifnjarl_durable_serve(device, frames, count) == PIFNJARL_DURABLE_DONE);
-    CHECK(pifnjarl_durable_replies(device, 0, replies, sizeof replies) == 3 * completion + 3 * HEADER_BYTES);
-    CHECK(replies[3 * completion + 2 * HEADER_BYTES] == PENDING);
+    CHECK(pifnjarl_durable_replies(device, 0, replies, sizeof replies) == 3 * REPLY + 3 * PIFNJARL_FRAME_BYTES);
+    CHECK(replies[3 * REPLY + 2 * PIFNJARL_FRAME_BYTES] == PIFNJARL_ANSWER_PENDING);
 }
 
 /* The result is there, and the run has its turn, behind which its sum is the result. */
 static void check_used(struct pifnjarl_durable *device)
 {
     unsigned char frames[1024], replies[4096];
-    size_t count = frame_of(frames, RESULT, (uint32_t[6]){0}, "", 0);
-    count += frame_of_turn(frames + count);
-    count += frame_of(frames + count, RESULT, (uint32_t[6]){0}, "", 0);
-    size_t completion = HEADER_BYTES + COMPLETION_BYTES;
+    size_t count = frame_of(frames, pifnjarl_scratch(entry, 0, 0));
+    count += pifnjarl_frame_turn(frames + count, 0);
+    count += frame_of(frames + count, pifnjarl_scratch(entry, 0, 0));
     CHECK(pifnjarl_durable_serve(device, frames, count) == PIFNJARL_DURABLE_DONE);
-    CHECK(pifnjarl_durable_replies(device, 0, replies, sizeof replies) == 3 * completion + 2 * RESULT_BYTES);
-    CHECK(replies[completion] == 'A' && replies[completion + 1] == 0);
-    CHECK(replies[3 * completion + RESULT_BYTES] == 2 * 'A' && replies[3 * completion + RESULT_BYTES + 1] == 0);
+    CHECK(pifnjarl_durable_replies(device, 0, replies, sizeof replies) == 3 * REPLY + 2 * PIFNJARL_SCRATCH_BYTES);
+    CHECK(pifnjarl_get(replies, REPLY, 2) == 'A');
+    CHECK(pifnjarl_get(replies, 3 * REPLY + PIFNJARL_SCRATCH_BYTES, 2) == 2 * 'A');
     CHECK(blocks_of(device) == 2);
-}
-
-/* How many blocks a zone of an image has (docs/device.md). */
-static uint32_t blocks_of_a_zone(const unsigned char *image)
-{
-    return image[16] | (uint32_t)image[17] << 8 | (uint32_t)image[18] << 16 | (uint32_t)image[19] << 24;
 }
 
 /* A device that is folded is there after each crash, with its program, the result and the run. */
@@ -278,7 +276,7 @@ static void folds(const char *path, const unsigned char *image, size_t count)
     for (long calls = 0; !ended && calls < 100; calls++) {
         write_image(path, image, count);
         struct pifnjarl_durable *device = open_again(path);
-        use(device, blocks_of_a_zone(image));
+        use(device);
         pifnjarl_durable_close(device);
         int told = child(path, calls, fold, &ended);
         CHECK(told == ended);
@@ -299,14 +297,37 @@ static void refusals(const char *path)
     CHECK(pifnjarl_durable_fold(device) == PIFNJARL_DURABLE_DONE);
     CHECK(pifnjarl_durable_serve(device, "", 0) == PIFNJARL_DURABLE_DONE);
     CHECK(pifnjarl_durable_replies(device, 0, NULL, 0) == 0);
-    unsigned char wrong[HEADER_BYTES] = {9};
-    CHECK(pifnjarl_durable_serve(device, wrong, sizeof wrong) == PIFNJARL_DURABLE_FAILED);
+    unsigned char wrong[PIFNJARL_FRAME_BYTES] = {9};
+    CHECK(pifnjarl_durable_serve(device, wrong, sizeof wrong) == PIFNJARL_DURABLE_NO_FRAMES);
     CHECK(pifnjarl_durable_serve(device, "", 0) == PIFNJARL_DURABLE_FAILED);
+    CHECK(pifnjarl_durable_fold(device) == PIFNJARL_DURABLE_FAILED);
     pifnjarl_durable_close(device);
     device = open_again(path);
     CHECK(blocks_of(device) == blocks);
     pifnjarl_durable_close(device);
     pifnjarl_durable_close(NULL);
+}
+
+/* Which of disk, memory and frames a call failed for. */
+static void causes(const char *path)
+{
+    struct pifnjarl_durable *device = open_again(path);
+    unsigned char frame[FRAME_OF_ENTRY + BLOCK_BYTES];
+    size_t count = frame_of_append(frame, 'z');
+    sync_fails = 1;
+    CHECK(pifnjarl_durable_serve(device, frame, count) == PIFNJARL_DURABLE_CANNOT_WRITE && errno == EIO);
+    sync_fails = 0;
+    CHECK(pifnjarl_durable_serve(device, frame, count) == PIFNJARL_DURABLE_FAILED);
+    pifnjarl_durable_close(device);
+    for (int folds = 0; folds < 2; folds++) {
+        device = open_again(path);
+        memory_left = 0;
+        CHECK((folds ? pifnjarl_durable_fold(device) : pifnjarl_durable_serve(device, frame, count)) == PIFNJARL_DURABLE_NO_MEMORY);
+        memory_left = -1;
+        CHECK(pifnjarl_durable_serve(device, frame, count) == PIFNJARL_DURABLE_FAILED);
+        pifnjarl_durable_close(device);
+    }
+    CHECK(strcmp(pifnjarl_durable_words(PIFNJARL_DURABLE_NO_FRAMES), "no frames") == 0);
 }
 
 int main(int count, char **words)
@@ -323,6 +344,7 @@ int main(int count, char **words)
     crashes(words[1], image, size, BATCH);
     folds(words[1], image, size);
     refusals(words[1]);
+    causes(words[1]);
     printf("%u checks passed, %u failed\n", passed, failed);
     return failed != 0;
 }

@@ -32,7 +32,7 @@ static bool name(struct kept_file *kept, const char *path)
 enum kept_result kept_file_open(struct kept_file *kept, const char *path)
 {
     struct stat held, there;
-    *kept = (struct kept_file){.file = -1};
+    *kept = (struct kept_file){.file = -1, .room = -1};
     if (!name(kept, path))
         return KEPT_NOT_OPENED;
     kept->file = open(kept->path, O_RDWR | O_CLOEXEC);
@@ -46,14 +46,27 @@ enum kept_result kept_file_open(struct kept_file *kept, const char *path)
     return held.st_dev == there.st_dev && held.st_ino == there.st_ino ? KEPT_OPENED : KEPT_IN_USE;
 }
 
+/* Gives back the room for a new file. */
+static void leave_room(struct kept_file *kept)
+{
+    int cause = errno;
+    if (kept->room >= 0) {
+        unlink(kept->unfinished);
+        close(kept->room);
+    }
+    kept->room = -1;
+    errno = cause;
+}
+
 void kept_file_close(struct kept_file *kept)
 {
+    leave_room(kept);
     if (kept->file >= 0)
         close(kept->file); /* and with it the lock */
     free(kept->path);
     free(kept->unfinished);
     free(kept->folder);
-    *kept = (struct kept_file){.file = -1};
+    *kept = (struct kept_file){.file = -1, .room = -1};
 }
 
 /* Brings a folder to the disk, and with it the names in it. */
@@ -121,17 +134,45 @@ static bool write_bytes(struct calls *c, int file, size_t at)
     return true;
 }
 
+/* An empty new file, or the one for which room was made. */
+static int take_new_file(struct kept_file *kept)
+{
+    int file = kept->room;
+    kept->room = -1;
+    if (file >= 0)
+        return file;
+    unlink(kept->unfinished); /* what a program left that was killed: none but the one that holds the file writes it */
+    return open(kept->unfinished, O_RDWR | O_CREAT | O_EXCL | O_CLOEXEC, 0600);
+}
+
+size_t kept_file_make_room(struct kept_file *kept)
+{
+    size_t wanted = kept->wanted;
+    kept->wanted = 0;
+    if (wanted == 0)
+        return 0;
+    leave_room(kept);
+    kept->room = take_new_file(kept);
+    int cause = kept->room < 0 ? errno : EINTR;
+    while (kept->room >= 0 && cause == EINTR)
+        cause = posix_fallocate(kept->room, 0, (off_t)wanted);
+    if (cause != 0)
+        leave_room(kept);
+    errno = cause;
+    return cause == 0 ? wanted : 0;
+}
+
 /* Puts a new file in the place of the old one, and holds it from the first on. */
 static bool replace(struct calls *c)
 {
     struct kept_file *kept = c->kept;
     struct stat before;
-    unlink(kept->unfinished); /* what a program left that was killed: none but the one that holds the file writes it */
-    int file = open(kept->unfinished, O_RDWR | O_CREAT | O_EXCL | O_CLOEXEC, 0600);
+    int file = take_new_file(kept);
     if (file < 0)
         return false;
     if (flock(file, LOCK_EX | LOCK_NB) == 0 && fstat(kept->file, &before) == 0 && fchmod(file, before.st_mode & 07777) == 0 &&
-        write_bytes(c, file, 0) && fsync(file) == 0 && rename(kept->unfinished, kept->path) == 0) {
+        write_bytes(c, file, 0) && ftruncate(file, (off_t)tell(c, KEPT_SIZE)) == 0 && fsync(file) == 0 &&
+        rename(kept->unfinished, kept->path) == 0) {
         close(kept->file);
         kept->file = file;
         return sync_folder(kept->folder);
@@ -150,6 +191,7 @@ static bool make(struct calls *c, enum kept_call next)
     case KEPT_TRUNCATE: return ftruncate(c->kept->file, (off_t)tell(c, KEPT_PLACE)) == 0;
     case KEPT_SYNC: return fsync(c->kept->file) == 0;
     case KEPT_REPLACE: return replace(c);
+    case KEPT_WANT: c->kept->wanted = tell(c, KEPT_PLACE); return true;
     case KEPT_NONE: break;
     }
     return false;

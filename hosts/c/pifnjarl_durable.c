@@ -5,11 +5,14 @@
 #include "kept_file.h"
 
 #include <errno.h>
+#include <stdbool.h>
 #include <stdlib.h>
 
 struct pifnjarl_durable {
     unsigned char *handle;
     struct kept_file kept;
+    struct pifnjarl_geometry geometry;
+    bool failed; /* the file has to be opened again */
 };
 
 static size_t ask(struct pifnjarl_durable *device, enum durable_kind kind, size_t number, unsigned char *out, size_t room)
@@ -31,7 +34,33 @@ static size_t ask_of_call(void *device, enum kept_question question, size_t from
 
 static enum pifnjarl_durable_result make_calls(struct pifnjarl_durable *device)
 {
-    return kept_file_make_calls(&device->kept, ask_of_call, device) ? PIFNJARL_DURABLE_DONE : PIFNJARL_DURABLE_FAILED;
+    device->failed = !kept_file_make_calls(&device->kept, ask_of_call, device);
+    return device->failed ? PIFNJARL_DURABLE_CANNOT_WRITE : PIFNJARL_DURABLE_DONE;
+}
+
+/* The library has done nothing: for want of memory, as the allocator has it in errno, or for `other`. */
+static enum pifnjarl_durable_result refused(struct pifnjarl_durable *device, enum pifnjarl_durable_result other)
+{
+    device->failed = true;
+    return errno == ENOMEM ? PIFNJARL_DURABLE_NO_MEMORY : other;
+}
+
+/* Folds the journal into the new file that wanted room, if there is room for it. Where more was served since it wanted that, the file may
+   be longer now, and wants room again. */
+static enum pifnjarl_durable_result fold_where_wanted(struct pifnjarl_durable *device)
+{
+    unsigned char none[1];
+    enum pifnjarl_durable_result result = PIFNJARL_DURABLE_DONE;
+    while (result == PIFNJARL_DURABLE_DONE && device->kept.wanted != 0) {
+        size_t room = kept_file_make_room(&device->kept);
+        if (room == 0)
+            return PIFNJARL_DURABLE_NO_ROOM;
+        errno = 0;
+        if (durable_library_call(device->handle, DURABLE_FOLD, 0, room, (const unsigned char *)"", 0, none, 0) == 0)
+            return refused(device, PIFNJARL_DURABLE_FAILED);
+        result = make_calls(device);
+    }
+    return result;
 }
 
 static enum pifnjarl_durable_result begin(struct pifnjarl_durable *device, const char *path)
@@ -46,6 +75,7 @@ static enum pifnjarl_durable_result begin(struct pifnjarl_durable *device, const
     device->handle = malloc(durable_library_handle_bytes()); /* aligned to 16 */
     if (device->handle != NULL)
         durable_library_open(device->handle, bytes, count);
+    device->geometry = pifnjarl_geometry_of(bytes, count);
     free(bytes);
     if (device->handle == NULL)
         return PIFNJARL_DURABLE_NO_MEMORY;
@@ -77,9 +107,15 @@ enum pifnjarl_durable_result pifnjarl_durable_serve(struct pifnjarl_durable *dev
     unsigned char none[1];
     const unsigned char *bytes = count == 0 ? none : frames;
     none[0] = 0;
-    if (durable_library_call(device->handle, DURABLE_SERVE, 0, 0, bytes, count, none, 0) == 0)
+    if (device->failed)
         return PIFNJARL_DURABLE_FAILED;
-    return make_calls(device);
+    errno = 0;
+    if (durable_library_call(device->handle, DURABLE_SERVE, 0, 0, bytes, count, none, 0) == 0)
+        return refused(device, PIFNJARL_DURABLE_NO_FRAMES);
+    enum pifnjarl_durable_result result = make_calls(device);
+    if (result == PIFNJARL_DURABLE_DONE)
+        result = fold_where_wanted(device);
+    return result == PIFNJARL_DURABLE_NO_ROOM ? PIFNJARL_DURABLE_DONE : result; /* the journal goes on growing */
 }
 
 size_t pifnjarl_durable_replies(struct pifnjarl_durable *device, size_t from, void *out, size_t room)
@@ -90,7 +126,34 @@ size_t pifnjarl_durable_replies(struct pifnjarl_durable *device, size_t from, vo
 
 enum pifnjarl_durable_result pifnjarl_durable_fold(struct pifnjarl_durable *device)
 {
-    return tell(device, DURABLE_FOLD) == 1 ? make_calls(device) : PIFNJARL_DURABLE_FAILED;
+    if (device->failed)
+        return PIFNJARL_DURABLE_FAILED;
+    errno = 0;
+    if (tell(device, DURABLE_FOLD) == 0) /* it says how much room it wants */
+        return refused(device, PIFNJARL_DURABLE_FAILED);
+    enum pifnjarl_durable_result result = make_calls(device);
+    return result == PIFNJARL_DURABLE_DONE ? fold_where_wanted(device) : result;
+}
+
+struct pifnjarl_geometry pifnjarl_durable_geometry(const struct pifnjarl_durable *device)
+{
+    return device->geometry;
+}
+
+const char *pifnjarl_durable_words(enum pifnjarl_durable_result result)
+{
+    switch (result) {
+    case PIFNJARL_DURABLE_DONE: return "done";
+    case PIFNJARL_DURABLE_NO_IMAGE: return "no image and no journal";
+    case PIFNJARL_DURABLE_NO_MEMORY: return "want of memory";
+    case PIFNJARL_DURABLE_IN_USE: return "in use by another program";
+    case PIFNJARL_DURABLE_CANNOT_READ: return "cannot read";
+    case PIFNJARL_DURABLE_FAILED: return "an earlier call failed";
+    case PIFNJARL_DURABLE_NO_ROOM: return "no room for the new file";
+    case PIFNJARL_DURABLE_CANNOT_WRITE: return "cannot write";
+    case PIFNJARL_DURABLE_NO_FRAMES: return "no frames";
+    }
+    return "no result";
 }
 
 void pifnjarl_durable_close(struct pifnjarl_durable *device)

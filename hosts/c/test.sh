@@ -22,12 +22,11 @@ try() {
     fi
 }
 
-# a program of this folder, linked with a library
+# a program of this folder, linked with the library
 compile() {
     program=$1
-    library=$2
-    shift 2
-    ${CC:-gcc} $strict "$here/$program.c" "$work/$library.a" "$@" -o "$work/$program"
+    shift
+    ${CC:-gcc} $strict "$here/$program.c" "$work/libpifnjarl.a" "$@" -o "$work/$program"
 }
 
 # a program prints what PROGRAM.out has
@@ -45,19 +44,53 @@ numbers_agree() {
         "$here/pifnjarl_device.h" | grep -v -e NULL_POINTER -e CANNOT_ | sort | diff "$work/law" -
 }
 
+# the headers are C++ too
+headers() {
+    printf '#include "pifnjarl_%s.h"\n' device durable > "$work/headers.cc"
+    echo 'void ends() { pifnjarl_close(nullptr); pifnjarl_durable_close(nullptr); }' >> "$work/headers.cc"
+    ${CXX:-clang++} -std=c++11 -Wall -Wextra -Wpedantic -Werror -I"$here" -c "$work/headers.cc" -o "$work/headers.o" &&
+        nm "$work/headers.o" | grep -q ' U pifnjarl_close$' && nm "$work/headers.o" | grep -q ' U pifnjarl_durable_close$'
+}
+
+# what pifnjarl_entry.h makes is what docs/device.md shows, and its version that of the program, or of its source where none is built
+entries_agree() {
+    page=$here/../../docs/device.md
+    program=${ZSCLI:-$here/../../crates/zscli/out/zscli}
+    {
+        sed -n '/^## Commands/,/^### The order/{/^    [0-9a-f]\{8\} /p}' "$page"
+        sed -n '/^## Statuses/,/^## Frames/{/^| [0-9A-F]h/p}' "$page"
+        if [ -x "$program" ]; then
+            "$program" --version
+        else
+            sed -n 's/^const VERSION: &str = "\(.*\)";/zscli \1/p' "$here/../../crates/zscli/src/commands.rt"
+        fi
+    } > "$work/page"
+    ${CC:-gcc} $strict "$here/entries.c" -o "$work/entries" && "$work/entries" > "$work/made" && diff "$work/page" "$work/made"
+}
+
 cp "$here/../../examples/empty.img" "$work/zoned.img"
-try 'the libraries are made' "$here/library.sh" "$work" -fsanitize=address,undefined -fno-sanitize-recover=all
+try 'the headers are C++ too' headers
+try 'entries agree' entries_agree
+try 'the library is made' "$here/library.sh" "$work" -fsanitize=address,undefined -fno-sanitize-recover=all
 try 'numbers agree' numbers_agree
-try 'append_and_read compiles' compile append_and_read libpifnjarl
+try 'append_and_read compiles' compile append_and_read
 try 'append_and_read prints' prints append_and_read "$work/zoned.img" "$work/saved.img"
 try 'what it saved has one block more' test "$(wc -c < "$work/saved.img")" = $(($(wc -c < "$work/zoned.img") + 512))
-try 'run_a_filter compiles' compile run_a_filter libpifnjarl
+try 'run_a_filter compiles' compile run_a_filter
 try 'run_a_filter prints' prints run_a_filter "$work/zoned.img"
-try 'calls compiles' compile calls libpifnjarl -Wl,--wrap=malloc
+try 'calls compiles' compile calls -Wl,--wrap=malloc,--wrap=fsync
 try 'calls' "$work/calls" "$work/zoned.img"
 tail -n 1 "$work/out"
-try 'crashes compiles' compile crashes libpifnjarl_durable -Wl,--wrap=pwrite,--wrap=fsync,--wrap=rename,--wrap=ftruncate
+try 'crashes compiles' compile crashes -Wl,--wrap=pwrite,--wrap=fsync,--wrap=rename,--wrap=ftruncate,--wrap=malloc,--wrap=realloc
 try 'crashes' "$work/crashes" "$work/zoned.img"
+tail -n 1 "$work/out"
+cp "$here/../../examples/empty.img" "$work/full.img"
+try 'full_disk compiles' compile full_disk -Wl,--wrap=posix_fallocate
+try 'full_disk' "$work/full_disk" "$work/full.img"
+tail -n 1 "$work/out"
+cp "$here/../../examples/empty.img" "$work/stack.img"
+try 'stack compiles' compile stack -pthread
+try 'stack' "$work/stack" "$work/stack.img"
 tail -n 1 "$work/out"
 echo "$passed passed, $failed failed"
 [ "$failed" = 0 ]

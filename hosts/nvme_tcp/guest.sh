@@ -5,8 +5,8 @@
 #
 # NQN is the name that the target prints. guest_session.sh is what it does with the disk; PROGRAM is the filter that it loads, or
 # examples/filter.bin. The image wants zones of
-# a power of two of blocks, at least eight of them, and 4 MiB of writable blocks in each for f2fs. Wants apt, dpkg,
-# gcc and qemu-system-x86 of Debian 12, and python3. What it downloads, 75 MB, it keeps in GUEST_CACHE. No part of the gate.
+# a power of two of blocks, at least eight of them, and 4 MiB of writable blocks in each for f2fs and btrfs. Wants apt, dpkg,
+# gcc and qemu-system-x86 of Debian 12, and python3. What it downloads, 81 MB, it keeps in GUEST_CACHE. No part of the gate.
 set -eu
 port=$1
 nqn=$2
@@ -21,18 +21,20 @@ trap 'rm -rf "$work"' EXIT
 kernel_package() {
     apt-cache depends linux-image-amd64 | sed -n 's/^ *Depends: *\(linux-image-.*\)/\1/p' | head -n 1
 }
+packages='busybox-static nvme-cli util-linux mount f2fs-tools btrfs-progs
+    libnvme1 libjson-c5 libdbus-1-3 libsystemd0 libssl3 zlib1g libuuid1 libblkid1 libselinux1 libsmartcols1
+    liblzo2-2 libzstd1 libudev1 libc6'
 root=$cache/root
-if [ ! -e "$cache/unpacked" ]; then
-    rm -rf "$root"
+if [ ! -e "$cache/unpacked" ] || [ "$(cat "$cache/unpacked")" != "$packages" ]; then
+    rm -rf "$root" "$cache/packages"
     mkdir -p "$cache/packages" "$root"
     (
         cd "$cache/packages"
-        apt-get download "$(kernel_package)" busybox-static nvme-cli util-linux f2fs-tools \
-            libnvme1 libjson-c5 libdbus-1-3 libsystemd0 libssl3 zlib1g libuuid1 libblkid1 libselinux1 libc6
+        apt-get download "$(kernel_package)" $packages
         for package in *.deb; do dpkg -x "$package" "$root"; done
     )
     "$root/bin/busybox" depmod -b "$root" "$(ls "$root/lib/modules")"
-    touch "$cache/unpacked"
+    echo "$packages" > "$cache/unpacked"
 fi
 busybox=$root/bin/busybox
 release=$(ls "$root/lib/modules")
@@ -44,18 +46,22 @@ guest=$work/guest
 mkdir -p "$guest/bin" "$guest/dev" "$guest/etc/nvme" "$guest/lib64" "$guest/lib/x86_64-linux-gnu" "$guest/mnt" "$guest/proc" "$guest/sys" \
     "$guest/$modules"
 cp "$busybox" "$guest/bin/"
-for tool in usr/sbin/nvme sbin/blkzone sbin/mkfs.f2fs; do cp "$root/$tool" "$guest/bin/"; done
+tools='usr/sbin/nvme sbin/blkzone sbin/losetup sbin/mkfs.f2fs sbin/mkfs.btrfs'
+for tool in $tools; do cp "$root/$tool" "$guest/bin/"; done
 cp "$root"/lib/x86_64-linux-gnu/ld-linux-x86-64.so.2 "$guest/lib64/"
 # the libraries that the tools name, and those that these name
 libraries() {
-    LD_LIBRARY_PATH=$root/usr/lib/x86_64-linux-gnu:$root/lib/x86_64-linux-gnu ldd "$guest"/bin/nvme "$guest"/bin/blkzone "$guest"/bin/mkfs.f2fs
+    for tool in $tools; do
+        LD_LIBRARY_PATH=$root/usr/lib/x86_64-linux-gnu:$root/lib/x86_64-linux-gnu ldd "$guest/bin/${tool##*/}"
+    done
 }
 libraries | sed -n 's/.*=> \(\/[^ ]*\).*/\1/p' | sort -u | while read -r library; do
     cp -L "$library" "$guest/lib/x86_64-linux-gnu/"
 done
-# the modules, with those that they stand on
+# the modules, with those that they need
 cp "$root/$modules/modules.dep" "$root/$modules/modules.builtin" "$guest/$modules/"
-for module in virtio_pci virtio_net virtio_blk nvme-tcp zonefs f2fs crc32c_generic crc32_generic; do
+wanted='virtio_pci virtio_net loop crc32c_generic crc32_generic xxhash_generic blake2b_generic nvme-tcp zonefs f2fs btrfs'
+for module in $wanted; do
     sed -n "s/^\([^:]*\/$module.ko\):/\1/p" "$root/$modules/modules.dep" | tr ' ' '\n'
 done | sort -u | while read -r module; do
     [ -z "$module" ] || (cd "$root/$modules" && cp --parents "$module" "$guest/$modules/")
@@ -80,7 +86,7 @@ export PATH=/bin
 mount -t proc proc /proc
 mount -t sysfs sysfs /sys
 mount -t devtmpfs devtmpfs /dev
-for module in virtio_pci virtio_net virtio_blk crc32c_generic crc32_generic nvme-tcp zonefs f2fs; do modprobe "$module"; done
+for module in $(cat /modules); do modprobe "$module"; done
 ip link set lo up
 ip addr add 10.0.2.15/24 dev eth0
 ip link set eth0 up
@@ -88,13 +94,11 @@ sh /guest_session.sh "$(sed 's/.*target_port=\([0-9]*\).*/\1/' /proc/cmdline)" "
 poweroff -f
 INIT
 chmod +x "$guest/init"
+echo "$wanted" > "$guest/modules"
 (cd "$guest" && find . | "$busybox" cpio -o -H newc 2>/dev/null | gzip -1) > "$work/initramfs"
 
-# ---- the machine: two processors, a network in which 10.0.2.2 is this machine's loopback, and a disk for f2fs's metadata
+# ---- the machine: two processors, and a network in which 10.0.2.2 is this machine's loopback
 
-head -c 134217728 /dev/zero > "$work/conventional"
 timeout "${GUEST_SECONDS:-300}" qemu-system-x86_64 -accel "${GUEST_ACCELERATOR:-tcg}" -smp 2 -m 1024 -no-reboot -display none -serial stdio -monitor none \
     -kernel "$root/boot/vmlinuz-$release" -initrd "$work/initramfs" -append "console=ttyS0 quiet panic=-1 target_port=$port target_nqn=$nqn" \
-    -netdev user,id=net -device virtio-net-pci,netdev=net \
-    -drive "if=none,id=disk,format=raw,file=$work/conventional" \
-    -device virtio-blk-pci,drive=disk,logical_block_size=4096,physical_block_size=4096 < /dev/null | tr -d '\r'
+    -netdev user,id=net -device virtio-net-pci,netdev=net < /dev/null | tr -d '\r'

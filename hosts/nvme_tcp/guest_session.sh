@@ -71,19 +71,34 @@ shell "strings -n 10 /emitted.bin"
 shell "nvme io-passthru $disk --namespace-id=1 --opcode=0xc2 --cdw10=0 --data-len=1024 --read --raw-binary | wc -c"
 io --opcode=0xc0 --cdw10="$zone" --cdw12=$((5 << 16 | 4 - 1)) --cdw13=3 --cdw14=$((zone * 2))
 
-echo "== f2fs, with its metadata on a disk without zones"
+# puts files on a file system, and finds them after it is mounted again: files KIND DISK
+files() {
+    run mount -t "$1" "$2" /mnt
+    grep -q ' /mnt ' /proc/mounts || return
+    mkdir /mnt/folder
+    for file in $(seq 20); do head -c $((file * 50000)) /dev/urandom > "/$file"; cp "/$file" /mnt/folder/; done
+    sync
+    run umount /mnt
+    run mount -t "$1" "$2" /mnt
+    grep -q ' /mnt ' /proc/mounts || return
+    shell "for file in \$(seq 20); do cmp /\$file /mnt/folder/\$file || exit 1; done; echo same; ls /mnt/folder | wc -l"
+    shell "rm -r /mnt/folder; sync; df /mnt | tail -n 1"
+    run umount /mnt
+    shell "blkzone report $disk | grep -c em"
+}
+
+echo "== f2fs, with its metadata in a file"
 blkzone reset "$disk"
-shell "mkfs.f2fs -f -m -c $disk /dev/vda | tail -n 3"
-run mount -t f2fs /dev/vda /mnt
-mkdir /mnt/folder
-for file in $(seq 20); do head -c $((file * 50000)) /dev/urandom > "/$file"; cp "/$file" /mnt/folder/; done
-sync
-run umount /mnt
-run mount -t f2fs /dev/vda /mnt
-shell "for file in \$(seq 20); do cmp /\$file /mnt/folder/\$file || exit 1; done; echo same; ls /mnt/folder | wc -l"
-shell "rm -r /mnt/folder; sync; df /mnt | tail -n 1"
-run umount /mnt
-shell "blkzone report $disk | grep -c em"
+run truncate -s 128M /metadata.img
+# busybox has a losetup of its own
+run /bin/losetup --sector-size 4096 /dev/loop0 /metadata.img
+shell "mkfs.f2fs -f -m -c $disk /dev/loop0 | tail -n 3"
+files f2fs /dev/loop0
+run /bin/losetup -d /dev/loop0
+
+echo "== btrfs"
+shell "mkfs.btrfs -f -O zoned -d single -m single $disk | grep -i zone"
+files btrfs "$disk"
 
 echo "== a reset of the controller, and the end"
 run nvme reset /dev/nvme0

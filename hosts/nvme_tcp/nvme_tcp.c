@@ -28,7 +28,6 @@
 #define TURNS 32        /* turns between two looks at the sockets */
 #define KEPT_TURNS 1024 /* and as many where these wait for the disk */
 #define SECOND 1000000  /* microseconds */
-#define USAGE "usage: nvme_tcp IMAGE [--memory] [--listen ADDRESS:PORT]"
 
 /* what is waited for beside connections */
 enum { LISTENER = TARGET_CONNECTIONS, SIGNALS, POLLED };
@@ -46,6 +45,7 @@ struct image {
     struct kept_file kept;
     bool is_durable;
     bool has_runs;
+    bool lacks_room; /* there was no room to fold the journal, and that was said */
 };
 
 static struct connection connections[TARGET_CONNECTIONS];
@@ -58,7 +58,7 @@ static uint64_t at_disk; /* how many microseconds the disk took since hosts were
 
 static void complain(const char *what, const char *name, const char *why)
 {
-    fprintf(stderr, "nvme_tcp: %s %s: %s\n", what, name, why);
+    fprintf(stderr, "%s: %s %s: %s\n", program_invocation_short_name, what, name, why);
 }
 
 static void complain_of_call(const char *what, const char *name)
@@ -107,6 +107,25 @@ static uint64_t now(void)
     return (uint64_t)at.tv_sec * 1000000 + (uint64_t)at.tv_nsec / 1000;
 }
 
+/* Folds the journal into the new file that wanted room. Where there is no room, that is said once, and the journal goes on growing. */
+static bool fold(unsigned char *target, struct image *image)
+{
+    size_t room = kept_file_make_room(&image->kept);
+    if (room == 0) {
+        if (!image->lacks_room)
+            fprintf(stderr, "nvme_tcp: cannot fold %s: %s; its journal goes on growing\n", image->kept.path, strerror(errno));
+        image->lacks_room = true;
+        return true;
+    }
+    image->lacks_room = false;
+    errno = ENOMEM;
+    if (target_fold(target, room) == TARGET_NOT_FOLDED) {
+        complain_of_call("cannot fold", image->kept.path);
+        return false;
+    }
+    return make_calls(target, image);
+}
+
 /* Brings what was done to the disk, where it is kept there. */
 static bool commit(unsigned char *target, struct image *image)
 {
@@ -117,6 +136,8 @@ static bool commit(unsigned char *target, struct image *image)
     }
     uint64_t began = now();
     bool made = make_calls(target, image);
+    while (made && image->kept.wanted != 0)
+        made = fold(target, image);
     at_disk += now() - began;
     return made;
 }
@@ -531,12 +552,21 @@ static int signals_to_end(void)
     return signalfd(-1, &ends, SFD_CLOEXEC);
 }
 
+static void print_usage(FILE *to)
+{
+    fprintf(to, "usage: %s IMAGE [--memory] [--listen ADDRESS:PORT]\n", program_invocation_short_name);
+}
+
 int main(int words, char **word)
 {
+    if (words == 2 && strcmp(word[1], "--help") == 0) {
+        print_usage(stdout);
+        return 0;
+    }
     struct image image = {.kept.file = -1};
     const char *place = NULL;
     if (!read_words(words, word, &image, &place)) {
-        fprintf(stderr, "%s\n", USAGE);
+        print_usage(stderr);
         return 2;
     }
     int signals = signals_to_end();

@@ -83,21 +83,26 @@ class Target:
         words: Optional[Sequence[str]] = None,
         most_files: Optional[int] = None,
         variables: Optional[Dict[str, str]] = None,
+        errors: Optional[Path] = None,
     ) -> None:
         """Starts the program on an image, at a port that is free, in memory or durable, or with other words; what it says on standard
         error is shown unless it is quiet. Where most bytes are told, no file that it writes may have more; where most files are, it has no
-        descriptor of a higher number. Its environment has these variables too."""
+        descriptor of a higher number. Its environment has these variables too. Where a file is named for it, what it says on standard
+        error stands there."""
         if words is None:
             words = [] if is_durable else ["--memory"]
+        said = open(errors, "w") if errors is not None else None
         command = [os.environ["NVME_TCP_TARGET"], str(image), "--listen", "127.0.0.1:0", *words]
         self._program = subprocess.Popen(
             command,
             stdout=subprocess.PIPE,
-            stderr=subprocess.DEVNULL if is_quiet else None,
+            stderr=subprocess.DEVNULL if is_quiet else said,
             text=True,
             preexec_fn=partial(_prepare, most_bytes, most_files),
             env={**os.environ, **(variables or {})},
         )
+        if said is not None:
+            said.close()
         self.address = self._address()
         assert self._program.stdout is not None
         self.nqn = self._program.stdout.readline().rstrip("\n")

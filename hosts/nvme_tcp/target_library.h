@@ -27,6 +27,11 @@
 #define TARGET_ENDS 1    /* it is to be closed once all is sent */
 #define TARGET_CUT_OFF 2 /* it is to be closed at once */
 
+/* what came of folding a journal */
+#define TARGET_NOT_FOLDED 0 /* there is none, or the file has to be opened again */
+#define TARGET_FOLDED 1     /* it is folded, once the calls are made */
+#define TARGET_NO_ROOM 2    /* the new file would be longer than there is room for, as KEPT_WANT tells then: the journal is used on */
+
 enum target_kind {
     TARGET_ASKS_OPENED = 0,
     TARGET_ACCEPT = 1,
@@ -49,7 +54,8 @@ enum target_kind {
     TARGET_DONE = 17,
     TARGET_FAILED = 18,
     TARGET_NAME = 19,
-    TARGET_NQN = 20
+    TARGET_NQN = 20,
+    TARGET_FOLD = 21
 };
 
 /* How many bytes of memory a target needs. */
@@ -163,10 +169,16 @@ static inline bool target_turn(unsigned char *target)
 }
 
 /* Commits what was done, once the calls for it are made; false where the file has to be opened again. Where the device is in memory alone
-   there is nothing to do. */
+   there is nothing to do. Where the journal has grown by 64 MiB, one of the calls is KEPT_WANT, which tells how much room folding it takes. */
 static inline bool target_commit(unsigned char *target)
 {
     return target_ask(target, TARGET_COMMIT, 0, 0) != 0;
+}
+
+/* Folds the journal into a new file of at most so many bytes, for which there is room on the disk. */
+static inline size_t target_fold(unsigned char *target, size_t room)
+{
+    return target_ask(target, TARGET_FOLD, 0, room);
 }
 
 /* Gives a run a turn that was kept in the file, and of which no host waits; says whether there was one. */

@@ -111,11 +111,18 @@ A damaged journal, a file that is no image, and one that isn't there, are refuse
   $ { base; gate; zeros 4096 | tr '\0' '\2'; } > damaged
   $ cp damaged image
   $ serve < append
-  image, byte 4096: an open gate, and no whole batch of events behind it
+  image, byte 4096: an open gate, and no whole batch of events after it
   journal refused 4096
   [3]
   $ answers
   $ cmp image damaged
+  $ { printf 'ZNSJRN01\2'; tail -c +10 journal; } > no_base
+  $ cp no_base image
+  $ serve < append
+  image, byte 0: no whole base of a device
+  journal refused 0
+  [3]
+  $ cmp image no_base
   $ for it in 1 2 3 4 5 6 7 8; do printf ZNSIMG03; done > other
   $ cp other image
   $ serve < append
@@ -131,6 +138,33 @@ A damaged journal, a file that is no image, and one that isn't there, are refuse
   $ ls none
   ls: cannot access 'none': No such file or directory
   [2]
+
+Only events that changed the device are in a journal. One that changes nothing when it is done again, as this Read, is refused with its
+byte; so is one after others.
+
+  $ idle() { printf '\1\120\0\0\0\0\0\0\0'; frames make < read; }
+  $ { base; gate; idle; zeros 4007; zeros 4096; } > idle
+  $ cp idle image
+  $ serve < append
+  image, byte 8192: an event that changes nothing when it is done again
+  journal refused 8192
+  [3]
+  $ cmp image idle
+  $ { base; gate; event; idle; zeros 3406; zeros 4096; } > idle
+  $ cp idle image
+  $ serve < append
+  image, byte 8793: an event that changes nothing when it is done again
+  journal refused 8793
+  [3]
+  $ zscli zones image
+  image, byte 8793: an event that changes nothing when it is done again
+  journal refused 8793
+  [3]
+  $ zscli fold image
+  image, byte 8793: an event that changes nothing when it is done again
+  journal refused 8793
+  [3]
+  $ cmp image idle
 
 Words that ask for what there isn't: lines, and turns as they come.
 
@@ -226,7 +260,7 @@ An image that is no journal stays as it is, and a damaged journal is refused, an
   $ cmp image empty
   $ cp damaged image
   $ zscli fold image
-  image, byte 4096: an open gate, and no whole batch of events behind it
+  image, byte 4096: an open gate, and no whole batch of events after it
   journal refused 4096
   [3]
   $ cmp image damaged

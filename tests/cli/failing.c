@@ -2,17 +2,20 @@
 
      FAILING_OUTPUT   standard output takes so many writes, and then fails with EIO
      FAILING_ROOM     no file grows over so many bytes: a write beyond them fails with ENOSPC
+     FAILING_NEW      no file that is to take another's place does: a write beyond so many bytes of NAME.unfinished fails with ENOSPC
      FAILING_READS    of a file so many bytes can be read, and then reading fails with EIO */
 #define _GNU_SOURCE
 #include <errno.h>
 #include <fcntl.h>
 #include <stdbool.h>
+#include <stdio.h>
 #include <stdlib.h>
+#include <string.h>
 #include <sys/stat.h>
 #include <sys/syscall.h>
 #include <unistd.h>
 
-static off_t outputs = -1, room = -1, readable = -1; /* -1: no bound */
+static off_t outputs = -1, room = -1, new_room = -1, readable = -1; /* -1: no bound */
 
 static off_t bound(const char *variable)
 {
@@ -24,6 +27,7 @@ __attribute__((constructor)) static void begin(void)
 {
     outputs = bound("FAILING_OUTPUT");
     room = bound("FAILING_ROOM");
+    new_room = bound("FAILING_NEW");
     readable = bound("FAILING_READS");
 }
 
@@ -31,6 +35,17 @@ static bool is_file(int descriptor)
 {
     struct stat about;
     return fstat(descriptor, &about) == 0 && S_ISREG(about.st_mode);
+}
+
+/* How many bytes a file may have. */
+static off_t room_of(int descriptor)
+{
+    static const char ending[] = ".unfinished";
+    char link[32], name[4096];
+    snprintf(link, sizeof link, "/proc/self/fd/%d", descriptor);
+    ssize_t count = new_room < 0 ? -1 : readlink(link, name, sizeof name);
+    size_t last = sizeof ending - 1;
+    return count >= (ssize_t)last && memcmp(name + count - last, ending, last) == 0 ? new_room : room;
 }
 
 /* Where the next read or write of a descriptor begins. */
@@ -58,8 +73,8 @@ ssize_t write(int descriptor, const void *bytes, size_t count)
         errno = EIO;
         return -1;
     }
-    if (descriptor > STDERR_FILENO && room >= 0 && count > 0 && is_file(descriptor)) {
-        ssize_t fits = within(room, place(descriptor), count, ENOSPC);
+    if (descriptor > STDERR_FILENO && count > 0 && is_file(descriptor) && room_of(descriptor) >= 0) {
+        ssize_t fits = within(room_of(descriptor), place(descriptor), count, ENOSPC);
         return fits < 0 ? fits : syscall(SYS_write, descriptor, bytes, fits);
     }
     return syscall(SYS_write, descriptor, bytes, count);

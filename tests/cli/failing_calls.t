@@ -68,7 +68,7 @@ after it.
   2 empty 0
   3 empty 0
 
-A failing output is said before refused commands are. A report ends at the zone that isn't printed.
+A failing output is said before refused commands are. A report is printed at once, or not at all.
 
   $ format image
   $ echo 'turn 0' > events
@@ -81,9 +81,10 @@ A failing output is said before refused commands are. A report ends at the zone 
   events, line 2: the first command that was refused
   commands refused 1
   [4]
-  $ failing OUTPUT=4 zscli report image > out
+  $ failing OUTPUT=0 zscli report image > out
   cannot write -
   [1]
+  $ failing OUTPUT=1 zscli report image > out
 
 An image that can't be read to its end stays as it was.
 
@@ -137,6 +138,27 @@ Where a new image has no room, the old one stays, also where standard output fai
   work: no room is left
   cannot write work
   [1]
+
+A journal without room for a new base stays in use: `serve --durable` goes on with it, and folds it once there is room.
+
+  $ zscli format journal --block 512 --zones 2 --size 256 --capacity 256 --open 2 --active 2
+  $ head -c 131072 /dev/zero > data
+  $ { zscli entry reset --lba 0; zscli entry append --lba 0 --data data; } > round
+  $ python3 "$TESTDIR/frames.py" make < round > once
+  $ for it in $(seq 16); do cat once; done > often
+  $ for it in $(seq 35); do cat often; done > many
+  $ zscli serve journal --frames --durable < once > out
+  $ cp journal before
+  $ failing NEW=100 zscli fold journal
+  journal: no room is left
+  cannot write journal
+  [1]
+  $ cmp journal before
+  $ failing NEW=100 zscli serve journal --frames --durable < many > out
+  $ [ $(wc -c < journal) -gt 73400320 ]
+  $ zscli serve journal --frames --durable < once > out
+  $ [ $(wc -c < journal) -lt 1048576 ]
+  $ rm journal before data many often
 
 Where no event changes anything the image isn't written, and needs no room.
 

@@ -128,19 +128,19 @@ A journal with an open gate and no whole batch after it, which no crash leaves, 
   $ head -c 4096 /dev/zero | tr '\0' '\2' >> damaged
   $ cp damaged image
   $ refused zones image
-  image, byte 4096: an open gate, and no whole batch of events behind it
+  image, byte 4096: an open gate, and no whole batch of events after it
   journal refused 4096
   [3]
   $ refused exec image events
-  image, byte 4096: an open gate, and no whole batch of events behind it
+  image, byte 4096: an open gate, and no whole batch of events after it
   journal refused 4096
   [3]
   $ refused upgrade image
-  image, byte 4096: an open gate, and no whole batch of events behind it
+  image, byte 4096: an open gate, and no whole batch of events after it
   journal refused 4096
   [3]
   $ refused serve image < events
-  image, byte 4096: an open gate, and no whole batch of events behind it
+  image, byte 4096: an open gate, and no whole batch of events after it
   journal refused 4096
   [3]
   $ cmp image damaged
@@ -151,16 +151,16 @@ What a crash can leave after a gate that is closed doesn't count.
   $ zscli zones image | sed -n 1p
   0 empty 0
 
-A file that begins as a journal, and has no base, is refused as a file that is no image.
+A file that begins as a journal, and has no base, has its fault at the front.
 
   $ for it in 1 2 3 4 5 6 7 8; do printf ZNSJRN01; done > no_base
   $ cp no_base image
   $ refused zones image
-  image: the first 8 bytes are neither ZNSIMG01 nor ZNSIMG02
-  image refused 11
+  image, byte 0: no whole base of a device
+  journal refused 0
   [3]
   $ refused exec image events
-  image: the first 8 bytes are neither ZNSIMG01 nor ZNSIMG02
-  image refused 11
+  image, byte 0: no whole base of a device
+  journal refused 0
   [3]
   $ cmp image no_base

@@ -2,7 +2,8 @@
 
 A file is pages of 4096 bytes, each in sectors of 512. Of a page it is known what programs read there, and what may be on the disk: what
 the last sync brought there, and each content since. A crash leaves any of these, for the page as a whole or for each sector by itself;
-of a page that was written since also what was there before. A length that was set since the last sync is anything between. A name
+of a page that was changed since also what was there before. A page that is written again with the bytes that it has is left with one of
+those that it had and has. A length that was set since the last sync is anything between. A name
 leads where it led at the folder's last sync, or anywhere since.
 
 A sync that fails leaves what may be on the disk as it was, and the pages as if they were there: a later sync brings none of them to the
@@ -59,11 +60,13 @@ class Page:
         self.may_be = [read]
         self.moments = [0]
         self.stale: List[bytes] = []
-        self.is_dirty = False
+        self.is_dirty = self.is_changed = False
 
     def write(self, at: int, data: bytes, moment: int) -> None:
         """Bytes are written within the page."""
-        self.read = self.read[:at] + data + self.read[at + len(data) :]
+        before = self.read
+        self.read = before[:at] + data + before[at + len(data) :]
+        self.is_changed |= self.read != before
         self.may_be.append(self.read)
         self.moments.append(moment)
         self.is_dirty = True
@@ -72,7 +75,8 @@ class Page:
         """A sync is done: the page is on the disk, if it was written since the last one, be that done or failed."""
         if self.is_dirty:
             self.stale.append(self.may_be[0])
-            self.may_be, self.moments, self.is_dirty = [self.read], [0], False
+            self.may_be, self.moments = [self.read], [0]
+            self.is_dirty = self.is_changed = False
 
     def crash(self, chance: Chance) -> bytes:
         """What a crash leaves."""
@@ -90,7 +94,7 @@ class Page:
 
     def _mixed(self, chance: Chance) -> bytes:
         """Any content, or of each sector any."""
-        contents = [*self.stale[-2:], *self.may_be]
+        contents = [*(self.stale[-2:] if self.is_changed else ()), *self.may_be]
         if chance.random() < 0.5:
             return b"".join(chance.choice(contents)[at : at + SECTOR] for at in range(0, PAGE, SECTOR))
         return chance.choice([self.may_be[0], self.read, chance.choice(contents)])

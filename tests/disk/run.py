@@ -47,11 +47,6 @@ STORIES: Dict[str, Maker] = {
 }
 """What is tried, by its name."""
 
-BY_NAME_ALONE = {"serve_failing", "kept_frames_failing"}
-"""What is tried only where it is named: a program that goes on after another's sync failed may lose what it acknowledged, since what it
-read was not on the disk. docs/durability.md says so. The target folds what it opens, and loses nothing."""
-
-
 class Point(NamedTuple):
     """A point of a story: its number, the stretch and the call after which power fails, and what the disk has then."""
 
@@ -133,7 +128,7 @@ def main() -> int:
     if unknown:
         parser.error(f"nothing is called {unknown[0]}")
     print(f"seed {words.seed}", flush=True)
-    names = words.names or [name for name in STORIES if name not in BY_NAME_ALONE]
+    names = words.names or list(STORIES)
     if words.point is not None:
         wrong = {name: tried(name, words.seed, [words.point]) for name in names}
         count = 1

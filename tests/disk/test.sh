@@ -11,16 +11,16 @@ trap 'exit 1' HUP INT TERM
 export ZSCLI="${ZSCLI:-$top/crates/zscli/out/zscli}" SHADOW="$work/shadow.so" KEPT_FRAMES="$work/kept_frames" SAVES="$work/saves"
 export NVME_TCP_TARGET="$work/nvme_tcp"
 
-# a program of this folder, linked with a library
+# a program of this folder, linked with the library
 compile() {
-    ${CC:-gcc} -std=c11 -O2 -Wall -Wextra -Werror -I "$top/hosts/c" "$here/$1.c" "$work/$2.a" -o "$3"
+    ${CC:-gcc} -std=c11 -O2 -Wall -Wextra -Werror -I "$top/hosts/c" "$here/$1.c" "$work/libpifnjarl.a" -o "$2"
 }
 
 made() {
     ${CC:-gcc} -std=c11 -O2 -Wall -Wextra -Werror -shared -fPIC "$here/shadow.c" -o "$SHADOW" &&
         "$top/hosts/c/library.sh" "$work" &&
-        compile kept_frames libpifnjarl_durable "$KEPT_FRAMES" &&
-        compile saves libpifnjarl "$SAVES" &&
+        compile kept_frames "$KEPT_FRAMES" &&
+        compile saves "$SAVES" &&
         "$top/hosts/nvme_tcp/build.sh" "$work"
 }
 

@@ -2,9 +2,9 @@
 
 use crate::events::events;
 use crate::orders::BLOCK;
-use crate::picture::print_zones;
+use crate::picture::push_zones;
 use clap::ArgMatches;
-use command_explain::{CommandWords, print_answer};
+use command_explain::{push_answer, push_command};
 use command_files::{Counted, Failure, printed};
 use command_words::{Argument, Takes, Words};
 use device_events::{Event, Reply};
@@ -13,7 +13,7 @@ use interval_domain::Intervals;
 use nvme_entry::{Completion, Entry, MOST_TRANSFER, Status};
 use runner::Device;
 use std::alloc::{AllocError, Global};
-use std::io::{self, Write};
+use std::io::Write;
 
 /// The command's name.
 pub const NAME: &str = "demo";
@@ -61,40 +61,33 @@ pub fn demo<'a, O: Write>(
     };
     let image = Image::empty(alloc, geometry)?;
     let mut device = Device::<Intervals>::new(alloc, image);
-    let hex = matches.get_flag(HEX);
+    let mut text = String::new(alloc);
     for event in &events(alloc)? {
-        show(alloc, &mut device, event, hex, out)?;
+        push_answered(alloc, &mut device, event, matches.get_flag(HEX), &mut text)?;
     }
-    printed(writeln!(out))?;
-    printed(print_zones(alloc, device.image(), out))
+    text.push_str("\n")?;
+    push_zones(alloc, device.image(), &mut text)?;
+    printed(out.write_all(text.as_bytes()))
 }
 
-/// Does an event, and prints what is asked and what is answered.
-fn show<'a, O: Write>(
+/// Does an event, and adds what is asked and what is answered.
+fn push_answered(
     alloc: Global,
     device: &mut Device<Intervals>,
     event: &Event,
     hex: bool,
-    out: &mut O,
-) -> Result<(), Failure<'a>> {
+    out: &mut String,
+) -> Result<(), AllocError> {
     let mut output = vec![in alloc; 0; MOST_TRANSFER]?;
     let reply = device.apply(event, output.as_mut_slice());
-    printed(print_event(alloc, event, hex, out))?;
-    printed(print_reply(alloc, event, reply, output.as_slice(), hex, out))
+    push_event(alloc, event, hex, out)?;
+    push_reply(alloc, event, reply, output.as_slice(), hex, out)
 }
 
-/// Prints what is asked of the device.
-fn print_event<O: Write>(alloc: Global, event: &Event, hex: bool, out: &mut O) -> io::Result<()> {
+/// Adds what is asked of the device.
+fn push_event(alloc: Global, event: &Event, hex: bool, out: &mut String) -> Result<(), AllocError> {
     match event {
-        Event::Submit { queue, entry, .. } => {
-            let cid = Entry::cid(entry);
-            write!(out, "queue {queue}, command {cid}: ")?;
-            match Entry::decode(entry) {
-                Ok(command) => writeln!(out, "{}", CommandWords(&command))?,
-                Err(status) => writeln!(out, "{status}")?,
-            }
-            print_bytes(alloc, hex, entry, out)
-        }
+        Event::Submit { queue, entry, .. } => push_submission(alloc, *queue, entry, hex, out),
         Event::Turn { run } => writeln!(out, "a turn of run {run}"),
         Event::Fault { zone, state } => {
             let state = state.word();
@@ -103,61 +96,79 @@ fn print_event<O: Write>(alloc: Global, event: &Event, hex: bool, out: &mut O) -
     }
 }
 
-/// Prints what the device answers to an event, with `data` at the front of what it gave.
-fn print_reply<O: Write>(
+/// Adds the command of an entry, and where it came from.
+fn push_submission(
+    alloc: Global,
+    queue: u16,
+    entry: &[u8; 64],
+    hex: bool,
+    out: &mut String,
+) -> Result<(), AllocError> {
+    let cid = Entry::cid(entry);
+    write!(out, "queue {queue}, command {cid}: ")?;
+    match Entry::decode(entry) {
+        Ok(command) => push_command(&command, out)?,
+        Err(status) => write!(out, "{status}")?,
+    }
+    out.push_str("\n")?;
+    push_bytes(alloc, hex, entry, out)
+}
+
+/// Adds what the device answers to an event, with `data` at the front of what it gave.
+fn push_reply(
     alloc: Global,
     event: &Event,
     reply: Reply,
     data: &[u8],
     hex: bool,
-    out: &mut O,
-) -> io::Result<()> {
+    out: &mut String,
+) -> Result<(), AllocError> {
     match (reply, event) {
         (Reply::Complete { entry, length, .. }, _) => {
             let data = data.get(..length).unwrap_or(data);
-            print_completion(alloc, event, &entry, data, out)?;
-            print_bytes(alloc, hex, &entry, out)
+            push_completion(alloc, event, &entry, data, out)?;
+            push_bytes(alloc, hex, &entry, out)
         }
         (Reply::Pending { run }, Event::Submit { .. }) => writeln!(out, "  admitted as run {run}"),
-        (Reply::Pending { .. }, _) => writeln!(out, "  done for one block; more are left"),
-        (Reply::Idle, _) => writeln!(out, "  no such run"),
-        (Reply::FaultTaken, _) => writeln!(out, "  done"),
-        (Reply::FaultRefused, _) => writeln!(out, "  refused"),
+        (Reply::Pending { .. }, _) => out.push_str("  done for one block; more are left\n"),
+        (Reply::Idle, _) => out.push_str("  no such run\n"),
+        (Reply::FaultTaken, _) => out.push_str("  done\n"),
+        (Reply::FaultRefused, _) => out.push_str("  refused\n"),
     }
 }
 
-/// Prints a completion: of the event's own command, or of the run whose last turn it was.
-fn print_completion<O: Write>(
+/// Adds a completion: of the event's own command, or of the run whose last turn it was.
+fn push_completion(
     alloc: Global,
     event: &Event,
     entry: &[u8; 16],
     data: &[u8],
-    out: &mut O,
-) -> io::Result<()> {
+    out: &mut String,
+) -> Result<(), AllocError> {
     let Some(completion) = Completion::decode(entry) else {
         return Ok(());
     };
     if completion.status != Status::SUCCESS {
-        return print_refusal(alloc, completion.status, out);
+        return push_refusal(alloc, completion.status, out);
     }
     let Event::Submit {
         entry: submitted,
         ..
     } = event
     else {
-        return print_run(completion, out);
+        return push_run(completion, out);
     };
     match Entry::decode(submitted) {
         Ok(command) => {
-            write!(out, "  ")?;
-            print_answer(&completion, data, &command, out)
+            out.push_str("  ")?;
+            push_answer(&completion, data, &command, out)
         }
         Err(status) => writeln!(out, "  {status}"),
     }
 }
 
-/// Prints that a run has ended, by its completion.
-fn print_run<O: Write>(completion: Completion, out: &mut O) -> io::Result<()> {
+/// Adds that a run has ended, by its completion.
+fn push_run(completion: Completion, out: &mut String) -> Result<(), AllocError> {
     let queue = completion.queue;
     let cid = completion.cid;
     let records = Counted(u64::from(completion.dw0), "record");
@@ -168,8 +179,8 @@ fn print_run<O: Write>(completion: Completion, out: &mut O) -> io::Result<()> {
     )
 }
 
-/// Prints why a command was refused, without the numbers of the status.
-fn print_refusal<O: Write>(alloc: Global, status: Status, out: &mut O) -> io::Result<()> {
+/// Adds why a command was refused, without the numbers of the status.
+fn push_refusal(alloc: Global, status: Status, out: &mut String) -> Result<(), AllocError> {
     let text = status.to_string(alloc)?;
     let name = before(text.as_str(), " (type ");
     let sentence = after(text.as_str(), "): ");
@@ -192,8 +203,8 @@ fn after<'a>(text: &'a str, mark: &str) -> &'a str {
     }
 }
 
-/// Prints bytes in hexadecimal, where these are asked for.
-fn print_bytes<O: Write>(alloc: Global, hex: bool, bytes: &[u8], out: &mut O) -> io::Result<()> {
+/// Adds bytes in hexadecimal, where these are asked for.
+fn push_bytes(alloc: Global, hex: bool, bytes: &[u8], out: &mut String) -> Result<(), AllocError> {
     if !hex {
         return Ok(());
     }

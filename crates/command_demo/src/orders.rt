@@ -1,7 +1,6 @@
 //! The orders of the demonstration, and the filter that picks some of them.
 
 use std::alloc::{AllocError, Global};
-use std::io::{self, Write};
 use std::str;
 
 /// The bytes of a block.
@@ -46,8 +45,8 @@ pub(crate) fn blocks(alloc: Global) -> Result<Vec<u8>, AllocError> {
     Ok(blocks)
 }
 
-/// Prints what an order is: its name, its region and what is ordered.
-pub(crate) fn print_order<O: Write>(order: &[u8], out: &mut O) -> io::Result<()> {
+/// Adds what an order is: its name, its region and what is ordered.
+pub(crate) fn push_order(order: &[u8], out: &mut String) -> Result<(), AllocError> {
     let name = text(order.get(..REGION_AT));
     let region = order.get(REGION_AT).copied().unwrap_or(0);
     let ordered = text(order.get(TEXT_AT..));

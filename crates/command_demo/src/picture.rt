@@ -3,25 +3,24 @@
 ghost use Rattle.std.specs.Prelude.{◌<◌, length};
 
 use crate::events::DESTINATION;
-use crate::orders::print_order;
+use crate::orders::push_order;
 use emit_append::{UnpackFault, unpack};
 use image_store::Image;
 use program_interface::BlockSize;
 use std::alloc::{AllocError, Global};
-use std::io::{self, Write};
 use zone_state::Zone;
 
 /// The characters of a zone's bar.
 const BAR: u32 = 32;
 
-/// Prints each zone on a line, and below it what is in its written blocks.
-pub(crate) fn print_zones<O: Write>(alloc: Global, image: &Image, out: &mut O) -> io::Result<()> {
+/// Adds each zone on a line, and below it what is in its written blocks.
+pub(crate) fn push_zones(alloc: Global, image: &Image, out: &mut String) -> Result<(), AllocError> {
     let geometry = image.geometry();
     for number in 0..geometry.zones() {
         let lowest = u64::from(number).saturating_mul(u64::from(geometry.size()));
-        print_zone(number, lowest, image.zone(number), out)?;
+        push_zone(number, lowest, image.zone(number), out)?;
         let blocks = written_blocks(image, number);
-        print_contents(alloc, lowest, blocks, geometry.block(), out)?;
+        push_contents(alloc, lowest, blocks, geometry.block(), out)?;
     }
     Ok(())
 }
@@ -33,8 +32,8 @@ fn written_blocks(image: &Image, zone: u32) -> &[u8]
     image.blocks(zone, 0, image.zone(zone).written())
 }
 
-/// Prints a zone's state, how much of it is written, and its write pointer.
-fn print_zone<O: Write>(number: u32, lowest: u64, zone: Zone, out: &mut O) -> io::Result<()> {
+/// Adds a zone's state, how much of it is written, and its write pointer.
+fn push_zone(number: u32, lowest: u64, zone: Zone, out: &mut String) -> Result<(), AllocError> {
     let state = zone.state();
     let written = zone.written();
     let capacity = zone.capacity();
@@ -42,7 +41,7 @@ fn print_zone<O: Write>(number: u32, lowest: u64, zone: Zone, out: &mut O) -> io
     write!(out, "zone {number} [")?;
     let full = filled(written, capacity);
     for place in 0..BAR {
-        out.write_all(if place < full { b"#" } else { b"." })?;
+        out.push_str(if place < full { "#" } else { "." })?;
     }
     writeln!(
         out,
@@ -57,43 +56,43 @@ fn filled(written: u32, capacity: u32) -> u32 {
     part.max(u32::from(written > 0))
 }
 
-/// Prints what is in the written blocks of a zone: an order in each, or the records of the run.
-fn print_contents<O: Write>(
+/// Adds what is in the written blocks of a zone: an order in each, or the records of the run.
+fn push_contents(
     alloc: Global,
     zone: u64,
     blocks: &[u8],
     size: BlockSize,
-    out: &mut O,
-) -> io::Result<()> {
+    out: &mut String,
+) -> Result<(), AllocError> {
     let mut lba = zone;
     for block in blocks.chunks_exact(size.bytes() as usize) {
         if zone == DESTINATION {
-            print_records(alloc, lba, block, size, out)?;
+            push_records(alloc, lba, block, size, out)?;
         } else {
             write!(out, "  LBA {lba}: ")?;
-            print_order(block, out)?;
+            push_order(block, out)?;
         }
         lba = lba.saturating_add(1);
     }
     Ok(())
 }
 
-/// Prints the records of an output block.
-fn print_records<O: Write>(
+/// Adds the records of an output block.
+fn push_records(
     alloc: Global,
     lba: u64,
     block: &[u8],
     size: BlockSize,
-    out: &mut O,
-) -> io::Result<()> {
+    out: &mut String,
+) -> Result<(), AllocError> {
     let records = match unpack(alloc, block, size) {
         Ok(records) => records,
         Err(UnpackFault::At(_)) => Vec::new(alloc),
-        Err(UnpackFault::Memory) => return Err(io::Error::from(AllocError)),
+        Err(UnpackFault::Memory) => return Err(AllocError),
     };
     for record in &records {
         write!(out, "  LBA {lba}, a record: ")?;
-        print_order(record.as_slice(), out)?;
+        push_order(record.as_slice(), out)?;
     }
     Ok(())
 }

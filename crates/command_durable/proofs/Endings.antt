@@ -1,10 +1,8 @@
 -- How a server that is durable ends.
-use Rattle.std.proofs.Common.{◌≡◌, ℕ, List, Option, Result, Ok, Err, IfErr, sym, subst}
+use Rattle.std.proofs.Common.{◌≡◌, ℕ, List, Option, Result, Ok, Err, IfErr, inl, inr, sym, subst}
 use Rattle.stored_file.specs.File.{FileState}
 use Rattle.durable_serve.specs.Served.{Server, ServesStream, StopsGiving}
 use Rattle.durable_serve.specs.declared.fault.ServeFault.{ServeFault}
-use Rattle.durable_serve.specs.declared.fault.ServeFault.TheVariants as fault
-use Rattle.event_frames.specs.declared.fault.StreamFault.TheVariants.{Byte, CutOff}
 use Rattle.command_files.specs.declared.failure.Failure.{Failure}
 use Rattle.command_files.specs.declared.failure.Failure.TheVariants.{CannotPrint, CannotRead, CannotWrite, NoMemory, StreamCutOff, StreamRefused}
 use Rattle.command_durable.specs.Durably.{InTurns, StoppedBy, StopsIn, most_turns}
@@ -17,7 +15,8 @@ stopped_by path why P (StreamCutOff place) is holds = subst P (sym is) holds
 stopped_by path why P CannotPrint is holds = subst P (sym is) holds
 stopped_by path why P (CannotRead told cause) is holds = subst P (sym is) holds
 stopped_by path why P (CannotWrite told cause) is holds = (is.0, subst P (sym is.1) holds)
-stopped_by path why P NoMemory is holds = tt
+stopped_by path why P NoMemory (inl is) holds = inl (subst P (sym is) holds)
+stopped_by path why P NoMemory (inr is) holds = inr (subst P (sym is) holds)
 stopped_by path why P _ is holds = absurd is
 
 -- it stops in the turns behind the stream

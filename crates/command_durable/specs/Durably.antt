@@ -2,7 +2,7 @@
 use Rattle.std.specs.Prelude.{◌≡◌, ◌⊎◌, ℕ, List, Option}
 use Rattle.stored_file.specs.File.{FileState}
 use Rattle.device_meaning.specs.State.{State}
-use Rattle.event_frames.specs.declared.fault.StreamFault.TheVariants.{Byte, CutOff}
+use Rattle.event_frames.specs.declared.fault.StreamFault.TheVariants.{Byte, CutOff, Memory}
 use Rattle.durable_device.specs.Kept.{IsKept}
 use Rattle.durable_serve.specs.Served.{HasGiven, Server, ServesStream, StopsGiving, StopsServing, seen}
 use Rattle.durable_serve.specs.declared.fault.ServeFault.{ServeFault}
@@ -60,7 +60,7 @@ StoppedBy path P (StreamCutOff place) = P (fault.Stream (CutOff place))
 StoppedBy path P CannotPrint = P fault.Write
 StoppedBy path P (CannotRead told cause) = P fault.Read
 StoppedBy path P (CannotWrite told cause) = (told.now ≡ path) × P fault.Disk
-StoppedBy path P NoMemory = Unit {0}
+StoppedBy path P NoMemory = P fault.Memory ⊎ P (fault.Stream Memory)
 StoppedBy path P _ = ⊥
 
 -- no device is opened: nothing is written, and the file has the bytes that it had
@@ -70,8 +70,14 @@ pub record StaysUnopened {S : Type 0} (told : S → FileState) (path : List ℕ)
   pub same : now ≡ contents
   pub fails : IsntOpened told contents path failure
 
--- why it ends before all is done: no device is opened, or it stopped
+-- memory is wanting for the file of which the name is to have the bytes, so it has those that it had: no file of the system wants it
+pub record IsntKept (contents now : Option (List ℕ)) (failure : Failure) : Type 0 where
+  pub told : failure ≡ NoMemory
+  pub same : now ≡ contents
+
+-- why it ends before all is done: no device is opened, or it stopped; or the name doesn't have the file
 abbrev pub FailsDurably : {S : Type 0} → (S → FileState) → List ℕ → Option (List ℕ) → Option (List ℕ) → Option (List ℕ) → Option (List ℕ)
     → Option (List ℕ) → Failure → Type 0
 FailsDurably told path contents now unread before after failure =
-    StaysUnopened told path contents now before after failure ⊎ StoppedBy path (StopsDurably told contents now unread before after) failure
+    StaysUnopened told path contents now before after failure
+    ⊎ (StoppedBy path (StopsDurably told contents now unread before after) failure ⊎ IsntKept contents now failure)

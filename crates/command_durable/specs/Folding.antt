@@ -3,21 +3,22 @@ use Rattle.std.specs.Prelude.{◌≡◌, ◌⊎◌, ℕ, List, Option}
 use Rattle.stored_file.specs.File.{FileState, LeavesOnly}
 use Rattle.image_store.specs.Namespace.{ZonedNamespace}
 use Rattle.device_meaning.specs.State.{State}
-use Rattle.durable_device.specs.Kept.{IsKept, StandsFor}
+use Rattle.durable_device.specs.Kept.{IsKeptInBase, StandsFor}
 use Rattle.command_files.specs.Made.{AreAsTold}
 use Rattle.command_files.specs.declared.failure.Failure.{Failure}
 use Rattle.command_images.specs.Images.{StandFor}
 use Rattle.command_images.specs.UserTold.{UpgradeFails}
 use Rattle.command_durable.specs.Opening.{FailsToOpen, Opens}
 
--- a journal is folded: a crash at any moment leaves a file that stands for the device that is opened of it, and so does the new file
+-- a journal is folded: a crash at any moment leaves a file that stands for the device that is opened of it, and so does the new file, by
+-- its base alone
 pub record FoldsJournal {S : Type 0} (told : S → FileState) (contents now : Option (List ℕ)) : Type 0 where
   pub opened : S
   pub device : State
   pub opens : Opens told contents (told opened) device
   pub file : S
   pub gate : ℕ
-  pub kept : IsKept device gate (told file)
+  pub kept : IsKeptInBase device gate (told file)
   pub moments : LeavesOnly (told opened) (told file) (λ c. StandsFor c device)
   pub has : AreAsTold now (told file).seen
 

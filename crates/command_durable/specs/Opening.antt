@@ -1,14 +1,15 @@
 -- What a file stands for that is opened as a durable device, and what a crash leaves of it meanwhile (profile).
 use Rattle.std.specs.Prelude.{◌≡◌, ◌⊎◌, ℕ, List, Option, Ok}
-use Rattle.stored_file.specs.File.{FileState, IsOnDisk, LeavesOnly}
-use Rattle.image_store.specs.Namespace.{ZonedNamespace}
+use Rattle.stored_file.specs.File.{FileState}
 use Rattle.image_text.specs.Reading.{namespace_in}
-use Rattle.durable_machine.specs.Refused.{IsDamaged}
 use Rattle.device_meaning.specs.State.{State, new_state}
-use Rattle.durable_device.specs.Kept.{AlwaysStandsForIt, IsOldOrStandsFor, StandsFor}
+use Rattle.durable_machine.specs.Refused.{HasNoState, IsDamaged, IsUndone}
+use Rattle.durable_device.specs.Kept.{IsRestarted, KeepsRestarted, LeavesFound, StandsFor}
 use Rattle.durable_device.specs.Machine.{IsDeviceBase, next_state}
 use Rattle.command_files.specs.Made.{AreAsTold}
 use Rattle.command_files.specs.declared.failure.Failure.{Failure}
+use Rattle.command_files.specs.declared.journal_fault.JournalFault.{JournalFault}
+use Rattle.command_files.specs.declared.journal_fault.JournalFault.TheVariants.{NoBase, OpenGate, Undone}
 use Rattle.command_files.specs.declared.failure.Failure.TheVariants.{CannotRead, CannotWrite, ImageRefused, JournalRefused, NoMemory}
 
 -- the bytes are the text of an image, whose device has neither a program nor a run
@@ -20,39 +21,46 @@ pub record AreImage (bytes : List ℕ) (s : State) : Type 0 where
 abbrev pub Means : List ℕ → State → Type 0
 Means bytes s = StandsFor bytes s ⊎ AreImage bytes s
 
--- a file as it was found: all of it is on the disk, and it has these bytes, where they are told
+-- a file as it was found: all of it is on the disk, but for what an earlier program did last, and it has these bytes, where they are told
 pub record IsFound (file : FileState) (contents : Option (List ℕ)) : Type 0 where
-  pub on_disk : IsOnDisk file
+  pub restarted : IsRestarted file
   pub bytes_are : AreAsTold contents file.seen
 
 -- the device in this state is opened of a file that was found: it was led there by what the file has. A crash at any moment of that
--- leaves what the file had, or a file that stands for the device
+-- leaves what the file had, or a file that stands for the device; or what an earlier program may have left, where not all was on the disk
 pub record Opens {S : Type 0} (told : S → FileState) (contents : Option (List ℕ)) (opened : FileState) (s : State) : Type 0 where
   pub file : S
   pub found : IsFound (told file) contents
   pub means : Means (told file).seen s
-  pub moments : LeavesOnly (told file) opened (λ c. (c ≡ (told file).seen) ⊎ StandsFor c s)
+  pub moments : LeavesFound (told file) opened (λ c. (c ≡ (told file).seen) ⊎ StandsFor c s)
 
 -- what is left of a file that was found, and isn't opened
 pub data Leaves {S : Type 0} (told : S → FileState) (contents : Option (List ℕ)) : Type 0 where
   -- it was only read: a crash at any moment left what it had
-  OnlyRead : (file left : S) (found : IsFound (told file) contents) (moments : LeavesOnly (told file) (told left) (λ c. c ≡ (told file).seen))
+  OnlyRead : (file left : S) (found : IsFound (told file) contents) (moments : LeavesFound (told file) (told left) (λ c. c ≡ (told file).seen))
       → Leaves told contents
   -- of a journal, a file that stands for what the old one does
-  OfJournal : (file left : S) (found : IsFound (told file) contents) (moments : AlwaysStandsForIt (told file) (told left)) → Leaves told contents
+  OfJournal : (file left : S) (found : IsFound (told file) contents) (moments : KeepsRestarted (told file) (told left)) → Leaves told contents
   -- what it had, or a file that stands for its device
   OfDevice : (file left : S) (found : IsFound (told file) contents) (s : State) (means : Means (told file).seen s)
-      (moments : LeavesOnly (told file) (told left) (λ c. (c ≡ (told file).seen) ⊎ StandsFor c s)) → Leaves told contents
+      (moments : LeavesFound (told file) (told left) (λ c. (c ≡ (told file).seen) ⊎ StandsFor c s)) → Leaves told contents
 
--- a file that was found is damaged from this byte on
-pub record IsFoundDamaged {S : Type 0} (told : S → FileState) (contents : Option (List ℕ)) (place : ℕ) : Type 0 where
+-- a journal has this fault at a byte: what no crash leaves, from there on; an event that changes nothing when it is done again; or, at its
+-- front, no base
+abbrev pub HasFault : JournalFault → ℕ → List ℕ → Type 0
+HasFault OpenGate place bytes = IsDamaged IsDeviceBase next_state place bytes
+HasFault Undone place bytes = IsUndone IsDeviceBase next_state place bytes
+HasFault NoBase place bytes = (place ≡ 0) × HasNoState IsDeviceBase next_state bytes
+
+-- a journal that was found has it
+pub record IsFoundFaulty {S : Type 0} (told : S → FileState) (contents : Option (List ℕ)) (fault : JournalFault) (place : ℕ) : Type 0 where
   pub file : S
   pub found : IsFound (told file) contents
-  pub damaged : IsDamaged IsDeviceBase next_state place (told file).seen
+  pub faulty : HasFault fault place (told file).seen
 
--- why no device is opened or folded: the journal is damaged, the file is no image, it can't be read or written, or want of memory
+-- why no device is opened or folded: the journal has a fault, the file is no image, it can't be read or written, or want of memory
 abbrev pub OpeningFails : {S : Type 0} → (S → FileState) → Option (List ℕ) → List ℕ → Failure → Type 0
-OpeningFails told contents path (JournalRefused name place) = (name.now ≡ path) × IsFoundDamaged told contents place
+OpeningFails told contents path (JournalRefused name place fault) = (name.now ≡ path) × IsFoundFaulty told contents fault place
 OpeningFails told contents path (ImageRefused name fault) = name.now ≡ path
 OpeningFails told contents path (CannotRead name cause) = name.now ≡ path
 OpeningFails told contents path (CannotWrite name cause) = name.now ≡ path

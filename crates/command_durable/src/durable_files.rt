@@ -1,7 +1,7 @@
 //! Files of which the one that is held is written durably.
 
 ghost use Rattle.std.specs.Prelude.{◌≡◌, IfOk, OnErr, OnOk, Some};
-ghost use Rattle.stored_file.specs.File.{IsOnDisk};
+ghost use Rattle.durable_device.specs.Kept.{IsRestarted};
 ghost use Rattle.command_files.specs.Made.{AreAsTold, KeepsModes, KeepsOthers, MakesAtMost};
 
 use command_files::{Disk, FileCause, FileFault, Files, MemoryFiles};
@@ -17,8 +17,8 @@ pub trait DurableFiles: Files {
     /// A file that is written durably.
     type Stored: StoredFile + Drop;
 
-    /// The file whose name is held, all of it on the disk. What is given holds it on; until [`DurableFiles::keep`], the files have
-    /// the bytes that they had.
+    /// The file whose name is held, all of it on the disk, but for what an earlier program did last and failed to bring there. What is
+    /// given holds it on; until [`DurableFiles::keep`], the files have the bytes that they had.
     ///
     /// # Errors
     ///
@@ -28,7 +28,7 @@ pub trait DurableFiles: Files {
         ensures made { Self.made self.new ≡ Self.made self.old }
         ensures contents { Self.contents self.new ≡ Self.contents self.old }
         ensures modes { Self.modes self.new ≡ Self.modes self.old }
-        ensures on_disk { IfOk result (λ file. IsOnDisk (Self.Stored.told file)) }
+        ensures restarted { IfOk result (λ file. IsRestarted (Self.Stored.told file)) }
         ensures bytes { IfOk result (λ file. AreAsTold (Self.contents self.old path.now) (Self.Stored.told file).seen) };
 
     /// From now on the name has the bytes of this file. Of a file of the system it has them already, and none is told as made.

@@ -2,7 +2,7 @@
 
 ghost use Rattle.std.specs.Prelude.{◌≡◌, ℕ, List, Option, IfErr, IfOk, OnErr, OnOk, Some};
 ghost use Rattle.stored_file.specs.File.{LeavesOnly};
-ghost use Rattle.durable_device.specs.Kept.{IsKept, StandsFor};
+ghost use Rattle.durable_device.specs.Kept.{IsKept, IsKeptInBase, StandsFor};
 ghost use Rattle.command_files.specs.Made.{KeepsModes, KeepsOthers, MakesAtMost};
 ghost use Rattle.command_images.specs.Images.{image_of};
 ghost use Rattle.command_durable.specs.Folding.{Folds, FoldsJournal, IsntFolded};
@@ -100,7 +100,7 @@ fn fold_held<'a, F: DurableFiles>(
     ensures modes { OnOk result (KeepsModes (F.modes files.old) (F.modes files.new)) }
 {
     let file = stored(alloc, path, files)?;
-    let device = reopen(alloc, path, file, files)?;
+    let device = reopen(alloc, path, file)?;
     let file = folded(alloc, path, device)?;
     files.keep(path, file)?;
     Ok(())
@@ -113,7 +113,7 @@ fn folded<'a, S: StoredFile + Drop>(
     mut device: DurableDevice<S>,
 ) -> Result<S, Failure<'a>>
     requires { IsKept device.store.machine device.store.journal.gate (S.told device.store.journal.file) }
-    ensures kept { IfOk result (λ file. (gate : ℕ) × IsKept device.store.machine gate (S.told file)) }
+    ensures kept { IfOk result (λ file. (gate : ℕ) × IsKeptInBase device.store.machine gate (S.told file)) }
     ensures any_moment { IfOk result (λ file.
         LeavesOnly (S.told device.store.journal.file) (S.told file) (λ c. StandsFor c device.store.machine)) }
     ensures failed { (contents : Option (List ℕ)) → Opens S.told contents (S.told device.store.journal.file) device.store.machine

@@ -1,15 +1,15 @@
 //! The durable device of a file.
 
 ghost use Rattle.std.specs.Prelude.{◌≡◌, ◌≢◌, ◌⊎◌, List, ℕ, Option, IfErr, IfOk, Ok, OnOk, Some};
-ghost use Rattle.stored_file.specs.File.{IsOnDisk, LeavesOnly};
+ghost use Rattle.stored_file.specs.File.{IsAsBefore, LeavesOnly, MayLeave};
 ghost use Rattle.image_text.specs.Reading.{namespace_in};
-ghost use Rattle.durable_device.specs.Kept.{IsKept};
+ghost use Rattle.durable_device.specs.Kept.{IsKept, IsRestarted};
 ghost use Rattle.command_files.specs.UserTold.{IsUnread};
 ghost use Rattle.command_durable.specs.Opening.{FailsToOpen, IsFound, IsNotFound, IsntOpened, Opens};
 ghost use Rattle.command_durable.specs.steps.Told.{TellsError, TellsFault, TellsUnread};
 
 use crate::DurableFiles;
-use command_files::{Failure, FileCause, cannot_read};
+use command_files::{Failure, FileCause, JournalFault, cannot_read};
 use command_images::image_file;
 use durable_device::DurableDevice;
 use durable_machine::{Durable, Fault};
@@ -17,7 +17,7 @@ use event_journal::Journal;
 use image_base::MAGIC;
 use image_store::Image;
 use std::alloc::Global;
-use stored_file::{FileError, StoredFile, read_durable};
+use stored_file::{FileError, StoredFile, read_whole};
 
 /// The durable device of the file with this name, which is held from before it is read: that of its journal; or of an image, which
 /// gets an empty journal.
@@ -43,7 +43,7 @@ pub(crate) fn open<'a, F: DurableFiles>(
     let journal = is_journal(path, files)?;
     let file = stored(alloc, path, files)?;
     if journal {
-        reopen(alloc, path, file, files)
+        reopen(alloc, path, file)
     } else {
         make_durable(alloc, path, file)
     }
@@ -67,7 +67,7 @@ pub(crate) fn is_journal<'a, F: DurableFiles>(
     }
 }
 
-/// The file whose name is held, all of it on the disk.
+/// The file whose name is held, all of it on the disk, but for what an earlier program did last.
 pub(crate) fn stored<'a, F: DurableFiles>(
     alloc: Global,
     path: &'a str,
@@ -86,27 +86,23 @@ pub(crate) fn stored<'a, F: DurableFiles>(
     }
 }
 
-/// The durable device of a file with a journal. The files only tell why it has none.
-pub(crate) fn reopen<'a, F: DurableFiles>(
+/// The durable device of a file with a journal.
+pub(crate) fn reopen<'a, S: StoredFile + Drop>(
     alloc: Global,
     path: &'a str,
-    file: F::Stored,
-    files: &mut F,
-) -> Result<DurableDevice<F::Stored>, Failure<'a>>
-    requires { IsOnDisk (F.Stored.told file) }
-    ensures opened { (contents : Option (List ℕ)) → IsFound (F.Stored.told file) contents
-        → IfOk result (λ device. Opens F.Stored.told contents (F.Stored.told device.store.journal.file) device.store.machine) }
+    file: S,
+) -> Result<DurableDevice<S>, Failure<'a>>
+    requires { IsRestarted (S.told file) }
+    ensures opened { (contents : Option (List ℕ)) → IsFound (S.told file) contents
+        → IfOk result (λ device. Opens S.told contents (S.told device.store.journal.file) device.store.machine) }
     ensures kept { IfOk result (λ device.
-        IsKept device.store.machine device.store.journal.gate (F.Stored.told device.store.journal.file)) }
-    ensures failed { (contents : Option (List ℕ)) → IsFound (F.Stored.told file) contents
-        → IfErr result (FailsToOpen F.Stored.told contents path.now) }
-    ensures made { F.made files.new ≡ F.made files.old }
-    ensures contents { F.contents files.new ≡ F.contents files.old }
-    ensures modes { F.modes files.new ≡ F.modes files.old }
+        IsKept device.store.machine device.store.journal.gate (S.told device.store.journal.file)) }
+    ensures failed { (contents : Option (List ℕ)) → IsFound (S.told file) contents
+        → IfErr result (FailsToOpen S.told contents path.now) }
 {
     match DurableDevice::open(alloc, file) {
         Ok(device) => Ok(device),
-        Err((fault, _left)) => Err(refused(alloc, path, fault, files)),
+        Err((fault, _left)) => Err(refused(path, fault)),
     }
 }
 
@@ -116,7 +112,6 @@ fn make_durable<'a, S: StoredFile + Drop>(
     path: &'a str,
     mut file: S,
 ) -> Result<DurableDevice<S>, Failure<'a>>
-    requires { IsOnDisk (S.told file) }
     ensures opened { (contents : Option (List ℕ)) → IsFound (S.told file) contents
         → IfOk result (λ device. Opens S.told contents (S.told device.store.journal.file) device.store.machine) }
     ensures kept { IfOk result (λ device.
@@ -137,42 +132,44 @@ fn image_in<'a, S: StoredFile>(
     path: &'a str,
     file: &mut S,
 ) -> Result<Image, Failure<'a>>
-    requires { IsOnDisk (S.told file.old) }
     ensures image { IfOk result (λ image. namespace_in (S.told file.old).seen ≡ Ok image) }
-    ensures seen { (S.told file.new).seen ≡ (S.told file.old).seen }
-    ensures on_disk { IsOnDisk (S.told file.new) }
-    ensures any_moment { LeavesOnly (S.told file.old) (S.told file.new) (λ c. c ≡ (S.told file.old).seen) }
+    ensures same { IsAsBefore (S.told file.old) (S.told file.new) }
+    ensures any_moment { LeavesOnly (S.told file.old) (S.told file.new) (MayLeave (S.told file.old)) }
     ensures unread { IfErr result (TellsUnread path.now) }
 {
-    match read_durable(alloc, file) {
+    match read_whole(alloc, file) {
         Ok(bytes) => {
             let mut text = bytes.as_slice();
             image_file::load_from(alloc, path, &mut text)
         }
         Err(FileError::Memory) => Err(Failure::NoMemory),
-        Err(FileError::Failed) => Err(Failure::CannotRead(path, FileCause::Other)),
+        Err(FileError::NoRoom | FileError::Failed) => {
+            Err(Failure::CannotRead(path, FileCause::Other))
+        }
     }
 }
 
-/// What the user is told of a journal that isn't opened: of one without a whole base what is told of each such image.
-fn refused<'a, F: DurableFiles>(
-    alloc: Global,
-    path: &'a str,
-    fault: Fault,
-    files: &mut F,
-) -> Failure<'a>
-    ensures told { TellsFault fault path.now result }
-    ensures made { F.made files.new ≡ F.made files.old }
-    ensures contents { F.contents files.new ≡ F.contents files.old }
-    ensures modes { F.modes files.new ≡ F.modes files.old }
+/// What the user is told of a journal that isn't opened. One without a whole base has its fault at the front.
+fn refused<'a>(path: &'a str, fault: Fault) -> Failure<'a>
+    ensures { TellsFault fault path.now result }
 {
     match fault {
-        Fault::Damaged(place) => Failure::JournalRefused { path, place },
-        Fault::OfFile(error) => failed(path, error),
-        Fault::Unreadable => match image_file::load(alloc, path, files) {
-            Ok(_image) => Failure::CannotRead(path, FileCause::Other),
-            Err(failure) => failure,
+        Fault::Unreadable => Failure::JournalRefused {
+            path,
+            place: 0,
+            fault: JournalFault::NoBase,
         },
+        Fault::Damaged(place) => Failure::JournalRefused {
+            path,
+            place,
+            fault: JournalFault::OpenGate,
+        },
+        Fault::Undone(place) => Failure::JournalRefused {
+            path,
+            place,
+            fault: JournalFault::Undone,
+        },
+        Fault::OfFile(error) => failed(path, error),
     }
 }
 
@@ -182,6 +179,7 @@ pub(crate) fn failed<'a>(path: &'a str, error: FileError) -> Failure<'a>
 {
     match error {
         FileError::Memory => Failure::NoMemory,
+        FileError::NoRoom => Failure::CannotWrite(path, FileCause::NoRoom),
         FileError::Failed => Failure::CannotWrite(path, FileCause::Other),
     }
 }
@@ -190,7 +188,7 @@ pub(crate) fn failed<'a>(path: &'a str, error: FileError) -> Failure<'a>
 pub(crate) fn into_file<S: StoredFile + Drop>(device: DurableDevice<S>) -> S
     ensures { result ≡ device.store.journal.file }
 {
-    let DurableDevice { store } = device;
+    let DurableDevice { store, .. } = device;
     let Durable {
         machine: _machine,
         journal,

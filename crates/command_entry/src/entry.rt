@@ -1,6 +1,6 @@
 //! The command `entry`: a line of a command file, made of words.
 
-ghost use Rattle.std.specs.Prelude.{◌≡◌, OnOk, OnErr};
+ghost use Rattle.std.specs.Prelude.{◌≡◌, ◌≢◌, IfErr, OnOk, OnErr};
 ghost use Rattle.clap.specs.Matches.{first_value, found_of};
 ghost use Rattle.command_files.specs.Made.{MakesAtMostOne};
 ghost use Rattle.command_entry.specs.Done.{IsDone, IsDoneSomewhere};
@@ -71,6 +71,7 @@ pub fn entry<'a, F: Files, O: Write>(
     ensures one { MakesAtMostOne (F.made files.old) (F.made files.new) }
     ensures kept { OnErr result (F.made files.new ≡ F.made files.old) }
     ensures contents { OnErr result (F.contents files.new ≡ F.contents files.old) }
+    ensures silent { IfErr result (λ failure. failure ≢ Failure.CannotPrint → O.contents out.new ≡ O.contents out.old) }
 {
     match matches.subcommand() {
         Some((name, matches)) => submit(alloc, command_line, name, matches, files, out),
@@ -91,6 +92,7 @@ fn submit<'a, F: Files, O: Write>(
         (F.made files.old) (F.made files.new) (F.contents files.old) (F.contents files.new)) }
     ensures kept { OnErr result (F.made files.new ≡ F.made files.old) }
     ensures contents { OnErr result (F.contents files.new ≡ F.contents files.old) }
+    ensures silent { IfErr result (λ failure. failure ≢ Failure.CannotPrint → O.contents out.new ≡ O.contents out.old) }
 {
     let words = EntryWords::of(command_line, name, matches, None)?;
     let data = read_data(alloc, &words, files)?;

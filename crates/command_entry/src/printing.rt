@@ -1,6 +1,6 @@
 //! The line of an entry.
 
-ghost use Rattle.std.specs.Prelude.{◌≤◌, IfOk, OnOk};
+ghost use Rattle.std.specs.Prelude.{◌≡◌, ◌≢◌, ◌≤◌, IfErr, IfOk, OnOk};
 ghost use Rattle.std.specs.Io.KnownBytes.{Appends};
 ghost use Rattle.nvme_entry.specs.Encoding.{program_length};
 ghost use Rattle.command_entry.specs.Printed.{IsCommandLine, PrintsCommand};
@@ -22,7 +22,8 @@ pub(crate) fn print<'a, O: Write>(
     out: &mut O,
 ) -> Result<(), Failure<'a>>
     requires { program_length command ≤ MOST_TRANSFER }
-    ensures { OnOk result (PrintsCommand (O.contents out.old) (O.contents out.new) queue cid command input.now) }
+    ensures printed { OnOk result (PrintsCommand (O.contents out.old) (O.contents out.new) queue cid command input.now) }
+    ensures silent { IfErr result (λ failure. failure ≢ Failure.CannotPrint → O.contents out.new ≡ O.contents out.old) }
 {
     let line = line_of(alloc, queue, cid, command, input)?;
     print_line(line.as_slice(), out)
@@ -45,7 +46,8 @@ pub(crate) fn line_of(
 
 /// Prints a line.
 fn print_line<'a, O: Write>(line: &[u8], out: &mut O) -> Result<(), Failure<'a>>
-    ensures { OnOk result (Appends (O.contents out.old) (O.contents out.new) line.now) }
+    ensures printed { OnOk result (Appends (O.contents out.old) (O.contents out.new) line.now) }
+    ensures failed { IfErr result (λ failure. failure ≡ Failure.CannotPrint) }
 {
     printed(out.write_all(line))
 }

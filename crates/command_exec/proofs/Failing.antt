@@ -1,5 +1,5 @@
 -- Why `exec` ends before its work is done.
-use Rattle.std.proofs.Common.{◌≡◌, ℕ, List, Option, Err, IfSome, subst, ◌∙◌, inl, inr}
+use Rattle.std.proofs.Common.{◌≡◌, ℕ, List, Option, Result, Ok, Err, IfErr, IfSome, subst, ◌∙◌, inl, inr}
 use Rattle.std.specs.Borrow.{Bor}
 use Rattle.clap.specs.declared.parser.matches.ArgMatches.{ArgMatches}
 use Rattle.event_text.specs.CommandFile.{events_in, refused_line}
@@ -11,7 +11,7 @@ use Rattle.command_files.specs.declared.failure.Failure.TheVariants.{CannotPrint
 use Rattle.command_files.proofs.Proved.{read_holds, same_name, unread_holds}
 use Rattle.command_images.specs.UserTold.{IsUnheld, ReplacingFails}
 use Rattle.command_exec.specs.UserTold.{ExecFails, PrintsNothing}
-use Rattle.command_exec.specs.steps.Told.{SavingFails}
+use Rattle.command_exec.specs.steps.Told.{SavingFails, SavingLeaves}
 
 -- what was done can't be saved
 pub saving_of_changes : (path : Bor (List ℕ)) (failure : Failure) → IsUnheld path failure → SavingFails path failure
@@ -52,18 +52,47 @@ module _ (matches : ArgMatches) (reads : Type 0) (contents : List ℕ → Option
   exec_of_saving image is_named _ is = absurd is
 
 -- nothing was printed
-pub quiet : (path : List ℕ) (before after : Option (List ℕ)) → after ≡ before → (failure : Failure) → PrintsNothing path before after failure
-quiet path before after same CannotPrint = tt
-quiet path before after same (CannotWrite told cause) = tt
-quiet path before after same (CannotRead told cause) = λ _. same
-quiet path before after same NoMemory = tt
-quiet path before after same _ = same
+pub quiet : (path : List ℕ) (unsaved : Type 0) (before after : Option (List ℕ)) → after ≡ before → (failure : Failure)
+    → PrintsNothing path unsaved before after failure
+quiet path unsaved before after same CannotPrint = tt
+quiet path unsaved before after same (CannotWrite told cause) = inl same
+quiet path unsaved before after same (CannotRead told cause) = inl same
+quiet path unsaved before after same NoMemory = tt
+quiet path unsaved before after same _ = same
 
--- what was done can't be saved, of which nothing is said
-pub quiet_of_saving : (image : Bor (List ℕ)) (path : List ℕ) (before after : Option (List ℕ)) → image.now ≡ path → (failure : Failure) → SavingFails image failure
-    → PrintsNothing path before after failure
-quiet_of_saving image path before after is_named CannotPrint is = tt
-quiet_of_saving image path before after is_named (CannotWrite told cause) is = tt
-quiet_of_saving image path before after is_named (CannotRead told cause) is = λ differs. absurd (differs (same_name is is_named))
-quiet_of_saving image path before after is_named NoMemory is = tt
-quiet_of_saving image path before after is_named _ is = absurd is
+-- what was done can't be saved
+pub leaves_of_saving : (unsaved : Type 0) (failure : Failure) → unsaved → SavingLeaves unsaved failure
+leaves_of_saving unsaved (CannotWrite told cause) is = is
+leaves_of_saving unsaved (CannotRead told cause) is = is
+leaves_of_saving unsaved _ is = tt
+
+quiet_of_failure : (image : Bor (List ℕ)) (path : List ℕ) (unsaved more : Type 0) (before after : Option (List ℕ)) → image.now ≡ path → (unsaved → more)
+    → (failure : Failure) → SavingFails image failure → SavingLeaves unsaved failure → PrintsNothing path more before after failure
+quiet_of_failure image path unsaved more before after is_named then CannotPrint is left = tt
+quiet_of_failure image path unsaved more before after is_named then (CannotWrite told cause) is left = inr (then left)
+quiet_of_failure image path unsaved more before after is_named then (CannotRead told cause) is left = inr (same_name is is_named, then left)
+quiet_of_failure image path unsaved more before after is_named then NoMemory is left = tt
+quiet_of_failure image path unsaved more before after is_named then _ is left = absurd is
+
+pub quiet_of_saving : {T : Type 0} (image : Bor (List ℕ)) (path : List ℕ) (unsaved more : Type 0) (before after : Option (List ℕ)) (result : Result T Failure)
+    → image.now ≡ path → (unsaved → more) → IfErr result (SavingFails image) → IfErr result (SavingLeaves unsaved)
+    → IfErr result (PrintsNothing path more before after)
+quiet_of_saving image path unsaved more before after (Ok done) is_named then fails left = tt
+quiet_of_saving image path unsaved more before after (Err failure) is_named then fails left =
+    quiet_of_failure image path unsaved more before after is_named then failure fails left
+
+-- of what isn't saved more holds
+quiet_weaker : (path : List ℕ) (unsaved more : Type 0) (before after : Option (List ℕ)) → (unsaved → more) → (failure : Failure)
+    → PrintsNothing path unsaved before after failure → PrintsNothing path more before after failure
+quiet_weaker path unsaved more before after then CannotPrint is = tt
+quiet_weaker path unsaved more before after then (CannotWrite told cause) (inl same) = inl same
+quiet_weaker path unsaved more before after then (CannotWrite told cause) (inr left) = inr (then left)
+quiet_weaker path unsaved more before after then (CannotRead told cause) (inl same) = inl same
+quiet_weaker path unsaved more before after then (CannotRead told cause) (inr left) = inr (left.0, then left.1)
+quiet_weaker path unsaved more before after then NoMemory is = tt
+quiet_weaker path unsaved more before after then _ is = is
+
+pub quiet_by_profile : {T : Type 0} (path : List ℕ) (unsaved more : Type 0) (before after : Option (List ℕ)) (result : Result T Failure) → (unsaved → more)
+    → IfErr result (PrintsNothing path unsaved before after) → IfErr result (PrintsNothing path more before after)
+quiet_by_profile path unsaved more before after (Ok done) then is = tt
+quiet_by_profile path unsaved more before after (Err failure) then is = quiet_weaker path unsaved more before after then failure is

@@ -24,7 +24,7 @@ use Rattle.command_files.specs.Surroundings.{Surroundings}
 use Rattle.command_files.proofs.Proved.{leaves_behind, leaves_weaker, read_holds}
 use Rattle.command_images.specs.Devices.{TellNamespace}
 use Rattle.command_images.specs.Images.{HasText, image_of}
-use Rattle.command_exec.specs.Executed.{AreExecutedBy, AreInFiles, AreLeft, DoesAll, ExecutesBy, ExecutesFirstBy, HasBegun, HasDone, InEvents, InTurns, SavesAll, SavesFirst, commands_of}
+use Rattle.command_exec.specs.Executed.{AreExecutedBy, AreInFiles, AreLeft, DoesAll, ExecutesBy, ExecutesFirstBy, HasBegun, HasDone, InEvents, InTurns, IsDoneUnsaved, IsntSavedBy, SavesAll, SavesFirst, commands_of}
 
 pub on_err : {T E fact : Type 0} (result : Result T E) → fact → OnErr result fact
 on_err (Ok value) holds = tt
@@ -92,6 +92,16 @@ prints_all judge events namespace old left held before holds after begins first 
     subst (λ (s : State). DoesAll judge events s left before after) begins
     (subst (λ (bytes : Option (List ℕ)). DoesAll judge events old left bytes after) first
     (subst (λ (bytes : Option (List ℕ)). DoesAll judge events old left held bytes) last did))
+
+-- what it has done then isn't saved
+pub done_unsaved : {T E : Type 0} (judge : Judge) (result : Result T E) (events : List Event) (namespace : ZonedNamespace) (old left : State)
+    (held before holds after : Option (List ℕ)) → old ≡ new_state namespace → held ≡ before → holds ≡ after
+    → OnOk result (DoesAll judge events old left held holds) → OnErr result (HasBegun judge events old left)
+    → IsDoneUnsaved judge events namespace before after
+done_unsaved judge (Ok done) events namespace old left held before holds after begins first last did begun =
+    record { left = left; done = inl (prints_all judge events namespace old left held before holds after begins first last did) }
+done_unsaved judge (Err error) events namespace old left held before holds after begins first last did begun =
+    record { left = left; done = inr (subst (λ (s : State). HasBegun judge events s left) begins begun) }
 
 -- the namespace is saved that a device shows
 module _ (judge : Judge) (here : Surroundings) (events : List Event) (namespace shown : ZonedNamespace) (path : List ℕ) (left : State)
@@ -178,6 +188,15 @@ module _ (judge : Judge) (reads writes : Type 0) (contents then : List ℕ → O
         (subst (λ (c : List ℕ → Option (List ℕ)). SavesFirst judge (from_there c before) events namespace path) held_is
         (subst (λ (made : Option (List Made)). SavesFirst judge (from_there held made) events namespace path) kept
         (subst (λ (list : List Event). SavesFirst judge (from_there held loaded) list namespace path) are saves)));
+  }
+
+  pub executes_unsaved : (given : List Event) (printed printed_after : Option (List ℕ)) → (reads → TellNamespace (contents path) namespace) → given ≡ events
+      → IsDoneUnsaved judge given namespace printed printed_after → IsntSavedBy judge (from_there contents before) matches printed printed_after
+  executes_unsaved given printed printed_after namespace_is are left = record {
+    namespace = namespace;
+    events = events;
+    in_files = in_both namespace_is;
+    unsaved = subst (λ (list : List Event). IsDoneUnsaved judge list namespace printed printed_after) are left;
   }
 
   -- what `run` may leave in the file is what the command may

@@ -77,6 +77,12 @@ module _ (judge : Judge) where
     pub begun : HasBegun judge events (new_state namespace) left
     pub saved : HasText here path (text left.namespace)
 
+  -- what is done isn't saved: all of it, and the line of each reply is printed; or the first of it, where standard output fails, which
+  -- doesn't tell what it took
+  pub record IsDoneUnsaved (events : List Event) (namespace : ZonedNamespace) (printed printed_after : Option (List ℕ)) : Type 0 where
+    pub left : State
+    pub done : DoesAll events (new_state namespace) left printed printed_after ⊎ HasBegun judge events (new_state namespace) left
+
   -- the events of the command file are done on the namespace of the image file
   pub record ExecutesBy (here : Surroundings) (matches : ArgMatches) (printed printed_after : Option (List ℕ)) : Type 0 where
     pub namespace : ZonedNamespace
@@ -90,6 +96,13 @@ module _ (judge : Judge) where
     pub events : List Event
     pub in_files : AreInFiles here matches namespace events
     pub saves : SavesFirst here events namespace (image_of matches)
+
+  -- they are, or the first of them are, and what they leave isn't saved
+  pub record IsntSavedBy (here : Surroundings) (matches : ArgMatches) (printed printed_after : Option (List ℕ)) : Type 0 where
+    pub namespace : ZonedNamespace
+    pub events : List Event
+    pub in_files : AreInFiles here matches namespace events
+    pub unsaved : IsDoneUnsaved events namespace printed printed_after
 
   -- these bytes are an image of what all of them, or the first of them, leave
   pub record AreExecutedBy (here : Surroundings) (matches : ArgMatches) (bytes : List ℕ) : Type 0 where
@@ -111,6 +124,10 @@ Executes here matches printed printed_after = IsByProfile matches (λ judge. Exe
 -- the first of it is
 abbrev pub ExecutesFirst : Surroundings → ArgMatches → Type 0
 ExecutesFirst here matches = IsByProfile matches (λ judge. ExecutesFirstBy judge here matches)
+
+-- what all of it, or the first of it, leaves isn't saved
+abbrev pub IsntSaved : Surroundings → ArgMatches → Option (List ℕ) → Option (List ℕ) → Type 0
+IsntSaved here matches printed printed_after = IsByProfile matches (λ judge. IsntSavedBy judge here matches printed printed_after)
 
 -- these bytes are an image of what all of it, or the first of it, leaves
 abbrev pub AreExecuted : Surroundings → ArgMatches → List ℕ → Type 0

@@ -1,3 +1,4 @@
 pub mod Executed
+pub mod Refused
 pub mod UserTold
 pub mod steps

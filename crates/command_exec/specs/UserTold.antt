@@ -1,5 +1,5 @@
 -- Why `exec` ends before its work is done (profile).
-use Rattle.std.specs.Prelude.{◌≡◌, ◌≢◌, ◌⊎◌, ℕ, List, Option, Err, IfSome}
+use Rattle.std.specs.Prelude.{◌≡◌, ◌⊎◌, ℕ, List, Option, Err, IfSome}
 use Rattle.event_text.specs.CommandFile.{events_in}
 use Rattle.clap.specs.declared.parser.matches.ArgMatches.{ArgMatches}
 use Rattle.command_files.specs.declared.failure.Failure.{Failure}
@@ -19,12 +19,11 @@ ExecFails matches reads contents path commands (LineRefused told number fault) =
     (told.now ≡ commands) × IfSome (contents commands) (λ bytes. events_in bytes ≡ Err number)
 ExecFails matches reads contents path commands failure = ReplacingFails reads (contents path) path failure
 
--- what is printed where `exec` ends before its work is done: nothing, where a line of the command file or the image is refused, or
--- another file than the image can't be read. Where standard output fails, or the image, or memory is wanting, it isn't said: events may
--- have been done by then
-abbrev pub PrintsNothing : List ℕ → Option (List ℕ) → Option (List ℕ) → Failure → Type 0
-PrintsNothing path before after CannotPrint = Unit {0}
-PrintsNothing path before after (CannotWrite told cause) = Unit {0}
-PrintsNothing path before after (CannotRead told cause) = told.now ≢ path → after ≡ before
-PrintsNothing path before after NoMemory = Unit {0}
-PrintsNothing path before after _ = after ≡ before
+-- what is printed where `exec` ends before its work is done: nothing; or, where the image can't be read again or written, the lines of what
+-- was done and isn't saved (`unsaved`). Where standard output fails, or memory is wanting, it isn't said: events may have been done by then
+abbrev pub PrintsNothing : List ℕ → Type 0 → Option (List ℕ) → Option (List ℕ) → Failure → Type 0
+PrintsNothing path unsaved before after CannotPrint = Unit {0}
+PrintsNothing path unsaved before after (CannotWrite told cause) = (after ≡ before) ⊎ unsaved
+PrintsNothing path unsaved before after (CannotRead told cause) = (after ≡ before) ⊎ ((told.now ≡ path) × unsaved)
+PrintsNothing path unsaved before after NoMemory = Unit {0}
+PrintsNothing path unsaved before after _ = after ≡ before

@@ -7,9 +7,11 @@ ghost use Rattle.command_files.specs.Crash.{LeavesOldOrNew};
 ghost use Rattle.command_files.specs.Made.{KeepsModes, KeepsOthers, MakesAtMost};
 ghost use Rattle.command_files.specs.Surroundings.{around};
 ghost use Rattle.command_images.specs.Images.{image_of};
-ghost use Rattle.command_exec.specs.Executed.{AreExecuted, AreExecutedBy, AreLeft, DoesAll, Executes, ExecutesBy, ExecutesFirst, ExecutesFirstBy, HasBegun, SavesAll, SavesFirst, commands_of};
+ghost use Rattle.command_exec.specs.Executed.{AreExecuted, AreExecutedBy, AreLeft, DoesAll, Executes, ExecutesBy, ExecutesFirst, ExecutesFirstBy, HasBegun};
+ghost use Rattle.command_exec.specs.Executed.{IsDoneUnsaved, IsntSaved, IsntSavedBy, SavesAll, SavesFirst, commands_of};
+ghost use Rattle.command_exec.specs.Refused.{line_at, told_of_refusals};
 ghost use Rattle.command_exec.specs.UserTold.{ExecFails, PrintsNothing};
-ghost use Rattle.command_exec.specs.steps.Told.{SavingFails};
+ghost use Rattle.command_exec.specs.steps.Told.{SavingFails, SavingLeaves};
 
 use crate::fail::{FAIL, Refused};
 use crate::watched::{Refusals, Watched};
@@ -121,7 +123,8 @@ pub static WORDS: Words = Words {
 /// already: the text of the namespace that they leave. Where standard output fails, it is the text of what the first of
 /// them leave. On each other failure no file is made, but for what [`Files::finish`] says, and what is told is the
 /// first fault of the image, the lowest line that is refused, or by its name which file can't be read or written; nothing was
-/// printed where a line or the image is refused, or the command file can't be read. Every other file has the bytes that it had.
+/// printed where a line or the image is refused, or a file can't be read; but where the image can't be read again or written at the
+/// end, the lines of what was done were. Every other file has the bytes that it had.
 /// A crash at any moment leaves the image file as it might have been left before, or all of the one that this makes.
 /// What it gives are the commands that were refused, where some were.
 ///
@@ -138,7 +141,9 @@ pub fn exec<'a, F: Files, O: Write>(
         OnOk result (Executes here matches.now (O.contents out.old) (O.contents out.new)) }
     ensures stopped { let here = around F.Files F.Reader.tells F.Writer.tells files.old files.new in
         result ≡ Err Failure.CannotPrint → ExecutesFirst here matches.now }
-    ensures quiet { IfErr result (PrintsNothing (image_of matches.now) (O.contents out.old) (O.contents out.new)) }
+    ensures quiet { let here = around F.Files F.Reader.tells F.Writer.tells files.old files.new in
+        IfErr result (PrintsNothing (image_of matches.now) (IsntSaved here matches.now (O.contents out.old) (O.contents out.new))
+        (O.contents out.old) (O.contents out.new)) }
     ensures failed { IfErr result
         (ExecFails matches.now F.Reader.tells (F.contents files.old) (image_of matches.now) (commands_of matches.now)) }
     ensures made { OnOk result (MakesAtMost (image_of matches.now) (F.made files.old) (F.made files.new)) }
@@ -170,7 +175,10 @@ fn exec_by<'a, D: Domain, F: Files, O: Write>(
         OnOk result (ExecutesBy (judge_by D.operations) here matches.now (O.contents out.old) (O.contents out.new)) }
     ensures stopped { let here = around F.Files F.Reader.tells F.Writer.tells files.old files.new in
         result ≡ Err Failure.CannotPrint → ExecutesFirstBy (judge_by D.operations) here matches.now }
-    ensures quiet { IfErr result (PrintsNothing (image_of matches.now) (O.contents out.old) (O.contents out.new)) }
+    ensures quiet { let here = around F.Files F.Reader.tells F.Writer.tells files.old files.new in
+        IfErr result (PrintsNothing (image_of matches.now)
+        (IsntSavedBy (judge_by D.operations) here matches.now (O.contents out.old) (O.contents out.new))
+        (O.contents out.old) (O.contents out.new)) }
     ensures failed { IfErr result
         (ExecFails matches.now F.Reader.tells (F.contents files.old) (image_of matches.now) (commands_of matches.now)) }
     ensures made { OnOk result (MakesAtMost (image_of matches.now) (F.made files.old) (F.made files.new)) }
@@ -225,6 +233,8 @@ fn run<'a, D: Domain, F: Files, O: Write>(
     ensures stopped { let here = around F.Files F.Reader.tells F.Writer.tells files.old files.new in
         result ≡ Err Failure.CannotPrint → SavesFirst (judge_by D.operations) here events.now device.old.namespace path.now }
     ensures failed { IfErr result (SavingFails path.entry) }
+    ensures unsaved { IfErr result (SavingLeaves
+        (IsDoneUnsaved (judge_by D.operations) events.now device.old.namespace (O.contents out.old) (O.contents out.new))) }
     ensures made { OnOk result (MakesAtMost path.now (F.made files.old) (F.made files.new)) }
     ensures one { result ≡ Err Failure.CannotPrint → MakesAtMost path.now (F.made files.old) (F.made files.new) }
     ensures others { OnOk result (KeepsOthers path.now (F.contents files.old) (F.contents files.new)) }
@@ -242,9 +252,9 @@ fn run<'a, D: Domain, F: Files, O: Write>(
     let refusals = watched.refusals();
     let lines = watched.into_out();
     let out = lines.into_writer();
-    image_file::save_changes(device.image(), path, files)?;
     // No effect at run time. The proof reads what was printed from this use of `out`.
     let _ = &*out;
+    image_file::save_changes(device.image(), path, files)?;
     match done {
         Ok(()) => Ok(refused(refusals, numbers)),
         Err(Stopped { .. }) => Err(Failure::CannotPrint),
@@ -253,10 +263,20 @@ fn run<'a, D: Domain, F: Files, O: Write>(
 
 /// Refused commands with the line of the first: the replies to events come first, in order, so as many events are in front of it as
 /// replies; of a turn behind the last event, the last line is told.
-fn refused(refusals: Option<Refusals>, numbers: &[usize]) -> Option<Refused> {
+fn refused(refusals: Option<Refusals>, numbers: &[usize]) -> Option<Refused>
+    ensures { result ≡ told_of_refusals numbers.now refusals }
+{
     let Refusals { commands, first } = refusals?;
-    let line = *numbers.get(first).or(numbers.last())?;
+    let line = line_at(numbers, first)?;
     Some(Refused { commands, line })
+}
+
+/// The line of the event of which the reply has so many in front of it, or the last.
+fn line_at(numbers: &[usize], before: usize) -> Option<usize>
+    ensures { result ≡ line_at numbers.now before }
+{
+    let last = numbers.len().checked_sub(1)?;
+    Some(numbers[before.min(last)])
 }
 
 /// Does the events, and then gives turns until no run is left.

@@ -1,5 +1,9 @@
 //! Where `exec` fails for refused commands.
 
+ghost use Rattle.std.specs.Prelude.{◌≡◌, IfSome, IsSome, None, true, false};
+ghost use Rattle.command_exec.specs.Executed.{commands_of};
+ghost use Rattle.command_exec.specs.Refused.{TellsRefused, asks_fail};
+
 use crate::exec;
 use clap::ArgMatches;
 use command_files::Failure;
@@ -18,9 +22,13 @@ pub struct Refused {
 
 /// The failure of an `exec` that has done its work: that commands were refused, where the words ask for that to be one. The image
 /// is saved all the same.
-pub fn failure_of<'a>(matches: &ArgMatches<'a>, refused: Option<Refused>) -> Option<Failure<'a>> {
+pub fn failure_of<'a>(matches: &ArgMatches<'a>, refused: Option<Refused>) -> Option<Failure<'a>>
+    ensures told { IfSome result (TellsRefused (commands_of matches.now) refused) }
+    ensures asked { asks_fail matches.now ≡ true → IsSome refused → IsSome result }
+    ensures unasked { asks_fail matches.now ≡ false → result ≡ None }
+{
     let Refused { commands, line } = refused?;
-    if !matches.get_flag(FAIL) {
+    if !asks_fail(matches) {
         return None;
     }
     Some(Failure::CommandsRefused {
@@ -28,4 +36,11 @@ pub fn failure_of<'a>(matches: &ArgMatches<'a>, refused: Option<Refused>) -> Opt
         line,
         commands,
     })
+}
+
+/// Are refused commands to be a failure?
+fn asks_fail<'a>(matches: &ArgMatches<'a>) -> bool
+    ensures { result ≡ asks_fail matches.now }
+{
+    required(matches, FAIL) == "true"
 }

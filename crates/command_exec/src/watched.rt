@@ -1,6 +1,7 @@
 //! Replies that are handed on, and which of them are refusals.
 
-ghost use Rattle.std.specs.Prelude.{◌≡◌};
+ghost use Rattle.std.specs.Prelude.{◌≡◌, option_map, true, false};
+ghost use Rattle.command_exec.specs.Refused.{IsRefusal, first_of, one_more};
 
 use device_events::{NotTaken, Out, Reply};
 use nvme_entry::{Completion, Status};
@@ -26,7 +27,8 @@ pub(crate) struct Refusals {
 impl<T: Out> Watched<T> {
     /// What hands replies on to this, of which there were none yet.
     pub(crate) fn new(out: T) -> Watched<T>
-        ensures { result.out ≡ out }
+        ensures out { result.out ≡ out }
+        ensures none { (result.taken ≡ 0) × (result.refused ≡ 0) × (result.first ≡ None) }
     {
         Watched {
             out,
@@ -45,7 +47,9 @@ impl<T: Out> Watched<T> {
     }
 
     /// The commands that were refused, where some were.
-    pub(crate) fn refusals(&self) -> Option<Refusals> {
+    pub(crate) fn refusals(&self) -> Option<Refusals>
+        ensures { result ≡ option_map (λ first. record { commands = self.now.refused; first = first }) self.now.first }
+    {
         let first = self.first?;
         Some(Refusals {
             commands: self.refused,
@@ -55,7 +59,11 @@ impl<T: Out> Watched<T> {
 
     /// Notes that a reply was taken.
     fn note(&mut self, reply: &Reply)
-        ensures { self.new.out ≡ self.old.out }
+        ensures out { self.new.out ≡ self.old.out }
+        ensures counted { self.new.taken ≡ one_more self.old.taken }
+        ensures refused { IsRefusal reply.now
+            → (self.new.refused ≡ one_more self.old.refused) × (self.new.first ≡ first_of self.old.first self.old.taken) }
+        ensures passed { ¬ IsRefusal reply.now → (self.new.refused ≡ self.old.refused) × (self.new.first ≡ self.old.first) }
     {
         if is_refusal(reply) {
             self.refused = self.refused.saturating_add(1);
@@ -86,7 +94,10 @@ impl<T: Out> Out for Watched<T> {
 }
 
 /// Is a reply the completion of a refused command?
-fn is_refusal(reply: &Reply) -> bool {
+fn is_refusal(reply: &Reply) -> bool
+    ensures refused { result ≡ true → IsRefusal reply.now }
+    ensures passed { result ≡ false → ¬ IsRefusal reply.now }
+{
     match reply {
         Reply::Complete { entry, .. } => match Completion::decode(entry) {
             Some(completion) => completion.status != Status::SUCCESS,

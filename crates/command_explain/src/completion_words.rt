@@ -2,13 +2,13 @@
 
 use crate::fitting::{can_answer, has_no_dwords};
 use crate::pairing::Paired;
-use crate::refusal_words::ReasonWords;
-use crate::report_words::print_report;
+use crate::refusal_words::push_reason;
+use crate::report_words::push_report;
 use crate::uses::Doubt;
-use crate::worded_command::CommandWords;
+use crate::worded_command::push_command;
 use command_files::Counted;
 use nvme_entry::{Command, Completion, Entry, StandardCommand, Status};
-use std::io::{self, Write};
+use std::alloc::AllocError;
 
 /// What is known of the command that a completion answers.
 #[derive(Clone, Copy)]
@@ -49,14 +49,14 @@ impl<'a> Taken<'a> {
     }
 }
 
-/// Prints what a completion and its data tell of its command: of a submission that it is taken to answer in the words of its command
+/// Adds what a completion and its data tell of its command: of a submission that it is taken to answer in the words of its command
 /// where this can have such an answer, and else what is certain whatever the command is.
-pub(crate) fn print_completion<O: Write>(
+pub(crate) fn push_completion(
     completion: &Completion,
     data: &[u8],
     answered: &Answered<'_>,
-    out: &mut O,
-) -> io::Result<()> {
+    out: &mut String,
+) -> Result<(), AllocError> {
     let queue = completion.queue;
     let cid = completion.cid;
     write!(out, "queue {queue}, command {cid}: ")?;
@@ -64,28 +64,28 @@ pub(crate) fn print_completion<O: Write>(
         Answered::Unnamed => {}
         Answered::NotThere(path) => write!(out, "no submission of {path} is left for it: ")?,
         Answered::Taken(taken) => {
-            print_doubt(completion, taken, out)?;
+            push_doubt(completion, taken, out)?;
             match &taken.command {
                 Some(command) => {
-                    let words = CommandWords(command);
-                    write!(out, "{words}: ")?;
+                    push_command(command, out)?;
+                    out.push_str(": ")?;
                     if taken.fits {
-                        return print_answer(completion, data, command, out);
+                        return push_answer(completion, data, command, out);
                     }
                 }
-                None => write!(out, "an entry that is no command: ")?,
+                None => out.push_str("an entry that is no command: ")?,
             }
         }
     }
-    print_unnamed(completion, data, out)
+    push_unnamed(completion, data, out)
 }
 
-/// Prints why it is a guess that a submission is answered, where it is one.
-fn print_doubt<O: Write>(
+/// Adds why it is a guess that a submission is answered, where it is one.
+fn push_doubt(
     completion: &Completion,
     taken: &Taken<'_>,
-    out: &mut O,
-) -> io::Result<()> {
+    out: &mut String,
+) -> Result<(), AllocError> {
     let path = taken.paired.path;
     let line = taken.paired.submission.line;
     if !taken.fits {
@@ -116,14 +116,14 @@ fn print_doubt<O: Write>(
             let completions = Counted(completions, "completion");
             write!(out, "and {completions} here): ")
         }
-        None => write!(out, "one behind a run): "),
+        None => out.push_str("one behind a run): "),
     }
 }
 
-/// Prints what is certain whatever the command is.
-fn print_unnamed<O: Write>(completion: &Completion, data: &[u8], out: &mut O) -> io::Result<()> {
+/// Adds what is certain whatever the command is.
+fn push_unnamed(completion: &Completion, data: &[u8], out: &mut String) -> Result<(), AllocError> {
     if completion.status != Status::SUCCESS {
-        return print_refusal(completion, out);
+        return push_refusal(completion, out);
     }
     let dw0 = completion.dw0;
     let dw1 = completion.dw1;
@@ -141,25 +141,29 @@ fn print_unnamed<O: Write>(completion: &Completion, data: &[u8], out: &mut O) ->
         let bytes = Counted(data.len() as u64, "byte");
         write!(out, "; {bytes} of data")?;
     }
-    writeln!(out)
+    out.push_str("\n")
 }
 
-/// Prints how a command ended that can have this answer.
-pub fn print_answer<O: Write>(
+/// Adds how a command ended that can have this answer.
+///
+/// # Errors
+///
+/// Want of memory.
+pub fn push_answer(
     completion: &Completion,
     data: &[u8],
     command: &Command,
-    out: &mut O,
-) -> io::Result<()> {
+    out: &mut String,
+) -> Result<(), AllocError> {
     if completion.status != Status::SUCCESS {
-        return print_refusal(completion, out);
+        return push_refusal(completion, out);
     }
     match command {
         Command::Standard(StandardCommand::Append { .. }) => {
             let lba = appended_lba(completion);
             writeln!(out, "the first is at LBA {lba}")
         }
-        Command::Standard(StandardCommand::Receive { .. }) => print_report(data, out),
+        Command::Standard(StandardCommand::Receive { .. }) => push_report(data, out),
         Command::Run(_) => {
             let records = Counted(u64::from(completion.dw0), "record");
             let blocks = Counted(u64::from(completion.dw1), "block");
@@ -169,24 +173,25 @@ pub fn print_answer<O: Write>(
             let bytes = Counted(data.len() as u64, "byte");
             writeln!(out, "{bytes}")
         }
-        Command::Standard(_) | Command::Load(_) => writeln!(out, "done"),
+        Command::Standard(_) | Command::Load(_) => out.push_str("done\n"),
     }
 }
 
-/// Prints why a command was refused.
-fn print_refusal<O: Write>(completion: &Completion, out: &mut O) -> io::Result<()> {
+/// Adds why a command was refused.
+fn push_refusal(completion: &Completion, out: &mut String) -> Result<(), AllocError> {
     let status = completion.status;
     write!(out, "refused: {status}")?;
     let dw0 = completion.dw0;
     let dw1 = completion.dw1;
     if status == Status::PROGRAM_REFUSED {
-        let reason = ReasonWords(dw1);
-        return writeln!(out, "; slot {dw0}, {reason}");
+        write!(out, "; slot {dw0}, ")?;
+        push_reason(dw1, out)?;
+        return out.push_str("\n");
     }
     if dw0 != 0 || dw1 != 0 {
         return writeln!(out, "; dwords 0 and 1: {dw0}, {dw1}");
     }
-    writeln!(out)
+    out.push_str("\n")
 }
 
 /// The logical block address that Dwords 0 and 1 of an append spell (ZNS 1.1, 3.4.1).

@@ -1,10 +1,10 @@
 //! The command `explain`: what `exec` printed, in words.
 
-ghost use Rattle.std.specs.Prelude.{◌≡◌};
+ghost use Rattle.std.specs.Prelude.{◌≡◌, ◌≢◌, IfErr};
 ghost use Rattle.command_explain.specs.steps.Told.{told_of_replies};
 
-use crate::completion_words::{Answered, Taken, print_completion};
-use crate::json::print_completion_json;
+use crate::completion_words::{Answered, Taken, push_completion};
+use crate::json::push_completion_json;
 use crate::pairing::Pairing;
 use crate::submissions::{Submission, submissions};
 use clap::ArgMatches;
@@ -14,8 +14,8 @@ use command_words::{Argument, Takes, Words};
 use device_events::Reply;
 use event_text::{RepliesFault, ToldReply, event_lines, parse, replies};
 use nvme_entry::Completion;
-use std::alloc::Global;
-use std::io::{self, Write};
+use std::alloc::{AllocError, Global};
+use std::io::Write;
 
 /// The command's name.
 pub const NAME: &str = "explain";
@@ -98,7 +98,8 @@ pub static WORDS: Words = Words {
     one_of: &[],
 };
 
-/// Runs the command, which makes no file: each has the bytes that it had. What is printed isn't said.
+/// Runs the command, which makes no file: each has the bytes that it had. What is printed isn't said, but that nothing is where it
+/// fails, unless it is standard output that does.
 ///
 /// # Errors
 ///
@@ -111,6 +112,7 @@ pub fn explain<'a, F: Files, O: Write>(
 ) -> Result<(), Failure<'a>>
     ensures made { F.made files.new ≡ F.made files.old }
     ensures contents { F.contents files.new ≡ F.contents files.old }
+    ensures silent { IfErr result (λ failure. failure ≢ Failure.CannotPrint → O.contents out.new ≡ O.contents out.old) }
 {
     let path = required(matches, FILE);
     let file = read(path, files)?;
@@ -127,7 +129,8 @@ pub fn explain<'a, F: Files, O: Write>(
     } else {
         Form::Words
     };
-    printed(print_replies(told.as_slice(), &mut pairing, form, out))
+    let text = text_of(alloc, told.as_slice(), &mut pairing, form)?;
+    printed(out.write_all(text.as_bytes()))
 }
 
 /// The submissions of a command file.
@@ -156,41 +159,49 @@ fn no_replies<'a>(path: &'a str, fault: RepliesFault) -> Failure<'a>
     }
 }
 
-/// Prints each reply.
-fn print_replies<O: Write>(
+/// What all replies tell.
+fn text_of(
+    alloc: Global,
     replies: &[ToldReply],
     pairing: &mut Option<Pairing<'_>>,
     form: Form,
-    out: &mut O,
-) -> io::Result<()> {
+) -> Result<String, AllocError> {
+    let mut text = String::new(alloc);
     for told in replies {
-        print_reply(told.reply, told.bytes.as_slice(), pairing, form, out)?;
+        push_reply(told.reply, told.bytes.as_slice(), pairing, form, &mut text)?;
     }
-    Ok(())
+    Ok(text)
 }
 
-fn print_reply<O: Write>(
+/// Adds what a reply tells.
+fn push_reply(
     reply: Reply,
     data: &[u8],
     pairing: &mut Option<Pairing<'_>>,
     form: Form,
-    out: &mut O,
-) -> io::Result<()> {
+    out: &mut String,
+) -> Result<(), AllocError> {
     let Reply::Complete { queue, entry, .. } = reply else {
-        return print_other(reply, form, out);
+        return push_other(reply, form, out);
     };
     let Some(completion) = completion_from(queue, &entry) else {
-        return print_unknown(queue, form, out);
+        return push_unknown(queue, form, out);
     };
-    let answered = answered(pairing, &completion, data.len());
+    let answered = match pairing {
+        None => Answered::Unnamed,
+        Some(pairing) => match pairing.pair(&completion) {
+            Some(paired) => Answered::Taken(Taken::of(&completion, data.len(), paired)),
+            None => Answered::NotThere(pairing.path()),
+        },
+    };
     match form {
-        Form::Words => print_completion(&completion, data, &answered, out),
-        Form::Json => print_completion_json(&completion, data.len(), &answered, out),
+        Form::Words => push_completion(&completion, data, &answered, out),
+        Form::Json => push_completion_json(&completion, data.len(), &answered, out),
     }
 }
 
-/// Prints that 16 bytes from this queue are no completion.
-fn print_unknown<O: Write>(queue: u16, form: Form, out: &mut O) -> io::Result<()> {
+/// Adds that 16 bytes from this queue are no completion.
+fn push_unknown(queue: u16, form: Form, out: &mut String) -> Result<(), AllocError> {
     match form {
         Form::Words => writeln!(
             out,
@@ -200,18 +211,10 @@ fn print_unknown<O: Write>(queue: u16, form: Form, out: &mut O) -> io::Result<()
     }
 }
 
-/// Prints a reply that is no completion.
-fn print_other<O: Write>(reply: Reply, form: Form, out: &mut O) -> io::Result<()> {
+/// Adds a reply that is no completion.
+fn push_other(reply: Reply, form: Form, out: &mut String) -> Result<(), AllocError> {
     let (words, json) = match reply {
-        Reply::Pending { run } => {
-            return match form {
-                Form::Words => writeln!(
-                    out,
-                    "pending {run}: run {run} was admitted, or had a turn, and has turns left"
-                ),
-                Form::Json => writeln!(out, "{{\"reply\":\"pending\",\"run\":{run}}}"),
-            };
-        }
+        Reply::Pending { run } => return push_pending(run, form, out),
         Reply::Idle => ("idle: a turn for a run that is not active", "idle"),
         Reply::FaultTaken => ("done: a zone has its fault", "done"),
         Reply::FaultRefused => (
@@ -226,6 +229,17 @@ fn print_other<O: Write>(reply: Reply, form: Form, out: &mut O) -> io::Result<()
     }
 }
 
+/// Adds that a run has turns left.
+fn push_pending(run: u8, form: Form, out: &mut String) -> Result<(), AllocError> {
+    match form {
+        Form::Words => writeln!(
+            out,
+            "pending {run}: run {run} was admitted, or had a turn, and has turns left"
+        ),
+        Form::Json => writeln!(out, "{{\"reply\":\"pending\",\"run\":{run}}}"),
+    }
+}
+
 /// The completion that an entry of this queue is, if it is one.
 fn completion_from(queue: u16, entry: &[u8; 16]) -> Option<Completion> {
     let completion = Completion::decode(entry)?;
@@ -233,20 +247,5 @@ fn completion_from(queue: u16, entry: &[u8; 16]) -> Option<Completion> {
         Some(completion)
     } else {
         None
-    }
-}
-
-/// What the command file tells of the command that a completion with so many bytes of data answers.
-fn answered<'a>(
-    pairing: &mut Option<Pairing<'a>>,
-    completion: &Completion,
-    bytes: usize,
-) -> Answered<'a> {
-    match pairing {
-        None => Answered::Unnamed,
-        Some(pairing) => match pairing.pair(completion) {
-            Some(paired) => Answered::Taken(Taken::of(completion, bytes, paired)),
-            None => Answered::NotThere(pairing.path()),
-        },
     }
 }

@@ -3,26 +3,26 @@
 
 use crate::completion_words::{Answered, Taken, appended_lba};
 use nvme_entry::{Command, Completion, StandardCommand, Status};
-use std::io::{self, Write};
+use std::alloc::AllocError;
 
-/// Prints a completion with so many bytes of data as one JSON object on a line.
-pub(crate) fn print_completion_json<O: Write>(
+/// Adds a completion with so many bytes of data as one JSON object on a line.
+pub(crate) fn push_completion_json(
     completion: &Completion,
     bytes: usize,
     answered: &Answered<'_>,
-    out: &mut O,
-) -> io::Result<()> {
-    print_fields(completion, bytes, out)?;
+    out: &mut String,
+) -> Result<(), AllocError> {
+    push_fields(completion, bytes, out)?;
     match answered {
         Answered::Unnamed => {}
-        Answered::NotThere(_) => write!(out, ",\"line\":null")?,
-        Answered::Taken(taken) => print_taken(completion, taken, out)?,
+        Answered::NotThere(_) => out.push_str(",\"line\":null")?,
+        Answered::Taken(taken) => push_taken(completion, taken, out)?,
     }
-    writeln!(out, "}}")
+    out.push_str("}\n")
 }
 
-/// Prints the fields that every completion has.
-fn print_fields<O: Write>(completion: &Completion, bytes: usize, out: &mut O) -> io::Result<()> {
+/// Adds the fields that every completion has.
+fn push_fields(completion: &Completion, bytes: usize, out: &mut String) -> Result<(), AllocError> {
     let queue = completion.queue;
     let cid = completion.cid;
     let status = completion.status;
@@ -45,18 +45,18 @@ fn print_fields<O: Write>(completion: &Completion, bytes: usize, out: &mut O) ->
     )
 }
 
-/// Prints the fields of the submission that a completion is taken to answer: where that succeeded, also what its dwords tell, of an
+/// Adds the fields of the submission that a completion is taken to answer: where that succeeded, also what its dwords tell, of an
 /// append its first block, of a run its records and blocks.
-fn print_taken<O: Write>(
+fn push_taken(
     completion: &Completion,
     taken: &Taken<'_>,
-    out: &mut O,
-) -> io::Result<()> {
+    out: &mut String,
+) -> Result<(), AllocError> {
     let line = taken.paired.submission.line;
     let guess = !taken.fits || taken.paired.doubt.is_some();
     write!(out, ",\"line\":{line},\"guess\":{guess},\"command\":")?;
     let Some(command) = &taken.command else {
-        return write!(out, "null");
+        return out.push_str("null");
     };
     let name = name_of(command);
     write!(out, "\"{name}\"")?;

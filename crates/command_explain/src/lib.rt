@@ -13,5 +13,5 @@ mod uses;
 mod waiting;
 mod worded_command;
 
-pub use completion_words::print_answer;
-pub use worded_command::CommandWords;
+pub use completion_words::push_answer;
+pub use worded_command::push_command;

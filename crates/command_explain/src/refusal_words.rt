@@ -2,25 +2,19 @@
 
 use accepted_programs::Reason;
 use ebpf_decode::FaultKind;
-use std::fmt;
+use std::alloc::AllocError;
 
-/// The number of a reason to refuse a program, as Load's completion has it: it is shown with the reason's words.
-#[derive(Clone, Copy)]
-pub(crate) struct ReasonWords(pub(crate) u32);
-
-impl fmt::Display for ReasonWords {
-    fn fmt<W: fmt::Write>(&self, f: &mut fmt::Formatter<W>) -> fmt::Result {
-        let number = self.0;
-        write!(f, "reason {number}")?;
-        let Ok(number) = u8::try_from(number) else {
-            return Ok(());
-        };
-        if let Some(reason) = Reason::from_number(number) {
-            return write!(f, " ({reason})");
-        }
-        match FaultKind::from_number(number) {
-            Some(kind) => write!(f, " ({kind})"),
-            None => Ok(()),
-        }
+/// Adds the number of a reason to refuse a program, as Load's completion has it, with the reason's words.
+pub(crate) fn push_reason(number: u32, out: &mut String) -> Result<(), AllocError> {
+    write!(out, "reason {number}")?;
+    let Ok(number) = u8::try_from(number) else {
+        return Ok(());
+    };
+    if let Some(reason) = Reason::from_number(number) {
+        return write!(out, " ({reason})");
+    }
+    match FaultKind::from_number(number) {
+        Some(kind) => write!(out, " ({kind})"),
+        None => Ok(()),
     }
 }

@@ -2,11 +2,11 @@
 
 use command_files::Counted;
 use nvme_entry::{DESCRIPTOR_BYTES, REPORT_HEADER_BYTES, ZONE_TYPE, ZoneDescriptor, zones_told};
-use std::io::{self, Write};
+use std::alloc::AllocError;
 
-/// Prints what a report tells: how many zones, of how many descriptors it has where these are fewer, and on a line each those
+/// Adds what a report tells: how many zones, of how many descriptors it has where these are fewer, and on a line each those
 /// whose descriptors it has.
-pub(crate) fn print_report<O: Write>(report: &[u8], out: &mut O) -> io::Result<()> {
+pub(crate) fn push_report(report: &[u8], out: &mut String) -> Result<(), AllocError> {
     match report.split_first_chunk::<REPORT_HEADER_BYTES>() {
         Some((header, descriptors)) => {
             let told = zones_told(header);
@@ -16,7 +16,7 @@ pub(crate) fn print_report<O: Write>(report: &[u8], out: &mut O) -> io::Result<(
                 write!(out, "{given} of ")?;
             }
             writeln!(out, "{zones}")?;
-            print_zones(told, descriptors, out)
+            push_zones(told, descriptors, out)
         }
         None => {
             let bytes = Counted(report.len() as u64, "byte");
@@ -25,21 +25,21 @@ pub(crate) fn print_report<O: Write>(report: &[u8], out: &mut O) -> io::Result<(
     }
 }
 
-/// Prints the zones of so many descriptors, or of as many as there are.
-fn print_zones<O: Write>(told: u64, descriptors: &[u8], out: &mut O) -> io::Result<()> {
+/// Adds the zones of so many descriptors, or of as many as there are.
+fn push_zones(told: u64, descriptors: &[u8], out: &mut String) -> Result<(), AllocError> {
     let mut rest = descriptors;
     for _zone in 0..told {
         let Some((bytes, behind)) = rest.split_first_chunk::<DESCRIPTOR_BYTES>() else {
             break;
         };
-        print_zone(bytes, out)?;
+        push_zone(bytes, out)?;
         rest = behind;
     }
     Ok(())
 }
 
-/// Prints a zone. The type and the attributes are those of every descriptor that is read.
-fn print_zone<O: Write>(bytes: &[u8; DESCRIPTOR_BYTES], out: &mut O) -> io::Result<()> {
+/// Adds a zone. The type and the attributes are those of every descriptor that is read.
+fn push_zone(bytes: &[u8; DESCRIPTOR_BYTES], out: &mut String) -> Result<(), AllocError> {
     let Some(zone) = ZoneDescriptor::decode(bytes) else {
         return writeln!(
             out,

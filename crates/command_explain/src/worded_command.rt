@@ -1,73 +1,81 @@
 //! Commands in words.
 
 use command_files::Counted;
-use nvme_entry::{Command, RunCommand, StandardCommand};
-use std::fmt;
+use nvme_entry::{BlockCount, Command, RunCommand, StandardCommand};
+use std::alloc::AllocError;
 
-/// A command as the user reads it: what it does, to what.
-#[derive(Clone, Copy)]
-pub struct CommandWords<'a>(
-    /// The command.
-    pub &'a Command,
-);
-
-impl fmt::Display for CommandWords<'_> {
-    fn fmt<W: fmt::Write>(&self, f: &mut fmt::Formatter<W>) -> fmt::Result {
-        match self.0 {
-            Command::Standard(command) => standard(command, f),
-            Command::Run(command) => run(command, f),
-            Command::Load(command) => {
-                let slot = command.slot.index();
-                let bytes = Counted(u64::from(command.bytes), "byte");
-                write!(f, "load of {bytes} into slot {slot}")
-            }
-            Command::Result(slot) => {
-                let slot = slot.index();
-                write!(f, "result of slot {slot}")
-            }
+/// Adds a command as the user reads it: what it does, to what.
+///
+/// # Errors
+///
+/// Want of memory.
+pub fn push_command(command: &Command, out: &mut String) -> Result<(), AllocError> {
+    match command {
+        Command::Standard(command) => push_standard(command, out),
+        Command::Run(command) => push_run(command, out),
+        Command::Load(command) => {
+            let slot = command.slot.index();
+            let bytes = Counted(u64::from(command.bytes), "byte");
+            write!(out, "load of {bytes} into slot {slot}")
+        }
+        Command::Result(slot) => {
+            let slot = slot.index();
+            write!(out, "result of slot {slot}")
         }
     }
 }
 
-fn standard<W: fmt::Write>(command: &StandardCommand, f: &mut fmt::Formatter<W>) -> fmt::Result {
+fn push_standard(command: &StandardCommand, out: &mut String) -> Result<(), AllocError> {
     match command {
         StandardCommand::Write { lba, blocks } => {
-            let blocks = Counted(u64::from(blocks.get()), "block");
-            write!(f, "write of {blocks} from LBA {lba} on")
+            push_transfer("write", *blocks, "from LBA", *lba, " on", out)
         }
         StandardCommand::Read { lba, blocks } => {
-            let blocks = Counted(u64::from(blocks.get()), "block");
-            write!(f, "read of {blocks} from LBA {lba} on")
+            push_transfer("read", *blocks, "from LBA", *lba, " on", out)
         }
         StandardCommand::Append { lba, blocks } => {
-            let blocks = Counted(u64::from(blocks.get()), "block");
-            write!(f, "append of {blocks} to the zone of LBA {lba}")
+            push_transfer("append", *blocks, "to the zone of LBA", *lba, "", out)
         }
         StandardCommand::Receive { lba, .. } => {
-            write!(f, "report of zones from that of LBA {lba} on")
+            write!(out, "report of zones from that of LBA {lba} on")
         }
         StandardCommand::Send {
             lba,
             action,
             select_all,
-        } => {
-            let action = action.word();
-            if *select_all {
-                write!(f, "{action} of all zones that Select All takes")
-            } else {
-                write!(f, "{action} of the zone of LBA {lba}")
-            }
-        }
+        } => push_send(*lba, action.word(), *select_all, out),
     }
 }
 
-fn run<W: fmt::Write>(command: &RunCommand, f: &mut fmt::Formatter<W>) -> fmt::Result {
+/// Adds what is done to so many blocks, and where these are: the words in front of the address, and behind it.
+fn push_transfer(
+    verb: &str,
+    blocks: BlockCount,
+    place: &str,
+    lba: u64,
+    behind: &str,
+    out: &mut String,
+) -> Result<(), AllocError> {
+    let blocks = Counted(u64::from(blocks.get()), "block");
+    write!(out, "{verb} of {blocks} {place} {lba}{behind}")
+}
+
+/// Adds an action on the zone of this address, or on all.
+fn push_send(lba: u64, action: &str, select_all: bool, out: &mut String) -> Result<(), AllocError> {
+    if select_all {
+        write!(out, "{action} of all zones that Select All takes")
+    } else {
+        write!(out, "{action} of the zone of LBA {lba}")
+    }
+}
+
+fn push_run(command: &RunCommand, out: &mut String) -> Result<(), AllocError> {
     let slot = command.slot.index();
     let blocks = Counted(u64::from(command.blocks.get()), "block");
     let lba = command.lba;
     let destination = command.destination;
     write!(
-        f,
+        out,
         "run of slot {slot} over {blocks} from LBA {lba} on, to the zone of LBA {destination}"
     )
 }

@@ -1,27 +1,31 @@
 -- What a stream grows by, where the words of a fault stand in the text.
-use Rattle.std.proofs.Common.{◌≡◌, ℕ, List, [], ◌∷◌, ◌++◌, Option, Some, None, Result, Ok, Err, OnOk, IfSome, subst}
+use Rattle.std.proofs.Common.{◌≡◌, ◌<◌, ◌+◌, ◌∙◌, ℕ, List, [], ◌∷◌, ◌++◌, length, get_or, take, Option, Some, Result, Ok, Err, OnOk, ap, subst, sym, unwrap_or}
 use Rattle.std.specs.Io.KnownBytes.{Appends}
 use Rattle.std.proofs.KnownBytes.{Appends-trans}
-use Rattle.command_files.specs.Lines.{GrowsAround}
+use Rattle.std.proofs.lemmas.List.{flat_map_more, take_more}
+use Rattle.command_files.specs.Lines.{Around, IsTold, failure_text}
+use Rattle.command_files.specs.Pieces.{piece_text, pieces_text, text_with}
+use Rattle.command_files.specs.declared.failure.Failure.{Failure}
+use Rattle.command_files.specs.declared.pieces.Piece.{Piece}
+use Rattle.command_files.specs.declared.pieces.Piece.TheVariants.{Nothing}
 
--- a line, and then another that may be known
-pub two_lines : {T E : Type 0} (result : Result T E) (old between new behind : Option (List ℕ)) (first : List ℕ) (whole : List ℕ → List ℕ)
-    → ((text : List ℕ) → first ++ (text ++ 10 ∷ []) ≡ whole text) → Appends old between first
-    → OnOk result (IfSome behind (λ text. Appends between new (text ++ 10 ∷ []))) → OnOk result (IfSome behind (λ text. Appends old new (whole text)))
-two_lines (Err error) old between new behind first whole is begins goes_on = tt
-two_lines (Ok done) old between new None first whole is begins goes_on = tt
-two_lines (Ok done) old between new (Some text) first whole is begins goes_on =
-    subst (λ (t : List ℕ). Appends old new t) (is text) (Appends-trans old between new first (text ++ 10 ∷ []) begins goes_on)
+-- what the user is told of a failure whose text is known but for the words of the fault
+pub told_around : {T E : Type 0} (result : Result T E) (failure : Failure) (front words behind told : List ℕ) (old new : Option (List ℕ))
+    → failure_text failure ≡ Around front behind → Some told ≡ text_with words (Around front behind)
+    → OnOk result (Appends old new told) → OnOk result (IsTold failure old new)
+told_around (Err error) failure front words behind told old new text is grows = tt
+told_around (Ok done) failure front words behind told old new text is grows = rw text record {
+  words = words;
+  grows = subst (λ (t : List ℕ). Appends old new t) (ap (λ (known : Option (List ℕ)). unwrap_or known []) is) grows;
+}
 
--- a text that has the words between another and the line for scripts, where that is known
-pub around : {T E : Type 0} (result : Result T E) (front words : List ℕ) (behind old new : Option (List ℕ)) (whole : List ℕ → List ℕ)
-    → ((text : List ℕ) → whole text ≡ front ++ words ++ (10 ∷ text ++ 10 ∷ [])) → OnOk result (IfSome behind (λ text. Appends old new (whole text)))
-    → OnOk result (IfSome behind (λ text. GrowsAround front (10 ∷ text ++ 10 ∷ []) old new))
-around (Err error) front words behind old new whole is grows = tt
-around (Ok done) front words None old new whole is grows = tt
-around (Ok done) front words (Some text) old new whole is grows = record { words = words; grows = subst (λ (t : List ℕ). Appends old new t) (is text) grows }
-
--- the same, with another text behind the words, which is equal
-pub reframed : {T E : Type 0} (result : Result T E) (front behind other : List ℕ) (old new : Option (List ℕ))
-    → behind ≡ other → OnOk result (GrowsAround front behind old new) → OnOk result (GrowsAround front other old new)
-reframed result front behind other old new is grows = subst (λ (t : List ℕ). OnOk result (GrowsAround front t old new)) is grows
+-- one piece more
+pub printed_more : (old between new : Option (List ℕ)) (pieces : List Piece) (index : ℕ) (text : List ℕ) → index < length pieces
+    → Appends old between (pieces_text (take index pieces)) → Appends between new text → text ≡ piece_text (get_or pieces index Nothing)
+    → Appends old new (pieces_text (take (index + 1) pieces))
+printed_more old between new pieces index text within before grows is =
+    let piece = get_or pieces index Nothing in
+    let one_more : take index pieces ++ piece ∷ [] ≡ take (index + 1) pieces = sym (take_more pieces index Nothing within) in
+    subst (λ (t : List ℕ). Appends old new t) (flat_map_more piece_text [] (take index pieces) piece ∙ ap pieces_text one_more)
+    (Appends-trans old between new (pieces_text (take index pieces)) (piece_text piece) before
+    (subst (λ (t : List ℕ). Appends between new t) is grows))

@@ -1,10 +1,12 @@
 pub mod DataFault
 pub mod Failure
 pub mod FileCause
+pub mod JournalFault
 pub mod Laws
 pub mod Lines
 pub mod Shown
 pub mod Number
+pub mod Pieces
 pub mod Arguments
 pub mod Made
 pub mod Crash

@@ -1,5 +1,5 @@
 -- What a failure is printed as (profile).
-use Rattle.std.specs.Prelude.{◌≡◌, ℕ, List, [], ◌∷◌, ◌++◌, codes, Option, IfSome}
+use Rattle.std.specs.Prelude.{◌≡◌, ℕ, List, [], ◌∷◌, ◌++◌, codes, Option}
 use Rattle.std.specs.Fmt.{decimal}
 use Rattle.std.specs.String.{string_bytes}
 use Rattle.std.specs.Io.KnownBytes.{Appends}
@@ -17,6 +17,7 @@ use Rattle.image_text.specs.declared.fault.LoadFault.{LoadFault}
 use Rattle.image_store.specs.declared.geometry.GeometryRefusal.{GeometryRefusal}
 use Rattle.command_files.specs.DataFault.{data_number}
 use Rattle.command_files.specs.FileCause.{cause_words}
+use Rattle.command_files.specs.JournalFault.{fault_words}
 use Rattle.command_files.specs.Shown.{shown}
 use Rattle.command_files.specs.declared.data_fault.DataFault.{DataFault}
 use Rattle.command_files.specs.declared.failure.Failure.{Failure}
@@ -105,15 +106,14 @@ geometry_text refusal = sentence [] (codes "geometry refused " ++ decimal (geome
 abbrev pub image_text : List ℕ → LoadFault → Text
 image_text path fault = sentence (path ++ codes ": ") (codes "image refused " ++ decimal (load_number fault))
 
--- the line for scripts of a journal that is damaged, with the byte from which on it is
+-- the line for scripts of a journal that isn't done again, with the byte at which something is wrong
 abbrev pub journal_behind : ℕ → List ℕ
 journal_behind place = codes "journal refused " ++ decimal place
 
--- a journal that is damaged
-abbrev pub journal_text : List ℕ → ℕ → Text
-journal_text path place =
-    Said (path ++ codes ", byte " ++ decimal place ++ codes ": an open gate, and no whole batch of events behind it"
-    ++ 10 ∷ journal_behind place ++ 10 ∷ [])
+-- a journal of which these words say what is wrong there
+abbrev pub journal_text : List ℕ → ℕ → List ℕ → Text
+journal_text path place words =
+    Said (path ++ codes ", byte " ++ decimal place ++ codes ": " ++ words ++ 10 ∷ journal_behind place ++ 10 ∷ [])
 
 -- a journal whose device has more than an image keeps
 abbrev pub device_text : List ℕ → Text
@@ -182,7 +182,7 @@ failure_text (GeometryRefused refusal) = geometry_text refusal
 failure_text (NotABlock path bytes) = not_a_block_text (shown path.now) bytes
 failure_text (EmitExceedsBlock emit block) = emit_text emit block
 failure_text (ImageRefused path fault) = image_text (shown path.now) fault
-failure_text (JournalRefused path place) = journal_text (shown path.now) place
+failure_text (JournalRefused path place fault) = journal_text (shown path.now) place (fault_words fault)
 failure_text (DeviceRefused path) = device_text (shown path.now)
 failure_text (AssemblyRefused path refusal) = assembly_text (shown path.now) refusal
 failure_text (ProgramRefused path refusal) = program_text (shown path.now) refusal
@@ -203,14 +203,6 @@ IsPrinted (Said text) old new = Appends old new text
 IsPrinted (Around front behind) old new = GrowsAround front behind old new
 IsPrinted Elsewhere old new = Unit {0}
 IsPrinted Silence old new = new ≡ old
-
--- a stream grows by a sentence with this front and a line for scripts, where that line's text is known
-abbrev pub PrintsRefusal : List ℕ → Option (List ℕ) → Option (List ℕ) → Option (List ℕ) → Type 0
-PrintsRefusal front behind old new = IfSome behind (λ behind. IsPrinted (sentence front behind) old new)
-
--- it grows by the name of a file, a mark and words, and a line for scripts, where that line's text is known
-abbrev pub PrintsSentence : List ℕ → List ℕ → List ℕ → Option (List ℕ) → Option (List ℕ) → Option (List ℕ) → Type 0
-PrintsSentence path mark words behind old new = IfSome behind (λ behind. Appends old new (path ++ mark ++ words ++ 10 ∷ behind ++ 10 ∷ []))
 
 -- it grows by what the user is told of a failure
 abbrev pub IsTold : Failure → Option (List ℕ) → Option (List ℕ) → Type 0

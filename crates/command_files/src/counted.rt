@@ -3,7 +3,7 @@
 use std::fmt;
 
 /// So many of something, whose name takes an `s` where they aren't one: `1 byte`, `2 bytes`.
-#[derive(Clone, Copy, Debug)]
+#[derive(Clone, Copy)]
 pub struct Counted(
     /// How many they are.
     pub u64,

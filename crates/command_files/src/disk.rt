@@ -84,19 +84,20 @@ impl<R: rt::Files<File = File> + AllocGlobal> Disk<'_, R> {
         }
     }
 
-    /// Puts a file of these bytes in the place of the one whose name is held, as [`Files::begin`] and [`Files::finish`] do.
+    /// Puts a file of these bytes in the place of the one whose name is held, as [`Files::begin`] and [`Files::finish`] do. Where it can't
+    /// be written, as for want of room, the name is held still.
     ///
     /// # Errors
     ///
-    /// No name is held, or those of these two.
+    /// No name is held, or those of the system.
     pub fn replace(&mut self, bytes: &[u8]) -> Result<(), FileFault> {
         let Some(held) = &self.held else {
             return Err(FileFault::Failed(FileCause::NotFound));
         };
         let mut file = begin_beside(self.rt, held)?;
-        if file.write(bytes).is_err() {
+        if let Err(fault) = file.write_whole(bytes) {
             self.discard(file);
-            return Err(FileFault::Failed(FileCause::Other));
+            return Err(fault);
         }
         self.place(file)
     }

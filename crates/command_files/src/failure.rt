@@ -9,6 +9,7 @@ ghost use Rattle.command_files.specs.UserTold.{told_of_command_line, told_of_com
 
 use crate::data_fault::DataFault;
 use crate::file_cause::FileCause;
+use crate::journal_fault::JournalFault;
 use ebpf_asm::AssemblyRefusal;
 use ebpf_decode::ProgramRefusal;
 use emit_append::FrameRefusal;
@@ -20,7 +21,7 @@ use std::alloc::AllocError;
 use std::io::{self, ErrorKind, Write};
 
 /// Why a command ended. Its text is the last on standard error: often a sentence, and behind it a line for scripts.
-#[derive(Debug, Drop)]
+#[derive(Drop)]
 pub enum Failure<'a> {
     /// The words of the command line are no command's.
     CommandLine(clap::Error),
@@ -84,10 +85,11 @@ pub enum Failure<'a> {
         path: &'a str,
         fault: LoadFault,
     },
-    /// A journal that is damaged: from this byte of its file on it has what no crash leaves there.
+    /// A journal that isn't done again, by what is wrong at this byte of its file.
     JournalRefused {
         path: &'a str,
         place: usize,
+        fault: JournalFault,
     },
     /// A journal of which no image is made: its device has a program or a run, which no image keeps.
     DeviceRefused {

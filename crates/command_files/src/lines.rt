@@ -1,23 +1,18 @@
 //! What a failure is printed as.
 
-ghost use Rattle.std.specs.Prelude.{◌++◌, IfSome, OnOk};
+ghost use Rattle.std.specs.Prelude.{◌≡◌, ◌∷◌, ◌++◌, [], codes, Some, OnOk};
+ghost use Rattle.std.specs.Fmt.{decimal};
 ghost use Rattle.std.specs.Io.KnownBytes.{Appends};
+ghost use Rattle.command_files.specs.Lines.{IsTold, at_byte, at_line, cause_sentence, commands_text, device_text, emit_text, failure_text, journal_text, not_a_block_text, not_an_image_text, range_text, sentence};
+ghost use Rattle.command_files.specs.Pieces.{piece_text, pieces_text, text_with};
 ghost use Rattle.command_files.specs.Shown.{shown};
-ghost use Rattle.command_files.specs.Lines.{IsPrinted, IsTold, PrintsRefusal, PrintsSentence, assembly_text, at_byte, at_line, cause_sentence, commands_text, cut_off_text, data_failure_text, device_text, emit_text, frame_text, geometry_text, image_text, journal_text, line, line_front, line_failure_text, not_an_image_text, not_a_block_text, program_text, range_text, reply_failure_text, stream_text, unread_text, unwritten_text};
 
-use crate::data_fault::DataFault;
 use crate::failure::Failure;
 use crate::file_cause::FileCause;
 use crate::object_file::ProgramWords;
-use crate::shown::Shown;
-use ebpf_asm::AssemblyRefusal;
-use ebpf_decode::ProgramRefusal;
-use emit_append::FrameRefusal;
-use event_frames::Field;
-use event_text::LineFault;
-use image_store::GeometryRefusal;
-use image_text::LoadFault;
-use std::fmt::{Display, InlineText};
+use crate::pieces::Piece::{self, Named, Nothing, Number, Plain};
+use crate::pieces::print_pieces;
+use std::fmt::InlineText;
 use std::io::{self, Write};
 
 /// Room for the words of a fault, of which none has as many bytes.
@@ -32,321 +27,349 @@ impl Failure<'_> {
     pub(crate) fn print<W: Write>(&self, out: &mut W) -> io::Result<()>
         ensures { OnOk result (IsTold self.now (W.contents out.old) (W.contents out.new)) }
     {
+        let words = self.words();
         match self {
             // This text has a line end of its own.
             Failure::CommandLine(error) => write!(out, "{error}"),
-            Failure::NotText => print_line(out, "error: a word of the command line is not text"),
+            Failure::NotText => print_pieces(
+                out,
+                &alone("error: a word of the command line is not text\n"),
+            ),
             Failure::NotInRange {
                 option,
                 word,
                 least,
                 most,
-            } => print_range(out, option, word, *least, *most),
-            Failure::CannotRead(path, cause) => print_unread(out, path, *cause),
-            Failure::CannotWrite(path, cause) => print_unwritten(out, path, *cause),
-            Failure::NotAnImage(path) => print_not_an_image(out, path),
-            Failure::CannotPrint => print_line(out, "cannot write -"),
-            Failure::NoMemory => print_line(out, "no memory"),
-            Failure::LineRefused { path, line, fault } => {
-                print_line_fault(out, path, *line, *fault)
+            } => print_pieces(out, &of_range(option, word, *least, *most)),
+            Failure::CannotRead(path, cause) => print_file(out, path, *cause, "cannot read "),
+            Failure::CannotWrite(path, cause) => print_file(out, path, *cause, "cannot write "),
+            Failure::NotAnImage(path) => print_pieces(out, &of_no_image(path)),
+            Failure::CannotPrint => print_pieces(out, &alone("cannot write -\n")),
+            Failure::NoMemory => print_pieces(out, &alone("no memory\n")),
+            Failure::LineRefused { path, line, .. } => print_pieces(
+                out,
+                &of_line(path, *line, words.as_str()),
+            ),
+            Failure::ReplyRefused { path, line } => {
+                print_pieces(out, &of_line(path, *line, "not one that `exec` prints"))
             }
-            Failure::ReplyRefused { path, line } => print_reply(out, path, *line),
             Failure::WordsRefused {
                 path,
                 line,
                 told,
                 ..
-            } => print_at_line(out, path, *line, told.as_str()),
+            } => print_pieces(out, &of_line(path, *line, told.as_str())),
             Failure::CommandsRefused {
                 path,
                 line,
                 commands,
-            } => print_commands(out, path, *line, *commands),
-            Failure::GeometryRefused(refusal) => print_geometry(out, *refusal),
-            Failure::NotABlock { path, bytes } => print_not_a_block(out, path, *bytes),
-            Failure::EmitExceedsBlock { emit, block } => print_emit(out, *emit, *block),
-            Failure::ImageRefused { path, fault } => print_image(out, path, *fault),
-            Failure::JournalRefused { path, place } => print_journal(out, path, *place),
-            Failure::DeviceRefused { path } => print_device(out, path),
-            Failure::AssemblyRefused { path, refusal } => print_assembly(out, path, *refusal),
-            Failure::ProgramRefused { path, refusal } => print_program(out, path, *refusal),
-            Failure::FrameRefused { path, refusal } => print_frame(out, path, *refusal),
-            Failure::DataRefused { path, fault } => print_data(out, path, *fault),
-            Failure::StreamRefused { place, field } => print_stream(out, *place, *field),
-            Failure::StreamCutOff { place } => print_cut_off(out, *place),
+            } => print_pieces(out, &of_commands(path, *line, *commands)),
+            Failure::GeometryRefused(refusal) => {
+                let number = refusal.number() as u64;
+                print_pieces(
+                    out,
+                    &of_refusal(Nothing, "", words.as_str(), "geometry refused ", number),
+                )
+            }
+            Failure::NotABlock { path, bytes } => print_pieces(out, &of_no_block(path, *bytes)),
+            Failure::EmitExceedsBlock { emit, block } => print_pieces(out, &of_emit(*emit, *block)),
+            Failure::ImageRefused { path, fault } => {
+                let number = fault.number() as u64;
+                print_pieces(
+                    out,
+                    &of_refusal(Named(path), ": ", words.as_str(), "image refused ", number),
+                )
+            }
+            Failure::JournalRefused { path, place, fault } => {
+                print_pieces(out, &of_journal(path, *place, fault.words()))
+            }
+            Failure::DeviceRefused { path } => print_pieces(out, &of_device(path)),
+            Failure::AssemblyRefused { path, refusal } => {
+                let fault = refusal.fault;
+                print_pieces(
+                    out,
+                    &of_place(
+                        path,
+                        words.as_str(),
+                        "assembly refused ",
+                        fault.line,
+                        fault.kind.number(),
+                    ),
+                )
+            }
+            Failure::ProgramRefused { path, refusal } => {
+                let fault = refusal.fault;
+                print_pieces(
+                    out,
+                    &of_place(
+                        path,
+                        words.as_str(),
+                        "program refused ",
+                        fault.slot,
+                        fault.kind.number(),
+                    ),
+                )
+            }
+            Failure::FrameRefused { path, refusal } => {
+                let byte = refusal.refused_byte() as u64;
+                print_pieces(
+                    out,
+                    &of_refusal(Named(path), ", ", words.as_str(), "frame refused ", byte),
+                )
+            }
+            Failure::DataRefused { path, fault } => {
+                let number = fault.number() as u64;
+                print_pieces(
+                    out,
+                    &of_refusal(Named(path), ": ", words.as_str(), "data refused ", number),
+                )
+            }
+            Failure::StreamRefused { place, field } => {
+                print_pieces(out, &of_byte(*place, field.expected(), field.number()))
+            }
+            Failure::StreamCutOff { place } => {
+                print_pieces(
+                    out,
+                    &of_byte(*place, "the end of the input; the rest of a frame", 7),
+                )
+            }
             Failure::NotAccepted => Ok(()),
+        }
+    }
+
+    /// The fault's own words, where it has some.
+    fn words(&self) -> Words {
+        match self {
+            Failure::LineRefused { fault, .. } => Words::of(*fault),
+            Failure::GeometryRefused(refusal) => Words::of(*refusal),
+            Failure::ImageRefused { fault, .. } => Words::of(*fault),
+            Failure::AssemblyRefused { refusal, .. } => Words::of(*refusal),
+            Failure::ProgramRefused { refusal, .. } => Words::of(ProgramWords(*refusal)),
+            Failure::FrameRefused { refusal, .. } => Words::of(*refusal),
+            Failure::DataRefused { fault, .. } => Words::of(*fault),
+            _ => Words::of(""),
         }
     }
 }
 
-/// Prints a line.
-fn print_line<W: Write, D: Display + Drop>(out: &mut W, text: D) -> io::Result<()>
-    ensures { OnOk result (IfSome (D.output text) (λ text. IsPrinted (line text) (W.contents out.old) (W.contents out.new))) }
+/// A text that is known.
+fn alone(text: &str) -> [Piece<'_>; 1]
+    ensures { pieces_text result ≡ text.now }
 {
-    writeln!(out, "{text}")
+    [Plain(text)]
 }
 
-fn print_unread<W: Write>(out: &mut W, path: &str, cause: FileCause) -> io::Result<()>
-    ensures { OnOk result (IsPrinted (unread_text (shown path.now) cause) (W.contents out.old) (W.contents out.new)) }
+/// The word of an option that is no number from the least to the most.
+fn of_range<'p>(option: &'p str, word: &'p str, least: u64, most: u64) -> [Piece<'p>; 9]
+    ensures { Some (pieces_text result) ≡ text_with [] (range_text option.now (shown word.now) least most) }
 {
-    print_cause(out, path, cause)?;
-    let path = Shown(path);
-    print_line(out, format_args!("cannot read {path}"))
+    [
+        Plain("error: '"),
+        Named(word),
+        Plain("' for --"),
+        Plain(option),
+        Plain(" is not a number from "),
+        Number(least),
+        Plain(" to "),
+        Number(most),
+        Plain("\n"),
+    ]
 }
 
-fn print_unwritten<W: Write>(out: &mut W, path: &str, cause: FileCause) -> io::Result<()>
-    ensures { OnOk result (IsPrinted (unwritten_text (shown path.now) cause) (W.contents out.old) (W.contents out.new)) }
-{
-    print_cause(out, path, cause)?;
-    let path = Shown(path);
-    print_line(out, format_args!("cannot write {path}"))
-}
-
-fn print_not_an_image<W: Write>(out: &mut W, path: &str) -> io::Result<()>
-    ensures { OnOk result (IsPrinted (not_an_image_text (shown path.now)) (W.contents out.old) (W.contents out.new)) }
-{
-    let words = "it has bytes that are no image; `--force` replaces it";
-    print_words(out, path, ": ", words)?;
-    let path = Shown(path);
-    print_line(out, format_args!("cannot write {path}"))
-}
-
-/// Prints why a file fails, where that is known.
-fn print_cause<W: Write>(out: &mut W, path: &str, cause: FileCause) -> io::Result<()>
-    ensures { OnOk result (Appends (W.contents out.old) (W.contents out.new) (cause_sentence (shown path.now) cause)) }
+/// Prints of a file that fails why, where that is known, and the line for scripts, which begins so.
+fn print_file<'p, W: Write>(
+    out: &mut W,
+    path: &'p str,
+    cause: FileCause,
+    script: &'p str,
+) -> io::Result<()>
+    ensures { let text = cause_sentence (shown path.now) cause ++ (script.now ++ shown path.now ++ 10 ∷ []) in
+        OnOk result (Appends (W.contents out.old) (W.contents out.new) text) }
 {
     match cause {
-        FileCause::Other => Ok(()),
-        _ => print_words(out, path, ": ", cause.words()),
+        FileCause::Other => print_pieces(out, &of_file(Nothing, "", "", "", script, path)),
+        _ => {
+            let words = cause.words();
+            print_pieces(out, &of_file(Named(path), ": ", words, "\n", script, path))
+        }
     }
 }
 
-fn print_range<W: Write>(
-    out: &mut W,
-    option: &str,
-    word: &str,
-    least: u64,
-    most: u64,
-) -> io::Result<()>
-    ensures { OnOk result (IsPrinted (range_text option.now (shown word.now) least most) (W.contents out.old) (W.contents out.new)) }
+/// A file that fails, with these words of its cause.
+fn of_file<'p>(
+    name: Piece<'p>,
+    mark: &'p str,
+    words: &'p str,
+    end: &'p str,
+    script: &'p str,
+    path: &'p str,
+) -> [Piece<'p>; 7]
+    ensures { pieces_text result
+        ≡ (piece_text name.entry ++ mark.now ++ words.now ++ end.now) ++ (script.now ++ shown path.now ++ 10 ∷ []) }
 {
-    let word = Shown(word);
-    print_line(
-        out,
-        format_args!("error: '{word}' for --{option} is not a number from {least} to {most}"),
-    )
+    [
+        name,
+        Plain(mark),
+        Plain(words),
+        Plain(end),
+        Plain(script),
+        Named(path),
+        Plain("\n"),
+    ]
 }
 
-fn print_line_fault<W: Write>(
-    out: &mut W,
-    path: &str,
-    number: usize,
-    fault: LineFault,
-) -> io::Result<()>
-    ensures { OnOk result (IsPrinted (line_failure_text (shown path.now) number) (W.contents out.old) (W.contents out.new)) }
+/// A file that isn't replaced by an image, since it has bytes that are none.
+fn of_no_image(path: &str) -> [Piece<'_>; 4]
+    ensures { Some (pieces_text result) ≡ text_with [] (not_an_image_text (shown path.now)) }
 {
-    let words = Words::of(fault);
-    print_at_line(out, path, number, words.as_str())
+    [
+        Named(path),
+        Plain(": it has bytes that are no image; `--force` replaces it\ncannot write "),
+        Named(path),
+        Plain("\n"),
+    ]
 }
 
-fn print_reply<W: Write>(out: &mut W, path: &str, number: usize) -> io::Result<()>
-    ensures { OnOk result (IsPrinted (reply_failure_text (shown path.now) number) (W.contents out.old) (W.contents out.new)) }
+/// A line of a file, why it is refused, and the line for scripts.
+fn of_line<'p>(path: &'p str, number: usize, words: &'p str) -> [Piece<'p>; 8]
+    ensures { pieces_text result ≡ at_line (shown path.now) number words.now }
 {
-    print_at_line(out, path, number, "not one that `exec` prints")
+    let number = Number(number as u64);
+    [
+        Named(path),
+        Plain(", line "),
+        number,
+        Plain(": "),
+        Plain(words),
+        Plain("\nline "),
+        number,
+        Plain(" refused\n"),
+    ]
 }
 
-fn print_commands<W: Write>(out: &mut W, path: &str, number: usize, commands: u64) -> io::Result<()>
-    ensures { OnOk result (IsPrinted (commands_text (shown path.now) number commands) (W.contents out.old) (W.contents out.new)) }
+/// Commands that were refused: the line of the first, and how many they are.
+fn of_commands(path: &str, line: usize, commands: u64) -> [Piece<'_>; 6]
+    ensures { Some (pieces_text result) ≡ text_with [] (commands_text (shown path.now) line commands) }
 {
-    print_line_words(out, path, number, "the first command that was refused")?;
-    print_line(out, format_args!("commands refused {commands}"))
+    [
+        Named(path),
+        Plain(", line "),
+        Number(line as u64),
+        Plain(": the first command that was refused\ncommands refused "),
+        Number(commands),
+        Plain("\n"),
+    ]
 }
 
-fn print_geometry<W: Write>(out: &mut W, refusal: GeometryRefusal) -> io::Result<()>
-    ensures { OnOk result (IsPrinted (geometry_text refusal) (W.contents out.old) (W.contents out.new)) }
+/// A file of so many bytes, as which there is no block.
+fn of_no_block(path: &str, bytes: usize) -> [Piece<'_>; 4]
+    ensures { Some (pieces_text result) ≡ text_with [] (not_a_block_text (shown path.now) bytes) }
 {
-    let words = Words::of(refusal);
-    let number = refusal.number();
-    print_line(out, words.as_str())?;
-    print_line(out, format_args!("geometry refused {number}"))
+    [
+        Named(path),
+        Plain(": "),
+        Number(bytes as u64),
+        Plain(" bytes; a block has a power of 2 from 512 to 16384\ngeometry refused 1\n"),
+    ]
 }
 
-fn print_not_a_block<W: Write>(out: &mut W, path: &str, bytes: usize) -> io::Result<()>
-    ensures { OnOk result (IsPrinted (not_a_block_text (shown path.now) bytes) (W.contents out.old) (W.contents out.new)) }
+/// More bytes to be emitted than a block has.
+fn of_emit(emit: u32, block: u32) -> [Piece<'static>; 5]
+    ensures { Some (pieces_text result) ≡ text_with [] (emit_text emit block) }
 {
-    let path = Shown(path);
-    write!(
-        out,
-        "{path}: {bytes} bytes; a block has a power of 2 from 512 to 16384\ngeometry refused 1\n"
-    )
+    [
+        Plain("--emit gives "),
+        Number(emit as u64),
+        Plain(" bytes, and a block has "),
+        Number(block as u64),
+        Plain("\nemit exceeds block\n"),
+    ]
 }
 
-fn print_emit<W: Write>(out: &mut W, emit: u32, block: u32) -> io::Result<()>
-    ensures { OnOk result (IsPrinted (emit_text emit block) (W.contents out.old) (W.contents out.new)) }
+/// A journal of which these words say what is wrong at a byte.
+fn of_journal<'a>(path: &'a str, place: usize, words: &'a str) -> [Piece<'a>; 8]
+    ensures { Some (pieces_text result) ≡ text_with [] (journal_text (shown path.now) place words.now) }
 {
-    print_line(
-        out,
-        format_args!("--emit gives {emit} bytes, and a block has {block}"),
-    )?;
-    print_line(out, "emit exceeds block")
+    [
+        Named(path),
+        Plain(", byte "),
+        Number(place as u64),
+        Plain(": "),
+        Plain(words),
+        Plain("\njournal refused "),
+        Number(place as u64),
+        Plain("\n"),
+    ]
 }
 
-fn print_image<W: Write>(out: &mut W, path: &str, fault: LoadFault) -> io::Result<()>
-    ensures { OnOk result (IsPrinted (image_text (shown path.now) fault) (W.contents out.old) (W.contents out.new)) }
+/// A journal whose device has more than an image keeps.
+fn of_device(path: &str) -> [Piece<'_>; 2]
+    ensures { Some (pieces_text result) ≡ text_with [] (device_text (shown path.now)) }
 {
-    let number = fault.number();
-    print_refusal(
-        out,
-        path,
-        ": ",
-        fault,
-        format_args!("image refused {number}"),
-    )
+    let words =
+        ": its device has a program or a run, which no image keeps; `serve --durable` keeps them\ndevice refused\n";
+    [Named(path), Plain(words)]
 }
 
-fn print_journal<W: Write>(out: &mut W, path: &str, place: usize) -> io::Result<()>
-    ensures { OnOk result (IsPrinted (journal_text (shown path.now) place) (W.contents out.old) (W.contents out.new)) }
+/// What is refused with these words behind a name and a mark, and the line for scripts, which ends with a number.
+fn of_refusal<'p>(
+    name: Piece<'p>,
+    mark: &'p str,
+    words: &'p str,
+    script: &'p str,
+    number: u64,
+) -> [Piece<'p>; 7]
+    ensures { Some (pieces_text result)
+        ≡ text_with words.now (sentence (piece_text name.entry ++ mark.now) (script.now ++ decimal number)) }
 {
-    let path = Shown(path);
-    print_line(
-        out,
-        format_args!("{path}, byte {place}: an open gate, and no whole batch of events behind it"),
-    )?;
-    print_line(out, format_args!("journal refused {place}"))
+    [
+        name,
+        Plain(mark),
+        Plain(words),
+        Plain("\n"),
+        Plain(script),
+        Number(number),
+        Plain("\n"),
+    ]
 }
 
-fn print_device<W: Write>(out: &mut W, path: &str) -> io::Result<()>
-    ensures { OnOk result (IsPrinted (device_text (shown path.now)) (W.contents out.old) (W.contents out.new)) }
+/// What is refused at a place of a file, with these words, and the line for scripts, which ends with the place and a number.
+fn of_place<'p>(
+    path: &'p str,
+    words: &'p str,
+    script: &'p str,
+    place: usize,
+    number: u8,
+) -> [Piece<'p>; 9]
+    ensures { Some (pieces_text result)
+        ≡ text_with words.now (sentence (shown path.now ++ codes ", ") (script.now ++ decimal place ++ codes " " ++ decimal number)) }
 {
-    let path = Shown(path);
-    write!(
-        out,
-        "{path}: its device has a program or a run, which no image keeps; `serve --durable` keeps them\ndevice refused\n"
-    )
+    [
+        Named(path),
+        Plain(", "),
+        Plain(words),
+        Plain("\n"),
+        Plain(script),
+        Number(place as u64),
+        Plain(" "),
+        Number(number as u64),
+        Plain("\n"),
+    ]
 }
 
-fn print_assembly<W: Write>(out: &mut W, path: &str, refusal: AssemblyRefusal) -> io::Result<()>
-    ensures { OnOk result (IsPrinted (assembly_text (shown path.now) refusal) (W.contents out.old) (W.contents out.new)) }
+/// A byte of standard input, what is expected there, and the line for scripts.
+fn of_byte(place: u64, expected: &str, number: u8) -> [Piece<'_>; 9]
+    ensures { Some (pieces_text result) ≡ text_with [] (at_byte place expected.now number) }
 {
-    let line = refusal.fault.line;
-    let number = refusal.fault.kind.number();
-    print_refusal(
-        out,
-        path,
-        ", ",
-        refusal,
-        format_args!("assembly refused {line} {number}"),
-    )
-}
-
-fn print_program<W: Write>(out: &mut W, path: &str, refusal: ProgramRefusal) -> io::Result<()>
-    ensures { OnOk result (IsPrinted (program_text (shown path.now) refusal) (W.contents out.old) (W.contents out.new)) }
-{
-    let slot = refusal.fault.slot;
-    let number = refusal.fault.kind.number();
-    print_refusal(
-        out,
-        path,
-        ", ",
-        ProgramWords(refusal),
-        format_args!("program refused {slot} {number}"),
-    )
-}
-
-fn print_frame<W: Write>(out: &mut W, path: &str, refusal: FrameRefusal) -> io::Result<()>
-    ensures { OnOk result (IsPrinted (frame_text (shown path.now) refusal) (W.contents out.old) (W.contents out.new)) }
-{
-    let byte = refusal.refused_byte();
-    print_refusal(
-        out,
-        path,
-        ", ",
-        refusal,
-        format_args!("frame refused {byte}"),
-    )
-}
-
-fn print_data<W: Write>(out: &mut W, path: &str, fault: DataFault) -> io::Result<()>
-    ensures { OnOk result (IsPrinted (data_failure_text (shown path.now) fault) (W.contents out.old) (W.contents out.new)) }
-{
-    let number = fault.number();
-    print_refusal(
-        out,
-        path,
-        ": ",
-        fault,
-        format_args!("data refused {number}"),
-    )
-}
-
-fn print_stream<W: Write>(out: &mut W, place: u64, field: Field) -> io::Result<()>
-    ensures { OnOk result (IsPrinted (stream_text place field) (W.contents out.old) (W.contents out.new)) }
-{
-    print_at_byte(out, place, field.expected(), field.number())
-}
-
-fn print_cut_off<W: Write>(out: &mut W, place: u64) -> io::Result<()>
-    ensures { OnOk result (IsPrinted (cut_off_text place) (W.contents out.old) (W.contents out.new)) }
-{
-    print_at_byte(out, place, "the end of the input; the rest of a frame", 7)
-}
-
-/// Prints a sentence on a byte of standard input, and a line for scripts.
-fn print_at_byte<W: Write>(out: &mut W, place: u64, expected: &str, number: u8) -> io::Result<()>
-    ensures { OnOk result (IsPrinted (at_byte place expected.now number) (W.contents out.old) (W.contents out.new)) }
-{
-    write!(
-        out,
-        "standard input, byte {place}: {expected} is expected\nstream refused {place} {number}\n"
-    )
-}
-
-/// Prints a sentence, in which the words of a fault stand behind a file's name and a mark, and a line for scripts.
-fn print_refusal<W: Write, D: Display + Drop, B: Display + Drop>(
-    out: &mut W,
-    path: &str,
-    mark: &str,
-    fault: D,
-    behind: B,
-) -> io::Result<()>
-    ensures { OnOk result (PrintsRefusal (shown path.now ++ mark.now) (B.output behind) (W.contents out.old) (W.contents out.new)) }
-{
-    let words = Words::of(fault);
-    print_sentence(out, path, mark, words.as_str(), behind)
-}
-
-/// Prints a sentence and a line for scripts.
-fn print_sentence<W: Write, B: Display + Drop>(
-    out: &mut W,
-    path: &str,
-    mark: &str,
-    words: &str,
-    behind: B,
-) -> io::Result<()>
-    ensures { OnOk result (PrintsSentence (shown path.now) mark.now words.now (B.output behind) (W.contents out.old) (W.contents out.new)) }
-{
-    print_words(out, path, mark, words)?;
-    print_line(out, behind)
-}
-
-/// Prints a sentence on a line of a file, and a line for scripts.
-fn print_at_line<W: Write>(out: &mut W, path: &str, number: usize, words: &str) -> io::Result<()>
-    ensures { OnOk result (Appends (W.contents out.old) (W.contents out.new) (at_line (shown path.now) number words.now)) }
-{
-    print_line_words(out, path, number, words)?;
-    print_line(out, format_args!("line {number} refused"))
-}
-
-fn print_words<W: Write>(out: &mut W, path: &str, mark: &str, words: &str) -> io::Result<()>
-    ensures { OnOk result (IsPrinted (line (shown path.now ++ mark.now ++ words.now)) (W.contents out.old) (W.contents out.new)) }
-{
-    let path = Shown(path);
-    writeln!(out, "{path}{mark}{words}")
-}
-
-fn print_line_words<W: Write>(out: &mut W, path: &str, number: usize, words: &str) -> io::Result<()>
-    ensures { OnOk result (IsPrinted (line (line_front (shown path.now) number ++ words.now)) (W.contents out.old) (W.contents out.new)) }
-{
-    let path = Shown(path);
-    writeln!(out, "{path}, line {number}: {words}")
+    [
+        Plain("standard input, byte "),
+        Number(place),
+        Plain(": "),
+        Plain(expected),
+        Plain(" is expected\nstream refused "),
+        Number(place),
+        Plain(" "),
+        Number(number as u64),
+        Plain("\n"),
+    ]
 }

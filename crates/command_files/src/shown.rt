@@ -19,7 +19,8 @@ impl fmt::Display for Shown<'_> {
     }
 }
 
-fn write_text<W: fmt::Write>(f: &mut fmt::Formatter<W>, text: &str) -> fmt::Result
+/// Writes a text as a terminal shows it.
+pub(crate) fn write_text<W: fmt::Write>(f: &mut fmt::Formatter<W>, text: &str) -> fmt::Result
     ensures { WritesOnOk W.write_str_gives f.old result (shown text.now) f.new }
 {
     for character in text.chars() {

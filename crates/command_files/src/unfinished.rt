@@ -213,6 +213,17 @@ pub struct FileWriter {
 }
 
 impl FileWriter {
+    /// Hands the system all of these bytes, to a file of no bytes yet.
+    ///
+    /// # Errors
+    ///
+    /// Those of the system.
+    pub(crate) fn write_whole(&mut self, bytes: &[u8]) -> Result<(), FileFault> {
+        self.file.write_all(bytes)?;
+        self.written.add(bytes);
+        Ok(self.file.flush()?)
+    }
+
     /// Hands the system all that was written and is still held back.
     ///
     /// # Errors

@@ -7,16 +7,20 @@ use Rattle.image_text.specs.Reading.{namespace_in}
 use Rattle.image_text.specs.declared.fault.LoadFault.{LoadFault}
 use Rattle.image_text.specs.declared.fault.LoadFault.TheVariants.{Magic, Memory, Stream}
 use Rattle.device_meaning.specs.State.{State, new_state}
-use Rattle.durable_machine.specs.Refused.{IsDamaged}
+use Rattle.durable_machine.specs.Refused.{IsDamaged, IsUndone}
 use Rattle.durable_machine.specs.declared.fault.Fault.{Fault}
-use Rattle.durable_machine.specs.declared.fault.Fault.TheVariants.{Damaged, OfFile, Unreadable}
+use Rattle.durable_machine.specs.declared.fault.Fault.TheVariants.{Damaged, OfFile, Undone, Unreadable}
 use Rattle.durable_device.specs.Kept.{RefusesBytes, StandsFor, StandsForIt}
 use Rattle.durable_device.specs.Machine.{IsDeviceBase, next_state}
 use Rattle.command_files.specs.Made.{AreAsTold}
 use Rattle.command_files.specs.declared.failure.Failure.{Failure}
-use Rattle.command_images.specs.Devices.{AreDamaged, IsNoImage, StandForNone, TellDevice, TellNamespace}
+use Rattle.command_files.specs.declared.failure.Failure.TheVariants.{ImageRefused, JournalRefused, NoMemory}
+use Rattle.command_files.specs.declared.journal_fault.JournalFault.{JournalFault}
+use Rattle.command_files.specs.declared.journal_fault.JournalFault.TheVariants.{NoBase, OpenGate}
+use Rattle.command_files.specs.declared.journal_fault.JournalFault.TheVariants as journal
+use Rattle.command_images.specs.Devices.{AreFaulty, IsNoImage, StandForNone, TellDevice, TellNamespace}
 use Rattle.command_images.specs.UserTold.{LoadingDeviceFails}
-use Rattle.command_images.specs.steps.Told.{RefusesJournal, told_of_image, told_of_journal}
+use Rattle.command_images.specs.steps.Told.{RefusesJournal, TellsJournal, told_of_image}
 
 -- ---- what stands for a device
 
@@ -75,34 +79,41 @@ fails_as_image reads contents read path fault told other fails = (refl, λ known
         let failed : namespace_in bytes ≡ Err fault = ap namespace_in (sym same) ∙ is in
         (failed, stand_for_none bytes fault failed (λ magic. absurd (other magic)))
 
--- of a journal that stands for none
-pub fails_as_journal : (reads : Type 0) (contents : Option (List ℕ)) (read : List ℕ) (path : Bor (List ℕ)) (fault : Fault)
-    → AreAsTold contents read → (reads → IsNoImage contents) → RefusesBytes read fault
-    → LoadingDeviceFails reads contents path.now (told_of_journal path fault)
-fails_as_journal reads contents read path Unreadable told none refused = (refl, λ known. at contents told (none known))
-  where
-    at : (held : Option (List ℕ)) → AreAsTold held read → IfSome held (λ bytes. namespace_in bytes ≡ Err Magic)
-        → IfSome held (λ bytes. (namespace_in bytes ≡ Err Magic) × StandForNone bytes)
-    at None same is = tt
-    at (Some bytes) same is =
-        (is, stand_for_none bytes Magic is (λ magic s stands. refused s (subst (λ (file : List ℕ). StandsFor file s) (sym same) stands)))
-fails_as_journal reads contents read path (Damaged place) told none refused = (refl, λ known. at contents told (none known))
-  where
-    at : (held : Option (List ℕ)) → AreAsTold held read → IfSome held (λ bytes. namespace_in bytes ≡ Err Magic) → IfSome held (AreDamaged place)
-    at None same is = tt
-    at (Some bytes) same is = (
-      subst (λ (file : List ℕ). IsDamaged IsDeviceBase next_state place file) same refused.0,
-      stand_for_none bytes Magic is (λ magic s stands. refused.1 s (subst (λ (file : List ℕ). StandsFor file s) (sym same) stands)),
-    )
-fails_as_journal reads contents read path (OfFile error) told none refused = tt
+-- of a journal that is refused
+module _ (reads : Type 0) (contents : Option (List ℕ)) (read : List ℕ) (path : Bor (List ℕ)) (told : AreAsTold contents read) (none : reads → IsNoImage contents) where
+  abbrev Fails : Failure → Type 0
+  Fails failure = LoadingDeviceFails reads contents path.now failure
+
+  -- where nothing stands for a device
+  stand_none : ((s : State) → StandsFor read s → ⊥) → (bytes : List ℕ) → read ≡ bytes → namespace_in bytes ≡ Err Magic → StandForNone bytes
+  stand_none refused bytes same is = stand_for_none bytes Magic is (λ magic s stands. refused s (subst (λ (file : List ℕ). StandsFor file s) (sym same) stands))
+
+  no_base : ((s : State) → StandsFor read s → ⊥) → (held : Option (List ℕ)) → AreAsTold held read → IfSome held (λ bytes. namespace_in bytes ≡ Err Magic)
+      → IfSome held (λ bytes. (namespace_in bytes ≡ Err Magic) × StandForNone bytes)
+  no_base refused None same is = tt
+  no_base refused (Some bytes) same is = (is, stand_none refused bytes same is)
+
+  faulty : (fault : JournalFault) (place : ℕ) → ((bytes : List ℕ) → read ≡ bytes → namespace_in bytes ≡ Err Magic → AreFaulty fault place bytes) → (held : Option (List ℕ)) → AreAsTold held read
+      → IfSome held (λ bytes. namespace_in bytes ≡ Err Magic) → IfSome held (AreFaulty fault place)
+  faulty fault place so None same is = tt
+  faulty fault place so (Some bytes) same is = so bytes same is
+
+  pub fails_as_journal : (fault : Fault) (failure : Failure) → RefusesBytes read fault → TellsJournal path fault failure → Fails failure
+  fails_as_journal Unreadable failure refused (inl is) = subst Fails (sym is) (refl, λ known. no_base refused contents told (none known))
+  fails_as_journal Unreadable failure refused (inr is) =
+      subst Fails (sym is) (refl, λ known. faulty NoBase 0 (λ bytes same magic. (refl, stand_none refused bytes same magic)) contents told (none known))
+  fails_as_journal (Damaged place) failure refused is =
+      subst Fails (sym is) (refl, λ known. faulty OpenGate place (λ bytes same magic. (subst (λ (file : List ℕ). IsDamaged IsDeviceBase next_state place file) same refused.0, stand_none refused.1 bytes same magic)) contents told (none known))
+  fails_as_journal (Undone place) failure refused is =
+      subst Fails (sym is) (refl, λ known. faulty journal.Undone place (λ bytes same magic. subst (λ (file : List ℕ). IsUndone IsDeviceBase next_state place file) same refused) contents told (none known))
+  fails_as_journal (OfFile error) failure refused is = subst Fails (sym is) tt
 
 pub refused_as_journal : {T : Type 0} (reads : Type 0) (contents : Option (List ℕ)) (read slice : List ℕ) (path : Bor (List ℕ)) → slice ≡ read
     → AreAsTold contents read → (reads → IsNoImage contents) → (result : Result T Failure) → IfErr result (RefusesJournal path slice)
     → IfErr result (LoadingDeviceFails reads contents path.now)
 refused_as_journal reads contents read slice path same told none (Ok device) refused = tt
 refused_as_journal reads contents read slice path same told none (Err failure) refused =
-    subst (λ (f : Failure). LoadingDeviceFails reads contents path.now f) (sym refused.told)
-    (fails_as_journal reads contents read path refused.fault told none (subst (λ (bytes : List ℕ). RefusesBytes bytes refused.fault) same refused.refused))
+    fails_as_journal reads contents read path told none refused.fault failure (subst (λ (bytes : List ℕ). RefusesBytes bytes refused.fault) same refused.refused) refused.told
 
 -- ---- what is read
 

@@ -4,9 +4,11 @@ use Rattle.image_store.specs.Namespace.{ZonedNamespace}
 use Rattle.image_text.specs.Reading.{namespace_in}
 use Rattle.image_text.specs.declared.fault.LoadFault.TheVariants.{Magic}
 use Rattle.device_meaning.specs.State.{State, new_state}
-use Rattle.durable_machine.specs.Refused.{IsDamaged}
+use Rattle.durable_machine.specs.Refused.{IsDamaged, IsUndone}
 use Rattle.durable_device.specs.Kept.{StandsForIt}
 use Rattle.durable_device.specs.Machine.{IsDeviceBase, next_state}
+use Rattle.command_files.specs.declared.journal_fault.JournalFault.{JournalFault}
+use Rattle.command_files.specs.declared.journal_fault.JournalFault.TheVariants.{NoBase, OpenGate, Undone}
 
 -- the bytes are an image, whose device has neither a program nor a run
 pub record AreImage (bytes : List ℕ) (s : State) : Type 0 where
@@ -44,6 +46,9 @@ pub record TellMore (bytes : Option (List ℕ)) : Type 0 where
 abbrev pub StandForNone : List ℕ → Type 0
 StandForNone bytes = (s : State) → AreOf bytes s → ⊥
 
--- they are a journal that is damaged from this byte on, and stand for no device
-abbrev pub AreDamaged : ℕ → List ℕ → Type 0
-AreDamaged place bytes = IsDamaged IsDeviceBase next_state place bytes × StandForNone bytes
+-- they are a journal that has a fault at this byte: what no crash leaves from there on, so that they stand for no device; an event there
+-- that changes nothing when it is done again; or no base at the front, so that they stand for no device
+abbrev pub AreFaulty : JournalFault → ℕ → List ℕ → Type 0
+AreFaulty OpenGate place bytes = IsDamaged IsDeviceBase next_state place bytes × StandForNone bytes
+AreFaulty Undone place bytes = IsUndone IsDeviceBase next_state place bytes
+AreFaulty NoBase place bytes = (place ≡ 0) × StandForNone bytes

@@ -9,7 +9,7 @@ use Rattle.image_store.specs.declared.geometry.GeometryRefusal.{GeometryRefusal}
 use Rattle.command_files.specs.declared.failure.Failure.{Failure}
 use Rattle.command_files.specs.declared.failure.Failure.TheVariants.{NotInRange, CannotRead, CannotWrite, DeviceRefused, JournalRefused, NoMemory, NotAnImage, GeometryRefused, ImageRefused}
 use Rattle.command_files.specs.UserTold.{IsUnwritten, SpellsNone}
-use Rattle.command_images.specs.Devices.{AreDamaged, StandForNone, TellMore}
+use Rattle.command_images.specs.Devices.{AreFaulty, StandForNone, TellMore}
 use Rattle.command_images.specs.Images.{IsAnother, IsAskedFor, IsForced}
 
 -- the options that give the numbers of a shape
@@ -52,7 +52,7 @@ LoadingFails reads bytes path _ = ⊥
 abbrev pub LoadingDeviceFails : Type 0 → Option (List ℕ) → List ℕ → Failure → Type 0
 LoadingDeviceFails reads bytes path (ImageRefused told fault) =
     (told.now ≡ path) × (reads → IfSome bytes (λ bytes. (namespace_in bytes ≡ Err fault) × StandForNone bytes))
-LoadingDeviceFails reads bytes path (JournalRefused told place) = (told.now ≡ path) × (reads → IfSome bytes (AreDamaged place))
+LoadingDeviceFails reads bytes path (JournalRefused told place fault) = (told.now ≡ path) × (reads → IfSome bytes (AreFaulty fault place))
 LoadingDeviceFails reads bytes path (CannotRead told cause) = told.now ≡ path
 LoadingDeviceFails reads bytes path NoMemory = Unit {0}
 LoadingDeviceFails reads bytes path _ = ⊥

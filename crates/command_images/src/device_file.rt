@@ -7,12 +7,13 @@ ghost use Rattle.command_files.specs.Made.{AreAsTold};
 ghost use Rattle.command_files.specs.UserTold.{IsUnread};
 ghost use Rattle.command_images.specs.Devices.{IsNoImage, TellDevice, TellNamespace};
 ghost use Rattle.command_images.specs.UserTold.{LoadingDeviceFails, ReplacingFails};
-ghost use Rattle.command_images.specs.steps.Told.{RefusesJournal, RefusesMore, told_of_journal};
+ghost use Rattle.command_images.specs.steps.Told.{RefusesJournal, RefusesMore, TellsJournal};
 
 use crate::image_file;
-use command_files::{Failure, Files, cannot_read, read};
+use command_files::{Failure, Files, JournalFault, cannot_read, read};
 use durable_device::device_in;
 use durable_machine::Fault;
+use image_base::MAGIC;
 use image_store::Image;
 use image_text::{ImageText, LoadFault};
 use runner::Device;
@@ -200,20 +201,30 @@ fn journal_device<'a>(
 {
     match device_in(alloc, bytes) {
         Ok(device) => Ok(device),
-        Err(fault) => Err(journal_refused(path, fault)),
+        Err(fault) => Err(journal_refused(path, bytes, fault)),
     }
 }
 
-/// What the user is told of a journal that stands for no device: of one without a whole base what is told of a file that is no image.
-fn journal_refused<'a>(path: &'a str, fault: Fault) -> Failure<'a>
-    ensures told { result ≡ told_of_journal path.entry fault }
+/// What the user is told of a journal that stands for no device. Without a whole base it is one only where it begins as one, and then it
+/// has its fault at the front; else it is a file that is no image.
+fn journal_refused<'a>(path: &'a str, bytes: &[u8], fault: Fault) -> Failure<'a>
+    ensures told { TellsJournal path.entry fault result }
     ensures not_printing { result ≢ Failure.CannotPrint }
 {
     match fault {
-        Fault::Damaged(place) => Failure::JournalRefused { path, place },
+        Fault::Damaged(place) => refused_at(path, place, JournalFault::OpenGate),
+        Fault::Undone(place) => refused_at(path, place, JournalFault::Undone),
+        Fault::Unreadable if bytes.starts_with(&MAGIC) => refused_at(path, 0, JournalFault::NoBase),
         Fault::Unreadable => image_file::refused(path, LoadFault::Magic),
         Fault::OfFile(_) => Failure::NoMemory,
     }
+}
+
+/// A journal with this fault at a byte.
+fn refused_at<'a>(path: &'a str, place: usize, fault: JournalFault) -> Failure<'a>
+    ensures { result ≡ Failure.JournalRefused path.entry place fault }
+{
+    Failure::JournalRefused { path, place, fault }
 }
 
 /// The device of an image that was loaded.

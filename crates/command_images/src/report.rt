@@ -9,8 +9,8 @@ use command_files::arguments::required;
 use command_files::{Failure, Files, printed};
 use command_words::{Argument, Takes, Words};
 use image_store::Image;
-use std::alloc::Global;
-use std::io::{self, Write};
+use std::alloc::{AllocError, Global};
+use std::io::Write;
 use zone_state::{Zone, ZoneState};
 
 /// The command's name.
@@ -84,15 +84,27 @@ pub fn report<'a, F: Files, O: Write>(
 {
     let device = device_file::load(alloc, required(matches, IMAGE), files)?;
     let image = device.image();
-    if matches.get_flag(JSON) {
-        printed(print_json(image, out))
+    let text = if matches.get_flag(JSON) {
+        document_of(alloc, image)?
     } else {
-        printed(print(image, out))
-    }
+        lines_of(alloc, image)?
+    };
+    printed(out.write_all(text.as_bytes()))
 }
 
-/// Prints the geometry and how much of the limits is in use on a line, and each zone on one behind it.
-fn print<O: Write>(image: &Image, out: &mut O) -> io::Result<()> {
+/// The geometry and how much of the limits is in use on a line, and each zone on one behind it.
+fn lines_of(alloc: Global, image: &Image) -> Result<String, AllocError> {
+    let size = image.geometry().size();
+    let mut lines = String::new(alloc);
+    push_geometry(image, &mut lines)?;
+    for (number, zone) in image.zones().iter().enumerate() {
+        push_zone(number as u64 * u64::from(size), size, zone, &mut lines)?;
+    }
+    Ok(lines)
+}
+
+/// Adds the geometry and how much of the limits is in use.
+fn push_geometry(image: &Image, out: &mut String) -> Result<(), AllocError> {
     let geometry = image.geometry();
     let limits = geometry.limits();
     let counts = image.counts();
@@ -107,15 +119,11 @@ fn print<O: Write>(image: &Image, out: &mut O) -> io::Result<()> {
         limits.open_limit,
         counts.active,
         limits.active_limit
-    )?;
-    for (number, zone) in image.zones().iter().enumerate() {
-        print_zone(number as u64 * u64::from(size), size, zone, out)?;
-    }
-    Ok(())
+    )
 }
 
-/// Prints a zone that begins at this address and has so many blocks.
-fn print_zone<O: Write>(start: u64, size: u32, zone: &Zone, out: &mut O) -> io::Result<()> {
+/// Adds a zone that begins at this address and has so many blocks.
+fn push_zone(start: u64, size: u32, zone: &Zone, out: &mut String) -> Result<(), AllocError> {
     let capacity = zone.capacity();
     let pointer = match zone.state() {
         ZoneState::Full => size,
@@ -143,8 +151,23 @@ fn short_name(state: ZoneState) -> &'static str {
     }
 }
 
-/// Prints the same as one JSON object on a line. Its values are numbers, and words of lower case letters alone.
-fn print_json<O: Write>(image: &Image, out: &mut O) -> io::Result<()> {
+/// The same as one JSON object on a line. Its values are numbers, and words of lower case letters alone.
+fn document_of(alloc: Global, image: &Image) -> Result<String, AllocError> {
+    let size = image.geometry().size();
+    let mut document = String::new(alloc);
+    push_fields(image, &mut document)?;
+    for (number, zone) in image.zones().iter().enumerate() {
+        if number > 0 {
+            document.push_str(",")?;
+        }
+        push_object(number, number as u64 * u64::from(size), zone, &mut document)?;
+    }
+    document.push_str("]}\n")?;
+    Ok(document)
+}
+
+/// Adds the fields of the image, up to the list of its zones.
+fn push_fields(image: &Image, out: &mut String) -> Result<(), AllocError> {
     let geometry = image.geometry();
     let limits = geometry.limits();
     let counts = image.counts();
@@ -160,23 +183,11 @@ fn print_json<O: Write>(image: &Image, out: &mut O) -> io::Result<()> {
         limits.open_limit,
         counts.active,
         limits.active_limit
-    )?;
-    for (number, zone) in image.zones().iter().enumerate() {
-        if number > 0 {
-            write!(out, ",")?;
-        }
-        print_json_zone(number, number as u64 * u64::from(size), zone, out)?;
-    }
-    writeln!(out, "]}}")
+    )
 }
 
-/// Prints the object of a zone.
-fn print_json_zone<O: Write>(
-    number: usize,
-    start: u64,
-    zone: &Zone,
-    out: &mut O,
-) -> io::Result<()> {
+/// Adds the object of a zone.
+fn push_object(number: usize, start: u64, zone: &Zone, out: &mut String) -> Result<(), AllocError> {
     let state = zone.state().word();
     let code = zone.state().code();
     let written = zone.written();

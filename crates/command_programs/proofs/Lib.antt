@@ -1,4 +1,5 @@
 mod Assembling
+mod NoPrograms
 mod Texts
 mod Tracing
 mod Verdicts

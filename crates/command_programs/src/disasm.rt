@@ -1,9 +1,10 @@
 //! The command `disasm`: a program as text.
 
-ghost use Rattle.std.specs.Prelude.{◌≡◌, IfOk, OnOk};
+ghost use Rattle.std.specs.Prelude.{◌≡◌, ◌≢◌, IfErr, IfOk, OnOk};
 ghost use Rattle.std.specs.String.{string_bytes};
 ghost use Rattle.command_programs.specs.MakesProgram.{program_file_of};
 ghost use Rattle.command_programs.specs.Printed.{PrintsListing, listed};
+ghost use Rattle.command_programs.specs.UserTold.{DisasmFails};
 
 use crate::flags::is_set;
 use crate::printing::print;
@@ -62,7 +63,8 @@ pub static WORDS: Words = Words {
 };
 
 /// Prints the listing of the program that the file's bytes spell, and nothing else; with `--slots` each instruction's slot
-/// stands before it. It makes no file: each has the bytes that it had.
+/// stands before it. It makes no file: each has the bytes that it had. Where another thing than standard output fails, nothing is
+/// printed.
 ///
 /// # Errors
 ///
@@ -75,6 +77,8 @@ pub fn disasm<'a, F: Files, O: Write>(
 ) -> Result<(), Failure<'a>>
     ensures printed { let bytes = F.contents files.old (program_file_of matches.now) in
         OnOk result (PrintsListing matches.now bytes (O.contents out.old) (O.contents out.new)) }
+    ensures failed { let path = program_file_of matches.now in IfErr result (DisasmFails (F.contents files.old path) path) }
+    ensures quiet { IfErr result (λ failure. failure ≢ Failure.CannotPrint → O.contents out.new ≡ O.contents out.old) }
     ensures made { F.made files.new ≡ F.made files.old }
     ensures contents { F.contents files.new ≡ F.contents files.old }
 {

@@ -1,7 +1,8 @@
 //! Programs in files.
 
-ghost use Rattle.std.specs.Prelude.{◌≡◌, ◌≢◌, Err, IfOk};
+ghost use Rattle.std.specs.Prelude.{◌≡◌, ◌≢◌, Err, IfErr, IfOk};
 ghost use Rattle.command_programs.specs.Asked.{Spell};
+ghost use Rattle.command_programs.specs.UserTold.{IsNoProgram};
 ghost use Rattle.command_programs.specs.steps.Told.{told_of_program};
 
 use command_files::{Failure, Files, read};
@@ -18,6 +19,7 @@ pub(crate) fn program_in_file<'a, F: Files>(
     ensures made { F.made files.new ≡ F.made files.old }
     ensures contents { F.contents files.new ≡ F.contents files.old }
     ensures spelled { IfOk result (λ program. Spell (F.contents files.old path.now) program) }
+    ensures failed { IfErr result (IsNoProgram (F.contents files.old path.now) path.now) }
     ensures not_judged { result ≢ Err Failure.NotAccepted }
 {
     let file = read(path, files)?;

@@ -1,6 +1,6 @@
 //! The command `unpack`: the records of output blocks.
 
-ghost use Rattle.std.specs.Prelude.{◌≡◌, ◌++◌, codes, Ok, IfOk, OnOk};
+ghost use Rattle.std.specs.Prelude.{◌≡◌, ◌≢◌, ◌++◌, codes, Ok, IfErr, IfOk, OnOk};
 ghost use Rattle.std.specs.Fmt.{decimal};
 ghost use Rattle.std.specs.String.{string_bytes};
 ghost use Rattle.emit_append.specs.Unpacking.{record_bytes, unpacked};
@@ -59,7 +59,8 @@ pub static WORDS: Words = Words {
 };
 
 /// Prints the records of the output blocks that the file's bytes are, in order, each in hexadecimal on a line, or all as one
-/// JSON object, and nothing else. It makes no file: each has the bytes that it had.
+/// JSON object, and nothing else. It makes no file: each has the bytes that it had. Where another thing than standard output fails,
+/// nothing is printed.
 ///
 /// # Errors
 ///
@@ -73,6 +74,7 @@ pub fn unpack<'a, F: Files, O: Write>(
 ) -> Result<(), Failure<'a>>
     ensures printed { let bytes = F.contents files.old (blocks_file_of matches.now) in
         OnOk result (PrintsRecords matches.now bytes (O.contents out.old) (O.contents out.new)) }
+    ensures quiet { IfErr result (λ failure. failure ≢ Failure.CannotPrint → O.contents out.new ≡ O.contents out.old) }
     ensures made { F.made files.new ≡ F.made files.old }
     ensures contents { F.contents files.new ≡ F.contents files.old }
 {

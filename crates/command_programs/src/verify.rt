@@ -1,6 +1,6 @@
 //! The command `verify`: says whether a program is accepted.
 
-ghost use Rattle.std.specs.Prelude.{◌≡◌, ◌≢◌, codes, Err, Some, IfOk, OnOk};
+ghost use Rattle.std.specs.Prelude.{◌≡◌, ◌≢◌, codes, Err, Some, IfErr, IfOk, OnOk};
 ghost use Rattle.clap.specs.Matches.{found_of, first_value};
 ghost use Rattle.program_interface.specs.RunSizes.{sizes_with};
 ghost use Rattle.command_files.specs.Arguments.{number_of};
@@ -153,6 +153,7 @@ pub static WORDS: Words = Words {
 /// Prints whether the program that the file's bytes spell is accepted for the sizes that the options give, or the first
 /// refusal, on a line; with `--explain` and with `--facts` lines behind it, which aren't said; with `--json` in place of all these
 /// one JSON object, of a refused program with further fields, which aren't said either. It makes no file: each has the bytes that it had.
+/// Where the program isn't judged, nothing is printed.
 ///
 /// # Errors
 ///
@@ -168,6 +169,8 @@ pub fn verify<'a, F: Files, O: Write>(
         OnOk result (PrintsAccepted matches.now bytes (O.contents out.old) (O.contents out.new)) }
     ensures refused { let bytes = F.contents files.old (program_file_of matches.now) in
         result ≡ Err Failure.NotAccepted → PrintsRefused matches.now bytes (O.contents out.old) (O.contents out.new) }
+    ensures quiet { IfErr result (λ failure. failure ≢ Failure.CannotPrint → failure ≢ Failure.NotAccepted
+        → O.contents out.new ≡ O.contents out.old) }
     ensures made { F.made files.new ≡ F.made files.old }
     ensures contents { F.contents files.new ≡ F.contents files.old }
 {
@@ -237,6 +240,8 @@ fn say<'a, O: Write>(
     ensures accepted { OnOk result (SaysAccepted (operations_of profile) program.now sizes form (O.contents out.old) (O.contents out.new)) }
     ensures refused { result ≡ Err Failure.NotAccepted
         → SaysRefused (operations_of profile) program.now sizes form (O.contents out.old) (O.contents out.new) }
+    ensures quiet { IfErr result (λ failure. failure ≢ Failure.CannotPrint → failure ≢ Failure.NotAccepted
+        → O.contents out.new ≡ O.contents out.old) }
 {
     let instructions = program.instruction_count();
     match judged(alloc, program, sizes, profile, form)? {

@@ -1,5 +1,6 @@
 -- What is done and saved.
-use Rattle.std.proofs.Common.{◌≡◌, ℕ, List, Option, Result, Ok, Err, OnOk, IfErr, refl, subst, sym}
+use Rattle.std.proofs.Common.{◌≡◌, ℕ, List, Option, Some, None, Result, Ok, Err, OnOk, IfErr, ap, inl, inr, refl, subst, sym}
+use Rattle.std.specs.Option.{option_map_or}
 use Rattle.std.specs.Borrow.{Bor}
 use Rattle.clap.specs.declared.parser.matches.ArgMatches.{ArgMatches}
 use Rattle.common_definitions.specs.Failures.{CountsFailure}
@@ -9,8 +10,10 @@ use Rattle.device_events.specs.Printed.{Printed}
 use Rattle.device_meaning.specs.Draining.{HasDrained, HasStoppedDraining}
 use Rattle.device_meaning.specs.State.{State, new_state}
 use Rattle.event_frames.specs.Written.{Took}
+use Rattle.event_frames.specs.declared.fault.StreamFault.TheVariants as stream
 use Rattle.live_serve.specs.Served.{Server, ServesStream, seen}
 use Rattle.live_serve.specs.declared.fault.ServeFault.{ServeFault}
+use Rattle.live_serve.specs.declared.fault.ServeFault.TheVariants as fault
 use Rattle.runner.specs.declared.device.Stopped.{Stopped}
 use Rattle.command_files.specs.Made.{Made}
 use Rattle.command_files.specs.Surroundings.{Surroundings, around}
@@ -20,8 +23,8 @@ use Rattle.command_files.specs.declared.files.Files.{Ghosts}
 use Rattle.command_images.specs.Devices.{TellNamespace}
 use Rattle.command_images.specs.Images.{HasText, image_of}
 use Rattle.command_images.specs.UserTold.{IsUnheld, ReplacingFails}
-use Rattle.command_serve.specs.steps.Told.{IsTold}
-use Rattle.command_serve.specs.Served.{EndsRuns, FilesThen, InRuns, IsSaved, Serves, ServesAndDrains, ServesFirst, ServesImage, StoppedBy, StopsBefore, StopsEarly, StopsEnding, Untold, standing, turns_between}
+use Rattle.command_serve.specs.steps.Told.{IsTold, IsToldOf}
+use Rattle.command_serve.specs.Served.{EndsRuns, FailsFrames, FailsOfTaken, FilesThen, InRuns, IsSaved, IsSilent, IsntSaved, Serves, ServesAndDrains, ServesFirst, ServesImage, ServesUnsaved, StoppedBy, StoppedStarved, StopsBefore, StopsEarly, StopsEnding, Untold, standing, turns_between}
 
 -- ---- the runs end
 
@@ -74,33 +77,72 @@ module _ {K : Type 0} (has_kept : K → K → ZonedNamespace → Type 0) (turns 
 
 -- ---- what is told
 
--- why it stopped holds of more
-pub stopped_weaker : (P Q : ServeFault → Type 0) → ((why : ServeFault) → P why → Q why) → (failure : Failure) → StoppedBy P failure → StoppedBy Q failure
-stopped_weaker P Q more (StreamRefused place name) stopped = more _ stopped
-stopped_weaker P Q more (StreamCutOff place) stopped = more _ stopped
-stopped_weaker P Q more CannotPrint stopped = more _ stopped
-stopped_weaker P Q more failure stopped = tt
+module _ (path : List ℕ) (P Q : ServeFault → Type 0) (U V S : Type 0) where
+  -- why it stopped holds of more
+  starved_weaker : ((why : ServeFault) → P why → Q why) → StoppedStarved P → StoppedStarved Q
+  starved_weaker more (inl stops) = inl (more fault.Memory stops)
+  starved_weaker more (inr (inl stops)) = inr (inl (more (fault.Stream stream.Memory) stops))
+  starved_weaker more (inr (inr stops)) = inr (inr (more fault.Save stops))
 
--- of another failure nothing is said
-pub unheld_unsaid : (P : ServeFault → Type 0) (path : Bor (List ℕ)) (failure : Failure) → IsUnheld path failure → StoppedBy P failure
-unheld_unsaid P path (CannotRead told cause) is = tt
-unheld_unsaid P path (CannotWrite told cause) is = tt
-unheld_unsaid P path NoMemory is = tt
-unheld_unsaid P path failure is = absurd is
+  pub stopped_weaker : (N M : Failure → Type 0) → ((failure : Failure) → N failure → M failure) → ((why : ServeFault) → P why → Q why) → (U → V)
+      → (failure : Failure) → StoppedBy path N P U S failure → StoppedBy path M Q V S failure
+  stopped_weaker N M unloaded more kept (StreamRefused place name) stopped = more _ stopped
+  stopped_weaker N M unloaded more kept (StreamCutOff place) stopped = more _ stopped
+  stopped_weaker N M unloaded more kept CannotPrint stopped = more _ stopped
+  stopped_weaker N M unloaded more kept (CannotRead told cause) (inl (is, stops)) = inl (is, more _ stops)
+  stopped_weaker N M unloaded more kept (CannotRead told cause) (inr (is, inl unsaved)) = inr (is, inl (kept unsaved))
+  stopped_weaker N M unloaded more kept (CannotRead told cause) (inr (is, inr silent)) = inr (is, inr silent)
+  stopped_weaker N M unloaded more kept (CannotWrite told cause) (is, inl unsaved) = (is, inl (kept unsaved))
+  stopped_weaker N M unloaded more kept (CannotWrite told cause) (is, inr silent) = (is, inr silent)
+  stopped_weaker N M unloaded more kept NoMemory (inl starved) = inl (starved_weaker more starved)
+  stopped_weaker N M unloaded more kept NoMemory (inr (inl unsaved)) = inr (inl (kept unsaved))
+  stopped_weaker N M unloaded more kept NoMemory (inr (inr silent)) = inr (inr silent)
+  stopped_weaker N M unloaded more kept failure stopped = (unloaded failure stopped.0, stopped.1)
 
-pub unloaded_unsaid : (P : ServeFault → Type 0) (reads : Type 0) (bytes : Option (List ℕ)) (path : List ℕ) (failure : Failure)
-    → ReplacingFails reads bytes path failure → StoppedBy P failure
-unloaded_unsaid P reads bytes path (CannotRead told cause) is = tt
-unloaded_unsaid P reads bytes path (CannotWrite told cause) is = tt
-unloaded_unsaid P reads bytes path NoMemory is = tt
-unloaded_unsaid P reads bytes path (ImageRefused told fault) is = tt
-unloaded_unsaid P reads bytes path (JournalRefused told place) is = tt
-unloaded_unsaid P reads bytes path (DeviceRefused told) is = tt
-unloaded_unsaid P reads bytes path failure is = absurd is
+module _ (unloaded : Failure → Type 0) (P : ServeFault → Type 0) (U S : Type 0) where
+  -- the image isn't saved
+  pub unheld_unsaved : (path : Bor (List ℕ)) (failure : Failure) → IsUnheld path failure → U → StoppedBy path.now unloaded P U S failure
+  unheld_unsaved path (CannotRead told cause) is unsaved = inr (ap (λ (p : Bor (List ℕ)). p.now) is, inl unsaved)
+  unheld_unsaved path (CannotWrite told cause) is unsaved = (ap (λ (p : Bor (List ℕ)). p.now) is, inl unsaved)
+  unheld_unsaved path NoMemory is unsaved = inr (inl unsaved)
+  unheld_unsaved path failure is unsaved = absurd is
 
--- it stopped by this fault, of which it holds
-stopped_by : (P : ServeFault → Type 0) (why : ServeFault) (failure : Failure) → StoppedBy (λ fault. fault ≡ why) failure → P why → StoppedBy P failure
-stopped_by P why failure is holds = stopped_weaker (λ fault. fault ≡ why) P (λ fault same. subst P (sym same) holds) failure is
+  -- it stopped by this fault, of which it holds
+  stopped_by : (path : List ℕ) (why : ServeFault) (failure : Failure) → IsToldOf why failure → P why → StoppedBy path unloaded P U S failure
+  stopped_by path why (StreamRefused place name) is holds = subst P is holds
+  stopped_by path why (StreamCutOff place) is holds = subst P is holds
+  stopped_by path why CannotPrint is holds = subst P is holds
+  stopped_by path why (CannotRead told cause) is holds = inl (is.0, subst P is.1 holds)
+  stopped_by path why NoMemory (inl is) holds = inl (inl (subst P is holds))
+  stopped_by path why NoMemory (inr (inl is)) holds = inl (inr (inl (subst P is holds)))
+  stopped_by path why NoMemory (inr (inr is)) holds = inl (inr (inr (subst P is holds)))
+  stopped_by path why failure is holds = absurd is
+
+-- no device was loaded
+pub unloaded_silent : (P : ServeFault → Type 0) (U S : Type 0) (reads : Type 0) (bytes : Option (List ℕ)) (path : List ℕ) (failure : Failure)
+    → ReplacingFails reads bytes path failure → S → StoppedBy path (ReplacingFails reads bytes path) P U S failure
+unloaded_silent P U S reads bytes path (CannotRead told cause) is silent = inr (is, inr silent)
+unloaded_silent P U S reads bytes path (CannotWrite told cause) is silent = (is, inr silent)
+unloaded_silent P U S reads bytes path NoMemory is silent = inr (inr silent)
+unloaded_silent P U S reads bytes path (ImageRefused told fault) is silent = (is, silent)
+unloaded_silent P U S reads bytes path (JournalRefused told place fault) is silent = (is, silent)
+unloaded_silent P U S reads bytes path (DeviceRefused told) is silent = (is, silent)
+unloaded_silent P U S reads bytes path failure is silent = absurd is
+
+-- of an input that is taken the same is told
+pub taken_fails : {I T : Type 0} (remaining : I → Option (List ℕ)) (given : Option I) (input : I) (left : Option (List ℕ))
+    (fails : Option (List ℕ) → Option (List ℕ) → Failure → Type 0) (result : Result T Failure) → given ≡ Some input
+    → IfErr result (fails (remaining input) left) → IfErr result (FailsOfTaken (fails (option_map_or remaining given None)))
+taken_fails {I = I} remaining given input left fails (Ok value) is holds = tt
+taken_fails {I = I} remaining given input left fails (Err failure) is holds =
+    subst (λ (it : Option I). FailsOfTaken (fails (option_map_or remaining it None)) failure) (sym is) (left, holds)
+
+-- the file is that which the command line names
+pub at_image : (reads : Type 0) (contents : List ℕ → Option (List ℕ)) (P : ServeFault → Type 0) (U S : Type 0) (path other : List ℕ) (failure : Failure)
+    → path ≡ other → StoppedBy path (ReplacingFails reads (contents path) path) P U S failure
+    → StoppedBy other (ReplacingFails reads (contents other) other) P U S failure
+at_image reads contents P U S path other failure same stopped =
+    subst (λ (p : List ℕ). StoppedBy p (ReplacingFails reads (contents p) p) P U S failure) same stopped
 
 -- it is told of what was done, and of what was done before it stopped
 pub served_told : (A : Type 0) (done : Result (Unit {0}) ServeFault) (result : Result (Unit {0}) Failure) → IsTold done result → OnOk done A → OnOk result A
@@ -109,12 +151,12 @@ served_told A (Ok done) (Err failure) is holds = tt
 served_told A (Err why) (Ok told) is holds = absurd is
 served_told A (Err why) (Err failure) is holds = tt
 
-pub stopped_told : (P : ServeFault → Type 0) (done : Result (Unit {0}) ServeFault) (result : Result (Unit {0}) Failure) → IsTold done result → IfErr done P
-    → IfErr result (StoppedBy P)
-stopped_told P (Ok done) (Ok told) is holds = tt
-stopped_told P (Ok done) (Err failure) is holds = absurd is
-stopped_told P (Err why) (Ok told) is holds = tt
-stopped_told P (Err why) (Err failure) is holds = stopped_by P why failure is holds
+pub stopped_told : (path : List ℕ) (unloaded : Failure → Type 0) (P : ServeFault → Type 0) (U S : Type 0) (done : Result (Unit {0}) ServeFault)
+    (result : Result (Unit {0}) Failure) → IsTold done result → IfErr done P → IfErr result (StoppedBy path unloaded P U S)
+stopped_told path unloaded P U S (Ok done) (Ok told) is holds = tt
+stopped_told path unloaded P U S (Ok done) (Err failure) is holds = absurd is
+stopped_told path unloaded P U S (Err why) (Ok told) is holds = tt
+stopped_told path unloaded P U S (Err why) (Err failure) is holds = stopped_by unloaded P U S path why failure is holds
 
 -- ---- what is saved at last
 
@@ -138,13 +180,38 @@ module _ {F R W : Type 0} (files : Ghosts F R W) (reads writes : Type 0) (old be
     }
 
     pub saves_first : (why : ServeFault) → StopsBefore Kept turns unread (seen begun before (standing files old)) (seen left after (standing files between)) why
-        → ServesFirst (around files reads writes old new) namespace path turns unread before why
+        → ServesFirst (around files reads writes old new) namespace path turns unread before after why
     saves_first why stops = record {
       left = left;
-      written = after;
       files = standing files between;
       stops = subst (λ (s : State). StopsBefore Kept turns unread (seen s before (standing files old)) (seen left after (standing files between)) why) begins stops;
       saved = meant;
+    }
+
+  -- or isn't
+  module _ (namespace : ZonedNamespace) (path : List ℕ) (turns : ℕ) (unread before after : Option (List ℕ)) (begun left : State)
+      (begins : begun ≡ new_state namespace) (none : files.made new ≡ files.made between) where
+    abbrev KeptThen : FilesThen → FilesThen → ZonedNamespace → Type 0
+    KeptThen = IsSaved (around files reads writes old old) path
+
+    pub unsaved : (result : Result (Unit {0}) ServeFault)
+        → OnOk result (ServesAndDrains KeptThen turns unread (seen begun before (standing files old)) (seen left after (standing files between)))
+        → IfErr result (StopsBefore KeptThen turns unread (seen begun before (standing files old)) (seen left after (standing files between)))
+        → ServesUnsaved (around files reads writes old new) namespace path turns unread before after
+    unsaved (Ok value) done stops = record {
+      left = left;
+      files = standing files between;
+      done = inl (subst (λ (s : State). ServesAndDrains KeptThen turns unread (seen s before (standing files old)) (seen left after (standing files between))) begins done);
+      none_made = none;
+    }
+    unsaved (Err why) done stops = record {
+      left = left;
+      files = standing files between;
+      done = inr (
+        why,
+        subst (λ (s : State). StopsBefore KeptThen turns unread (seen s before (standing files old)) (seen left after (standing files between)) why) begins stops,
+      );
+      none_made = none;
     }
 
 -- the image was loaded before, of the file that the command line names, and files stayed what they were
@@ -176,13 +243,25 @@ module _ (reads writes : Type 0) (contents then : List ℕ → Option (List ℕ)
     serves = moved (λ here p n. ServesImage here namespace p n unread before written) done;
   }
 
-  pub stops_early : {T : Type 0} (result : Result T Failure) → IfErr result (StoppedBy (ServesFirst (from_there then loaded) namespace path turns unread before))
-      → IfErr result (StoppedBy (StopsEarly (from_there contents made) matches unread before))
-  stops_early (Ok value) stops = tt
-  stops_early (Err failure) stops =
-      stopped_weaker (ServesFirst (from_there then loaded) namespace path turns unread before) (StopsEarly (from_there contents made) matches unread before)
+  pub stops_early : {T : Type 0} (result : Result T Failure) (left printed : Option (List ℕ))
+      → IfErr result (StoppedBy path (λ failure. ⊥) (ServesFirst (from_there then loaded) namespace path turns unread before printed)
+      (ServesUnsaved (from_there then loaded) namespace path turns unread before printed) (IsSilent unread left before printed))
+      → IfErr result (FailsFrames (from_there contents made) matches unread left before printed)
+  stops_early (Ok value) left printed stops = tt
+  stops_early (Err failure) left printed stops =
+      at_image reads contents (StopsEarly (from_there contents made) matches unread before printed)
+      (IsntSaved (from_there contents made) matches unread before printed) (IsSilent unread left before printed) path (image_of matches) failure is_named
+      (stopped_weaker path (ServesFirst (from_there then loaded) namespace path turns unread before printed) (StopsEarly (from_there contents made) matches unread before printed)
+      (ServesUnsaved (from_there then loaded) namespace path turns unread before printed) (IsntSaved (from_there contents made) matches unread before printed)
+      (IsSilent unread left before printed)
+      (λ failure. ⊥) (ReplacingFails reads (contents path) path) (λ failure none. absurd none)
       (λ why first. record {
         namespace = namespace;
         namespace_is = named;
-        stops = moved (λ here p n. ServesFirst here namespace p n unread before why) first;
-      }) failure stops
+        stops = moved (λ here p n. ServesFirst here namespace p n unread before printed why) first;
+      })
+      (λ isnt. record {
+        namespace = namespace;
+        namespace_is = named;
+        unsaved = moved (λ here p n. ServesUnsaved here namespace p n unread before printed) isnt;
+      }) failure stops)

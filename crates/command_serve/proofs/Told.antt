@@ -55,12 +55,12 @@ module _ {K L : Type 0} (has_kept : K → K → ZonedNamespace → Type 0) (kept
   fails_told (fault.Stream f) r old new p fails = fails
   fails_told fault.Write r old new p fails = begun_told r old new p fails
   fails_told fault.Save r old new p fails = fails
-  fails_told fault.Memory r old new p fails = begun_told r old new p fails
+  fails_told fault.Memory r old new p fails = (begun_told r old new p fails.0, fails.1)
 
   failing_told : (step : Step) (why : ServeFault) (old new : Server K) → P old.keeper → FailsIn has_kept turns step old new why
       → FailsIn kept turns step (told old) (told new) why
   failing_told (Asked r) why old new p fails = fails_told why r old new p fails
-  failing_told Between why old new p fails = (fails.0, fails.1, ap as_told fails.2)
+  failing_told Between why old new p fails = (fails.0, fails.1, ap as_told fails.2, fails.3)
 
   ends_told : (why : ServeFault) (held : List ℕ) (place : ℕ) (left : Option (List ℕ)) (old new : Server K) → P old.keeper
       → Ends has_kept turns why held place left old new → Ends kept turns why held place left (told old) (told new)

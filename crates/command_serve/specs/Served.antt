@@ -1,5 +1,5 @@
 -- What `serve` does, writes and saves (profile).
-use Rattle.std.specs.Prelude.{◌≡◌, ℕ, List, flat_map, if◌then◌else◌, Option}
+use Rattle.std.specs.Prelude.{◌≡◌, ◌⊎◌, ℕ, List, flat_map, if◌then◌else◌, Option}
 use Rattle.std.specs.Io.KnownBytes.{Appends}
 use Rattle.clap.specs.declared.parser.matches.ArgMatches.{ArgMatches}
 use Rattle.image_store.specs.Namespace.{ZonedNamespace}
@@ -8,18 +8,20 @@ use Rattle.device_events.specs.Replies.{ReplyWithData}
 use Rattle.device_meaning.specs.Draining.{HasDrained, HasStoppedDraining}
 use Rattle.device_meaning.specs.State.{State, new_state}
 use Rattle.event_frames.specs.Frames.{reply_frame}
-use Rattle.event_frames.specs.declared.fault.StreamFault.TheVariants.{Byte, CutOff}
+use Rattle.event_frames.specs.declared.fault.StreamFault.TheVariants.{Byte, CutOff, Memory}
 use Rattle.live_serve.specs.Served.{Server, ServesStream, StopsServing, seen}
 use Rattle.live_serve.specs.declared.fault.ServeFault.{ServeFault}
 use Rattle.live_serve.specs.declared.fault.ServeFault.TheVariants as fault
 use Rattle.command_files.specs.Made.{Made}
 use Rattle.command_files.specs.Surroundings.{Surroundings}
 use Rattle.command_files.specs.declared.failure.Failure.{Failure}
-use Rattle.command_files.specs.declared.failure.Failure.TheVariants.{CannotPrint, StreamCutOff, StreamRefused}
+use Rattle.command_files.specs.declared.failure.Failure.TheVariants.{CannotPrint, CannotRead, CannotWrite, NoMemory, StreamCutOff, StreamRefused}
 use Rattle.command_files.specs.declared.files.Files.{Ghosts}
 use Rattle.command_serve.specs.Asked.{asks_drain}
 use Rattle.command_images.specs.Devices.{TellNamespace}
 use Rattle.command_images.specs.Images.{HasText, image_of}
+use Rattle.command_images.specs.UserTold.{ReplacingFails}
+use Rattle.command_serve.specs.declared.lines.TheConstants.{INPUT}
 
 -- how many turns the runs are given at most between two reads: all, where it is asked for
 abbrev pub turns_between : ArgMatches → ℕ
@@ -93,20 +95,42 @@ pub record ServesImage (here : Surroundings) (namespace : ZonedNamespace) (path 
 
 -- it stops, and the file has the text of the namespace that what was done leaves
 pub record ServesFirst (here : Surroundings) (namespace : ZonedNamespace) (path : List ℕ) (turns : ℕ)
-    (unread before : Option (List ℕ)) (why : ServeFault) : Type 0 where
+    (unread before after : Option (List ℕ)) (why : ServeFault) : Type 0 where
   pub left : State
-  pub written : Option (List ℕ)
   pub files : FilesThen
-  pub stops : StopsBefore (IsSaved here path) turns unread (seen (new_state namespace) before (found here)) (seen left written files) why
+  pub stops : StopsBefore (IsSaved here path) turns unread (seen (new_state namespace) before (found here)) (seen left after files) why
   pub saved : HasText (around_part here files here.after) path (text left.namespace)
 
--- why it stopped, of what is told of a byte that is none of a request, of an input that ends within a frame, and of an output that
--- fails
-abbrev pub StoppedBy : (ServeFault → Type 0) → Failure → Type 0
-StoppedBy P (StreamRefused place name) = P (fault.Stream (Byte place name))
-StoppedBy P (StreamCutOff place) = P (fault.Stream (CutOff place))
-StoppedBy P CannotPrint = P fault.Write
-StoppedBy P failure = Unit {0}
+-- all is done, or it stops, and what that leaves isn't saved: no file is made behind those that were asked for meanwhile
+pub record ServesUnsaved (here : Surroundings) (namespace : ZonedNamespace) (path : List ℕ) (turns : ℕ)
+    (unread before after : Option (List ℕ)) : Type 0 where
+  pub left : State
+  pub files : FilesThen
+  pub done : ServesAndDrains (IsSaved here path) turns unread (seen (new_state namespace) before (found here)) (seen left after files)
+      ⊎ ((why : ServeFault)
+      × StopsBefore (IsSaved here path) turns unread (seen (new_state namespace) before (found here)) (seen left after files) why)
+  pub none_made : here.after ≡ files.made
+
+-- it stopped where memory was wanting, of which it isn't said for what
+abbrev pub StoppedStarved : (ServeFault → Type 0) → Type 0
+StoppedStarved stops = stops fault.Memory ⊎ stops (fault.Stream Memory) ⊎ stops fault.Save
+
+-- why not all is done and saved, by what is told: a byte of the input is none of a request, it ends within a frame, or can't be read;
+-- standard output fails; or memory is wanting; and then what was done before is saved (`stops`); or the image file can't be read again
+-- or written, and it isn't (`unsaved`); or no device is loaded of the file (`unloaded`), and nothing is read or written (`silent`)
+abbrev pub StoppedBy : List ℕ → (Failure → Type 0) → (ServeFault → Type 0) → Type 0 → Type 0 → Failure → Type 0
+StoppedBy path unloaded stops unsaved silent (StreamRefused place name) = stops (fault.Stream (Byte place name))
+StoppedBy path unloaded stops unsaved silent (StreamCutOff place) = stops (fault.Stream (CutOff place))
+StoppedBy path unloaded stops unsaved silent CannotPrint = stops fault.Write
+StoppedBy path unloaded stops unsaved silent (CannotRead told cause) =
+    ((told.now ≡ INPUT.now) × stops fault.Read) ⊎ ((told.now ≡ path) × (unsaved ⊎ silent))
+StoppedBy path unloaded stops unsaved silent (CannotWrite told cause) = (told.now ≡ path) × (unsaved ⊎ silent)
+StoppedBy path unloaded stops unsaved silent NoMemory = StoppedStarved stops ⊎ unsaved ⊎ silent
+StoppedBy path unloaded stops unsaved silent failure = unloaded failure × silent
+
+-- nothing is read and nothing written
+abbrev pub IsSilent : Option (List ℕ) → Option (List ℕ) → Option (List ℕ) → Option (List ℕ) → Type 0
+IsSilent unread left before after = (left ≡ unread) × (after ≡ before)
 
 -- all is done on the namespace of the image file, where the file's bytes and what is read of them are told
 pub record Serves (here : Surroundings) (matches : ArgMatches) (unread before after : Option (List ℕ)) : Type 0 where
@@ -115,7 +139,32 @@ pub record Serves (here : Surroundings) (matches : ArgMatches) (unread before af
   pub serves : ServesImage here namespace (image_of matches) (turns_between matches) unread before after
 
 -- it stops, and the file has what was done before
-pub record StopsEarly (here : Surroundings) (matches : ArgMatches) (unread before : Option (List ℕ)) (why : ServeFault) : Type 0 where
+pub record StopsEarly (here : Surroundings) (matches : ArgMatches) (unread before after : Option (List ℕ)) (why : ServeFault) : Type 0 where
   pub namespace : ZonedNamespace
   pub namespace_is : here.reads → TellNamespace (here.contents (image_of matches)) namespace
-  pub stops : ServesFirst here namespace (image_of matches) (turns_between matches) unread before why
+  pub stops : ServesFirst here namespace (image_of matches) (turns_between matches) unread before after why
+
+-- what was done isn't saved
+pub record IsntSaved (here : Surroundings) (matches : ArgMatches) (unread before after : Option (List ℕ)) : Type 0 where
+  pub namespace : ZonedNamespace
+  pub namespace_is : here.reads → TellNamespace (here.contents (image_of matches)) namespace
+  pub unsaved : ServesUnsaved here namespace (image_of matches) (turns_between matches) unread before after
+
+-- why no device is loaded of the image file
+abbrev pub IsUnloaded : Surroundings → ArgMatches → Failure → Type 0
+IsUnloaded here matches failure = ReplacingFails here.reads (here.contents (image_of matches)) (image_of matches) failure
+
+-- why `serve --frames` ends before all is done and saved, and what it leaves
+abbrev pub FailsFrames : Surroundings → ArgMatches → Option (List ℕ) → Option (List ℕ) → Option (List ℕ) → Option (List ℕ) → Failure → Type 0
+FailsFrames here matches unread left before after failure =
+    StoppedBy (image_of matches) (IsUnloaded here matches) (StopsEarly here matches unread before after)
+    (IsntSaved here matches unread before after) (IsSilent unread left before after) failure
+
+-- it ends so, and some of the input may be left, which is lost with it
+abbrev pub FailsOfTaken : (Option (List ℕ) → Failure → Type 0) → Failure → Type 0
+FailsOfTaken fails failure = (left : Option (List ℕ)) × fails left failure
+
+-- standard input was taken before: that is told
+abbrev pub IsInputTaken : Failure → Type 0
+IsInputTaken (CannotRead told cause) = told.now ≡ INPUT.now
+IsInputTaken _ = ⊥

@@ -5,8 +5,10 @@ ghost use Rattle.nvme_entry.specs.declared.command.TheConstants.{MOST_TRANSFER};
 ghost use Rattle.device_meaning.specs.State.{new_state};
 ghost use Rattle.command_files.specs.Surroundings.{ChangesOnly, around};
 ghost use Rattle.command_images.specs.Images.{image_of};
-ghost use Rattle.command_serve.specs.ByLine.{LinesStoppedBy, ServesByLine, ServesFirstLines, ServesImageLines, ServesLinesAndDrains};
-ghost use Rattle.command_serve.specs.ByLine.{StopsByLine, StopsInLines};
+ghost use Rattle.command_serve.specs.ByLine.{FailsByLine, IsUnmade, LinesStoppedBy, ServesByLine, ServesFirstLines, ServesImageLines, ServesLinesAndDrains};
+ghost use Rattle.command_serve.specs.ByLine.{ServesLinesUnsaved, StopsInLines};
+ghost use Rattle.command_serve.specs.Served.{IsSilent};
+ghost use Rattle.command_serve.specs.steps.Told.{IsToldOfLines};
 
 use clap::ArgMatches;
 use command_files::arguments::required;
@@ -36,7 +38,8 @@ pub(crate) fn serve_from<'a, F: Files, I: Read, O: Write>(
     ensures served { let here = around F.Files F.Reader.tells F.Writer.tells files.old files.new in
         OnOk result (ServesByLine here matches.now drains (I.remaining input.old) (O.contents out.old) (O.contents out.new)) }
     ensures stopped { let here = around F.Files F.Reader.tells F.Writer.tells files.old files.new in
-        IfErr result (LinesStoppedBy (StopsByLine here matches.now drains (I.remaining input.old) (O.contents out.old))) }
+        IfErr result (FailsByLine here matches.now drains (I.remaining input.old) (I.remaining input.new)
+        (O.contents out.old) (O.contents out.new)) }
     ensures changes { ChangesOnly F.Files F.Writer.tells (image_of matches.now) files.old files.new }
 {
     let path = required(matches, IMAGE);
@@ -60,7 +63,11 @@ fn run<'a, F: Files, I: Read, O: Write>(
     ensures served { let here = around F.Files F.Reader.tells F.Writer.tells files.old files.new in
         OnOk result (ServesImageLines here device.old.namespace path.now drains (I.remaining input.old) (O.contents out.old) (O.contents out.new)) }
     ensures stopped { let here = around F.Files F.Reader.tells F.Writer.tells files.old files.new in
-        IfErr result (LinesStoppedBy (ServesFirstLines here device.old.namespace path.now drains (I.remaining input.old) (O.contents out.old))) }
+        IfErr result (LinesStoppedBy path.now (λ failure. ⊥)
+        (ServesFirstLines here device.old.namespace path.now drains (I.remaining input.old) (O.contents out.old) (O.contents out.new))
+        (ServesLinesUnsaved here device.old.namespace drains (I.remaining input.old) (O.contents out.old) (O.contents out.new))
+        (IsSilent (I.remaining input.old) (I.remaining input.new) (O.contents out.old) (O.contents out.new))
+        (IsUnmade here (I.remaining input.old) (I.remaining input.new))) }
     ensures changes { ChangesOnly F.Files F.Writer.tells path.now files.old files.new }
 {
     let mut output = vec![in alloc; 0; MOST_TRANSFER]?;
@@ -74,9 +81,9 @@ fn run<'a, F: Files, I: Read, O: Write>(
         &mut lines,
     );
     let out = lines.into_writer();
-    image_file::save_changes(device.image(), path, files)?;
     // No effect at run time. The proof reads what was printed from this use of `out`.
     let _ = &*out;
+    image_file::save_changes(device.image(), path, files)?;
     match done {
         Ok(()) => Ok(()),
         Err(fault) => Err(failure_of(fault)),
@@ -109,7 +116,7 @@ fn serve_and_drain<I: Read, O: Write>(
 
 /// What the user is told where lines are served no further.
 fn failure_of<'a>(fault: LinesFault) -> Failure<'a>
-    ensures { LinesStoppedBy (λ why. why ≡ fault) result }
+    ensures { IsToldOfLines fault result }
 {
     match fault {
         LinesFault::Read => Failure::CannotRead(INPUT, FileCause::Other),

@@ -1,6 +1,6 @@
 //! The command `serve`: what standard input asks for as it comes, done on an image.
 
-ghost use Rattle.std.specs.Prelude.{◌≡◌, ◌≤◌, ◌<◌, ◌+◌, ◌^◌, true, false, length, IfErr, IfSome, OnOk, None, Some};
+ghost use Rattle.std.specs.Prelude.{◌≡◌, ◌≤◌, ◌<◌, ◌+◌, ◌^◌, true, false, length, IfErr, IfSome, IsSome, OnErr, OnOk, None, Some};
 ghost use Rattle.std.specs.Option.{option_map_or};
 ghost use Rattle.nvme_entry.specs.declared.command.TheConstants.{MOST_TRANSFER};
 ghost use Rattle.device_meaning.specs.Draining.{HasStoppedDraining};
@@ -11,11 +11,11 @@ ghost use Rattle.command_images.specs.Images.{HasText, image_of};
 ghost use Rattle.command_images.specs.UserTold.{IsUnheld};
 ghost use Rattle.image_text.specs.Text.{text};
 ghost use Rattle.command_serve.specs.Asked.{asks_drain, asks_durable, asks_for, asks_frames};
-ghost use Rattle.command_serve.specs.ByLine.{LinesStoppedBy, ServesByLine, StopsByLine};
-ghost use Rattle.command_serve.specs.Served.{EndsRuns, IsSaved, Serves, ServesAndDrains, ServesFirst, ServesImage, StoppedBy, StopsBefore};
-ghost use Rattle.command_serve.specs.Served.{StopsEarly, StopsEnding, Untold, standing, turns_between};
+ghost use Rattle.command_serve.specs.ByLine.{FailsByLine, ServesByLine};
+ghost use Rattle.command_serve.specs.Served.{EndsRuns, FailsFrames, FailsOfTaken, IsInputTaken, IsSaved, IsSilent, Serves, ServesAndDrains};
+ghost use Rattle.command_serve.specs.Served.{ServesFirst, ServesImage, ServesUnsaved, StoppedBy, StopsBefore, StopsEnding, Untold, standing, turns_between};
 ghost use Rattle.command_serve.specs.steps.Keeping.{HasKept, HoldsName, KeepsIn};
-ghost use Rattle.command_serve.specs.steps.Told.{IsTold};
+ghost use Rattle.command_serve.specs.steps.Told.{IsTold, IsToldOf};
 
 use crate::image_keeper::ImageKeeper;
 use crate::lines::{self, INPUT};
@@ -136,7 +136,7 @@ pub static WORDS: Words = Words {
 ///
 /// The image can't be read, is refused or can't be written; the input can't be read, or is refused; standard output fails; or
 /// memory is wanting. Where a line or a byte of the input is refused, it ends within a frame, or standard output fails, what was done
-/// before is saved.
+/// before is saved. Where no device is loaded of the image file, nothing is read and nothing written.
 pub fn serve<'a, F: Files, I: Read + Drop, O: Write>(
     alloc: Global,
     matches: &ArgMatches<'a>,
@@ -149,18 +149,21 @@ pub fn serve<'a, F: Files, I: Read + Drop, O: Write>(
         → OnOk result (Serves here matches.now (option_map_or I.remaining input.old None) (O.contents out.old) (O.contents out.new)) }
     ensures stopped { let here = around F.Files F.Reader.tells F.Writer.tells files.old files.new in
         asks_frames matches.now ≡ true
-        → IfErr result (StoppedBy (StopsEarly here matches.now (option_map_or I.remaining input.old None) (O.contents out.old))) }
+        → IsSome input.old → IfErr result (FailsOfTaken (λ left. FailsFrames here matches.now
+        (option_map_or I.remaining input.old None) left (O.contents out.old) (O.contents out.new))) }
     ensures served_lines { let here = around F.Files F.Reader.tells F.Writer.tells files.old files.new in
         asks_frames matches.now ≡ false
         → OnOk result (ServesByLine here matches.now (asks_drain matches.now) (option_map_or I.remaining input.old None)
         (O.contents out.old) (O.contents out.new)) }
     ensures stopped_lines { let here = around F.Files F.Reader.tells F.Writer.tells files.old files.new in
         asks_frames matches.now ≡ false
-        → IfErr result (LinesStoppedBy (StopsByLine here matches.now (asks_drain matches.now)
-        (option_map_or I.remaining input.old None) (O.contents out.old))) }
+        → IsSome input.old → IfErr result (FailsOfTaken (λ left. FailsByLine here matches.now (asks_drain matches.now)
+        (option_map_or I.remaining input.old None) left (O.contents out.old) (O.contents out.new))) }
     ensures changes { ChangesOnly F.Files F.Writer.tells (image_of matches.now) files.old files.new }
     ensures taken { input.new ≡ None }
     ensures untaken { input.old ≡ None → files.new ≡ files.old }
+    ensures silent { input.old ≡ None → O.contents out.new ≡ O.contents out.old }
+    ensures lost { input.old ≡ None → IfErr result IsInputTaken }
 {
     match mem::replace(input, None) {
         Some(mut input) => serve_asked(alloc, matches, files, &mut input, out),
@@ -181,15 +184,16 @@ fn serve_asked<'a, F: Files, I: Read, O: Write>(
         → OnOk result (Serves here matches.now (I.remaining input.old) (O.contents out.old) (O.contents out.new)) }
     ensures stopped { let here = around F.Files F.Reader.tells F.Writer.tells files.old files.new in
         asks_frames matches.now ≡ true
-        → IfErr result (StoppedBy (StopsEarly here matches.now (I.remaining input.old) (O.contents out.old))) }
+        → IfErr result (FailsFrames here matches.now (I.remaining input.old) (I.remaining input.new)
+        (O.contents out.old) (O.contents out.new)) }
     ensures served_lines { let here = around F.Files F.Reader.tells F.Writer.tells files.old files.new in
         asks_frames matches.now ≡ false
         → OnOk result (ServesByLine here matches.now (asks_drain matches.now) (I.remaining input.old)
         (O.contents out.old) (O.contents out.new)) }
     ensures stopped_lines { let here = around F.Files F.Reader.tells F.Writer.tells files.old files.new in
         asks_frames matches.now ≡ false
-        → IfErr result (LinesStoppedBy (StopsByLine here matches.now (asks_drain matches.now)
-        (I.remaining input.old) (O.contents out.old))) }
+        → IfErr result (FailsByLine here matches.now (asks_drain matches.now)
+        (I.remaining input.old) (I.remaining input.new) (O.contents out.old) (O.contents out.new)) }
     ensures changes { ChangesOnly F.Files F.Writer.tells (image_of matches.now) files.old files.new }
 {
     if asks_for(matches, FRAMES) {
@@ -226,7 +230,8 @@ fn serve_from<'a, F: Files, I: Read, O: Write>(
     ensures served { let here = around F.Files F.Reader.tells F.Writer.tells files.old files.new in
         OnOk result (Serves here matches.now (I.remaining input.old) (O.contents out.old) (O.contents out.new)) }
     ensures stopped { let here = around F.Files F.Reader.tells F.Writer.tells files.old files.new in
-        IfErr result (StoppedBy (StopsEarly here matches.now (I.remaining input.old) (O.contents out.old))) }
+        IfErr result (FailsFrames here matches.now (I.remaining input.old) (I.remaining input.new)
+        (O.contents out.old) (O.contents out.new)) }
     ensures changes { ChangesOnly F.Files F.Writer.tells (image_of matches.now) files.old files.new }
 {
     let path = required(matches, IMAGE);
@@ -262,7 +267,10 @@ fn run<'a, F: Files, I: Read, O: Write>(
     ensures served { let here = around F.Files F.Reader.tells F.Writer.tells files.old files.new in
         OnOk result (ServesImage here device.old.namespace path.now turns (I.remaining input.old) (O.contents out.old) (O.contents out.new)) }
     ensures stopped { let here = around F.Files F.Reader.tells F.Writer.tells files.old files.new in
-        IfErr result (StoppedBy (ServesFirst here device.old.namespace path.now turns (I.remaining input.old) (O.contents out.old))) }
+        IfErr result (StoppedBy path.now (λ failure. ⊥)
+        (ServesFirst here device.old.namespace path.now turns (I.remaining input.old) (O.contents out.old) (O.contents out.new))
+        (ServesUnsaved here device.old.namespace path.now turns (I.remaining input.old) (O.contents out.old) (O.contents out.new))
+        (IsSilent (I.remaining input.old) (I.remaining input.new) (O.contents out.old) (O.contents out.new))) }
     ensures changes { ChangesOnly F.Files F.Writer.tells path.now files.old files.new }
 {
     let (done, failure) = serve_in(alloc, device, turns, path, files, input, out);
@@ -317,6 +325,7 @@ fn save_at_last<'a, F: Files>(
     requires failed { IfSome failure (IsUnheld path) }
     ensures saved { OnOk result (HasText (around F.Files F.Reader.tells F.Writer.tells files.old files.new) path.now (text image.now)) }
     ensures failed { IfErr result (IsUnheld path.entry) }
+    ensures none_made { OnErr result (F.made files.new ≡ F.made files.old) }
     ensures changes { ChangesOnly F.Files F.Writer.tells path.now files.old files.new }
 {
     match failure {
@@ -390,7 +399,7 @@ fn told<'a>(done: Result<(), ServeFault>) -> Result<(), Failure<'a>>
 
 /// What the user is told where the input is served no further.
 fn failure_of<'a>(fault: ServeFault) -> Failure<'a>
-    ensures { StoppedBy (λ why. why ≡ fault) result }
+    ensures { IsToldOf fault result }
 {
     match fault {
         ServeFault::Read => Failure::CannotRead(INPUT, FileCause::Other),

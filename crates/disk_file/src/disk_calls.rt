@@ -1,9 +1,9 @@
 //! The calls of the system for a file that is held.
 
 ghost use Rattle.std.specs.Prelude.{◌≡◌, is_ok, IfOk};
-ghost use Rattle.stored_file.specs.File.{IsOnDisk};
+ghost use Rattle.durable_device.specs.Kept.{IsRestarted, MayBeLeft};
 
-use command_files::{Disk, FileFault, Files};
+use command_files::{Disk, FileCause, FileFault, Files};
 use std::alloc::Global;
 use std::fs::File;
 use std::io::{Read, Seek};
@@ -22,9 +22,9 @@ pub struct DiskCalls<'a, R> {
     notes: Record,
 }
 
-/// The file whose name is held, as what reads and writes it durably: it and its name are brought to the disk, and then it is read. Where
-/// an earlier program failed to bring it there, what the system keeps in memory may be other than what is on the disk, and is what is
-/// read. It is held on, and no name is held where it was; no file is told as made.
+/// The file whose name is held, as what reads and writes it durably: it and its name are brought to the disk, and then it is read. What
+/// an earlier program failed to bring there the system may keep in memory as if it were there: then it is what is read, and nothing
+/// but writing it again brings it to the disk. It is held on, and no name is held where it was; no file is told as made.
 ///
 /// # Errors
 ///
@@ -33,7 +33,7 @@ pub fn open<'a, R: rt::Files<File = File> + AllocGlobal>(
     alloc: Global,
     files: &mut Disk<'a, R>,
 ) -> Result<SystemFile<DiskCalls<'a, R>>, FileFault>
-    ensures on_disk { IfOk result (λ opened. IsOnDisk (⟦<SystemFile<DiskCalls<'a, R>> as StoredFile>⟧.told opened)) }
+    ensures restarted { IfOk result (λ opened. IsRestarted (⟦<SystemFile<DiskCalls<'a, R>> as StoredFile>⟧.told opened)) }
     ensures made { ⟦<Disk<'a, R> as Files>⟧.made files.new ≡ ⟦<Disk<'a, R> as Files>⟧.made files.old }
 {
     let disk = files.take();
@@ -53,7 +53,7 @@ fn whole(alloc: Global, file: &mut File) -> Result<Vec<u8>, FileFault> {
     Ok(bytes)
 }
 
-/// What a call came to, without its cause.
+/// What a call came to, and of its cause whether there was no room.
 fn told<E: Into<FileFault>>(done: Result<(), E>) -> Result<(), FileError>
     ensures { is_ok result ≡ is_ok done }
 {
@@ -61,6 +61,7 @@ fn told<E: Into<FileFault>>(done: Result<(), E>) -> Result<(), FileError>
         Ok(()) => Ok(()),
         Err(error) => match error.into() {
             FileFault::Memory => Err(FileError::Memory),
+            FileFault::Failed(FileCause::NoRoom) => Err(FileError::NoRoom),
             FileFault::Failed(_) => Err(FileError::Failed),
         },
     }
@@ -80,9 +81,17 @@ impl<R: rt::Files<File = File> + AllocGlobal> DiskCalls<'_, R> {
 impl<R: rt::Files<File = File> + AllocGlobal> FileCalls for DiskCalls<'_, R> {
     ghost notes = { λ calls. calls.notes.calls };
 
+    ghost left = { MayBeLeft };
+
     fn write_at(&mut self, at: usize, bytes: &[u8]) -> Result<(), FileError> {
         let done = told(self.file.write_all_at(bytes, at as u64));
         self.notes.written(at, bytes, done.is_ok());
+        done
+    }
+
+    fn renew(&mut self, at: usize, bytes: &[u8]) -> Result<(), FileError> {
+        let done = told(self.file.write_all_at(bytes, at as u64));
+        self.notes.renewed(at, bytes, done.is_ok());
         done
     }
 
@@ -99,9 +108,25 @@ impl<R: rt::Files<File = File> + AllocGlobal> FileCalls for DiskCalls<'_, R> {
     }
 
     fn replace(&mut self, bytes: &[u8]) -> Result<(), FileError> {
-        let done = told(self.put(bytes));
-        self.notes.replaced(bytes, done.is_ok());
-        done
+        match told(self.put(bytes)) {
+            Ok(()) => {
+                self.notes.replaced(bytes, true);
+                Ok(())
+            }
+            // It was the new file for which there was none: the old one is held still.
+            Err(FileError::NoRoom) if self.disk.handle().is_ok() => {
+                self.notes.not_replaced();
+                Err(FileError::NoRoom)
+            }
+            Err(FileError::Memory) => {
+                self.notes.replaced(bytes, false);
+                Err(FileError::Memory)
+            }
+            Err(FileError::NoRoom | FileError::Failed) => {
+                self.notes.replaced(bytes, false);
+                Err(FileError::Failed)
+            }
+        }
     }
 
     fn refuse(&mut self) {

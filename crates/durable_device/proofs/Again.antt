@@ -29,7 +29,7 @@ use Rattle.device_meaning.specs.Outcome.{Ending}
 use Rattle.device_meaning.specs.State.{Place, State, holds_at, loaded_at, with_namespace}
 use Rattle.device_meaning.proofs.Proved.{of_turn}
 use Rattle.pushdown.proofs.Proved.{refused_leaves_state}
-use Rattle.durable_device.specs.Changing.{HasIdentifier, asks_change, is_change, is_idle, is_refusal, is_taken, may_change, tells_success}
+use Rattle.durable_device.specs.Changing.{HasIdentifier, asks_change, is_change, is_idle, is_refusal, is_taken, is_want_of_memory, may_change, tells_success, tells_want}
 
 -- ---- what completions tell
 
@@ -42,6 +42,12 @@ success_told dw0 dw1 queue cid fits =
 want_told : (queue cid : ℕ) → cid < 2 ^ 16 → tells_success (completion_bytes (record { dw0 = 0; dw1 = 0; queue = queue; cid = cid; status = WANT_OF_MEMORY })) ≡ false
 want_told queue cid fits =
     let low : (cid + 199 * 2 ^ 17 + 7 * 2 ^ 25) / 65536 % 256 ≡ 142 = omega arith in
+    grind (arith, nat_tests)
+
+want_is_told : (queue cid : ℕ) → cid < 2 ^ 16 → tells_want (completion_bytes (record { dw0 = 0; dw1 = 0; queue = queue; cid = cid; status = WANT_OF_MEMORY })) ≡ true
+want_is_told queue cid fits =
+    let low : (cid + 199 * 2 ^ 17 + 7 * 2 ^ 25) / 65536 % 256 ≡ 142 = omega arith in
+    let high : (cid + 199 * 2 ^ 17 + 7 * 2 ^ 25) / 16777216 % 256 ≡ 15 = omega arith in
     grind (arith, nat_tests)
 
 -- ---- tests
@@ -121,6 +127,23 @@ submitted_again starved sub s (Ok (commands.Load load)) fits taken = load_again 
 submitted_again starved sub s (Ok (commands.Run command)) fits taken = refl
 submitted_again starved sub s (Ok (commands.Result slot)) fits taken = refl
 
+-- where it doesn't tell want of memory, it comes to the same as with memory
+load_fed : (failed : Option Status) (starved : Bool) (sub : Submission) (s : State) (load : LoadCommand) → identifier_of sub.entry < 2 ^ 16
+    → is_want_of_memory (load_unless interval_judge failed starved sub s load).reply.reply ≡ false
+    → (load_unless interval_judge failed starved sub s load).state ≡ (load_unless interval_judge failed false sub s load).state
+load_fed (Some status) starved sub s load fits fed = refl
+load_fed None true sub s load fits fed = let told = want_is_told sub.queue (identifier_of sub.entry) fits in absurd (cc (told, fed))
+load_fed None false sub s load fits fed = refl
+
+submitted_fed : (starved : Bool) (sub : Submission) (s : State) (asked : Result Command Status) → identifier_of sub.entry < 2 ^ 16
+    → is_want_of_memory (submitted interval_judge starved sub s asked).reply.reply ≡ false
+    → (submitted interval_judge starved sub s asked).state ≡ (submitted interval_judge false sub s asked).state
+submitted_fed starved sub s (Err status) fits fed = refl
+submitted_fed starved sub s (Ok (commands.Standard c)) fits fed = refl
+submitted_fed starved sub s (Ok (commands.Load load)) fits fed = load_fed (first_failed (load_checks s load sub.input)) starved sub s load fits fed
+submitted_fed starved sub s (Ok (commands.Run command)) fits fed = refl
+submitted_fed starved sub s (Ok (commands.Result slot)) fits fed = refl
+
 -- ---- turns and faults
 
 no_idle_turn : (run : ℕ) (place : Place) (ending : Option Ending) → is_idle (turn_reply run place ending).reply ≡ false
@@ -143,6 +166,7 @@ fault_leaves s zone state (Err why) refused = refl
 pub record ComesAgain (s : State) (starved : Bool) (e : ToldEvent) : Type 0 where
   pub again : may_change e (happens interval_judge s starved e).reply.reply ≡ true → (happens interval_judge s starved e).state ≡ (happens interval_judge s false e).state
   pub idle : may_change e (happens interval_judge s starved e).reply.reply ≡ false → (happens interval_judge s starved e).state ≡ s
+  pub fed : is_want_of_memory (happens interval_judge s starved e).reply.reply ≡ false → (happens interval_judge s starved e).state ≡ (happens interval_judge s false e).state
 
 pub comes_again : (s : State) (starved : Bool) (e : ToldEvent) → HasIdentifier e → ComesAgain s starved e
 comes_again s starved (told.Submitted queue entry input) fits =
@@ -154,12 +178,15 @@ comes_again s starved (told.Submitted queue entry input) fits =
         | inl quiet ↦ quiet_leaves starved sub s (decoded entry) quiet
         | inr refused ↦ refused_leaves starved queue entry input s fits refused
       ];
+      fed = submitted_fed starved sub s (decoded entry) fits;
     }
 comes_again s starved (told.Turned run) fits = record {
   again = λ may. refl;
   idle = λ may. idle_leaves s run (not_false (is_idle (turned s run).reply.reply) may);
+  fed = λ fed. refl;
 }
 comes_again s starved (told.Faulted zone state) fits = record {
   again = λ may. refl;
   idle = fault_leaves s zone state (zone_fault_refusal s.namespace (holds_at s) zone state);
+  fed = λ fed. refl;
 }

@@ -15,7 +15,7 @@ use Rattle.runner.specs.Taken.{HasTaken}
 use Rattle.device_meaning.specs.Happenings.{happens}
 use Rattle.device_meaning.specs.Judging.{interval_judge}
 use Rattle.device_meaning.specs.State.{State}
-use Rattle.durable_device.specs.Changing.{HasIdentifier, may_change}
+use Rattle.durable_device.specs.Changing.{HasIdentifier, is_want_of_memory, may_change}
 use Rattle.durable_device.specs.FrameEvents.{frame_event}
 use Rattle.durable_device.specs.Machine.{HasDone, HasReplied, given_reply, next_state, reply_by, state_by}
 use Rattle.durable_device.specs.Serving.{AreTold, HasServed, HaveServed, Leads}
@@ -42,20 +42,21 @@ taken_done queue entry input old new reply taken =
 -- ---- one frame
 
 -- a frame that tells no event
-pub nothing_done : (s : State) (frame : List ℕ) → frame_event frame ≡ None → HasApplied next_state HasReplied frame s (record { reply = None; changes = false }) s
+pub nothing_done : (s : State) (frame : List ℕ) → frame_event frame ≡ None → HasApplied next_state HasReplied frame s (record { reply = None; changes = false; starved = false }) s
 nothing_done s frame none = record {
   refused = false;
   state = ap (state_by s false) (sym none);
   replied = ap (reply_by s false) (sym none);
   again = λ changes. absurd cc;
   idle = λ idle. refl;
+  fed = λ fed. ap (state_by s false) (sym none);
 }
 
 -- one that tells an event
-pub event_done : (s new : State) (frame : List ℕ) (e : ToldEvent) (r : ReplyWithData) (reply : Option Given) (changes : Bool) → frame_event frame ≡ Some e
-    → HasDone e s new r → HasIdentifier e → changes ≡ may_change e r.reply → option_map given_reply reply ≡ Some r
-    → HasApplied next_state HasReplied frame s (record { reply = reply; changes = changes }) new
-event_done s new frame e r reply changes tells done fits may gives =
+pub event_done : (s new : State) (frame : List ℕ) (e : ToldEvent) (r : ReplyWithData) (reply : Option Given) (changes starved : Bool) → frame_event frame ≡ Some e
+    → HasDone e s new r → HasIdentifier e → changes ≡ may_change e r.reply → starved ≡ is_want_of_memory r.reply → option_map given_reply reply ≡ Some r
+    → HasApplied next_state HasReplied frame s (record { reply = reply; changes = changes; starved = starved }) new
+event_done s new frame e r reply changes starved tells done fits may want gives =
     let again = comes_again s done.starved e fits in
     let test : changes ≡ may_change e (happens interval_judge s done.starved e).reply.reply =
     may ∙ ap (λ (q : ReplyWithData). may_change e q.reply) done.replied in
@@ -65,6 +66,7 @@ event_done s new frame e r reply changes tells done fits may gives =
       replied = gives ∙ ap Some done.replied ∙ ap (reply_by s done.starved) (sym tells);
       again = λ does. done.state ∙ again.again (sym test ∙ does) ∙ ap (state_by s false) (sym tells);
       idle = λ idle. done.state ∙ again.idle (sym test ∙ idle);
+      fed = λ fed. done.state ∙ again.fed (sym (want ∙ ap (λ (q : ReplyWithData). is_want_of_memory q.reply) done.replied) ∙ fed) ∙ ap (state_by s false) (sym tells);
     }
 
 -- the front of a buffer's front

@@ -36,6 +36,18 @@ is_refusal Idle = false
 is_refusal FaultTaken = false
 is_refusal FaultRefused = false
 
+-- does a completion tell want of memory? Its status code type is 7h then and its status code C7h (profile)
+abbrev pub tells_want : List ℕ → Bool
+tells_want entry = slice_index entry 14 == 142 && slice_index entry 15 == 15
+
+-- is a reply such a completion?
+abbrev pub is_want_of_memory : Reply → Bool
+is_want_of_memory (Complete queue entry length) = tells_want entry
+is_want_of_memory (Pending run) = false
+is_want_of_memory Idle = false
+is_want_of_memory FaultTaken = false
+is_want_of_memory FaultRefused = false
+
 abbrev pub is_idle : Reply → Bool
 is_idle (Complete queue entry length) = false
 is_idle (Pending run) = false

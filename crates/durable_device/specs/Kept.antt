@@ -1,8 +1,9 @@
 -- What a file stands for, and what of a device is kept in it.
 use Rattle.std.specs.Prelude.{ℕ, List}
 use Rattle.stored_file.specs.File.{FileState}
-use Rattle.durable_machine.specs.Files.{IsDurable, IsInBase, IsItsState, IsOldOrStands, IsState, AlwaysKeepsState}
+use Rattle.durable_machine.specs.Files.{IsDurable, IsInBase, IsItsState, IsOldOrStands, IsState}
 use Rattle.durable_machine.specs.Refused.{IsRefused, Refuses}
+use Rattle.durable_machine.specs.Restart.{IsRestarted as IsRestartedMachine, KeepsRestarted as KeepsRestartedMachine, LeavesFound as LeavesFoundMachine, MayBeLeft as MayBeLeftOfMachine}
 use Rattle.durable_machine.specs.declared.fault.Fault.{Fault}
 use Rattle.device_meaning.specs.State.{State}
 use Rattle.durable_device.specs.Machine.{IsDeviceBase, next_state}
@@ -15,9 +16,23 @@ StandsFor = IsState IsDeviceBase next_state
 abbrev pub StandsForIt : List ℕ → State → Type 0
 StandsForIt = IsItsState IsDeviceBase next_state
 
--- a crash at any moment leaves a file that stands for what the old one does
-abbrev pub AlwaysStandsForIt : FileState → FileState → Type 0
-AlwaysStandsForIt = AlwaysKeepsState IsDeviceBase next_state
+-- an earlier program may have left these bytes on the disk, of a file of which those are read: the same; or, where they stand for a
+-- device, the same but for the gate of its last batch
+abbrev pub MayBeLeft : List ℕ → List ℕ → Type 0
+MayBeLeft = MayBeLeftOfMachine IsDeviceBase next_state
+
+-- so it is of a file that was opened
+abbrev pub IsRestarted : FileState → Type 0
+IsRestarted = IsRestartedMachine IsDeviceBase next_state
+
+-- a crash at any moment leaves what an earlier program may have left, or a file that has P; and where all of the file was on the disk, one
+-- that has P
+abbrev pub LeavesFound : FileState → FileState → (List ℕ → Type 0) → Type 0
+LeavesFound = LeavesFoundMachine IsDeviceBase next_state
+
+-- so it is with a file that stands for what the old one does
+abbrev pub KeepsRestarted : FileState → FileState → Type 0
+KeepsRestarted = KeepsRestartedMachine IsDeviceBase next_state
 
 -- a crash might have left the file before, or it stands for a device in this state
 abbrev pub IsOldOrStandsFor : FileState → State → List ℕ → Type 0

@@ -4,11 +4,15 @@ ghost use Rattle.std.specs.Prelude.{◌≡◌, ◌<◌, ◌^◌};
 ghost use Rattle.nvme_entry.specs.Entry.{decoded};
 ghost use Rattle.zns_commands.specs.Meaning.{change_of};
 ghost use Rattle.durable_device.specs.FrameEvents.{told_by};
-ghost use Rattle.durable_device.specs.Changing.{HasIdentifier, asks_change, is_change, is_refusal, may_change};
+ghost use Rattle.durable_device.specs.Changing.{HasIdentifier, asks_change, is_change, is_refusal, is_want_of_memory, may_change};
 
 use crate::frame_event::FrameEvent;
 use device_events::Reply;
 use nvme_entry::{Command, Entry, StandardCommand};
+
+/// The last two bytes of a completion that says that memory was wanting: status code type 7h, status code C7h (profile; NVMe Base 2.0,
+/// 3.3.3.2.1).
+const WANT_OF_MEMORY: [u8; 2] = [0x8e, 0x0f];
 
 /// Whether an event with this reply may have changed the device. A refused one hasn't, whatever it was refused for, nor has one
 /// that only reads.
@@ -58,6 +62,20 @@ pub fn is_refusal(reply: &Reply) -> bool
 {
     match reply {
         Reply::Complete { entry, .. } => !(entry[14] == 0 && entry[15] == 0),
+        Reply::Pending { .. } => false,
+        Reply::Idle => false,
+        Reply::FaultTaken => false,
+        Reply::FaultRefused => false,
+    }
+}
+
+/// Whether a reply is a completion that says that memory was wanting.
+pub(crate) fn is_want_of_memory(reply: &Reply) -> bool
+    ensures { result ≡ is_want_of_memory reply.now }
+{
+    match reply {
+        Reply::Complete { entry, .. } => entry[14] == WANT_OF_MEMORY[0]
+            && entry[15] == WANT_OF_MEMORY[1],
         Reply::Pending { .. } => false,
         Reply::Idle => false,
         Reply::FaultTaken => false,

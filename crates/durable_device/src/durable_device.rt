@@ -1,15 +1,15 @@
 //! A device, and the journal of what happened to it.
 
-ghost use Rattle.std.specs.Prelude.{◌≡◌, ◌<◌, IfOk, IfErr, OnOk};
-ghost use Rattle.stored_file.specs.File.{IsOnDisk, LeavesOnly};
+ghost use Rattle.std.specs.Prelude.{◌≡◌, ◌<◌, IfOk, IfErr, IsErrOf, OnOk};
+ghost use Rattle.stored_file.specs.File.{LeavesOnly};
 ghost use Rattle.stored_file.specs.Cause.{HasCause};
-ghost use Rattle.stored_file.specs.declared.stored_file.FileError.TheVariants.{Failed};
+ghost use Rattle.stored_file.specs.declared.stored_file.FileError.TheVariants.{NoRoom, Failed};
 ghost use Rattle.durable_machine.specs.Batches.{batches_of, bytes_of, lists_of};
 ghost use Rattle.durable_machine.specs.Files.{joined};
 ghost use Rattle.device_meaning.specs.Judging.{interval_judge};
 ghost use Rattle.device_meaning.specs.Reached.{IsReached};
 ghost use Rattle.device_meaning.specs.State.{new_state};
-ghost use Rattle.durable_device.specs.Kept.{AlwaysStandsForIt, IsKept, IsKeptInBase, IsOldOrStandsFor, RefusesFile, StandsFor, StandsForIt};
+ghost use Rattle.durable_device.specs.Kept.{IsKept, IsKeptInBase, IsOldOrStandsFor, IsRestarted, KeepsRestarted, RefusesFile, StandsFor, StandsForIt};
 ghost use Rattle.durable_device.specs.Machine.{IsDeviceBase};
 ghost use Rattle.durable_device.specs.Serving.{HasServed, HaveServed, IsAfterSome, IsBeforeOrAfter, Leads};
 
@@ -20,6 +20,9 @@ use runner::Device;
 use std::alloc::{AllocError, Global};
 use stored_file::{FileError, StoredFile};
 
+/// By how many bytes the file grows before its journal is folded (profile).
+pub const MOST_JOURNAL: usize = 1 << 26;
+
 /// A device, and the journal of what happened to it, in a file. After a crash at any moment, during a call or between two, the device
 /// that is opened again is the device after some of the events that were handed in, in order: all whose replies were handed out, and
 /// at most those handed in.
@@ -27,28 +30,31 @@ use stored_file::{FileError, StoredFile};
 pub struct DurableDevice<F: StoredFile + Drop> {
     /// The device and its journal.
     pub store: Durable<FrameDevice, F>,
+    /// How many bytes of the file were taken when it was made, or was to be folded last; 0 where it was opened, and hasn't been folded since.
+    pub folded: usize,
 }
 
 impl<F: StoredFile + Drop> DurableDevice<F> {
-    /// Opens the device of a file that a crash may have left. It may crash too, at any moment, and then the file stands for the same
-    /// device. An `Err` hands the file back.
+    /// Opens the device of a file that a crash may have left, or an earlier program that failed to bring its last batch to the disk. At
+    /// `Ok` all that the file stands for is there. It may crash too, at any moment, and then the file stands for the same device; or
+    /// for that from before the last batch, where that wasn't on the disk. An `Err` hands the file back.
     ///
     /// # Errors
     ///
     /// The file doesn't begin with a base in whole sectors, or has what no crash leaves: then it stands for no device, and stays as
     /// it is. No memory, or the disk's.
     pub fn open(alloc: Global, file: F) -> Result<DurableDevice<F>, (Fault, F)>
-        // After a restart, what is read is what is on the disk.
-        requires restarted { IsOnDisk (F.told file) }
+        // What is read is on the disk, but for what an earlier program did last.
+        requires restarted { IsRestarted (F.told file) }
 
         ensures state { IfOk result (λ device. StandsForIt (F.told file).seen device.store.machine) }
         ensures reached { IfOk result (λ device. IsReached interval_judge device.store.machine) }
         ensures kept { IfOk result (λ device.
             IsKept device.store.machine device.store.journal.gate (F.told device.store.journal.file)) }
 
-        // A crash at any moment leaves the same device.
-        ensures any_moment { IfOk result (λ device. AlwaysStandsForIt (F.told file) (F.told device.store.journal.file)) }
-        ensures any_moment_err { IfErr result (λ refusal. AlwaysStandsForIt (F.told file) (F.told refusal.1)) }
+        // A crash at any moment leaves what an earlier program may have left; where all was on the disk, the same device.
+        ensures any_moment { IfOk result (λ device. KeepsRestarted (F.told file) (F.told device.store.journal.file)) }
+        ensures any_moment_err { IfErr result (λ refusal. KeepsRestarted (F.told file) (F.told refusal.1)) }
 
         ensures refused { IfErr result (λ refusal. RefusesFile (F.told file) (F.told refusal.1) refusal.0) }
     {
@@ -56,7 +62,34 @@ impl<F: StoredFile + Drop> DurableDevice<F> {
             Ok(store) => {
                 // Brings in that the device is in a state that events leave.
                 let _ = store.machine.image();
-                Ok(DurableDevice { store })
+                Ok(DurableDevice { store, folded: 0 })
+            }
+            Err(refusal) => Err(refusal),
+        }
+    }
+
+    /// Opens the device of a file of which these bytes were read, as [`DurableDevice::open`] does, and reads nothing of it.
+    ///
+    /// # Errors
+    ///
+    /// Those of [`DurableDevice::open`].
+    pub fn open_read(alloc: Global, file: F, bytes: &[u8]) -> Result<DurableDevice<F>, (Fault, F)>
+        requires restarted { IsRestarted (F.told file) }
+        requires read { bytes.now ≡ (F.told file).seen }
+
+        ensures state { IfOk result (λ device. StandsForIt (F.told file).seen device.store.machine) }
+        ensures reached { IfOk result (λ device. IsReached interval_judge device.store.machine) }
+        ensures kept { IfOk result (λ device.
+            IsKept device.store.machine device.store.journal.gate (F.told device.store.journal.file)) }
+        ensures any_moment { IfOk result (λ device. KeepsRestarted (F.told file) (F.told device.store.journal.file)) }
+        ensures any_moment_err { IfErr result (λ refusal. KeepsRestarted (F.told file) (F.told refusal.1)) }
+        ensures refused { IfErr result (λ refusal. RefusesFile (F.told file) (F.told refusal.1) refusal.0) }
+    {
+        match Durable::<FrameDevice, F>::open_read(alloc, file, bytes) {
+            Ok(store) => {
+                // Brings in that the device is in a state that events leave.
+                let _ = store.machine.image();
+                Ok(DurableDevice { store, folded: 0 })
             }
             Err(refusal) => Err(refusal),
         }
@@ -83,13 +116,17 @@ impl<F: StoredFile + Drop> DurableDevice<F> {
 
         // It doesn't give up by itself.
         ensures cause { IfErr result (λ failure. failure.0 ≡ Failed → (F.told file).faults < (F.told failure.1).faults) }
+        ensures no_room { IfErr result (λ failure. failure.0 ≡ NoRoom → (F.told file).faults < (F.told failure.1).faults) }
     {
         let (machine, base) = match first(alloc, image) {
             Ok(made) => made,
             Err(AllocError) => return Err((FileError::Memory, file)),
         };
         match Durable::<FrameDevice, F>::create(machine, base, file) {
-            Ok(store) => Ok(DurableDevice { store }),
+            Ok(store) => {
+                let folded = store.journal.gate;
+                Ok(DurableDevice { store, folded })
+            }
             Err(failure) => Err(failure),
         }
     }
@@ -155,18 +192,22 @@ impl<F: StoredFile + Drop> DurableDevice<F> {
     }
 
     /// Puts a new file in the place of the old one, with a base that tells the device as it is, and an empty journal. A crash at any
-    /// moment leaves a file that stands for the same device. At an `Err` the file has to be opened again.
+    /// moment leaves a file that stands for the same device. Where the disk has no room for the new file, nothing has changed; at another
+    /// `Err` the file has to be opened again.
     ///
     /// # Errors
     ///
-    /// No memory, or the disk's.
+    /// No memory, no room, or the disk's.
     pub fn fold(&mut self, alloc: Global) -> Result<(), FileError>
         requires { IsKept self.old.store.machine self.old.store.journal.gate (F.told self.old.store.journal.file) }
         ensures same { self.new.store.machine ≡ self.old.store.machine }
+        ensures counted { OnOk result (self.new.folded ≡ self.new.store.journal.gate) }
         ensures kept { OnOk result
             (IsKept self.new.store.machine self.new.store.journal.gate (F.told self.new.store.journal.file)) }
         ensures in_base { OnOk result
             (IsKeptInBase self.new.store.machine self.new.store.journal.gate (F.told self.new.store.journal.file)) }
+        ensures no_room { IsErrOf result NoRoom →
+            IsKept self.new.store.machine self.new.store.journal.gate (F.told self.new.store.journal.file) }
         ensures any_moment { LeavesOnly (F.told self.old.store.journal.file) (F.told self.new.store.journal.file)
             (λ c. StandsFor c self.old.store.machine) }
 
@@ -174,7 +215,9 @@ impl<F: StoredFile + Drop> DurableDevice<F> {
         ensures cause { HasCause (F.told self.old.store.journal.file) (F.told self.new.store.journal.file) result }
     {
         let base = self.store.machine.base(alloc)?;
-        self.store.fold(base)
+        let done = self.store.fold(base);
+        self.folded = self.store.journal.gate;
+        done
     }
 
     /// The device.

@@ -9,7 +9,7 @@ ghost use Rattle.device_meaning.specs.State.{new_state};
 ghost use Rattle.durable_device.specs.FrameEvents.{told_by};
 ghost use Rattle.durable_device.specs.Machine.{HasDone, HasReplied, IsDeviceBase, next_state, one_device};
 
-use crate::changes::may_change;
+use crate::changes::{is_want_of_memory, may_change};
 use crate::frame_event::{FrameEvent, event_in};
 use crate::sections::{kept_in, sections_of};
 use device_events::{Event, Reply};
@@ -98,10 +98,21 @@ impl FrameDevice {
     pub fn base(&self, alloc: Global) -> Result<Vec<u8>, AllocError>
         ensures { IfOk result (λ base. IsDeviceBase base.items self.now) }
     {
-        let kept = self.device.kept(alloc)?;
-        let sections = sections_of(alloc, &kept)?;
-        save_base(alloc, self.device.image(), &sections)
+        base_of(alloc, &self.device)
     }
+}
+
+/// A base that stands for a device.
+///
+/// # Errors
+///
+/// No memory.
+pub fn base_of(alloc: Global, device: &Device) -> Result<Vec<u8>, AllocError>
+    ensures { IfOk result (λ base. IsDeviceBase base.items device.now) }
+{
+    let kept = device.kept(alloc)?;
+    let sections = sections_of(alloc, &kept)?;
+    save_base(alloc, device.image(), &sections)
 }
 
 impl Machine for FrameDevice {
@@ -139,14 +150,17 @@ impl Machine for FrameDevice {
             return Ok(Applied {
                 reply: None,
                 changes: false,
+                starved: false,
             });
         };
         let reply = perform(&mut *self.device, &event, &mut self.output);
         let data = self.output[..reply.data_length()].to_vec(alloc)?;
         let changes = may_change(&event, &reply);
+        let starved = is_want_of_memory(&reply);
         Ok(Applied {
             reply: Some(Given { reply, data }),
             changes,
+            starved,
         })
     }
 }

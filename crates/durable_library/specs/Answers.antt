@@ -4,8 +4,8 @@ use Rattle.std.specs.Option.{option_map_or}
 use Rattle.handed_file.specs.Handed.{made_calls, waiting}
 use Rattle.handed_file.specs.Handing.{done_call}
 use Rattle.handed_file.specs.declared.handed_file.FileCall.{FileCall}
-use Rattle.handed_file.specs.declared.handed_file.FileCall.TheVariants.{Write, Shorten, Sync, Replace}
-use Rattle.durable_library.specs.Sessions.{HasFolded, HasServed, IsOnTheDisk, file_of, state_of}
+use Rattle.handed_file.specs.declared.handed_file.FileCall.TheVariants.{Write, Renew, Shorten, Sync, Replace, Want}
+use Rattle.durable_library.specs.Sessions.{HasFolded, HasNoRoom, HasServed, IsOnTheDisk, file_of, state_of}
 use Rattle.durable_library.specs.declared.kind.Kind.{Kind}
 use Rattle.durable_library.specs.declared.kind.Kind.TheVariants as kind
 use Rattle.durable_library.specs.declared.session.Session.{Session}
@@ -50,8 +50,13 @@ pub record IsFolded (old new : Session) (answer : ℕ) : Type 0 where
   pub folded : HasFolded old new
   pub told_is : answer ≡ 1
 
+-- it isn't, for want of room, once C has made the calls for it
+pub record IsUnfolded (old new : Session) (answer : ℕ) : Type 0 where
+  pub unfolded : HasNoRoom old new
+  pub told_is : answer ≡ 2
+
 abbrev pub Folds : Session → Session → ℕ → Type 0
-Folds old new answer = IsFolded old new answer ⊎ Fails old new answer
+Folds old new answer = IsFolded old new answer ⊎ (IsUnfolded old new answer ⊎ Fails old new answer)
 
 -- C's memory stays
 pub record Keeps (Does : Session → Session → ℕ → Type 0) (old new : Lent) (answer : ℕ) : Type 0 where
@@ -61,21 +66,27 @@ pub record Keeps (Does : Session → Session → ℕ → Type 0) (old new : Lent
 -- the kinds of calls; what goes with one
 abbrev pub call_kind : FileCall → ℕ
 call_kind (Write «at» bytes) = 1
+call_kind (Renew «at» bytes) = 1
 call_kind (Shorten len) = 2
 call_kind Sync = 3
 call_kind (Replace bytes) = 4
+call_kind (Want len) = 5
 
 abbrev pub call_place : FileCall → ℕ
 call_place (Write «at» bytes) = «at»
+call_place (Renew «at» bytes) = «at»
 call_place (Shorten len) = len
 call_place Sync = 0
 call_place (Replace bytes) = 0
+call_place (Want len) = len
 
 abbrev pub call_bytes : FileCall → List ℕ
 call_bytes (Write «at» bytes) = bytes.items
+call_bytes (Renew «at» bytes) = bytes.items
 call_bytes (Shorten len) = []
 call_bytes Sync = []
 call_bytes (Replace bytes) = bytes.items
+call_bytes (Want len) = []
 
 -- the call that C is to make next: none where all are done, or the file has to be opened again
 abbrev pub next_of : Bool → List FileCall → Option FileCall

@@ -6,7 +6,7 @@ ghost use Rattle.durable_library.specs.Sessions.{WillBeKept, file_of};
 ghost use Rattle.handed_file.specs.Handed.{waiting};
 
 use crate::kind::Kind;
-use crate::session::Session;
+use crate::session::{Folding, Session};
 use handed_file::FileCall;
 use std::alloc::Global;
 
@@ -40,7 +40,7 @@ pub fn answer(
             0
         }
         Kind::Replies => put(behind(session.replies(), number), out),
-        Kind::Fold => fold(session, alloc),
+        Kind::Fold => fold(session, alloc, count),
     }
 }
 
@@ -56,8 +56,9 @@ fn serve(session: &mut Session, alloc: Global, frames: &[u8]) -> usize
     if session.serve(alloc, frames) { 1 } else { 0 }
 }
 
-/// Folds the journal: 1 where it is done, once C has made the calls for it.
-fn fold(session: &mut Session, alloc: Global) -> usize
+/// Folds the journal into a new file of at most so many bytes: 1 where it is done, once C has made the calls for it, 2 where it would be
+/// longer.
+fn fold(session: &mut Session, alloc: Global, room: usize) -> usize
     requires { WillBeKept session.old }
     ensures folded { Folds session.old session.new result }
     ensures kept { WillBeKept session.new }
@@ -65,7 +66,11 @@ fn fold(session: &mut Session, alloc: Global) -> usize
     if session.failed {
         return 0;
     }
-    if session.fold(alloc) { 1 } else { 0 }
+    match session.fold(alloc, room) {
+        Folding::Failed => 0,
+        Folding::Done => 1,
+        Folding::NoRoom => 2,
+    }
 }
 
 /// Which call C is to make next; 0 for none.
@@ -73,21 +78,22 @@ fn kind_of_next(session: &Session) -> usize
     ensures { result ≡ of_next call_kind session.now.failed (waiting (file_of session.now)) }
 {
     match session.next() {
-        Some(FileCall::Write { .. }) => 1,
+        Some(FileCall::Write { .. } | FileCall::Renew { .. }) => 1,
         Some(FileCall::Shorten { .. }) => 2,
         Some(FileCall::Sync) => 3,
         Some(FileCall::Replace { .. }) => 4,
+        Some(FileCall::Want { .. }) => 5,
         None => 0,
     }
 }
 
-/// At which offset, or to which length.
+/// At which offset, to which length, or how many bytes a new file would have.
 fn place_of_next(session: &Session) -> usize
     ensures { result ≡ of_next call_place session.now.failed (waiting (file_of session.now)) }
 {
     match session.next() {
-        Some(FileCall::Write { at, .. }) => *at,
-        Some(FileCall::Shorten { len }) => *len,
+        Some(FileCall::Write { at, .. } | FileCall::Renew { at, .. }) => *at,
+        Some(FileCall::Shorten { len } | FileCall::Want { len }) => *len,
         Some(FileCall::Sync | FileCall::Replace { .. }) | None => 0,
     }
 }
@@ -97,8 +103,12 @@ fn bytes_of_next(session: &Session) -> &[u8]
     ensures { result.now ≡ next_bytes session.now.failed (waiting (file_of session.now)) }
 {
     match session.next() {
-        Some(FileCall::Write { bytes, .. } | FileCall::Replace { bytes }) => bytes.as_slice(),
-        Some(FileCall::Shorten { .. } | FileCall::Sync) | None => &[],
+        Some(
+            FileCall::Write { bytes, .. }
+            | FileCall::Renew { bytes, .. }
+            | FileCall::Replace { bytes },
+        ) => bytes.as_slice(),
+        Some(FileCall::Shorten { .. } | FileCall::Sync | FileCall::Want { .. }) | None => &[],
     }
 }
 

@@ -20,8 +20,9 @@ pub extern "C" fn durable_library_handle_bytes() -> usize {
     std::mem::size_of::<Handle>()
 }
 
-/// Opens a device in the memory at `device`, of a file of these bytes, all of which is on the disk: a journal, or an image, of which one is
-/// made. Where they are neither or memory is wanting, a handle lies there all the same, which has no device.
+/// Opens a device in the memory at `device`, of a file of these bytes, which C has read once it has brought the file and its name to the
+/// disk: a journal, or an image, of which one is made. Where they are neither or memory is wanting, a handle lies there all the same, which
+/// has no device.
 #[unsafe(no_mangle)]
 pub unsafe extern "C" fn durable_library_open(alloc: Global, device: *mut u8, image: &[u8])
     requires* { sem 𝓛 (room_at handle-row device) }

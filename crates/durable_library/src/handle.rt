@@ -1,11 +1,10 @@
 //! A device that C holds.
 
-ghost use Rattle.std.specs.Prelude.{◌≢◌, IfOk, IfErr};
-ghost use Rattle.stored_file.specs.File.{IsOnDisk};
+ghost use Rattle.std.specs.Prelude.{◌≡◌, ◌≢◌, IfOk, IfErr};
+ghost use Rattle.durable_device.specs.Kept.{IsRestarted};
 ghost use Rattle.durable_library.specs.Opening.{IsCreated, IsMade, IsOpened, IsReopened};
 ghost use Rattle.durable_library.specs.Sessions.{WillBeKept};
-ghost use Rattle.handed_file.specs.Handed.{noted};
-ghost use Rattle.system_file.specs.Calls.{told_of};
+ghost use Rattle.handed_file.specs.Handed.{noted, told_of};
 
 use crate::session::Session;
 use durable_device::DurableDevice;
@@ -61,31 +60,30 @@ fn open(alloc: Global, bytes: &[u8]) -> Result<Session, u32>
     ensures kept { IfOk result WillBeKept }
     ensures refused { IfErr result (λ why. why ≢ DONE) }
 {
-    let Ok(file) = HandedFile::new(alloc, bytes) else {
-        return Err(u32::from(LoadFault::Memory.number()));
-    };
+    let file = HandedFile::new(alloc, bytes);
     if bytes.starts_with(&MAGIC) {
-        reopen(alloc, file)
+        reopen(alloc, bytes, file)
     } else {
         create(alloc, bytes, file)
     }
 }
 
 /// The device of a journal.
-fn reopen(alloc: Global, file: HandedFile) -> Result<Session, u32>
-    requires { IsOnDisk (told_of (noted file)) }
+fn reopen(alloc: Global, bytes: &[u8], file: HandedFile) -> Result<Session, u32>
+    requires restarted { IsRestarted (told_of (noted file)) }
+    requires read { bytes.now ≡ (told_of (noted file)).seen }
     ensures opened { IfOk result (IsReopened (noted file)) }
     ensures kept { IfOk result WillBeKept }
     ensures refused { IfErr result (λ why. why ≢ DONE) }
 {
-    match DurableDevice::open(alloc, file) {
+    match DurableDevice::open_read(alloc, file, bytes) {
         Ok(device) => Ok(Session::new(alloc, device)),
         Err((fault, _)) => Err(number_of(fault)),
     }
 }
 
 /// The device of an image, and a journal that takes its place.
-fn create(alloc: Global, bytes: &[u8], file: HandedFile) -> Result<Session, u32>
+fn create(alloc: Global, bytes: &[u8], mut file: HandedFile) -> Result<Session, u32>
     ensures opened { IfOk result (IsCreated bytes.now (noted file)) }
     ensures kept { IfOk result WillBeKept }
     ensures refused { IfErr result (λ why. why ≢ DONE) }
@@ -95,6 +93,7 @@ fn create(alloc: Global, bytes: &[u8], file: HandedFile) -> Result<Session, u32>
         Ok(image) => image,
         Err(fault) => return Err(u32::from(fault.number())),
     };
+    file.grant(usize::MAX);
     match DurableDevice::create(alloc, image, file) {
         Ok(device) => Ok(Session::new(alloc, device)),
         Err((_, _)) => Err(u32::from(LoadFault::Memory.number())),
@@ -106,7 +105,7 @@ fn number_of(fault: Fault) -> u32
     ensures { result ≢ DONE }
 {
     match fault {
-        Fault::Unreadable | Fault::Damaged(_) => DAMAGED,
+        Fault::Unreadable | Fault::Damaged(_) | Fault::Undone(_) => DAMAGED,
         Fault::OfFile(_) => u32::from(LoadFault::Memory.number()),
     }
 }

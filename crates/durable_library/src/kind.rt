@@ -13,7 +13,7 @@ pub enum Kind {
     Serve,
     /// Which call for the file C is to make next.
     Next,
-    /// At which offset, or to which length.
+    /// At which offset, to which length, or how many bytes a new file would have.
     Place,
     /// Of how many bytes.
     Size,
@@ -25,7 +25,7 @@ pub enum Kind {
     Failed,
     /// For the frames of the replies.
     Replies,
-    /// To fold the journal.
+    /// To fold the journal into a new file of at most so many bytes.
     Fold,
 }
 

@@ -1,14 +1,14 @@
 //! A durable device that C serves.
 
 ghost use Rattle.std.specs.Prelude.{◌≡◌, ◌⊎◌, false, true, [], None, Some, IfSome, IsNone, IsTrue};
-ghost use Rattle.system_file.specs.Calls.{told_of};
-ghost use Rattle.handed_file.specs.Handed.{noted, waiting};
+ghost use Rattle.handed_file.specs.Handed.{noted, told_of, waiting};
 ghost use Rattle.durable_device.specs.Kept.{IsKept};
 
 use durable_device::DurableDevice;
 use durable_serve::serve;
 use handed_file::{FileCall, HandedFile};
 use std::alloc::Global;
+use stored_file::FileError;
 
 /// A device, and its journal in a file for which C makes the calls.
 #[derive(Drop)]
@@ -23,7 +23,7 @@ pub struct Session {
 
 impl Session {
     ghost use Rattle.durable_library.specs.Answers.{TakesDone, next_of};
-    ghost use Rattle.durable_library.specs.Sessions.{HasFolded, HasServed, IsOnTheDisk, WillBeKept, file_of, state_of};
+    ghost use Rattle.durable_library.specs.Sessions.{FoldsTo, HasServed, IsOnTheDisk, WillBeKept, file_of, state_of};
 
     /// A device that was opened.
     pub fn new(alloc: Global, device: DurableDevice<HandedFile>) -> Session
@@ -100,15 +100,32 @@ impl Session {
         self.failed = true;
     }
 
-    /// Folds the journal. Says whether it is done, once C has made the calls; where it isn't, the file has to be opened again.
-    pub fn fold(&mut self, alloc: Global) -> bool
+    /// Folds the journal into a new file of at most so many bytes, for which C has room.
+    pub fn fold(&mut self, alloc: Global, room: usize) -> Folding
         requires usable { self.old.failed ≡ false }
         requires kept { WillBeKept self.old }
-        ensures folded { IsTrue result → HasFolded self.old self.new }
-        ensures failed { result ≡ false → self.new.failed ≡ true }
+        ensures folds { FoldsTo self.old self.new result }
         ensures kept { WillBeKept self.new }
     {
-        self.failed = self.device.fold(alloc).is_err();
-        !self.failed
+        self.device.store.journal.file.grant(room);
+        match self.device.fold(alloc) {
+            Ok(()) => Folding::Done,
+            Err(FileError::NoRoom) => Folding::NoRoom,
+            Err(FileError::Memory | FileError::Failed) => {
+                self.failed = true;
+                Folding::Failed
+            }
+        }
     }
+}
+
+/// What came of folding a journal.
+#[derive(Clone, Copy)]
+pub enum Folding {
+    /// It is folded, once C has made the calls.
+    Done,
+    /// The new file would be longer than C has room for: it is handed how long that is, and the journal is used on.
+    NoRoom,
+    /// The file has to be opened again.
+    Failed,
 }

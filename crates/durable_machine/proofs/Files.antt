@@ -2,12 +2,12 @@
 use Rattle.std.proofs.Common.{◌≡◌, arith, ◌⊎◌, inl, inr, ◌≤◌, ℕ, Bool, false, List, [], ◌∷◌, ◌++◌, length, take, refl, sym, ◌∙◌, ap, subst, append_assoc, length-append}
 use Rattle.std.proofs.lemmas.List.{append-nil, take_at}
 use Rattle.std.proofs.lemmas.List.Sums.{fold-append}
-use Rattle.stored_file.specs.File.{FileState, MayLeave, IsWhole, LeavesOnly}
+use Rattle.stored_file.specs.File.{FileState, IsAsBefore, MayLeave, IsWhole, LeavesOnly}
 use Rattle.stored_file.proofs.Moments.{started}
 use Rattle.event_journal.specs.Events.{spelled}
 use Rattle.event_journal.specs.Journal.{StandsFor, IsAt}
 use Rattle.event_journal.proofs.Frames.{one_meaning, frames_whole}
-use Rattle.event_journal.proofs.Steps.{at_rest}
+use Rattle.event_journal.proofs.Steps.{at_rest, rests_as_before}
 use Rattle.durable_machine.specs.Runs.{state_again, HasRun}
 use Rattle.durable_machine.specs.Files.{IsFront, IsStateAt, IsState, KeepsState, IsDurable, joined, whole_sectors}
 use Rattle.durable_machine.specs.Batches.{IsBeforeOrAfter}
@@ -59,7 +59,18 @@ module _ {S : Type 0} (loads : List ℕ → S → Type 0) (next : S → Bool →
 
     -- what a crash leaves before anything is done
     pub rests_before : (c : List ℕ) → MayLeave file c → IsState loads next c machine
-    rests_before c left = is_before c (subst (StandsFor durable.front durable.batches) (sym (durable.rests.durable c left)) (at_rest durable.front durable.batches gate file durable.rests))
+    rests_before c left = is_before c (subst (StandsFor durable.front durable.batches) (sym (durable.rests.durable.left c left)) (at_rest durable.front durable.batches gate file durable.rests))
+
+    -- where nothing has changed, it is durable still
+    pub as_before : (new : FileState) → IsAsBefore file new → IsDurable loads next machine gate new
+    as_before new same = record {
+      front = durable.front;
+      first = durable.first;
+      begins = durable.begins;
+      batches = durable.batches;
+      rests = rests_as_before durable.front durable.batches gate file new durable.rests same;
+      leads = durable.leads;
+    }
 
     pub nothing_done : (P : List ℕ → Type 0) → ((c : List ℕ) → IsState loads next c machine → P c) → LeavesOnly file file P
     nothing_done P so = started file P (λ c left. so c (rests_before c left))

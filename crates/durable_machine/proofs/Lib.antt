@@ -4,4 +4,5 @@ pub mod Files
 pub mod Folding
 pub mod Refusing
 pub mod Replaying
+pub mod Restarting
 pub mod Running

@@ -1,14 +1,14 @@
 -- Which files stand for no state, and how they are refused.
 use Rattle.std.proofs.Common.{◌≡◌, ◌<◌, ℕ, Bool, List, ◌++◌, length, take, drop, sym, ◌∙◌, ap, subst, arith, append_assoc, length-append, length-take, take-append-drop}
 use Rattle.stored_file.specs.File.{FileState}
-use Rattle.stored_file.specs.declared.stored_file.FileError.TheVariants.{Memory, Failed}
+use Rattle.stored_file.specs.declared.stored_file.FileError.TheVariants.{Memory, NoRoom, Failed}
 use Rattle.event_journal.specs.Journal.{IsDamagedAt}
 use Rattle.event_journal.proofs.Frames.{damaged_none}
 use Rattle.durable_machine.specs.Bases.{BeginsBase, BeginsNoBase}
 use Rattle.durable_machine.specs.Files.{IsState, whole_sectors}
 use Rattle.durable_machine.specs.Refused.{IsUntouched, HasNoState, IsDamaged, IsRefused, Refuses}
 use Rattle.durable_machine.specs.declared.fault.Fault.{Fault}
-use Rattle.durable_machine.specs.declared.fault.Fault.TheVariants.{Unreadable, Damaged, OfFile}
+use Rattle.durable_machine.specs.declared.fault.Fault.TheVariants.{Unreadable, Damaged, Undone, OfFile}
 use Rattle.durable_machine.proofs.Files.{one_front}
 
 module _ {S : Type 0} (loads : List ℕ → S → Type 0) (next : S → Bool → List ℕ → S) where
@@ -36,10 +36,14 @@ module _ {S : Type 0} (loads : List ℕ → S → Type 0) (next : S → Bool →
         damaged_none b.front a.batches b.batches n end file (subst (λ (front : List ℕ). IsDamagedAt front a.batches n file) fronts.0 a.is) b.has
 
   -- what is refused for its bytes isn't touched
-  pub refuses : (old new : FileState) (fault : Fault) → IsRefused loads next old.seen fault → IsUntouched old new → Refuses loads next old new fault
-  refuses old new Unreadable none untouched = (none, untouched)
-  refuses old new (Damaged n) is untouched = (is.0, is.1, untouched)
-  refuses old new (OfFile error) is untouched = λ failed. absurd (other (sym is ∙ failed))
+  pub refuses : (old new : FileState) (fault : Fault) → new.seen ≡ old.seen → IsRefused loads next old.seen fault → (HasNoState loads next old.seen → IsUntouched old new) → Refuses loads next old new fault
+  refuses old new Unreadable same none untouched = (none, untouched none)
+  refuses old new (Damaged n) same is untouched = (is.0, is.1, untouched is.1)
+  refuses old new (Undone n) same is untouched = (is, same)
+  refuses old new (OfFile error) same is untouched = (λ failed. absurd (other (sym is ∙ failed)), λ full. absurd (room (sym is ∙ full)))
     where
       other : Memory ≡ Failed → ⊥
       other same = cc
+
+      room : Memory ≡ NoRoom → ⊥
+      room same = cc

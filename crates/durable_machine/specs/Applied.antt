@@ -11,3 +11,4 @@ pub record HasApplied {S R : Type 0} (next : S → Bool → List ℕ → S) (rep
   -- done again, it leads to the same where memory is given
   pub again : done.changes ≡ true → new ≡ next old false event
   pub idle : done.changes ≡ false → new ≡ old
+  pub fed : done.starved ≡ false → new ≡ next old false event

@@ -1,6 +1,6 @@
 -- What a file stands for.
 use Rattle.std.specs.Prelude.{◌≡◌, ◌⊎◌, ℕ, ◌+◌, ◌*◌, ◌/◌, Bool, List, [], ◌∷◌, ◌++◌, length}
-use Rattle.stored_file.specs.File.{FileState, LeavesOnly, MayLeave}
+use Rattle.stored_file.specs.File.{FileState, MayLeave}
 use Rattle.event_journal.specs.Journal.{HasBatches, IsAt}
 use Rattle.durable_machine.specs.Runs.{state_again}
 
@@ -43,10 +43,6 @@ module _ {S : Type 0} (loads : List ℕ → S → Type 0) (next : S → Bool →
   -- what a file stands for, this one does, too
   abbrev pub KeepsState : List ℕ → List ℕ → Type 0
   KeepsState old file = (s : S) → IsState old s → IsState file s
-
-  -- a crash at any moment leaves a file that stands for what the old one does
-  abbrev pub AlwaysKeepsState : FileState → FileState → Type 0
-  AlwaysKeepsState old new = LeavesOnly old new (KeepsState old.seen)
 
   -- what a crash might have left of a file, or a file that stands for this state
   abbrev pub IsOldOrStands : FileState → S → List ℕ → Type 0

@@ -5,4 +5,5 @@ pub mod Files
 pub mod Laws
 pub mod Refused
 pub mod Replay
+pub mod Restart
 pub mod Runs

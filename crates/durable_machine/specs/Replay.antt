@@ -1,9 +1,12 @@
 -- What is done again of a journal.
-use Rattle.std.specs.Prelude.{◌≡◌, ℕ, Bool, List, ◌++◌, length}
-use Rattle.event_journal.specs.Events.{AreSized, spelled}
-use Rattle.event_journal.specs.Journal.{AreFrames, BeginsNoBatch}
+use Rattle.std.specs.Prelude.{◌≡◌, ℕ, ◌+◌, ◌≤◌, Bool, false, List, ◌++◌, length}
+use Rattle.event_journal.specs.Events.{AreSized, BeginsEvent, spelled}
+use Rattle.event_journal.specs.Journal.{AreFrames, BeginsNoBatch, IsSector}
+use Rattle.event_journal.specs.Restart.{IsLast}
 use Rattle.durable_machine.specs.Runs.{state_again}
 use Rattle.durable_machine.specs.Files.{joined}
+use Rattle.durable_machine.specs.declared.replay.Halt.{Halt}
+use Rattle.durable_machine.specs.declared.replay.Halt.TheVariants.{Memory, Idle}
 
 module _ {S : Type 0} (next : S → Bool → List ℕ → S) where
   -- the events that bytes spell led from one state to the other
@@ -11,17 +14,53 @@ module _ {S : Type 0} (next : S → Bool → List ℕ → S) where
   LeadsAgain bytes old new =
       (events : List (List ℕ)) → AreSized events → bytes ≡ spelled events → new ≡ state_again next events old
 
-  -- the batches at the front of bytes led from one state to the other, and this rest stands behind them
-  pub record AreDone (bytes rest : List ℕ) (old new : S) : Type 0 where
+  -- an event that stands at this offset, behind those that bytes spell, changes nothing in the state to which these led, where memory is given
+  pub record IsIdleEvent (at : ℕ) (bytes : List ℕ) (old : S) : Type 0 where
+    pub before : List (List ℕ)
+    pub sized : AreSized before
+    pub event : List ℕ
+    pub behind : List ℕ
+    pub rest : List ℕ
+    pub begins : BeginsEvent event rest behind
+    pub parts : bytes ≡ spelled before ++ behind
+    pub place : at ≡ length (spelled before)
+    pub idle : next (state_again next before old) false event ≡ state_again next before old
+
+  -- so it is with an event of the batch behind those at the front of bytes
+  pub record IsIdleAt (at : ℕ) (bytes : List ℕ) (old : S) : Type 0 where
+    pub batches : List (List (List ℕ))
+    pub frames : List ℕ
+    pub are : AreFrames batches frames
+    pub gate : List ℕ
+    pub is_open : IsSector 1 gate
+    pub payload : List ℕ
+    pub parts : bytes ≡ frames ++ gate ++ payload
+    pub offset : ℕ
+    pub event : IsIdleEvent offset payload (state_again next (joined batches) old)
+    pub place : at ≡ length (frames ++ gate) + offset
+
+  -- the batches at the front of bytes led from one state to the other, and this rest stands behind them; the last one begins here
+  pub record AreDone (bytes rest : List ℕ) (last : ℕ) (old new : S) : Type 0 where
     pub batches : List (List (List ℕ))
     pub frames : List ℕ
     pub are : AreFrames batches frames
     pub parts : bytes ≡ frames ++ rest
+    pub gate : IsLast batches frames last
     pub leads : new ≡ state_again next (joined batches) old
 
   -- they take so many bytes, and no further batch follows
-  pub record AreAllDone (bytes : List ℕ) (taken : ℕ) (old new : S) : Type 0 where
+  pub record AreAllDone (bytes : List ℕ) (taken last : ℕ) (old new : S) : Type 0 where
     pub rest : List ℕ
-    pub done : AreDone bytes rest old new
+    pub done : AreDone bytes rest last old new
     pub nothing : BeginsNoBatch rest
     pub counted : taken ≡ length done.frames
+
+  -- memory was wanting, or it is an event of those that bytes spell that isn't done again
+  abbrev pub HaltsAtEvent : List ℕ → S → Halt → Type 0
+  HaltsAtEvent bytes old Memory = Unit {0}
+  HaltsAtEvent bytes old (Idle at) = IsIdleEvent at bytes old × (at ≤ length bytes)
+
+  -- or of the batches that they are
+  abbrev pub HaltsAtBatch : List ℕ → S → Halt → Type 0
+  HaltsAtBatch bytes old Memory = Unit {0}
+  HaltsAtBatch bytes old (Idle at) = IsIdleAt at bytes old × (at ≤ length bytes)

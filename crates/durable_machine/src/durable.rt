@@ -1,12 +1,13 @@
 //! A machine and its journal.
 
-ghost use Rattle.std.specs.Prelude.{◌≡◌, ◌<◌, ◌^◌, ◌++◌, [], ◌∷◌, length, true, if◌then◌else◌, IfOk, IfErr, OnOk};
-ghost use Rattle.stored_file.specs.File.{IsOnDisk, LeavesOnly};
+ghost use Rattle.std.specs.Prelude.{◌≡◌, ◌⊎◌, ◌<◌, ◌≤◌, ◌^◌, ◌+◌, ◌++◌, [], ◌∷◌, length, take, drop, true, if◌then◌else◌, IfOk, IfErr, IsErrOf, OnOk};
+ghost use Rattle.stored_file.specs.File.{LeavesOnly};
 ghost use Rattle.stored_file.specs.Cause.{HasCause};
-ghost use Rattle.stored_file.specs.declared.stored_file.FileError.TheVariants.{Failed};
+ghost use Rattle.stored_file.specs.declared.stored_file.FileError.TheVariants.{NoRoom, Failed};
 ghost use Rattle.event_journal.specs.Events.{spelled};
 ghost use Rattle.durable_machine.specs.Runs.{HasRun};
-ghost use Rattle.durable_machine.specs.Files.{IsState, IsItsState, AlwaysKeepsState, IsDurable, IsInBase, IsOldOrStands, joined};
+ghost use Rattle.durable_machine.specs.Files.{IsState, IsItsState, IsDurable, IsInBase, IsOldOrStands, joined};
+ghost use Rattle.durable_machine.specs.Restart.{IsRestarted, KeepsRestarted};
 ghost use Rattle.durable_machine.specs.Refused.{Refuses};
 ghost use Rattle.durable_machine.specs.Batches.{
   IsBeforeOrAfter,
@@ -24,7 +25,7 @@ use crate::replay::replay;
 use crate::{Fault, Machine};
 use event_journal::{Journal, add_event, repair};
 use std::alloc::{AllocError, Global};
-use stored_file::{FileError, StoredFile, read_durable};
+use stored_file::{FileError, SECTOR, StoredFile, read_whole};
 
 /// A machine, and the journal of its events.
 #[derive(Drop)]
@@ -36,28 +37,51 @@ pub struct Durable<M: Drop, F: StoredFile + Drop> {
 }
 
 impl<M: Machine + Drop, F: StoredFile + Drop> Durable<M, F> {
-    /// Opens a file that a crash may have left. It may crash too, at any moment, and then the file stands for the same
-    /// state. An `Err` hands the file back.
+    /// Opens a file that a crash may have left, or an earlier program that failed to bring its last batch to the disk. At `Ok` all that
+    /// it stands for is there. It may crash too, at any moment, and then the file stands for the same state; or for that from before
+    /// the last batch, where that wasn't on the disk. An `Err` hands the file back.
     ///
     /// # Errors
     ///
     /// The file doesn't begin with a base in whole sectors, or has what no crash leaves: then it stands for no state, and stays
     /// as it is. No memory, or the disk's.
     pub fn open(alloc: Global, mut file: F) -> Result<Durable<M, F>, (Fault, F)>
-        // After a restart, what is read is what is on the disk.
-        requires restarted { IsOnDisk (F.told file) }
+        // What is read is on the disk, but for what an earlier program did last.
+        requires restarted { IsRestarted M.loads M.next (F.told file) }
 
         ensures state { IfOk result (λ store. IsItsState M.loads M.next (F.told file).seen store.machine) }
         ensures durable { IfOk result (λ store.
             IsDurable M.loads M.next store.machine store.journal.gate (F.told store.journal.file)) }
 
-        // A crash at any moment leaves the same state.
-        ensures any_moment { IfOk result (λ store. AlwaysKeepsState M.loads M.next (F.told file) (F.told store.journal.file)) }
-        ensures any_moment_err { IfErr result (λ refusal. AlwaysKeepsState M.loads M.next (F.told file) (F.told refusal.1)) }
+        // A crash at any moment leaves what an earlier program may have left; where all was on the disk, the same state.
+        ensures any_moment { IfOk result (λ store. KeepsRestarted M.loads M.next (F.told file) (F.told store.journal.file)) }
+        ensures any_moment_err { IfErr result (λ refusal. KeepsRestarted M.loads M.next (F.told file) (F.told refusal.1)) }
 
         ensures refused { IfErr result (λ refusal. Refuses M.loads M.next (F.told file) (F.told refusal.1) refusal.0) }
     {
-        match reopen(alloc, &mut file) {
+        match read_whole(alloc, &mut file) {
+            Ok(bytes) => Durable::open_read(alloc, file, &bytes),
+            Err(error) => Err((Fault::from(error), file)),
+        }
+    }
+
+    /// Opens a file of which these bytes were read, as [`Durable::open`] does, and reads nothing of it.
+    ///
+    /// # Errors
+    ///
+    /// Those of [`Durable::open`].
+    pub fn open_read(alloc: Global, mut file: F, bytes: &[u8]) -> Result<Durable<M, F>, (Fault, F)>
+        requires restarted { IsRestarted M.loads M.next (F.told file) }
+        requires read { bytes.now ≡ (F.told file).seen }
+
+        ensures state { IfOk result (λ store. IsItsState M.loads M.next (F.told file).seen store.machine) }
+        ensures durable { IfOk result (λ store.
+            IsDurable M.loads M.next store.machine store.journal.gate (F.told store.journal.file)) }
+        ensures any_moment { IfOk result (λ store. KeepsRestarted M.loads M.next (F.told file) (F.told store.journal.file)) }
+        ensures any_moment_err { IfErr result (λ refusal. KeepsRestarted M.loads M.next (F.told file) (F.told refusal.1)) }
+        ensures refused { IfErr result (λ refusal. Refuses M.loads M.next (F.told file) (F.told refusal.1) refusal.0) }
+    {
+        match reopen(alloc, &mut file, bytes) {
             Ok((machine, gate)) => Ok(Durable {
                 machine,
                 journal: Journal { file, gate },
@@ -134,7 +158,7 @@ impl<M: Machine + Drop, F: StoredFile + Drop> Durable<M, F> {
     ///
     /// # Errors
     ///
-    /// No memory, or the disk's.
+    /// No memory, no room, or the disk's.
     pub fn create(machine: M, base: Vec<u8>, mut file: F) -> Result<Durable<M, F>, (FileError, F)>
         requires stands { M.loads base.items machine }
 
@@ -152,8 +176,9 @@ impl<M: Machine + Drop, F: StoredFile + Drop> Durable<M, F> {
 
         // It doesn't give up by itself.
         ensures cause { IfErr result (λ failure. failure.0 ≡ Failed → (F.told file).faults < (F.told failure.1).faults) }
+        ensures no_room { IfErr result (λ failure. failure.0 ≡ NoRoom → (F.told file).faults < (F.told failure.1).faults) }
     {
-        match put_base(&machine, base, &mut file) {
+        match put_base::<M, F>(base, &mut file) {
             Ok(gate) => Ok(Durable {
                 machine,
                 journal: Journal { file, gate },
@@ -163,12 +188,12 @@ impl<M: Machine + Drop, F: StoredFile + Drop> Durable<M, F> {
     }
 
     /// Folds the journal into a new base, which stands for the machine: a new file has it in place of the old one, with an empty
-    /// journal behind it. A crash at any moment leaves a file that stands for the same state. At `Err`, the file has to be opened
-    /// again.
+    /// journal behind it. A crash at any moment leaves a file that stands for the same state. Where the disk has no room for the new
+    /// file, nothing has changed; at another `Err`, the file has to be opened again.
     ///
     /// # Errors
     ///
-    /// No memory, or the disk's.
+    /// No memory, no room, or the disk's.
     pub fn fold(&mut self, base: Vec<u8>) -> Result<(), FileError>
         requires stands { M.loads base.items self.old.machine }
         requires durable { IsDurable M.loads M.next self.old.machine self.old.journal.gate (F.told self.old.journal.file) }
@@ -177,30 +202,48 @@ impl<M: Machine + Drop, F: StoredFile + Drop> Durable<M, F> {
             (IsDurable M.loads M.next self.new.machine self.new.journal.gate (F.told self.new.journal.file)) }
         ensures in_base { OnOk result
             (IsInBase M.loads M.next self.new.machine self.new.journal.gate (F.told self.new.journal.file)) }
+        ensures no_room { IsErrOf result NoRoom →
+            IsDurable M.loads M.next self.new.machine self.new.journal.gate (F.told self.new.journal.file) }
         ensures any_moment { LeavesOnly (F.told self.old.journal.file) (F.told self.new.journal.file)
             (λ c. IsState M.loads M.next c self.old.machine) }
         ensures cause { HasCause (F.told self.old.journal.file) (F.told self.new.journal.file) result }
     {
-        self.journal.gate = put_base(&self.machine, base, &mut self.journal.file)?;
+        self.journal.gate = put_base::<M, F>(base, &mut self.journal.file)?;
         Ok(())
     }
 }
 
-/// The machine in the state that a file stands for, and where the file's closed gate stands.
+/// The machine in the state that a file stands for, of which these bytes were read, and where the file's closed gate stands.
 fn reopen<M: Machine + Drop, F: StoredFile>(
     alloc: Global,
     file: &mut F,
+    bytes: &[u8],
 ) -> Result<(M, usize), Fault>
-    requires restarted { IsOnDisk (F.told file.old) }
+    requires restarted { IsRestarted M.loads M.next (F.told file.old) }
+    requires read { bytes.now ≡ (F.told file.old).seen }
     ensures state { IfOk result (λ opened. IsItsState M.loads M.next (F.told file.old).seen opened.0) }
     ensures durable { IfOk result (λ opened. IsDurable M.loads M.next opened.0 opened.1 (F.told file.new)) }
-    ensures any_moment { AlwaysKeepsState M.loads M.next (F.told file.old) (F.told file.new) }
+    ensures any_moment { KeepsRestarted M.loads M.next (F.told file.old) (F.told file.new) }
     ensures refused { IfErr result (λ fault. Refuses M.loads M.next (F.told file.old) (F.told file.new) fault) }
 {
-    let bytes = read_durable(alloc, file)?;
-    let (machine, end) = replay(alloc, &bytes)?;
-    repair(file, end)?;
-    Ok((machine, end))
+    let found = replay(alloc, bytes)?;
+    let gate = gate_in(bytes, found.last, found.end);
+    repair(file, found.end, found.last, gate)?;
+    Ok((found.machine, found.end))
+}
+
+/// The sector of the gate at an offset; no bytes where that is the end.
+fn gate_in(bytes: &[u8], last: usize, end: usize) -> &[u8]
+    requires within { end ≤ length bytes.now }
+    requires room { (last ≡ end) ⊎ (last + 4096 ≤ end) }
+    ensures again { take (length result.now) (drop last bytes.now) ≡ result.now }
+    ensures size { (length result.now ≡ 4096) ⊎ ((last ≡ end) × (length result.now ≡ 0)) }
+    ensures before { last + length result.now ≤ end }
+{
+    if last == end {
+        return &[];
+    }
+    &bytes[last..last + SECTOR]
 }
 
 /// Does events. Gives the replies, and the events that may have changed the machine, as they are spelled.

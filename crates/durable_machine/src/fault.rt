@@ -15,6 +15,9 @@ pub enum Fault {
     /// From this byte on it has what no crash leaves there: an open gate and more than its sector, but no whole batch. Such
     /// bytes have changed, or went missing, since they were written.
     Damaged(usize),
+    /// The event at this byte changes nothing when it is done again, though memory was given. Only events that changed the machine are
+    /// written: so its bytes have changed, or another version of the machine wrote it.
+    Undone(usize),
     /// A call for it failed, or memory is wanting.
     OfFile(FileError),
 }

@@ -1,7 +1,7 @@
 //! What is opened after a crash, as laws: these functions do nothing.
 
 ghost use Rattle.durable_machine.specs.Files.{IsDurable};
-ghost use Rattle.durable_machine.specs.Laws.{FirstBatchesComeBack, OpeningChangesNothing, ComesBack};
+ghost use Rattle.durable_machine.specs.Laws.{FirstBatchesComeBack, OpeningChangesNothing, RestartsComeBack, ComesBack};
 
 use crate::{Durable, Machine};
 use stored_file::StoredFile;
@@ -15,6 +15,12 @@ pub fn first_batches_come_back<M: Machine>()
 /// Of a file that a crash left while it was opened, the machine is opened that it stood for before.
 pub fn opening_changes_nothing<M: Machine>()
     ensures { OpeningChangesNothing M.loads M.next }
+{}
+
+/// Of a file that an earlier program left, the machine is opened that what was read of it stands for, or the one from before the last
+/// batch.
+pub fn restarts_come_back<M: Machine>()
+    ensures { RestartsComeBack M.loads M.next }
 {}
 
 /// Whatever a crash leaves of a store at rest, its machine is opened of it: so no event is lost that was acknowledged.

@@ -15,6 +15,7 @@ mod reading;
 mod replay;
 mod sectors;
 
+pub use base::put_base;
 pub use durable::Durable;
 pub use fault::Fault;
 pub use machine::{Applied, Machine, Saves};

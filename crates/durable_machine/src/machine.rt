@@ -13,6 +13,8 @@ pub struct Applied<R: Drop> {
     pub reply: R,
     /// Whether the machine may have changed. Where memory was refused, it hasn't.
     pub changes: bool,
+    /// Whether memory may have been refused. Where it wasn't, the event leads to the same wherever memory is given.
+    pub starved: bool,
 }
 
 /// A machine to which events happen, each of them given by its bytes. What happens is determined, but for whether

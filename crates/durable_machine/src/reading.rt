@@ -18,6 +18,6 @@ pub fn machine_in<M: Machine + Drop>(alloc: Global, file: &[u8]) -> Result<M, Fa
     ensures state { IfOk result (λ machine. IsItsState M.loads M.next file.now machine) }
     ensures refused { IfErr result (λ fault. IsRefused M.loads M.next file.now fault) }
 {
-    let (machine, _end) = replay(alloc, file)?;
-    Ok(machine)
+    let found = replay(alloc, file)?;
+    Ok(found.machine)
 }

@@ -1,22 +1,34 @@
 //! The events of a journal, done again.
 
-ghost use Rattle.std.specs.Prelude.{◌≤◌, length, IfOk, IfErr, OnOk};
-ghost use Rattle.durable_machine.specs.Replay.{AreAllDone, LeadsAgain};
-ghost use Rattle.durable_machine.specs.Files.{IsStateAt};
+ghost use Rattle.std.specs.Prelude.{◌≡◌, ◌≤◌, length, IfOk, IfErr, OnOk};
+ghost use Rattle.durable_machine.specs.Replay.{AreAllDone, HaltsAtBatch, HaltsAtEvent, LeadsAgain};
+ghost use Rattle.durable_machine.specs.Restart.{IsReplayed};
 ghost use Rattle.durable_machine.specs.Refused.{IsRefused};
 
 use crate::sectors::in_sectors;
 use crate::{Fault, Machine};
 use event_journal::{first_batch, first_event, is_end};
 use std::alloc::{AllocError, Global};
+use stored_file::{FileError, SECTOR};
 
-/// The machine in the state that a file stands for, and where the file's batches end.
+/// What a file stands for.
+#[derive(Drop)]
+pub(crate) struct Replayed<M: Drop> {
+    /// The machine in its state.
+    pub(crate) machine: M,
+    /// Where the file's batches end.
+    pub(crate) end: usize,
+    /// The offset of the last one's gate; where there is none, it is that end.
+    pub(crate) last: usize,
+}
+
+/// The machine in the state that a file stands for, and where the file's batches are.
 ///
 /// # Errors
 ///
-/// The file begins with no base in whole sectors, it is damaged, or no memory.
-pub(crate) fn replay<M: Machine + Drop>(alloc: Global, file: &[u8]) -> Result<(M, usize), Fault>
-    ensures state { IfOk result (λ found. IsStateAt M.loads M.next found.1 file.now found.0) }
+/// The file begins with no base in whole sectors, it is damaged, an event of it isn't done again, or no memory.
+pub(crate) fn replay<M: Machine + Drop>(alloc: Global, file: &[u8]) -> Result<Replayed<M>, Fault>
+    ensures state { IfOk result (λ found. IsReplayed M.loads M.next found.end found.last file.now found.machine) }
     ensures refused { IfErr result (λ fault. IsRefused M.loads M.next file.now fault) }
 {
     let Some((mut machine, base)) = M::load(alloc, file)? else {
@@ -26,40 +38,95 @@ pub(crate) fn replay<M: Machine + Drop>(alloc: Global, file: &[u8]) -> Result<(M
     if file.len() < front {
         return Err(Fault::Unreadable);
     }
-    let taken = replay_batches(alloc, &mut machine, &file[front..])?;
-    let end = front + taken;
+    let batches = match replay_batches(alloc, &mut machine, &file[front..]) {
+        Ok(batches) => batches,
+        Err(Halt::Idle(at)) => return Err(Fault::Undone(front + at)),
+        Err(Halt::Memory) => return Err(Fault::OfFile(FileError::Memory)),
+    };
+    let end = front + batches.taken;
     if !is_end(&file[end..]) {
         return Err(Fault::Damaged(end));
     }
-    Ok((machine, end))
+    Ok(Replayed {
+        machine,
+        end,
+        last: front + batches.last,
+    })
 }
 
-/// Does the batches at the front of the bytes again. Gives how many bytes they take.
-fn replay_batches<M: Machine>(
-    alloc: Global,
-    machine: &mut M,
-    bytes: &[u8],
-) -> Result<usize, AllocError>
-    ensures done { IfOk result (λ taken. AreAllDone M.next bytes.now taken machine.old machine.new) }
-    ensures within { IfOk result (λ taken. taken ≤ length bytes.now) }
+/// Why events aren't all done again.
+#[derive(Clone, Copy)]
+pub(crate) enum Halt {
+    /// Memory is wanting.
+    Memory,
+    /// The event at this offset changes nothing.
+    Idle(usize),
+}
+
+impl From<AllocError> for Halt {
+    ghost use Rattle.durable_machine.specs.declared.replay.Halt.TheVariants.{Memory};
+
+    ghost from_gives = { λ _ halt. halt ≡ Memory };
+
+    fn from(_: AllocError) -> Self {
+        Halt::Memory
+    }
+}
+
+/// Batches behind a file's front.
+#[derive(Clone, Copy)]
+struct Batches {
+    /// How many bytes they take.
+    taken: usize,
+    /// Where the last of them begins; where there is none, it is where they end.
+    last: usize,
+}
+
+/// Does the batches at the front of the bytes again.
+///
+/// # Errors
+///
+/// An event isn't done again, or no memory.
+fn replay_batches<M: Machine>(alloc: Global, machine: &mut M, bytes: &[u8]) -> Result<Batches, Halt>
+    ensures done { IfOk result (λ found. AreAllDone M.next bytes.now found.taken found.last machine.old machine.new) }
+    ensures within { IfOk result (λ found. (found.taken ≤ length bytes.now) × (found.last ≤ found.taken)) }
+    ensures halts { IfErr result (HaltsAtBatch M.next bytes.now machine.old) }
 {
     let mut rest = bytes;
+    let mut last = 0;
     while let Some((events, behind)) = first_batch(rest) {
-        apply_again(alloc, machine, events)?;
+        let at = bytes.len() - rest.len();
+        match apply_again(alloc, machine, events) {
+            Ok(()) => {}
+            Err(Halt::Idle(event)) => return Err(Halt::Idle(at + SECTOR + event)),
+            Err(Halt::Memory) => return Err(Halt::Memory),
+        }
+        last = at;
         rest = behind;
     }
-    Ok(bytes.len() - rest.len())
+    Ok(Batches {
+        taken: bytes.len() - rest.len(),
+        last,
+    })
 }
 
 /// Does events again, which bytes spell, where memory was given.
-fn apply_again<M: Machine>(alloc: Global, machine: &mut M, bytes: &[u8]) -> Result<(), AllocError>
-    ensures { OnOk result (LeadsAgain M.next bytes.now machine.old machine.new) }
+///
+/// # Errors
+///
+/// One of them changes nothing, or no memory.
+fn apply_again<M: Machine>(alloc: Global, machine: &mut M, bytes: &[u8]) -> Result<(), Halt>
+    ensures again { OnOk result (LeadsAgain M.next bytes.now machine.old machine.new) }
+    ensures halts { IfErr result (HaltsAtEvent M.next bytes.now machine.old) }
 {
     let mut rest = bytes;
     while let Some((event, behind)) = first_event(rest) {
         let done = machine.apply(alloc, event)?;
+        if done.starved {
+            return Err(Halt::Memory);
+        }
         if !done.changes {
-            return Err(AllocError);
+            return Err(Halt::Idle(bytes.len() - rest.len()));
         }
         rest = behind;
     }

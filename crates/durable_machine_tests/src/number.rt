@@ -50,6 +50,7 @@ impl Machine for Number {
         Ok(Applied {
             reply: self.value,
             changes: event.len() == 1,
+            starved: false,
         })
     }
 }

@@ -126,7 +126,7 @@ module _ (most : ℕ) (s mid : Server) (a b : FileState) where
 
   -- they are, and it can't be told
   pub drain_untold : (given gate : ℕ) (new : Server) (why : ServeFault) → HasGiven most s mid a b given → IsKept mid.state gate b → new.state ≡ mid.state
-      → IsUnanswered why → StopsFinishing (end.Drain most) s new a b why
+      → IsUnanswered why mid new → StopsFinishing (end.Drain most) s new a b why
   drain_untold given gate new why has kept same unanswered rest place left is = record {
     steps = [];
     held = request_frame (request.Drained most) ++ rest;
@@ -150,6 +150,6 @@ module _ (s new : Server) (gate : ℕ) (file : FileState) (kept : IsKept s.state
   finish_save wrote rest place place' counted =
       one_added Saved rest place place' s new file file (same, wrote) counted (quiet s.state gate file kept)
 
-  pub save_stops : (why : ServeFault) → IsUnanswered why → StopsFinishing end.Save s new file file why
+  pub save_stops : (why : ServeFault) → IsUnanswered why s new → StopsFinishing end.Save s new file file why
   save_stops why unanswered rest place left is =
       stop_saved (request_frame request.Saved ++ rest) place left s why rest new gate file kept refl same unanswered

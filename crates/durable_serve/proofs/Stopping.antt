@@ -51,7 +51,7 @@ module _ (held : List ℕ) (place : ℕ) (left : Option (List ℕ)) (old : Serve
   -- ---- in a save
 
   pub stop_saved : (more : List ℕ) (new : Server) (gate : ℕ) (file : FileState) → IsKept old.state gate file
-      → held ≡ request_frame request.Saved ++ more → new.state ≡ old.state → IsUnanswered why → StopsAt held place left old new file file why
+      → held ≡ request_frame request.Saved ++ more → new.state ≡ old.state → IsUnanswered why old new → StopsAt held place left old new file file why
   stop_saved more new gate file kept asked same unanswered =
       stop_first [] new file file (quiet old.state gate file kept) (InSaved (refl, refl) more asked refl same unanswered)
 
@@ -62,12 +62,12 @@ stop_events events more place left old new a b why moments fails =
     stop_first (laid (frames_of events) ++ more) place left old why (frames_of events ∷ []) new a b
     (weaken a b _ _ moments (while_batch (frames_of events) old.state)) (InEvents (refl, refl) events more refl refl fails)
 
-pub unwritten_unanswered : (why : ServeFault) → IsUnwritten why → IsUnanswered why
-unwritten_unanswered fault.Read is = absurd is
-unwritten_unanswered (fault.Stream f) is = absurd is
-unwritten_unanswered fault.Write is = tt
-unwritten_unanswered fault.Disk is = absurd is
-unwritten_unanswered fault.Memory is = absurd is
+pub unwritten_unanswered : (why : ServeFault) (old new : Server) → IsUnwritten why → IsUnanswered why old new
+unwritten_unanswered fault.Read old new is = absurd is
+unwritten_unanswered (fault.Stream f) old new is = absurd is
+unwritten_unanswered fault.Write old new is = tt
+unwritten_unanswered fault.Disk old new is = absurd is
+unwritten_unanswered fault.Memory old new is = absurd is
 
 -- what was written is a frame that was made of nothing
 pub framed : (before after : Option (List ℕ)) (slice pushed cleared frame : List ℕ) → cleared ≡ [] → pushed ≡ cleared ++ frame → slice ≡ pushed

@@ -171,13 +171,13 @@ IsIdle fault.Write held place left = ⊥
 IsIdle fault.Disk held place left = Unit {0}
 IsIdle fault.Memory held place left = Unit {0}
 
--- it can't be done, or can't be answered
-abbrev pub IsUnanswered : ServeFault → Type 0
-IsUnanswered fault.Read = ⊥
-IsUnanswered (fault.Stream f) = ⊥
-IsUnanswered fault.Write = Unit {0}
-IsUnanswered fault.Disk = Unit {0}
-IsUnanswered fault.Memory = Unit {0}
+-- it can't be answered, as which no disk fails; where memory is wanting nothing is written for it
+abbrev pub IsUnanswered : ServeFault → Server → Server → Type 0
+IsUnanswered fault.Read old new = ⊥
+IsUnanswered (fault.Stream f) old new = ⊥
+IsUnanswered fault.Write old new = Unit {0}
+IsUnanswered fault.Disk old new = ⊥
+IsUnanswered fault.Memory old new = new.written ≡ old.written
 
 -- what answers it can't be written
 abbrev pub IsUnwritten : ServeFault → Type 0
@@ -195,13 +195,13 @@ IsUnfolded fault.Write = ⊥
 IsUnfolded fault.Disk = Unit {0}
 IsUnfolded fault.Memory = Unit {0}
 
--- how a batch fails: the disk does, and then nothing is written for it; or it is done, and can't be answered; or memory is wanting
+-- how a batch fails: the disk does, or memory is wanting, and then nothing is written for it; or it is done, and can't be answered
 abbrev pub FailsIn : ServeFault → List (List ℕ) → Server → Server → Type 0
 FailsIn fault.Read frames old new = ⊥
 FailsIn (fault.Stream f) frames old new = ⊥
 FailsIn fault.Write frames old new = (given : List (Option Given)) × HasServed frames old.state new.state given
 FailsIn fault.Disk frames old new = new.written ≡ old.written
-FailsIn fault.Memory frames old new = Unit {0}
+FailsIn fault.Memory frames old new = new.written ≡ old.written
 
 -- why turns are given no further, behind these rounds: memory is wanting for another, or the next fails, which has the next numbers, and
 -- no more than turns are left to give
@@ -229,10 +229,11 @@ pub data Ends (why : ServeFault) (held : List ℕ) (place : ℕ) (left : Option 
   InTurns : (most : ℕ) (more : List ℕ) (asked : held ≡ request_frame (request.Drained most) ++ more)
       (stops : StopsTurns most why rounds begun old between new) → Ends why held place left rounds begun old between new
   InDrained : (most given : ℕ) (more : List ℕ) (asked : held ≡ request_frame (request.Drained most) ++ more)
-      (turns : GivesTurns most given rounds old between) (none : begun ≡ []) (same : new.state ≡ between.state) (untold : IsUnanswered why)
+      (turns : GivesTurns most given rounds old between) (none : begun ≡ []) (same : new.state ≡ between.state)
+      (untold : IsUnanswered why between new)
       → Ends why held place left rounds begun old between new
   InSaved : (quiet : NoRounds rounds old between) (more : List ℕ) (asked : held ≡ request_frame request.Saved ++ more) (none : begun ≡ [])
-      (same : new.state ≡ between.state) (untold : IsUnanswered why) → Ends why held place left rounds begun old between new
+      (same : new.state ≡ between.state) (untold : IsUnanswered why between new) → Ends why held place left rounds begun old between new
 
 -- so many bytes are counted from one place to the other, up to 2 ^ 64 - 1
 abbrev pub AreCounted : ℕ → ℕ → ℕ → Type 0

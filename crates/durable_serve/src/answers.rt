@@ -10,6 +10,7 @@ ghost use Rattle.live_serve.specs.Served.{is_idle, of_runs};
 ghost use Rattle.durable_device.specs.Kept.{IsKept};
 ghost use Rattle.durable_device.specs.Machine.{given_reply};
 ghost use Rattle.durable_device.specs.Serving.{IsBeforeOrAfter};
+ghost use Rattle.durable_serve.specs.Faults.{BlamesDisk};
 ghost use Rattle.durable_serve.specs.Served.{FailsIn, IsUnwritten, replies_in, seen, shown};
 ghost use Rattle.durable_serve.specs.steps.Parts.{GaveReplies, is_of_run};
 
@@ -39,6 +40,9 @@ pub(crate) fn perform<W: Write, F: StoredFile + Drop>(
     requires kept { IsKept device.old.store.machine device.old.store.journal.gate (F.told device.old.store.journal.file) }
     ensures kept { OnOk result
         (IsKept device.new.store.machine device.new.store.journal.gate (F.told device.new.store.journal.file)) }
+    ensures on_disk { IfErr result (λ why. why ≡ ServeFault.Write
+        → IsKept device.new.store.machine device.new.store.journal.gate (F.told device.new.store.journal.file)) }
+    ensures cause { BlamesDisk (F.told device.old.store.journal.file) (F.told device.new.store.journal.file) result }
     ensures done { IfOk result (λ given. GaveReplies turns (bytes_of frames.now)
         (seen device.old.store.machine (W.contents out.old)) (seen device.new.store.machine (W.contents out.new)) given.items) }
     ensures failed { IfErr result (λ why. FailsIn why (bytes_of frames.now)

@@ -45,7 +45,7 @@ impl From<FileError> for ServeFault {
     fn from(error: FileError) -> ServeFault {
         match error {
             FileError::Memory => ServeFault::Memory,
-            FileError::Failed => ServeFault::Disk,
+            FileError::NoRoom | FileError::Failed => ServeFault::Disk,
         }
     }
 }

@@ -10,6 +10,5 @@ mod stream;
 mod turns;
 
 pub use fault::ServeFault;
-pub use folding::MOST_JOURNAL;
 pub use stream::serve;
 pub use turns::give_turns;

@@ -4,6 +4,7 @@ ghost use Rattle.std.specs.Prelude.{◌≡◌, ◌≤◌, ◌<◌, ◌++◌, [],
 ghost use Rattle.std.specs.Io.KnownBytes.{Consumes, IsAtEnd, Keeps};
 ghost use Rattle.event_frames.specs.Streams.{IsPartial};
 ghost use Rattle.durable_device.specs.Kept.{IsKept};
+ghost use Rattle.durable_serve.specs.Faults.{BlamesDisk};
 ghost use Rattle.durable_serve.specs.Served.{Adds, ServesStream, StopsAt, StopsServing, seen};
 ghost use Rattle.durable_serve.specs.declared.fault.ServeFault.TheVariants.{Read};
 ghost use Rattle.durable_serve.specs.steps.Parts.{Finishes, IsSound, StopsFinishing};
@@ -41,6 +42,9 @@ pub fn serve<R: Read, W: Write, F: StoredFile + Drop>(
     requires kept { IsKept device.old.store.machine device.old.store.journal.gate (F.told device.old.store.journal.file) }
     ensures kept { OnOk result
         (IsKept device.new.store.machine device.new.store.journal.gate (F.told device.new.store.journal.file)) }
+    ensures on_disk { IfErr result (λ why. why ≡ ServeFault.Write
+        → IsKept device.new.store.machine device.new.store.journal.gate (F.told device.new.store.journal.file)) }
+    ensures cause { BlamesDisk (F.told device.old.store.journal.file) (F.told device.new.store.journal.file) result }
     ensures served { OnOk result (ServesStream (R.remaining reader.old)
         (seen device.old.store.machine (W.contents out.old)) (seen device.new.store.machine (W.contents out.new))
         (F.told device.old.store.journal.file) (F.told device.new.store.journal.file)) }
@@ -78,6 +82,9 @@ fn serve_pieces<R: Read, W: Write, F: StoredFile + Drop>(
     requires kept { IsKept device.old.store.machine device.old.store.journal.gate (F.told device.old.store.journal.file) }
     ensures kept { OnOk result
         (IsKept device.new.store.machine device.new.store.journal.gate (F.told device.new.store.journal.file)) }
+    ensures on_disk { IfErr result (λ why. why ≡ ServeFault.Write
+        → IsKept device.new.store.machine device.new.store.journal.gate (F.told device.new.store.journal.file)) }
+    ensures cause { BlamesDisk (F.told device.old.store.journal.file) (F.told device.new.store.journal.file) result }
     ensures served { OnOk result (ServesStream (R.remaining reader.old)
         (seen device.old.store.machine (W.contents out.old)) (seen device.new.store.machine (W.contents out.new))
         (F.told device.old.store.journal.file) (F.told device.new.store.journal.file)) }
@@ -85,7 +92,7 @@ fn serve_pieces<R: Read, W: Write, F: StoredFile + Drop>(
         (seen device.old.store.machine (W.contents out.old)) (seen device.new.store.machine (W.contents out.new))
         (F.told device.old.store.journal.file) (F.told device.new.store.journal.file)) }
 {
-    let mut folded = 0;
+    let mut folded = device.folded;
     for _ in 0..u64::MAX {
         let count = read(reader, buffer)?;
         if count == 0 {
@@ -134,6 +141,9 @@ fn serve_piece<W: Write, F: StoredFile + Drop>(
     requires kept { IsKept device.old.store.machine device.old.store.journal.gate (F.told device.old.store.journal.file) }
     ensures kept { OnOk result
         (IsKept device.new.store.machine device.new.store.journal.gate (F.told device.new.store.journal.file)) }
+    ensures on_disk { IfErr result (λ why. why ≡ ServeFault.Write
+        → IsKept device.new.store.machine device.new.store.journal.gate (F.told device.new.store.journal.file)) }
+    ensures cause { BlamesDisk (F.told device.old.store.journal.file) (F.told device.new.store.journal.file) result }
     ensures served { OnOk result (Adds (session.old.pending ++ piece.now) session.old.place session.new.pending session.new.place
         (seen device.old.store.machine (W.contents out.old)) (seen device.new.store.machine (W.contents out.new))
         (F.told device.old.store.journal.file) (F.told device.new.store.journal.file)) }
@@ -165,6 +175,9 @@ fn serve_batch<W: Write, F: StoredFile + Drop>(
     requires kept { IsKept device.old.store.machine device.old.store.journal.gate (F.told device.old.store.journal.file) }
     ensures kept { OnOk result
         (IsKept device.new.store.machine device.new.store.journal.gate (F.told device.new.store.journal.file)) }
+    ensures on_disk { IfErr result (λ why. why ≡ ServeFault.Write
+        → IsKept device.new.store.machine device.new.store.journal.gate (F.told device.new.store.journal.file)) }
+    ensures cause { BlamesDisk (F.told device.old.store.journal.file) (F.told device.new.store.journal.file) result }
     ensures within { IfOk result (λ count. count ≤ length rest.now) }
     ensures some { 0 < length rest.now → IfOk result (λ count. 0 < count) }
     ensures served { IfOk result (λ count. Adds (session.old.pending ++ rest.now) session.old.place
@@ -195,6 +208,9 @@ fn finish<W: Write, F: StoredFile + Drop>(
     requires kept { IsKept device.old.store.machine device.old.store.journal.gate (F.told device.old.store.journal.file) }
     ensures kept { OnOk result
         (IsKept device.new.store.machine device.new.store.journal.gate (F.told device.new.store.journal.file)) }
+    ensures on_disk { IfErr result (λ why. why ≡ ServeFault.Write
+        → IsKept device.new.store.machine device.new.store.journal.gate (F.told device.new.store.journal.file)) }
+    ensures cause { BlamesDisk (F.told device.old.store.journal.file) (F.told device.new.store.journal.file) result }
     ensures served { OnOk result (Finishes end
         (seen device.old.store.machine (W.contents out.old)) (seen device.new.store.machine (W.contents out.new))
         (F.told device.old.store.journal.file) (F.told device.new.store.journal.file)) }

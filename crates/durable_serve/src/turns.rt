@@ -1,8 +1,9 @@
 //! Turns, round the runs.
 
-ghost use Rattle.std.specs.Prelude.{◌≡◌, ◌≤◌, ◌<◌, ◌+◌, ◌*◌, ◌%◌, ◌^◌, IfErr, IfOk, OnOk};
+ghost use Rattle.std.specs.Prelude.{◌≡◌, ◌≢◌, ◌≤◌, ◌<◌, ◌+◌, ◌*◌, ◌%◌, ◌^◌, IfErr, IfOk, OnOk};
 ghost use Rattle.durable_machine.specs.Batches.{bytes_of};
 ghost use Rattle.durable_device.specs.Kept.{IsKept};
+ghost use Rattle.durable_serve.specs.Faults.{BlamesDisk};
 ghost use Rattle.durable_serve.specs.Served.{HasGiven, StopsGiving, seen, turn_frames};
 ghost use Rattle.durable_serve.specs.declared.gathering.End.TheVariants.{Drain, Save};
 ghost use Rattle.durable_serve.specs.steps.Parts.{Finishes, RoundDone, RoundFails, StopsFinishing, numbers_from};
@@ -38,6 +39,9 @@ pub fn give_turns<W: Write, F: StoredFile + Drop>(
     requires kept { IsKept device.old.store.machine device.old.store.journal.gate (F.told device.old.store.journal.file) }
     ensures kept { OnOk result
         (IsKept device.new.store.machine device.new.store.journal.gate (F.told device.new.store.journal.file)) }
+    ensures on_disk { IfErr result (λ why. why ≡ ServeFault.Write
+        → IsKept device.new.store.machine device.new.store.journal.gate (F.told device.new.store.journal.file)) }
+    ensures cause { BlamesDisk (F.told device.old.store.journal.file) (F.told device.new.store.journal.file) result }
     ensures given { IfOk result (HasGiven turns
         (seen device.old.store.machine (W.contents out.old)) (seen device.new.store.machine (W.contents out.new))
         (F.told device.old.store.journal.file) (F.told device.new.store.journal.file)) }
@@ -68,6 +72,9 @@ pub(crate) fn drain<W: Write, F: StoredFile + Drop>(
     requires kept { IsKept device.old.store.machine device.old.store.journal.gate (F.told device.old.store.journal.file) }
     ensures kept { OnOk result
         (IsKept device.new.store.machine device.new.store.journal.gate (F.told device.new.store.journal.file)) }
+    ensures on_disk { IfErr result (λ why. why ≡ ServeFault.Write
+        → IsKept device.new.store.machine device.new.store.journal.gate (F.told device.new.store.journal.file)) }
+    ensures cause { BlamesDisk (F.told device.old.store.journal.file) (F.told device.new.store.journal.file) result }
     ensures served { OnOk result (Finishes (Drain turns)
         (seen device.old.store.machine (W.contents out.old)) (seen device.new.store.machine (W.contents out.new))
         (F.told device.old.store.journal.file) (F.told device.new.store.journal.file)) }
@@ -94,6 +101,7 @@ pub(crate) fn save<W: Write, F: StoredFile + Drop>(
     ensures stopped { IfErr result (StopsFinishing Save
         (seen device.now.store.machine (W.contents out.old)) (seen device.now.store.machine (W.contents out.new))
         (F.told device.now.store.journal.file) (F.told device.now.store.journal.file)) }
+    ensures no_disk { IfErr result (λ why. why ≢ ServeFault.Disk) }
 {
     answer.clear();
     push_saved(answer)?;
@@ -154,6 +162,9 @@ fn give_round<W: Write, F: StoredFile + Drop>(
     requires kept { IsKept device.old.store.machine device.old.store.journal.gate (F.told device.old.store.journal.file) }
     ensures kept { OnOk result
         (IsKept device.new.store.machine device.new.store.journal.gate (F.told device.new.store.journal.file)) }
+    ensures on_disk { IfErr result (λ why. why ≡ ServeFault.Write
+        → IsKept device.new.store.machine device.new.store.journal.gate (F.told device.new.store.journal.file)) }
+    ensures cause { BlamesDisk (F.told device.old.store.journal.file) (F.told device.new.store.journal.file) result }
     ensures given { IfOk result (RoundDone run count
         (seen device.old.store.machine (W.contents out.old)) (seen device.new.store.machine (W.contents out.new))
         (F.told device.old.store.journal.file) (F.told device.new.store.journal.file)) }

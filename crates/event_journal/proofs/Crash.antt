@@ -5,13 +5,13 @@ use Rattle.std.proofs.lemmas.List.{take_at, drop_at, drop_more, drop-drop, take_
 use Rattle.stored_file.specs.File.{is_written, Torn, Cut}
 use Rattle.event_journal.specs.Events.{spelled, AreSized}
 use Rattle.event_journal.specs.Journal.{IsSector, AreFrames, IsEnd, HasBatches, StandsFor, payload_length}
-use Rattle.event_journal.proofs.Frames.{frames-append, one_frame, shut, front_end}
+use Rattle.event_journal.proofs.Frames.{frames-append, one_frame, shut}
 
-length-sector : (gate : ℕ) (sector : List ℕ) → IsSector gate sector → length sector ≡ 4096
+pub length-sector : (gate : ℕ) (sector : List ℕ) → IsSector gate sector → length sector ≡ 4096
 length-sector gate sector is = omega (arith, ap length is.parts, is.size)
 
 -- a sector, by its first byte
-as_sector : (bytes : List ℕ) → length bytes ≡ 4096 → IsSector (get_or bytes 0 0) bytes
+pub as_sector : (bytes : List ℕ) → length bytes ≡ 4096 → IsSector (get_or bytes 0 0) bytes
 as_sector bytes size = record { behind = drop 1 bytes; size = omega (arith, length-drop 1 bytes, size); parts = drop_more bytes 0 0 (omega (arith, size)) }
 
 -- events and zeros up to the end of a sector, and a sector of zeros behind them
@@ -56,30 +56,10 @@ take_past (x ∷ xs) ys (suc m) le = ap (λ (l : List ℕ). x ∷ l) (take_past 
 -- ---- the repair of a file's end
 
 module _ (front : List ℕ) (batches : List (List (List ℕ))) (end : ℕ) (file : List ℕ) (has : HasBatches front batches end file) where
-  with_rest : (c rest : List ℕ) → IsEnd rest → c ≡ front ++ has.frames ++ rest → StandsFor front batches c
-  with_rest c rest last is = (end, record { frames = has.frames; are = has.are; rest = rest; parts = is; last = last; ends = has.ends })
-
-  long : end ≤ length file
-  long = omega (arith, has.ends, ap length has.parts, length-append (front ++ has.frames) has.rest)
-
-  pub as_read : StandsFor front batches file
-  as_read = (end, has)
-
-  pub cut_keeps : (c : List ℕ) → Cut end file c → StandsFor front batches c
-  cut_keeps c cut =
-      with_rest c (take (length c - length (front ++ has.frames)) has.rest) (front_end (length c - length (front ++ has.frames)) has.rest has.last)
-      (cut.front ∙ ap (λ (l : List ℕ). take (length c) l) has.parts ∙ take_past (front ++ has.frames) has.rest (length c) (omega (arith, cut.no_shorter, long, has.ends)))
-
   pub cut_done : take end file ≡ front ++ has.frames
   cut_done = ap (λ (l : List ℕ). take end l) has.parts ∙ take_at (front ++ has.frames) has.rest end (sym has.ends)
 
   module _ (shortened : List ℕ) (is : shortened ≡ front ++ has.frames) where
-    -- one sector behind the batches is none
-    pub torn_end : (c : List ℕ) → Torn end 4096 shortened c → StandsFor front batches c
-    torn_end c torn =
-        with_rest c (drop end c) (inr (omega (arith, length-drop end c, has.ends, torn.no_longer, ap length is)))
-        (sym (take-append-drop end c) ∙ ap (λ (l : List ℕ). l ++ drop end c) (torn.before ∙ ap (λ (l : List ℕ). take end l) is ∙ take_all end (front ++ has.frames) (omega (arith, has.ends))))
-
     pub written_end : (sector c : List ℕ) → length sector ≡ 4096 → c ≡ is_written end sector shortened → c ≡ front ++ has.frames ++ sector
     written_end sector c size written =
         written

@@ -4,4 +4,5 @@ pub mod FirstEvents
 pub mod Frames
 pub mod ReadFrames
 pub mod Crash
+pub mod Restarting
 pub mod Steps

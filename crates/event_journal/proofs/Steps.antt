@@ -1,12 +1,12 @@
 -- The steps of adding a batch and of repairing a file's end, each over the states of the file.
 use Rattle.std.proofs.Common.{◌≡◌, inl, ◌+◌, ℕ, List, [], ◌∷◌, ◌++◌, length, take, sym, ◌∙◌, ap, subst, arith, length-append}
 use Rattle.std.proofs.lemmas.List.{append-nil}
-use Rattle.stored_file.specs.File.{FileState, IsOnDisk, IsWhole, is_written, Torn, Cut, LeavesOnly}
+use Rattle.stored_file.specs.File.{FileState, IsAsBefore, IsOnDisk, IsWhole, is_written, Torn, LeavesOnly}
 use Rattle.stored_file.proofs.Moments.{started, then_on, weaken}
 use Rattle.event_journal.specs.Events.{spelled, AreSized}
 use Rattle.event_journal.specs.Journal.{IsSector, HasBatches, StandsFor, IsAt, payload_length}
 use Rattle.event_journal.proofs.Frames.{frames_whole}
-use Rattle.event_journal.proofs.Crash.{IsPayload, Around, without, first_write, staged, second_write, both_written, opened, opened_parts, opened_end, frame_of, cut_keeps, cut_done, torn_end, written_end}
+use Rattle.event_journal.proofs.Crash.{IsPayload, Around, without, first_write, staged, second_write, both_written, opened, opened_parts, opened_end, frame_of, cut_done, written_end}
 
 module _ (front : List ℕ) (before : List (List (List ℕ))) (gate : ℕ) (old : FileState) (rests : IsAt front before gate old) where
   -- a gate stands at the start of a sector
@@ -21,7 +21,7 @@ module _ (front : List ℕ) (before : List (List (List ℕ))) (gate : ℕ) (old 
 
   module _ (added : List (List ℕ)) (new : AreSized added) where
     pub nothing_written : LeavesOnly old old (Around front before added)
-    nothing_written = started old (Around front before added) (λ c left. inl (subst (StandsFor front before) (sym (rests.durable c left)) at_rest))
+    nothing_written = started old (Around front before added) (λ c left. inl (subst (StandsFor front before) (sym (rests.durable.left c left)) at_rest))
 
     module _ (bytes : List ℕ) (payload : IsPayload added bytes) (first : FileState) (torn_first : LeavesOnly old first (Torn (gate + 4096) (length bytes) old.seen)) where
       pub behind_written : LeavesOnly old first (Around front before added)
@@ -53,28 +53,32 @@ module _ (front : List ℕ) (before : List (List (List ℕ))) (gate : ℕ) (old 
               durable = durable;
             }
 
-module _ (front : List ℕ) (batches : List (List (List ℕ))) (end : ℕ) (old cut : FileState) (has : HasBatches front batches end old.seen) (torn_cut : LeavesOnly old cut (Cut end old.seen)) where
-  pub is_cut : LeavesOnly old cut (StandsFor front batches)
-  is_cut = weaken old cut (Cut end old.seen) (StandsFor front batches) torn_cut (cut_keeps front batches end old.seen has)
+-- the end of a file is repaired
+pub is_repaired : (front : List ℕ) (batches : List (List (List ℕ))) (end : ℕ) (old : List ℕ) (synced last : FileState) (has : HasBatches front batches end old) (sector : List ℕ) → synced.seen ≡ take end old → length sector ≡ 4096
+    → IsWhole (length front) → IsSector 0 sector → last.seen ≡ is_written end sector synced.seen → IsOnDisk last → IsAt front batches end last
+is_repaired front batches end old synced last has sector shortened size whole is_closed written durable = record {
+  whole = whole;
+  frames = has.frames;
+  are = has.are;
+  sector = sector;
+  is_closed = is_closed;
+  parts = written_end front batches end old has synced.seen (shortened ∙ cut_done front batches end old has) sector last.seen size written;
+  ends = has.ends;
+  durable = durable;
+}
 
-  module _ (shortened : cut.seen ≡ take end old.seen) (last : FileState) (sector : List ℕ) (size : length sector ≡ 4096) where
-    ends_there : cut.seen ≡ front ++ has.frames
-    ends_there = shortened ∙ cut_done front batches end old.seen has
-
-    pub end_written : LeavesOnly cut last (Torn end (length sector) cut.seen) → LeavesOnly old last (StandsFor front batches)
-    end_written torn_last =
-        then_on old cut last (StandsFor front batches) is_cut
-        (weaken cut last (Torn end 4096 cut.seen) (StandsFor front batches) (subst (λ (n : ℕ). LeavesOnly cut last (Torn end n cut.seen)) size torn_last)
-        (torn_end front batches end old.seen has cut.seen ends_there))
-
-    pub is_repaired : IsWhole (length front) → IsSector 0 sector → last.seen ≡ is_written end sector cut.seen → IsOnDisk last → IsAt front batches end last
-    is_repaired whole is_closed written durable = record {
-      whole = whole;
-      frames = has.frames;
-      are = has.are;
-      sector = sector;
-      is_closed = is_closed;
-      parts = written_end front batches end old.seen has cut.seen ends_there sector last.seen size written;
-      ends = has.ends;
-      durable = durable;
-    }
+-- a journal at rest, of whose file nothing has changed
+pub rests_as_before : (front : List ℕ) (batches : List (List (List ℕ))) (gate : ℕ) (old new : FileState) → IsAt front batches gate old → IsAsBefore old new → IsAt front batches gate new
+rests_as_before front batches gate old new rests same = record {
+  whole = rests.whole;
+  frames = rests.frames;
+  are = rests.are;
+  sector = rests.sector;
+  is_closed = rests.is_closed;
+  parts = same.seen ∙ rests.parts;
+  ends = rests.ends;
+  durable = record {
+    left = λ c left. rests.durable.left c (same.left c left) ∙ sym same.seen;
+    synced = λ c is. rests.durable.synced c (same.synced c is) ∙ sym same.seen;
+  };
+}

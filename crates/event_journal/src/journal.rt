@@ -1,14 +1,15 @@
 //! The journal.
 
-ghost use Rattle.std.specs.Prelude.{◌≡◌, ◌⊎◌, ◌<◌, ◌≤◌, ◌^◌, ◌++◌, [], ◌∷◌, List, ℕ, length, OnOk, IsErrOf};
-ghost use Rattle.stored_file.specs.File.{IsOnDisk, IsWhole, LeavesOnly};
+ghost use Rattle.std.specs.Prelude.{◌≡◌, ◌⊎◌, ◌<◌, ◌≤◌, ◌^◌, ◌+◌, ◌++◌, [], ◌∷◌, List, ℕ, length, take, drop, OnOk, IsErrOf};
+ghost use Rattle.stored_file.specs.File.{IsWhole, LeavesNow, LeavesOnly};
 ghost use Rattle.stored_file.specs.Cause.{HasCause};
 ghost use Rattle.event_journal.specs.Events.{spelled, AreSpelled, AreSized};
 ghost use Rattle.event_journal.specs.Journal.{IsSector, HasBatches, StandsFor, IsAt, IsSettled};
+ghost use Rattle.event_journal.specs.Restart.{IsSameBut};
 
 use crate::reading::whole_payload;
 use std::alloc::AllocError;
-use stored_file::{FileError, SECTOR, StoredFile, cut_durably, write_durably};
+use stored_file::{FileError, SECTOR, StoredFile, write_durably};
 
 /// A journal that is at rest.
 #[derive(Drop)]
@@ -66,30 +67,47 @@ impl<F: StoredFile> Journal<F> {
     }
 }
 
-/// Puts a closed gate behind the batches of a file that a crash may have left, in place of what stands there. It may
+/// Puts a closed gate behind the batches of a file that a crash may have left, in place of what stands there. The last batch's gate
+/// is written again before: an earlier program may have failed to bring it to the disk, and then it was read all the same. It may
 /// crash too.
+///
+/// `end` is where the batches end, `at` the offset of the last one's gate, and `gate` the bytes of its sector; where there is no
+/// batch, `gate` is empty, and `at` is `end`.
 ///
 /// # Errors
 ///
 /// No memory, or the disk's.
-pub fn repair<F: StoredFile>(file: &mut F, end: usize) -> Result<(), FileError>
+pub fn repair<F: StoredFile>(
+    file: &mut F,
+    end: usize,
+    at: usize,
+    gate: &[u8],
+) -> Result<(), FileError>
     requires within { end ≤ length (F.told file.old).seen }
-    requires whole { IsWhole end }
-    // After a restart, what is read is what is on the disk.
-    requires restarted { IsOnDisk (F.told file.old) }
+    requires before { at + length gate.now ≤ end }
+    requires whole { IsWhole end × IsWhole at × IsWhole (length gate.now) }
+    requires again { take (length gate.now) (drop at (F.told file.old).seen) ≡ gate.now }
+    // What is read is on the disk, but for that gate, and for what stands behind the batches.
+    requires restarted { LeavesNow (F.told file.old) (IsSameBut at (length gate.now) end (F.told file.old).seen) }
 
     ensures settled { OnOk result ((front : List ℕ) (batches : List (List (List ℕ))) → IsWhole (length front)
         → HasBatches front batches end (F.told file.old).seen → IsAt front batches end (F.told file.new)) }
 
-    // A crash at any moment leaves the same batches.
-    ensures any_moment { (front : List ℕ) (batches : List (List (List ℕ)))
-        → HasBatches front batches end (F.told file.old).seen → LeavesOnly (F.told file.old) (F.told file.new) (StandsFor front batches) }
+    // A crash at any moment leaves the same, but for that gate.
+    ensures any_moment { LeavesOnly (F.told file.old) (F.told file.new) (IsSameBut at (length gate.now) end (F.told file.old).seen) }
+
+    // Where it is on the disk, a crash at any moment leaves it there.
+    ensures kept { LeavesNow (F.told file.old) (IsSameBut at 0 end (F.told file.old).seen)
+        → LeavesOnly (F.told file.old) (F.told file.new) (IsSameBut at 0 end (F.told file.old).seen) }
 
     ensures cause { HasCause (F.told file.old) (F.told file.new) result }
 {
     // The cut has to be on the disk first: behind a gate that is torn open, what was there would count.
-    cut_durably(file, end)?;
-    write_durably(file, end, &sector(0))
+    file.set_len(end)?;
+    file.renew(at, gate)?;
+    file.sync()?;
+    write_durably(file, end, &sector(0))?;
+    Ok(())
 }
 
 /// A sector that begins with a gate.

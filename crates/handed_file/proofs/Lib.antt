@@ -1,2 +1,3 @@
 mod Ordered
 mod Covered
+mod Renewed

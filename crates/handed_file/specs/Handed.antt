@@ -1,8 +1,16 @@
 -- A file for which a host makes the calls, as others see it.
 use Rattle.std.specs.Prelude.{List}
+use Rattle.stored_file.specs.File.{FileState}
+use Rattle.system_file.specs.Calls as calls
 use Rattle.system_file.specs.Calls.{Call}
+use Rattle.durable_device.specs.Kept.{MayBeLeft}
 use Rattle.handed_file.specs.declared.handed_file.FileCall.{FileCall}
 use Rattle.handed_file.specs.declared.handed_file.HandedFile.{HandedFile}
+
+-- what is known of a file behind these calls, of which the last stands first: what was read of it is on the disk, but for what an earlier
+-- program did last
+abbrev pub told_of : List Call → FileState
+told_of = calls.told_of MayBeLeft
 
 -- each call, as it was answered, of which the last stands first
 abbrev pub noted : HandedFile → List Call

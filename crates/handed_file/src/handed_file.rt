@@ -1,13 +1,12 @@
 //! The file.
 
-ghost use Rattle.std.specs.Prelude.{◌≡◌, ◌∷◌, ◌++◌, ◌<◌, ◌^◌, ◌↔◌, List, [], length, IfOk, IfSome, IsNone, IsTrue, OnOk, OnErr};
-ghost use Rattle.std.specs.Option.{ForSome};
-ghost use Rattle.stored_file.specs.File.{IsOnDisk};
+ghost use Rattle.std.specs.Prelude.{◌≡◌, ◌∷◌, ◌++◌, ◌<◌, ◌^◌, ◌↔◌, List, [], length, IfSome, IsNone, IsTrue, OnOk, OnErr};
 ghost use Rattle.system_file.specs.Calls.{Opened, Refused, told_of};
+ghost use Rattle.durable_device.specs.Kept.{IsRestarted, MayBeLeft};
 ghost use Rattle.handed_file.specs.Handing.{all_done, done_call, handed, has_refused};
 ghost use Rattle.handed_file.specs.declared.handed_file.FileCall.{FileCall};
 
-use std::alloc::{AllocError, Global};
+use std::alloc::Global;
 use std::collections::VecDeque;
 use stored_file::{FileError, StoredFile};
 use system_file::Record;
@@ -20,6 +19,8 @@ const MOST_BYTES: usize = (1 << 63) - 1;
 pub enum FileCall {
     /// Bytes are written at an offset, over what is there and past the end.
     Write { at: usize, bytes: Vec<u8> },
+    /// Bytes that were read at an offset are written there again.
+    Renew { at: usize, bytes: Vec<u8> },
     /// The length is set.
     Shorten { len: usize },
     /// All that was written is brought to the disk.
@@ -27,14 +28,16 @@ pub enum FileCall {
     /// A new file of these bytes, which is on the disk before it has the name, takes the place of this one, and its name is brought to
     /// the disk.
     Replace { bytes: Vec<u8> },
+    /// A new file of so many bytes was to take the place of this one, and the host hadn't said that there is room. Nothing changes.
+    Want { len: usize },
 }
 
 /// A file for which a host makes the calls, in order. Each is answered as done once it is handed over.
 #[derive(Drop)]
 pub struct HandedFile {
     alloc: Global,
-    /// What was read as it was opened, until that is handed out or the file changes.
-    unread: Option<Vec<u8>>,
+    /// How many bytes the next new file may have, as the host said.
+    room: usize,
     /// The calls that the host hasn't told as done.
     calls: VecDeque<FileCall>,
     /// Whether a call was refused.
@@ -43,8 +46,7 @@ pub struct HandedFile {
     notes: Record,
     /// Each call that the host told as done.
     made: Record,
-    ghost known: { ForSome unread (λ bytes. bytes.items ≡ (told_of notes.calls).seen) },
-    ghost has_length: { length (told_of notes.calls).seen < 2 ^ 63 },
+    ghost has_length: { length (told_of MayBeLeft notes.calls).seen < 2 ^ 63 },
     ghost told_failed: { failed ≡ has_refused notes.calls },
     /// What was handed over is what was told as done, and behind it what wasn't yet.
     pub ghost in_order: { handed notes.calls ≡ all_done calls.items ++ made.calls },
@@ -53,28 +55,30 @@ pub struct HandedFile {
 impl HandedFile {
     ghost use Rattle.handed_file.specs.Handed.{made_calls, noted, waiting};
 
-    /// A file that the host has opened, all of which it has brought to the disk, with the bytes that it has read.
-    ///
-    /// # Errors
-    ///
-    /// No memory.
-    pub fn new(alloc: Global, bytes: &[u8]) -> Result<HandedFile, AllocError>
-        ensures opened { IfOk result (λ file. noted file ≡ Opened bytes.now ∷ []) }
-        ensures on_disk { IfOk result (λ file. IsOnDisk (told_of (noted file))) }
-        ensures settled { IfOk result (λ file. made_calls file ≡ noted file) }
+    /// A file that the host has opened, and brought to the disk as far as it can be, with the bytes that it has read. They stay the
+    /// host's: whoever opens the file is given them beside it. There is no room for a new file until the host says so.
+    pub fn new(alloc: Global, bytes: &[u8]) -> HandedFile
+        ensures opened { noted result ≡ Opened bytes.now ∷ [] }
+        ensures restarted { IsRestarted (told_of MayBeLeft (noted result)) }
+        ensures settled { made_calls result ≡ noted result }
     {
-        if bytes.len() > MOST_BYTES {
-            return Err(AllocError);
-        }
-        let unread = Vec::from_slice(alloc, bytes)?;
-        Ok(HandedFile {
+        HandedFile {
             alloc,
-            unread: Some(unread),
+            room: 0,
             calls: VecDeque::new(alloc),
             failed: false,
             notes: Record::opened(bytes),
             made: Record::opened(bytes),
-        })
+        }
+    }
+
+    /// The host says that there is room for a new file of at most so many bytes, which is for the next one alone.
+    pub fn grant(&mut self, room: usize)
+        ensures noted { noted self.new ≡ noted self.old }
+        ensures made { made_calls self.new ≡ made_calls self.old }
+        ensures waiting { waiting self.new ≡ waiting self.old }
+    {
+        self.room = room;
     }
 
     /// The call that the host is to make next; `None` where it told all as done.
@@ -100,9 +104,11 @@ impl HandedFile {
     {
         match self.calls.pop_front() {
             Some(FileCall::Write { at, bytes }) => self.made.written(at, &bytes, true),
+            Some(FileCall::Renew { at, bytes }) => self.made.renewed(at, &bytes, true),
             Some(FileCall::Shorten { len }) => self.made.shortened(len, true),
             Some(FileCall::Sync) => self.made.synced(true),
             Some(FileCall::Replace { bytes }) => self.made.replaced(&bytes, true),
+            Some(FileCall::Want { .. }) => self.made.not_replaced(),
             None => {}
         }
     }
@@ -113,7 +119,7 @@ impl HandedFile {
     ///
     /// No memory: it isn't handed over.
     fn hand(&mut self, call: FileCall) -> Result<(), FileError>
-        requires { length (told_of (done_call call ∷ self.old.notes.calls)).seen < 2 ^ 63 }
+        requires { length (told_of MayBeLeft (done_call call ∷ self.old.notes.calls)).seen < 2 ^ 63 }
         ensures handed { OnOk result (self.new.notes.calls ≡ done_call call ∷ self.old.notes.calls) }
         ensures refused { OnErr result (self.new.notes.calls ≡ Refused ∷ self.old.notes.calls) }
         ensures memory { OnErr result (result ≡ Err FileError.Memory) }
@@ -121,7 +127,6 @@ impl HandedFile {
         if self.calls.push_back(call).is_err() {
             return self.refuse(FileError::Memory);
         }
-        self.unread = None;
         note(&mut self.notes, self.calls.back().unwrap());
         Ok(())
     }
@@ -143,27 +148,26 @@ fn note(notes: &mut Record, call: &FileCall)
 {
     match call {
         FileCall::Write { at, bytes } => notes.written(*at, bytes, true),
+        FileCall::Renew { at, bytes } => notes.renewed(*at, bytes, true),
         FileCall::Shorten { len } => notes.shortened(*len, true),
         FileCall::Sync => notes.synced(true),
         FileCall::Replace { bytes } => notes.replaced(bytes, true),
+        FileCall::Want { .. } => notes.not_replaced(),
     }
 }
 
 impl StoredFile for HandedFile {
     ghost use Rattle.system_file.specs.Calls.{counts_behind};
 
-    ghost told = { λ file. told_of file.notes.calls };
+    ghost told = { λ file. told_of MayBeLeft file.notes.calls };
 
-    ghost counts_now = { λ file t c early now. counts_behind file.notes.calls t c early now };
+    ghost counts_now = { λ file t c early now. counts_behind MayBeLeft file.notes.calls t c early now };
 
     ghost has_length = { λ file. file.has_length };
 
-    /// Hands out what was read as the file was opened, once and before the file changes.
+    /// It isn't read: the host has done that.
     fn read(&mut self, _alloc: Global) -> Result<Vec<u8>, FileError> {
-        match self.unread.take() {
-            Some(bytes) => Ok(bytes),
-            None => self.refuse(FileError::Failed),
-        }
+        self.refuse(FileError::Failed)
     }
 
     fn write_at(&mut self, at: usize, bytes: &[u8]) -> Result<(), FileError> {
@@ -172,6 +176,16 @@ impl StoredFile for HandedFile {
         }
         match Vec::from_slice(self.alloc, bytes) {
             Ok(bytes) => self.hand(FileCall::Write { at, bytes }),
+            Err(_) => self.refuse(FileError::Memory),
+        }
+    }
+
+    fn renew(&mut self, at: usize, bytes: &[u8]) -> Result<(), FileError> {
+        if self.failed {
+            return self.refuse(FileError::Failed);
+        }
+        match Vec::from_slice(self.alloc, bytes) {
+            Ok(bytes) => self.hand(FileCall::Renew { at, bytes }),
             Err(_) => self.refuse(FileError::Memory),
         }
     }
@@ -187,6 +201,11 @@ impl StoredFile for HandedFile {
         if self.failed || bytes.len() > MOST_BYTES {
             return self.refuse(FileError::Failed);
         }
+        if bytes.len() > self.room {
+            self.hand(FileCall::Want { len: bytes.len() })?;
+            return Err(FileError::NoRoom);
+        }
+        self.room = 0;
         match Vec::from_slice(self.alloc, bytes) {
             Ok(bytes) => self.hand(FileCall::Replace { bytes }),
             Err(_) => self.refuse(FileError::Memory),

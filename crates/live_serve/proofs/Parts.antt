@@ -1,17 +1,16 @@
 -- A stream that is served in parts.
-use Rattle.std.proofs.Common.{◌≡◌, ℕ, ◌<◌, ◌≤◌, List, [], ◌∷◌, ◌++◌, append-nil, append_assoc, length, length-append, take, drop, Option, Some, None, IfSome, Result, Ok, Err, IfErr, inl, refl, ap, subst, sym, ◌∙◌, arith}
+use Rattle.std.proofs.Common.{◌≡◌, ℕ, ◌<◌, List, [], ◌∷◌, ◌++◌, append-nil, append_assoc, length, length-append, take, drop, Option, Some, None, inl, refl, ap, subst, sym, ◌∙◌, arith}
 use Rattle.std.specs.Io.KnownBytes.{Consumes, IsAtEnd, Keeps}
 use Rattle.std.proofs.KnownBytes.{Consumes-kept, Consumes-nil, Consumes-trans, Consumes-whole}
 use Rattle.std.proofs.lemmas.List.{drop_all, take-append-drop}
 use Rattle.image_store.specs.Namespace.{ZonedNamespace}
-use Rattle.device_meaning.specs.State.{State}
 use Rattle.event_frames.specs.Frames.{request_frame}
 use Rattle.event_frames.specs.Requests.{told_of}
 use Rattle.event_frames.specs.Streams.{Breaks, IsFault, IsPartial, SessionState, Takes, TakesAll, TakesOne, behind}
 use Rattle.event_frames.specs.declared.fault.StreamFault.{StreamFault}
 use Rattle.event_frames.specs.declared.fault.StreamFault.TheVariants as stream
 use Rattle.event_frames.specs.declared.request.Request.{Request}
-use Rattle.live_serve.specs.Served.{Asked, Between, Fails, GivesTurns, Idle, InStep, IsDone, IsUnanswered, ServedSoFar, Server, ServesStream, StopsServing, WentRound, seen, stream_of}
+use Rattle.live_serve.specs.Served.{Asked, Between, Fails, GivesTurns, Idle, InStep, IsDone, IsUnanswered, ServedSoFar, Server, ServesStream, StopsServing, WentRound, WritesFirst, stream_of}
 use Rattle.live_serve.specs.declared.fault.ServeFault.{ServeFault}
 use Rattle.live_serve.specs.declared.fault.ServeFault.TheVariants as fault
 use Rattle.live_serve.specs.steps.Parts.{Carries, EndsThere, StopsThere}
@@ -151,13 +150,13 @@ module _ {K : Type 0} (has_kept : K → K → ZonedNamespace → Type 0) (turns 
 
       -- or they can't be answered
       pub turns_stop : (why : ServeFault) → IsUnanswered why → WentRound turns between.state new.state → new.keeper ≡ between.keeper
-          → StopsServing has_kept turns unread less first new why
-      turns_stop why unanswered went same = record {
+          → (why ≡ fault.Memory → WritesFirst between.state new.state between.written new.written) → StopsServing has_kept turns unread less first new why
+      turns_stop why unanswered went same starved = record {
         held = held';
         place = place';
         between = between;
         so_far = carries unread less first (read_more reads);
-        ends = InStep Between held' refl (unanswered, went, same);
+        ends = InStep Between held' refl (unanswered, went, same, starved);
       }
 
     -- ---- the end

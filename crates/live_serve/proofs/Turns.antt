@@ -1,5 +1,5 @@
 -- Events that are done one after another, and what is written for them.
-use Rattle.std.proofs.Common.{◌≡◌, ℕ, suc, ◌+◌, ◌-◌, ◌%◌, ◌<◌, ◌≤◌, ◌≢◌, ◌⊎◌, Bool, true, false, cond, not, List, [], ◌∷◌, ◌++◌, append-nil, length, length-append, map, Option, Some, None, Result, Ok, Err, IfErr, OnOk, inl, inr, refl, ap, subst, sym, ◌∙◌, arith}
+use Rattle.std.proofs.Common.{◌≡◌, ℕ, suc, ◌+◌, ◌-◌, ◌%◌, ◌<◌, ◌≤◌, ◌≢◌, ◌⊎◌, Bool, true, false, cond, not, List, [], ◌∷◌, ◌++◌, append-nil, length, length-append, map, Option, Some, None, Result, Ok, Err, IfErr, inl, inr, refl, ap, subst, sym, ◌∙◌, arith}
 use Rattle.std.specs.Prelude.{flat_map}
 use Rattle.std.specs.Io.KnownBytes.{Appends, Consumes, Keeps}
 use Rattle.std.proofs.KnownBytes.{Appends-nil, Appends-trans}
@@ -19,11 +19,10 @@ use Rattle.device_meaning.proofs.Proved.{events_in_parts}
 use Rattle.event_frames.specs.Frames.{drained_frame, reply_frame}
 use Rattle.image_store.specs.Namespace.{ZonedNamespace}
 use Rattle.device_meaning.specs.Happenings.{take_turn, turn_reply, turned_at}
-use Rattle.device_meaning.specs.EventReplies.{Happening}
 use Rattle.device_meaning.specs.Outcome.{Ending, Turn}
 use Rattle.device_meaning.specs.State.{Place, place_at}
 use Rattle.event_frames.specs.declared.request.Request.{Request}
-use Rattle.live_serve.specs.Served.{Answers, Drains, Fails, GivesTurns, Happened, HasNone, IsBegun, IsUnanswered, NoneLeft, Server, TookTurns, WentRound, is_idle, of_runs, turns_round}
+use Rattle.live_serve.specs.Served.{Answers, Drains, Fails, GivesTurns, Happened, HasNone, IsBegun, IsUnanswered, Server, TookTurns, WentRound, WritesFirst, WritesNoMore, is_idle, of_runs, turns_round}
 use Rattle.live_serve.specs.declared.fault.ServeFault.{ServeFault}
 use Rattle.live_serve.specs.declared.fault.ServeFault.TheVariants as fault
 use Rattle.live_serve.specs.steps.Parts.{GaveTurn, HasReplied}
@@ -247,16 +246,37 @@ went_on most given idle run old between new before then round less happened =
           (untold (turns_round round.tries ++ event.Turn run ∷ []) old new (λ replies few. omega (arith, few, less)) more);
     }
 
+-- ---- where memory is wanting
+
+-- for the reply to one turn more
+pub then_starved : (most given idle run : ℕ) (old between new : State) (before after last : Option (List ℕ)) → GoesRound most given idle run old between before after
+    → Happened (event.Turn run) between new → last ≡ after → WritesFirst old new before last
+then_starved most given idle run old between new before after last round happened silent =
+    subst (λ (bytes : Option (List ℕ)). WritesFirst old new before bytes) (sym silent) (record {
+      tries = round.tries;
+      given = given;
+      between = between;
+      served = round.served;
+      last = inr (subst (λ (n : ℕ). Happened (event.Turn n) between new) round.run_is happened);
+    })
+
+-- or for how many they were
+pub given_starved : (most given : ℕ) (old new : State) (before after : Option (List ℕ)) → GivesTurns most given old new before after
+    → WritesFirst old new before after
+given_starved most given old new before after gives =
+    record { tries = gives.tries; given = given; between = new; served = gives.served; last = inl refl }
+
 -- ---- where a request isn't answered
 
 pub begun_fails : {K T : Type 0} (has_kept : K → K → ZonedNamespace → Type 0) (r : Request) (old new : Server K) (result : Result T ServeFault)
-    → IfErr result IsUnanswered → IsBegun has_kept r old new → IfErr result (Fails has_kept r old new)
-begun_fails has_kept r old new (Ok done) unanswered begun = tt
-begun_fails has_kept r old new (Err fault.Read) unanswered begun = absurd unanswered
-begun_fails has_kept r old new (Err (fault.Stream f)) unanswered begun = absurd unanswered
-begun_fails has_kept r old new (Err fault.Write) unanswered begun = begun
-begun_fails has_kept r old new (Err fault.Save) unanswered begun = absurd unanswered
-begun_fails has_kept r old new (Err fault.Memory) unanswered begun = begun
+    → IfErr result IsUnanswered → IsBegun has_kept r old new
+    → IfErr result (λ why. why ≡ fault.Memory → WritesNoMore r old.state new.state old.written new.written) → IfErr result (Fails has_kept r old new)
+begun_fails has_kept r old new (Ok done) unanswered begun starved = tt
+begun_fails has_kept r old new (Err fault.Read) unanswered begun starved = absurd unanswered
+begun_fails has_kept r old new (Err (fault.Stream f)) unanswered begun starved = absurd unanswered
+begun_fails has_kept r old new (Err fault.Write) unanswered begun starved = begun
+begun_fails has_kept r old new (Err fault.Save) unanswered begun starved = absurd unanswered
+begun_fails has_kept r old new (Err fault.Memory) unanswered begun starved = (begun, starved refl)
 
 -- ---- bytes that are known
 

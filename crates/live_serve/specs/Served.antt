@@ -70,6 +70,15 @@ pub record GivesTurns (most given : ℕ) (old new : State) (before after : Optio
   pub few : given ≤ most
   pub all : (given ≡ most) ⊎ NoneLeft new
 
+-- turns went round the runs, and each reply was written but that to the turn of a number that no run has; and then perhaps one turn more
+-- was given, for which nothing was written
+pub record WritesFirst (old new : State) (before after : Option (List ℕ)) : Type 0 where
+  pub tries : ℕ
+  pub given : ℕ
+  pub between : State
+  pub served : HasServed interval_judge (turns_round tries) old between (TookTurns (before, 0) (after, given))
+  pub last : (new ≡ between) ⊎ Happened (event.Turn (tries % 8)) between new
+
 -- they went round, and no more were given than were wanted; what was written isn't said
 pub record WentRound (most : ℕ) (old new : State) : Type 0 where
   pub tries : ℕ
@@ -124,6 +133,12 @@ IsUnread fault.Write held place left = ⊥
 IsUnread fault.Save held place left = ⊥
 IsUnread fault.Memory held place left = Unit {0}
 
+-- what was written by then where memory is wanting for what answers a request: nothing, or the replies to the first turns of a drain
+abbrev pub WritesNoMore : Request → State → State → Option (List ℕ) → Option (List ℕ) → Type 0
+WritesNoMore (request.Event e) old new before after = after ≡ before
+WritesNoMore (request.Drain turns) old new before after = WritesFirst old new before after
+WritesNoMore request.Save old new before after = after ≡ before
+
 -- it can't be answered
 abbrev pub IsUnanswered : ServeFault → Type 0
 IsUnanswered fault.Read = ⊥
@@ -151,13 +166,13 @@ module _ {K : Type 0} (has_kept : K → K → ZonedNamespace → Type 0) where
   abbrev pub IsUnsaved : Request → Server K → Server K → Type 0
   IsUnsaved r old new = (r ≡ request.Save) × (new.state ≡ old.state) × (new.written ≡ old.written)
 
-  -- a server fails in a request: it isn't answered, or not wholly; or an image isn't kept
+  -- a server fails in a request: it isn't answered, or not wholly; or an image isn't kept. An output that fails doesn't tell what it took
   abbrev pub Fails : Request → Server K → Server K → ServeFault → Type 0
   Fails r old new fault.Read = ⊥
   Fails r old new (fault.Stream f) = ⊥
   Fails r old new fault.Write = IsBegun r old new
   Fails r old new fault.Save = IsUnsaved r old new
-  Fails r old new fault.Memory = IsBegun r old new
+  Fails r old new fault.Memory = IsBegun r old new × WritesNoMore r old.state new.state old.written new.written
 
 -- where it gives so many turns at most between two reads
 module _ {K : Type 0} (has_kept : K → K → ZonedNamespace → Type 0) (turns : ℕ) where
@@ -169,7 +184,9 @@ module _ {K : Type 0} (has_kept : K → K → ZonedNamespace → Type 0) (turns 
   -- a server fails in a step
   abbrev pub FailsIn : Step → Server K → Server K → ServeFault → Type 0
   FailsIn (Asked r) old new why = Fails has_kept r old new why
-  FailsIn Between old new why = IsUnanswered why × WentRound turns old.state new.state × (new.keeper ≡ old.keeper)
+  FailsIn Between old new why =
+      IsUnanswered why × WentRound turns old.state new.state × (new.keeper ≡ old.keeper)
+      × (why ≡ fault.Memory → WritesFirst old.state new.state old.written new.written)
 
   -- a step done from a server as it was in between
   pub record Follows (done : Server K → Type 0) (step : Step) (new : Server K) : Type 0 where

@@ -1,10 +1,10 @@
 //! What answers a request.
 
-ghost use Rattle.std.specs.Prelude.{◌≡◌, ◌++◌, ◌∷◌, [], length, IfErr, IfOk, OnOk};
+ghost use Rattle.std.specs.Prelude.{◌≡◌, ◌≢◌, ◌++◌, ◌∷◌, [], length, IfErr, IfOk, OnOk};
 ghost use Rattle.std.specs.Io.KnownBytes.{Appends};
 ghost use Rattle.nvme_entry.specs.declared.command.TheConstants.{MOST_TRANSFER};
 ghost use Rattle.event_frames.specs.declared.request.Request.TheVariants.{Save};
-ghost use Rattle.live_serve.specs.Served.{Answers, Drains, Fails, Happened, IsDone, IsUnanswered, WentRound, seen};
+ghost use Rattle.live_serve.specs.Served.{Answers, Drains, Fails, Happened, IsDone, IsUnanswered, WentRound, WritesFirst, seen};
 ghost use Rattle.live_serve.specs.steps.Parts.{HasReplied};
 
 use crate::drains::give_turns;
@@ -81,6 +81,7 @@ fn answer_event<W: Write>(
     ensures answered { OnOk result (Answers (event.now ∷ []) device.old device.new (W.contents out.old) (W.contents out.new)) }
     ensures happened { Happened event.now device.old device.new }
     ensures unanswered { IfErr result IsUnanswered }
+    ensures silent { IfErr result (λ why. why ≡ ServeFault.Memory → W.contents out.new ≡ W.contents out.old) }
 {
     let _ = happen(device, event, output, frame)?;
     write(out, frame.as_slice())
@@ -98,6 +99,8 @@ fn drain<W: Write>(
     ensures answered { OnOk result (Drains turns device.old device.new (W.contents out.old) (W.contents out.new)) }
     ensures round { WentRound turns device.old device.new }
     ensures unanswered { IfErr result IsUnanswered }
+    ensures first { IfErr result (λ why. why ≡ ServeFault.Memory
+        → WritesFirst device.old device.new (W.contents out.old) (W.contents out.new)) }
 {
     let given = give_turns(device, turns, output, frame, out)?;
     frame.clear();
@@ -131,6 +134,7 @@ pub(crate) fn happen(
 pub(crate) fn write<W: Write>(out: &mut W, frame: &[u8]) -> Result<(), ServeFault>
     ensures written { OnOk result (Appends (W.contents out.old) (W.contents out.new) frame.now) }
     ensures unanswered { IfErr result IsUnanswered }
+    ensures enough { IfErr result (λ why. why ≢ ServeFault.Memory) }
 {
     if out.write_all(frame).is_err() {
         return Err(ServeFault::Write);

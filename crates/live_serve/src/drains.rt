@@ -3,7 +3,7 @@
 ghost use Rattle.std.specs.Prelude.{◌≡◌, ◌≤◌, ◌<◌, ◌+◌, ◌*◌, ◌-◌, ◌^◌, if◌then◌else◌, length, IfErr, IfOk};
 ghost use Rattle.nvme_entry.specs.declared.command.TheConstants.{MOST_TRANSFER};
 ghost use Rattle.device_events.specs.declared.event.Event.TheVariants.{Turn};
-ghost use Rattle.live_serve.specs.Served.{GivesTurns, Happened, IsUnanswered, WentRound, is_idle};
+ghost use Rattle.live_serve.specs.Served.{GivesTurns, Happened, IsUnanswered, WentRound, WritesFirst, is_idle};
 ghost use Rattle.live_serve.specs.steps.Parts.{GaveTurn};
 
 use crate::answers::{happen, write};
@@ -29,6 +29,8 @@ pub(crate) fn give_turns<W: Write>(
     ensures given { IfOk result (λ given. GivesTurns turns given device.old device.new (W.contents out.old) (W.contents out.new)) }
     ensures round { WentRound turns device.old device.new }
     ensures unanswered { IfErr result IsUnanswered }
+    ensures first { IfErr result (λ why. why ≡ ServeFault.Memory
+        → WritesFirst device.old device.new (W.contents out.old) (W.contents out.new)) }
 {
     let mut given = 0;
     let mut idle = 0;
@@ -53,6 +55,7 @@ fn give_turn<W: Write>(
     ensures gave { IfOk result (λ was. GaveTurn run was device.old device.new (W.contents out.old) (W.contents out.new)) }
     ensures happened { Happened (Turn run) device.old device.new }
     ensures unanswered { IfErr result IsUnanswered }
+    ensures silent { IfErr result (λ why. why ≡ ServeFault.Memory → W.contents out.new ≡ W.contents out.old) }
 {
     let reply = happen(device, &Event::Turn { run }, output, frame)?;
     if is_idle(reply) {

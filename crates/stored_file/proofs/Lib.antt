@@ -1,3 +1,4 @@
-mod Changes
+pub mod Changes
 pub mod Moments
+pub mod Renewing
 mod Unsynced

@@ -1,5 +1,5 @@
 -- What is known of a file on a disk that may stop at any moment.
-use Rattle.std.specs.Prelude.{◌≡◌, ◌⊎◌, ℕ, ◌+◌, ◌%◌, ◌≤◌, max, min, List, ◌++◌, length, take, drop}
+use Rattle.std.specs.Prelude.{◌≡◌, ◌⊎◌, ℕ, ◌+◌, ◌%◌, ◌≤◌, max, min, List, [], ◌∷◌, ◌++◌, length, take, drop}
 
 -- a file at one moment
 pub record FileState : Type 1 where
@@ -9,6 +9,9 @@ pub record FileState : Type 1 where
   pub moment : ℕ
   -- what a crash at a moment might have left, of those since this one, during a call or between two
   pub left_since : ℕ → List ℕ → Type 0
+  -- what a crash may leave behind a sync that succeeds now: it brings to the disk what was changed through this handle, over what an
+  -- earlier program left there
+  pub once_synced : List ℕ → Type 0
   -- how often the disk has failed
   pub faults : ℕ
 
@@ -16,9 +19,17 @@ pub record FileState : Type 1 where
 abbrev pub MayLeave : FileState → List ℕ → Type 0
 MayLeave file c = file.left_since file.moment c
 
--- a crash now leaves what a read returns
-abbrev pub IsOnDisk : FileState → Type 0
-IsOnDisk file = (c : List ℕ) → MayLeave file c → c ≡ file.seen
+-- all of it is on the disk, and nothing of it is what another program failed to bring there
+pub record IsOnDisk (file : FileState) : Type 0 where
+  -- a crash now leaves what a read returns
+  pub left : (c : List ℕ) → MayLeave file c → c ≡ file.seen
+  -- and so it is behind a sync
+  pub synced : (c : List ℕ) → file.once_synced c → c ≡ file.seen
+
+-- what a crash may leave of it, now or behind a sync, has P
+pub record LeavesNow (file : FileState) (P : List ℕ → Type 0) : Type 0 where
+  pub left : (c : List ℕ) → MayLeave file c → P c
+  pub synced : (c : List ℕ) → file.once_synced c → P c
 
 -- so many bytes are whole sectors
 abbrev pub IsWhole : ℕ → Type 0
@@ -40,6 +51,36 @@ pub record Cut (n : ℕ) (old new : List ℕ) : Type 0 where
   pub no_shorter : min n (length old) ≤ length new
   pub front : new ≡ take (length new) old
 
+-- a length that was set, of a file that is as long
+abbrev pub IsCut : ℕ → List ℕ → List ℕ → Type 0
+IsCut n old new = n ≤ length old → new ≡ take n old
+
+-- each byte is one of those that stand there in two lists
+abbrev pub IsMix : List ℕ → List ℕ → List ℕ → Type 0
+IsMix [] [] [] = Unit {0}
+IsMix (x ∷ xs) (y ∷ ys) (z ∷ zs) = (z ≡ x ⊎ z ≡ y) × IsMix xs ys zs
+IsMix _ _ _ = ⊥
+
+-- after bytes were written again that a crash cuts short: there stands of each byte the one that was there or the one that was
+-- written, and the others are as they were
+pub record Mixed (at : ℕ) (bytes old new : List ℕ) : Type 0 where
+  pub front : List ℕ
+  pub was : List ℕ
+  pub mix : List ℕ
+  pub behind : List ℕ
+  pub size : length front ≡ at
+  pub parts : old ≡ front ++ was ++ behind
+  pub is : new ≡ front ++ mix ++ behind
+  pub mixes : IsMix was bytes mix
+
+-- what a sync now may leave it might have left before, but for this step
+abbrev pub SyncsTo : (List ℕ → List ℕ → Type 0) → FileState → FileState → Type 0
+SyncsTo step old new = (c : List ℕ) → new.once_synced c → (d : List ℕ) × old.once_synced d × step d c
+
+-- what a sync now may leave it might have left before
+abbrev pub SyncsAsBefore : FileState → FileState → Type 0
+SyncsAsBefore old new = (c : List ℕ) → new.once_synced c → old.once_synced c
+
 -- what a crash may leave now it might have left before, but for this step
 abbrev pub Follows : (List ℕ → List ℕ → Type 0) → FileState → FileState → Type 0
 Follows step old new = (c : List ℕ) → MayLeave new c → (d : List ℕ) × MayLeave old d × step d c
@@ -47,6 +88,12 @@ Follows step old new = (c : List ℕ) → MayLeave new c → (d : List ℕ) × M
 -- what a crash may leave now it might have left before
 abbrev pub FollowsOnly : FileState → FileState → Type 0
 FollowsOnly old new = (c : List ℕ) → MayLeave new c → MayLeave old c
+
+-- nothing of it has changed
+pub record IsAsBefore (old new : FileState) : Type 0 where
+  pub seen : new.seen ≡ old.seen
+  pub left : FollowsOnly old new
+  pub synced : SyncsAsBefore old new
 
 -- time goes on: a crash might have left what it might before, or what it may leave now
 pub record Elapses (old new : FileState) : Type 0 where

@@ -1,14 +1,15 @@
 -- What a crash leaves of the changes of a file since it was on the disk.
-use Rattle.std.specs.Prelude.{◌≡◌, ◌≤◌, ℕ, List, [], ◌∷◌, length, take}
+use Rattle.std.specs.Prelude.{◌≡◌, ◌⊎◌, ◌≤◌, ℕ, List, [], ◌∷◌, length, take}
 use Rattle.std.proofs.Math.Nat.{le_trans}
-use Rattle.stored_file.specs.File.{FileState, Torn, Cut}
+use Rattle.stored_file.specs.File.{FileState, Torn, Cut, is_written}
 use Rattle.stored_file.specs.declared.change.Change.{Change}
-use Rattle.stored_file.specs.declared.change.Change.TheVariants.{Written, Shortened, Settled}
+use Rattle.stored_file.specs.declared.change.Change.TheVariants.{Written, Shortened, Renewed, Settled}
 
 -- what it may leave of one
 abbrev pub IsLeftOf : Change → List ℕ → List ℕ → Type 0
 IsLeftOf (Written «at» bytes) old new = Torn «at» (length bytes.items) old new
 IsLeftOf (Shortened len) old new = Cut len old new
+IsLeftOf (Renewed «at» bytes) old new = (new ≡ old) ⊎ (new ≡ is_written «at» bytes.items old)
 IsLeftOf (Settled bytes) old new = new ≡ bytes.items
 
 -- what it may leave of changes, where it may leave such files before them
@@ -22,7 +23,7 @@ LeftSince first changes n c = (k : ℕ) × (n ≤ k) × (k ≤ length changes) �
 
 -- such a file, of which these bytes are read
 abbrev pub state_of : List ℕ → List Change → List ℕ → FileState
-state_of first changes seen = record { seen = seen; moment = length changes; left_since = LeftSince first changes; faults = 0 }
+state_of first changes seen = record { seen = seen; moment = length changes; left_since = LeftSince first changes; once_synced = λ c. c ≡ seen; faults = 0 }
 
 -- the last change is one of those since each earlier one
 pub counts_at : (first : List ℕ) (changes : List Change) (n : ℕ) (c : List ℕ) → n ≤ length changes → LeftSince first changes (length changes) c → LeftSince first changes n c

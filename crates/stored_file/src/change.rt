@@ -7,6 +7,8 @@ pub(crate) enum Change {
     Written { at: usize, bytes: Vec<u8> },
     /// Its length was set.
     Shortened(usize),
+    /// Bytes that it had at an offset were written again.
+    Renewed { at: usize, bytes: Vec<u8> },
     /// It has these bytes on the disk, by a sync, or since it took another's place.
     Settled(Vec<u8>),
 }

@@ -6,6 +6,7 @@ ghost use Rattle.stored_file.specs.Unsynced.{IsLeftOf};
 
 use crate::change::Change;
 use crate::choices::Choices;
+use crate::written::written;
 use std::alloc::{AllocError, Global};
 
 /// What a crash may leave of a change of a file.
@@ -24,6 +25,10 @@ pub(crate) fn left_by(
             let left = least + choices.up_to(old.len() - least);
             old[..left].to_vec(alloc)
         }
+        Change::Renewed { at, bytes } if choices.up_to(1) == 1 && *at <= old.len() => {
+            written(alloc, old, *at, bytes)
+        }
+        Change::Renewed { .. } => old.to_vec(alloc),
         Change::Settled(bytes) => bytes.to_vec(alloc),
     }
 }

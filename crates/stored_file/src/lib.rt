@@ -7,7 +7,8 @@ mod durable;
 mod left;
 mod stored_file;
 mod tearing_file;
+mod written;
 
-pub use durable::{cut_durably, read_durable, write_durably};
+pub use durable::{read_whole, write_durably};
 pub use stored_file::{FileError, SECTOR, StoredFile};
 pub use tearing_file::TearingFile;

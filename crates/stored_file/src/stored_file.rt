@@ -1,8 +1,24 @@
 //! What a file promises to who writes it.
 
-ghost use Rattle.std.specs.Prelude.{◌≡◌, ◌⊎◌, ◌≤◌, ◌<◌, ◌^◌, ◌+◌, List, ℕ, length, take, IfOk, OnOk};
-ghost use Rattle.stored_file.specs.declared.stored_file.FileError.TheVariants.{Memory};
-ghost use Rattle.stored_file.specs.File.{FileState, MayLeave, IsOnDisk, Follows, FollowsOnly, Elapses, IsWhole, is_written, Torn, Cut};
+ghost use Rattle.std.specs.Prelude.{◌≡◌, ◌⊎◌, ◌≤◌, ◌<◌, ◌^◌, ◌+◌, List, ℕ, length, take, drop, IfOk, IsErrOf, OnOk};
+ghost use Rattle.stored_file.specs.declared.stored_file.FileError.TheVariants.{Memory, NoRoom};
+ghost use Rattle.stored_file.specs.File.{
+  FileState,
+  MayLeave,
+  IsOnDisk,
+  IsAsBefore,
+  Follows,
+  FollowsOnly,
+  SyncsTo,
+  SyncsAsBefore,
+  Elapses,
+  IsWhole,
+  is_written,
+  Torn,
+  Cut,
+  IsCut,
+  Mixed,
+};
 ghost use Rattle.stored_file.specs.Cause.{HasCause};
 
 use std::alloc::{AllocError, AllocFailed, Global};
@@ -16,7 +32,9 @@ pub const SECTOR: usize = 4096;
 pub enum FileError {
     /// Memory is wanting.
     Memory,
-    /// The disk failed, or has no room.
+    /// The disk has no room.
+    NoRoom,
+    /// The disk failed in another way.
     Failed,
 }
 
@@ -50,6 +68,7 @@ pub trait StoredFile {
         ensures bytes { IfOk result (λ bytes. bytes.items ≡ (told self.old).seen) }
         ensures seen { (told self.new).seen ≡ (told self.old).seen }
         ensures crash { FollowsOnly (told self.old) (told self.new) }
+        ensures synced { SyncsAsBefore (told self.old) (told self.new) }
         ensures time { Elapses (told self.old) (told self.new) }
         ensures cause { HasCause (told self.old) (told self.new) result };
 
@@ -63,6 +82,24 @@ pub trait StoredFile {
         requires whole { IsWhole at × IsWhole (length bytes.now) }
         ensures written { OnOk result ((told self.new).seen ≡ is_written at bytes.now (told self.old).seen) }
         ensures crash { Follows (Torn at (length bytes.now)) (told self.old) (told self.new) }
+        ensures synced { OnOk result (SyncsTo (λ d c. c ≡ is_written at bytes.now d) (told self.old) (told self.new)) }
+        ensures time { Elapses (told self.old) (told self.new) }
+        ensures cause { HasCause (told self.old) (told self.new) result };
+
+    /// Writes sectors again with the bytes that are read there, so that a sync brings them to the disk where an earlier program
+    /// failed to. Until a sync, a crash may leave of each byte the one that was on the disk or the one that is written.
+    ///
+    /// # Errors
+    ///
+    /// No memory, or the disk's.
+    fn renew(&mut self, at: usize, bytes: &[u8]) -> Result<(), FileError>
+        requires within { at + length bytes.now ≤ length (told self.old).seen }
+        requires whole { IsWhole at × IsWhole (length bytes.now) }
+        requires again { take (length bytes.now) (drop at (told self.old).seen) ≡ bytes.now }
+        requires long { (c : List ℕ) → MayLeave (told self.old) c → at + length bytes.now ≤ length c }
+        ensures seen { OnOk result ((told self.new).seen ≡ (told self.old).seen) }
+        ensures crash { Follows (Mixed at bytes.now) (told self.old) (told self.new) }
+        ensures synced { OnOk result (SyncsTo (λ d c. c ≡ is_written at bytes.now d) (told self.old) (told self.new)) }
         ensures time { Elapses (told self.old) (told self.new) }
         ensures cause { HasCause (told self.old) (told self.new) result };
 
@@ -76,31 +113,35 @@ pub trait StoredFile {
         requires whole { IsWhole len }
         ensures cut { OnOk result ((told self.new).seen ≡ take len (told self.old).seen) }
         ensures crash { Follows (Cut len) (told self.old) (told self.new) }
+        ensures synced { OnOk result (SyncsTo (IsCut len) (told self.old) (told self.new)) }
         ensures time { Elapses (told self.old) (told self.new) }
         ensures cause { HasCause (told self.old) (told self.new) result };
 
     /// Puts a new file, whole and on the disk, in the place of this one. Until then, a crash leaves what it might
-    /// have left before, or the new file.
+    /// have left before, or the new file. Where the disk has no room for it, nothing has changed, and the file can be used on.
     ///
     /// # Errors
     ///
-    /// No memory, or the disk's.
+    /// No memory, no room, or the disk's.
     fn replace(&mut self, bytes: &[u8]) -> Result<(), FileError>
         ensures replaced { OnOk result ((told self.new).seen ≡ bytes.now) }
         ensures durable { OnOk result (IsOnDisk (told self.new)) }
         ensures crash { (c : List ℕ) → MayLeave (told self.new) c → MayLeave (told self.old) c ⊎ (c ≡ bytes.now) }
+        ensures no_room { IsErrOf result NoRoom → IsAsBefore (told self.old) (told self.new) }
         ensures time { Elapses (told self.old) (told self.new) }
         ensures cause { HasCause (told self.old) (told self.new) result };
 
-    /// Waits until all that was written is on the disk: after it, a crash leaves what a read returns.
+    /// Waits until all that was changed through this handle is on the disk. What an earlier program changed and failed to bring
+    /// there is not brought there by it.
     ///
     /// # Errors
     ///
     /// The disk's.
     fn sync(&mut self) -> Result<(), FileError>
-        ensures durable { OnOk result (IsOnDisk (told self.new)) }
+        ensures durable { OnOk result ((c : List ℕ) → MayLeave (told self.new) c → (told self.old).once_synced c) }
         ensures seen { (told self.new).seen ≡ (told self.old).seen }
-        ensures crash { (c : List ℕ) → MayLeave (told self.new) c → MayLeave (told self.old) c ⊎ (c ≡ (told self.old).seen) }
+        ensures crash { (c : List ℕ) → MayLeave (told self.new) c → MayLeave (told self.old) c ⊎ (told self.old).once_synced c }
+        ensures synced { SyncsAsBefore (told self.old) (told self.new) }
         ensures time { Elapses (told self.old) (told self.new) }
         ensures cause { HasCause (told self.old) (told self.new) result };
 

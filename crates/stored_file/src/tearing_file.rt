@@ -1,11 +1,11 @@
 //! A file in memory, on a disk that tears.
 
 ghost use Rattle.std.specs.Prelude.{◌≡◌, ◌<◌, ◌≤◌, ◌^◌, ℕ, List, length, take, IfOk};
-ghost use Rattle.stored_file.specs.File.{is_written};
 
 use crate::change::Change;
 use crate::choices::Choices;
 use crate::left::left_by;
+use crate::written::written;
 use crate::{FileError, StoredFile};
 use std::alloc::{AllocError, Global};
 
@@ -93,6 +93,12 @@ impl StoredFile for TearingFile {
         Ok(())
     }
 
+    fn renew(&mut self, at: usize, bytes: &[u8]) -> Result<(), FileError> {
+        let bytes = bytes.to_vec(self.alloc)?;
+        self.changes.push(Change::Renewed { at, bytes })?;
+        Ok(())
+    }
+
     fn set_len(&mut self, len: usize) -> Result<(), FileError> {
         self.changes.push(Change::Shortened(len))?;
         self.bytes.truncate(len);
@@ -112,17 +118,4 @@ impl StoredFile for TearingFile {
         self.changes.push(Change::Settled(settled))?;
         Ok(())
     }
-}
-
-/// A file's bytes with others written over them at an offset, and past the end.
-fn written(alloc: Global, old: &[u8], at: usize, bytes: &[u8]) -> Result<Vec<u8>, AllocError>
-    requires { at ≤ length old.now }
-    ensures { IfOk result (λ new. new.items ≡ is_written at bytes.now old.now) }
-{
-    let mut new = old[..at].to_vec(alloc)?;
-    new.extend_from_slice(bytes)?;
-    if bytes.len() < old.len() - at {
-        new.extend_from_slice(&old[at + bytes.len()..])?;
-    }
-    Ok(new)
 }

@@ -1,7 +1,7 @@
 //! What is asked of the system for a file.
 
-ghost use Rattle.std.specs.Prelude.{◌≡◌, false, is_ok, List, ◌∷◌};
-ghost use Rattle.system_file.specs.Calls.{Call, Written, Shortened, Synced, Replaced, Refused, has_failed};
+ghost use Rattle.std.specs.Prelude.{◌≡◌, false, is_ok, ℕ, List, ◌∷◌};
+ghost use Rattle.system_file.specs.Calls.{Call, Written, Renewed, Shortened, Synced, Refused, has_failed, replaced_by};
 
 use stored_file::FileError;
 
@@ -9,6 +9,10 @@ use stored_file::FileError;
 pub trait FileCalls {
     /// Each call so far, of which the last stands first.
     ghost notes: { Self → List Call };
+
+    /// What an earlier program may have left on the disk, by the bytes that were read as the file was opened. That no other is there is
+    /// a premise.
+    ghost left: { List ℕ → List ℕ → Type 0 };
 
     /// Writes bytes at an offset, over what is there and past the end.
     ///
@@ -18,6 +22,15 @@ pub trait FileCalls {
     fn write_at(&mut self, at: usize, bytes: &[u8]) -> Result<(), FileError>
         requires usable { has_failed (notes self.old) ≡ false }
         ensures noted { notes self.new ≡ Written at bytes.now (is_ok result) ∷ notes self.old };
+
+    /// Writes bytes again that are there.
+    ///
+    /// # Errors
+    ///
+    /// The system's, or no memory.
+    fn renew(&mut self, at: usize, bytes: &[u8]) -> Result<(), FileError>
+        requires usable { has_failed (notes self.old) ≡ false }
+        ensures noted { notes self.new ≡ Renewed at bytes.now (is_ok result) ∷ notes self.old };
 
     /// Sets the length.
     ///
@@ -38,14 +51,14 @@ pub trait FileCalls {
         ensures noted { notes self.new ≡ Synced (is_ok result) ∷ notes self.old };
 
     /// Puts a new file of these bytes, which are on the disk before it has the name, in the place of this one, and waits until its
-    /// name is on the disk.
+    /// name is on the disk. Where it tells that there is no room, the old file has its name still, and is as it was.
     ///
     /// # Errors
     ///
-    /// The system's, or no memory.
+    /// No room, the system's, or no memory.
     fn replace(&mut self, bytes: &[u8]) -> Result<(), FileError>
         requires usable { has_failed (notes self.old) ≡ false }
-        ensures noted { notes self.new ≡ Replaced bytes.now (is_ok result) ∷ notes self.old };
+        ensures noted { notes self.new ≡ replaced_by bytes.now result ∷ notes self.old };
 
     /// Notes a call that isn't made.
     fn refuse(&mut self)

@@ -2,7 +2,7 @@
 
 ghost use Rattle.std.specs.Prelude.{◌≡◌, List, [], ◌∷◌};
 ghost use Rattle.std.specs.Borrow.{ftrue};
-ghost use Rattle.system_file.specs.Calls.{Call, Opened, Written, Shortened, Synced, Replaced, Refused};
+ghost use Rattle.system_file.specs.Calls.{Call, Opened, Written, Renewed, Shortened, Synced, Replaced, NotReplaced, Refused};
 
 use std::marker::Model;
 
@@ -18,7 +18,7 @@ impl Model for Record {
 }
 
 impl Record {
-    /// A file was opened, all of it was brought to the disk, and these bytes were read.
+    /// A file was opened, and these bytes were read.
     pub fn opened(bytes: &[u8]) -> Record
         ensures { result.calls ≡ Opened bytes.now ∷ [] }
     {
@@ -32,6 +32,13 @@ impl Record {
         ensures { self.new.calls ≡ Written at bytes.now done ∷ self.old.calls }
     {
         self.note(bytes, at, done);
+    }
+
+    /// Bytes that are there were written again.
+    pub fn renewed(&mut self, offset: usize, bytes: &[u8], done: bool)
+        ensures { self.new.calls ≡ Renewed offset bytes.now done ∷ self.old.calls }
+    {
+        self.note(bytes, offset, done);
     }
 
     /// The length was set.
@@ -53,6 +60,13 @@ impl Record {
         ensures { self.new.calls ≡ Replaced bytes.now done ∷ self.old.calls }
     {
         self.note(bytes, 0, done);
+    }
+
+    /// There was no room for a new file, and nothing has changed.
+    pub fn not_replaced(&mut self)
+        ensures { self.new.calls ≡ NotReplaced ∷ self.old.calls }
+    {
+        self.note(&[], 0, false);
     }
 
     /// A call wasn't made.

@@ -1,6 +1,6 @@
 //! What keeps the device of a target in a file.
 
-ghost use Rattle.std.specs.Prelude.{◌≡◌, ◌↔◌, ◌⊎◌, ◌<◌, [], true, Some, IfOk, IsTrue, OnErr, OnOk, is_some, slice_index_or, None};
+ghost use Rattle.std.specs.Prelude.{◌≡◌, ◌↔◌, ◌⊎◌, ◌<◌, ◌≤◌, ◌-◌, [], true, Some, IfOk, IsErrOf, IsTrue, OnErr, OnOk, is_some, slice_index_or, None};
 ghost use Rattle.std.specs.Option.{option_map};
 ghost use Rattle.stored_file.specs.File.{LeavesOnly};
 ghost use Rattle.stored_file.specs.Cause.{HasCause};
@@ -8,7 +8,8 @@ ghost use Rattle.image_store.specs.Namespace.{shape};
 ghost use Rattle.device_meaning.specs.State.{State};
 ghost use Rattle.nvme_entry.specs.Entry.{decoded};
 ghost use Rattle.durable_device.specs.Changing.{asks_change, is_idle};
-ghost use Rattle.durable_device.specs.Kept.{IsKept, StandsFor};
+ghost use Rattle.durable_device.specs.Kept.{IsKept, IsKeptInBase, StandsFor};
+ghost use Rattle.stored_file.specs.declared.stored_file.FileError.TheVariants.{NoRoom};
 ghost use Rattle.tcp_queues.specs.Commands.{given_to_device};
 ghost use Rattle.tcp_target.specs.Ready.{is_ready};
 ghost use Rattle.tcp_device.specs.Deeds.{Does, Served, Turned};
@@ -20,8 +21,8 @@ ghost use Rattle.tcp_durable.specs.Waiting.{IsCommittedBut};
 
 use crate::frames::{add_submission, add_turn};
 use durable_device::laws::changes_come_again;
-use durable_device::{DurableDevice, asks_change, is_refusal};
-use durable_machine::Durable;
+use durable_device::{DurableDevice, FrameDevice, MOST_JOURNAL, asks_change, base_of, is_refusal};
+use durable_machine::{Durable, put_base};
 use event_journal::Journal;
 use nvme_entry::Entry;
 use runner::Reply;
@@ -42,6 +43,8 @@ pub struct Keeper<F: StoredFile + Drop> {
     pub journal: Journal<F>,
     /// The events that may have changed the device since then, as the journal spells them.
     pub waiting: Vec<u8>,
+    /// How many bytes of the file were taken when it was made, or was to be folded last; 0 where it was opened, and hasn't been since.
+    pub folded: usize,
 }
 
 /// A target without connections before a device that is kept, and what keeps it on.
@@ -62,7 +65,7 @@ pub fn target_of<F: StoredFile + Drop>(
     ensures kept { IfOk result (λ made.
         IsCommittedBut made.1.waiting.items made.0.device made.1.journal.gate (F.told made.1.journal.file)) }
 {
-    let DurableDevice { store } = device;
+    let DurableDevice { store, folded } = device;
     let Durable { machine, journal } = store;
     let served = ServedTarget::on(
         alloc,
@@ -71,7 +74,14 @@ pub fn target_of<F: StoredFile + Drop>(
         format,
     )?;
     let waiting = Vec::new(alloc);
-    Ok((served, Keeper { journal, waiting }))
+    Ok((
+        served,
+        Keeper {
+            journal,
+            waiting,
+            folded,
+        },
+    ))
 }
 
 impl<F: StoredFile + Drop> Keeper<F> {
@@ -249,6 +259,53 @@ impl<F: StoredFile + Drop> Keeper<F> {
         }
         let events = mem::replace(&mut self.waiting, Vec::new(alloc));
         self.journal.append(events)?;
+        Ok(())
+    }
+
+    /// Folds the journal where the file has grown by more than [`MOST_JOURNAL`] since it was made, opened or to be folded last; else
+    /// nothing happens. Where there is no room for the new file, the old one is used on.
+    ///
+    /// # Errors
+    ///
+    /// No memory, or the disk's: then the file has to be opened again.
+    pub fn fold_when_due(&mut self, alloc: Global, served: &ServedTarget) -> Result<(), FileError>
+        requires kept { IsKept served.now.device self.old.journal.gate (F.told self.old.journal.file) }
+        ensures same { self.new.waiting ≡ self.old.waiting }
+        ensures idle { self.old.journal.gate - self.old.folded ≤ MOST_JOURNAL → (self.new ≡ self.old) × OnOk result (Unit {0}) }
+        ensures kept { OnOk result (IsKept served.now.device self.new.journal.gate (F.told self.new.journal.file)) }
+        ensures any_moment { LeavesOnly (F.told self.old.journal.file) (F.told self.new.journal.file) (λ c. StandsFor c served.now.device) }
+    {
+        if self.journal.gate.saturating_sub(self.folded) <= MOST_JOURNAL {
+            return Ok(());
+        }
+        match self.fold(alloc, served) {
+            Ok(()) | Err(FileError::NoRoom) => Ok(()),
+            Err(error) => Err(error),
+        }
+    }
+
+    /// Puts a new file in the place of the old one, with a base that tells the device as it is, where all that was done is committed, and
+    /// an empty journal. A crash at any moment leaves a file that stands for the same device. Where there is no room for the new file,
+    /// nothing has changed; at another `Err` the file has to be opened again.
+    ///
+    /// # Errors
+    ///
+    /// No memory, no room, or the disk's.
+    pub fn fold(&mut self, alloc: Global, served: &ServedTarget) -> Result<(), FileError>
+        requires kept { IsKept served.now.device self.old.journal.gate (F.told self.old.journal.file) }
+        ensures same { self.new.waiting ≡ self.old.waiting }
+        ensures kept { OnOk result (IsKept served.now.device self.new.journal.gate (F.told self.new.journal.file)) }
+        ensures in_base { OnOk result (IsKeptInBase served.now.device self.new.journal.gate (F.told self.new.journal.file)) }
+        ensures no_room { IsErrOf result NoRoom → IsKept served.now.device self.new.journal.gate (F.told self.new.journal.file) }
+        ensures any_moment { LeavesOnly (F.told self.old.journal.file) (F.told self.new.journal.file) (λ c. StandsFor c served.now.device) }
+
+        // It doesn't give up by itself.
+        ensures cause { HasCause (F.told self.old.journal.file) (F.told self.new.journal.file) result }
+    {
+        let base = base_of(alloc, served.device())?;
+        self.folded = self.journal.gate;
+        self.journal.gate = put_base::<FrameDevice, F>(base, &mut self.journal.file)?;
+        self.folded = self.journal.gate;
         Ok(())
     }
 

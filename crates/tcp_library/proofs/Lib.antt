@@ -1,2 +1,3 @@
 mod Calling
-mod Refolding
+mod Committing
+mod Reopening

@@ -9,13 +9,15 @@ use Rattle.tcp_target.specs.Ready.{is_ready}
 use Rattle.tcp_target.specs.Time.{is_given_up}
 use Rattle.tcp_device.specs.Deeds.{Closed, Deed, Does, Opened, Received, Sent, Served, Ticked, Turned}
 use Rattle.handed_file.specs.declared.handed_file.FileCall.{FileCall}
-use Rattle.handed_file.specs.declared.handed_file.FileCall.TheVariants.{Write, Shorten, Sync, Replace}
+use Rattle.handed_file.specs.declared.handed_file.FileCall.TheVariants.{Write, Renew, Shorten, Sync, Replace, Want}
 use Rattle.tcp_device.specs.Served.{next_run}
 use Rattle.tcp_device.specs.State.{ServedState}
 use Rattle.tcp_library.specs.declared.kind.Kind.{Kind}
 use Rattle.tcp_library.specs.declared.kind.Kind.TheVariants as kind
-use Rattle.tcp_library.specs.Sessions.{Commits, GoesOn, IsNamed, MaySend, TakesDone, TakesFailed, waiting_calls}
+use Rattle.tcp_library.specs.Sessions.{Commits, FoldsTo, GoesOn, IsNamed, MaySend, TakesDone, TakesFailed, waiting_calls}
 use Rattle.tcp_library.specs.Sessions as session
+use Rattle.tcp_library.specs.declared.session.Folding.{Folding}
+use Rattle.tcp_library.specs.declared.session.Folding.TheVariants.{NotDone, Done, NoRoom, Failed}
 use Rattle.tcp_library.specs.declared.session.Session.{Session}
 
 -- what goes with a kind: the number of a connection; of bytes, or of milliseconds; and bytes that came. What it doesn't speak of is 0, or
@@ -116,26 +118,50 @@ GoesOnBy false run old new told = (new ≡ old) × (told ≡ false)
 abbrev pub GoesOnAt : ℕ → Session → Session → Bool → Type 0
 GoesOnAt run old new told = GoesOnBy (nat_lt run 8) run old new told
 
+-- the number by which it is told what came of folding
+abbrev pub folding_number : Folding → ℕ
+folding_number NotDone = 0
+folding_number Done = 1
+folding_number NoRoom = 2
+folding_number Failed = 0
+
+-- the journal is folded, or not
+pub record Folds (old new : Session) (answer : ℕ) : Type 0 where
+  pub folding : Folding
+  pub folds : FoldsTo old new folding
+  pub told_is : answer ≡ folding_number folding
+
+-- C's memory stays
+pub record FoldsAt (old new : Lent) (answer : ℕ) : Type 0 where
+  pub folds : Folds old.session new.session answer
+  pub out : new.out ≡ old.out
+
 -- ---- calls for the file
 
 -- the kinds of calls; what goes with one
 abbrev pub call_kind : FileCall → ℕ
 call_kind (Write «at» bytes) = 1
+call_kind (Renew «at» bytes) = 1
 call_kind (Shorten len) = 2
 call_kind Sync = 3
 call_kind (Replace bytes) = 4
+call_kind (Want len) = 5
 
 abbrev pub call_place : FileCall → ℕ
 call_place (Write «at» bytes) = «at»
+call_place (Renew «at» bytes) = «at»
 call_place (Shorten len) = len
 call_place Sync = 0
 call_place (Replace bytes) = 0
+call_place (Want len) = len
 
 abbrev pub call_bytes : FileCall → List ℕ
 call_bytes (Write «at» bytes) = bytes.items
+call_bytes (Renew «at» bytes) = bytes.items
 call_bytes (Shorten len) = []
 call_bytes Sync = []
 call_bytes (Replace bytes) = bytes.items
+call_bytes (Want len) = []
 
 -- the call that C is to make next: none where all are done, or the file has to be opened again
 abbrev pub next_of : Bool → List FileCall → Option FileCall
@@ -174,6 +200,7 @@ Answers kind.Tick asked old new answer = Did (Ticked (milliseconds_of asked.coun
 Answers kind.Turn asked old new answer = DoesBy (session.Does Turned (is_some (next_run old.session.served))) old new answer
 Answers kind.Save asked old new answer = Saves old new answer
 Answers kind.Commit asked old new answer = DoesBy Commits old new answer
+Answers kind.Fold asked old new answer = FoldsAt old new answer
 Answers kind.Resume asked old new answer = DoesBy (GoesOnAt asked.number) old new answer
 Answers kind.Next asked old new answer = Told (told_of_next call_kind old.session) old new answer
 Answers kind.Place asked old new answer = Told (told_of_next call_place old.session) old new answer

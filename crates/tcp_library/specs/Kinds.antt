@@ -26,4 +26,5 @@ kind_of number =
     else if number == 18 then Some kind.Failed
     else if number == 19 then Some kind.Name
     else if number == 20 then Some kind.Nqn
+    else if number == 21 then Some kind.Fold
     else None

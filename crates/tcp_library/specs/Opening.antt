@@ -2,13 +2,16 @@
 use Rattle.std.specs.Prelude.{ℕ, ◌≡◌, ◌⊎◌, Bool, true, false, nat_eq, List, [], ◌∷◌, Option, Some, None, Ok, Err}
 use Rattle.std.specs.List.{starts_with}
 use Rattle.stored_file.specs.File.{LeavesOnly}
-use Rattle.system_file.specs.Calls.{Call, Opened, told_of}
-use Rattle.handed_file.specs.Handed.{noted}
+use Rattle.system_file.specs.Calls.{Call, Opened}
+use Rattle.handed_file.specs.Handed.{noted, told_of}
 use Rattle.handed_file.specs.declared.handed_file.HandedFile.{HandedFile}
 use Rattle.device_meaning.specs.State.{State, new_state}
 use Rattle.durable_machine.specs.declared.fault.Fault.{Fault}
-use Rattle.durable_machine.specs.declared.fault.Fault.TheVariants.{Unreadable, Damaged, OfFile}
-use Rattle.durable_device.specs.Kept.{AlwaysStandsForIt, IsKeptInBase, IsOldOrStandsFor, StandsFor, StandsForIt}
+use Rattle.durable_machine.specs.declared.fault.Fault.TheVariants.{Unreadable, Damaged, Undone, OfFile}
+use Rattle.durable_device.specs.Kept.{IsKept, IsKeptInBase, IsOldOrStandsFor, LeavesFound, StandsFor, StandsForIt}
+use Rattle.durable_device.specs.Machine.{IsDeviceBase, next_state}
+use Rattle.durable_machine.specs.Refused.{IsUndone}
+use Rattle.event_journal.specs.declared.journal.Journal.{Journal}
 use Rattle.image_base.specs.Base.{magic}
 use Rattle.image_store.specs.Namespace.{ZonedNamespace, shape}
 use Rattle.image_text.specs.Fault.{load_number}
@@ -60,8 +63,8 @@ pub record IsMade (bytes : List ℕ) (handle : Handle) : Type 0 where
 
 -- ---- kept in a file
 
--- a target without connections is before this device, whose journal is in this file, and empty: the base alone stands for the device
-pub record IsServed (device : State) (file : HandedFile) (session : Session) : Type 0 where
+-- a target without connections is before this device, which is kept by this journal
+pub record IsServed (device : State) (journal : Journal HandedFile) (session : Session) : Type 0 where
   pub subsystem : Subsystem
   pub format : NamespaceFormat
   pub format_is : IsFormatOf (shape device.namespace) format
@@ -69,31 +72,33 @@ pub record IsServed (device : State) (file : HandedFile) (session : Session) : T
   pub keeper : Keeper HandedFile
   pub kept : session.keeper ≡ Some keeper
   pub usable : session.failed ≡ false
-  pub file_is : keeper.journal.file ≡ file
-  pub in_base : IsKeptInBase device keeper.journal.gate (told_of (noted file))
+  pub journal_is : keeper.journal ≡ journal
+  pub is_kept : IsKept device journal.gate (told_of (noted journal.file))
 
--- the device is the one that a file stands for which was left by these calls, and a crash leaves the same device while C makes those for
--- opening it
+-- the device is the one that a file stands for which was left by these calls. While C makes those for opening it, a crash leaves what an
+-- earlier program may have left, or the same device; and where all of the file was on the disk, the same device
 pub record IsReopened (calls : List Call) (session : Session) : Type 0 where
   pub device : State
-  pub file : HandedFile
+  pub journal : Journal HandedFile
   pub is : StandsForIt (told_of calls).seen device
-  pub served : IsServed device file session
-  pub moments : AlwaysStandsForIt (told_of calls) (told_of (noted file))
+  pub served : IsServed device journal session
+  pub moments : LeavesFound (told_of calls) (told_of (noted journal.file)) (λ c. StandsFor c device)
 
 -- the device has the namespace of an image, without a program or a run, and a crash leaves the file as it was, or a journal of this device
 pub record IsCreated (bytes : List ℕ) (calls : List Call) (session : Session) : Type 0 where
   pub namespace : ZonedNamespace
-  pub file : HandedFile
+  pub journal : Journal HandedFile
   pub told : namespace_in bytes ≡ Ok namespace
-  pub served : IsServed (new_state namespace) file session
-  pub moments : LeavesOnly (told_of calls) (told_of (noted file)) (IsOldOrStandsFor (told_of calls) (new_state namespace))
+  pub served : IsServed (new_state namespace) journal session
+  -- the journal is empty: the base alone stands for the device
+  pub in_base : IsKeptInBase (new_state namespace) journal.gate (told_of (noted journal.file))
+  pub moments : LeavesOnly (told_of calls) (told_of (noted journal.file)) (IsOldOrStandsFor (told_of calls) (new_state namespace))
 
 -- do the bytes begin as a journal does?
 abbrev pub begin_a_journal : List ℕ → Bool
 begin_a_journal bytes = starts_with nat_eq bytes magic
 
--- the file that was opened had these bytes, all on the disk: those of a journal, or of an image
+-- the file that was opened had these bytes: those of a journal, or of an image
 abbrev pub IsOpenedBy : Bool → List ℕ → Session → Type 0
 IsOpenedBy true bytes session = IsReopened (Opened bytes ∷ []) session
 IsOpenedBy false bytes session = IsCreated bytes (Opened bytes ∷ []) session
@@ -105,11 +110,12 @@ IsOpenedKept bytes session = IsOpenedBy (begin_a_journal bytes) bytes session
 abbrev pub fault_number : Fault → ℕ
 fault_number Unreadable = DAMAGED
 fault_number (Damaged damaged) = DAMAGED
+fault_number (Undone undone) = DAMAGED
 fault_number (OfFile error) = load_number Memory
 
--- a journal stands for no device, so it is none that a crash leaves
+-- a journal stands for no device, so it is none that a crash leaves; or it has an event that isn't done again
 pub record IsNoJournal (bytes : List ℕ) (number : ℕ) : Type 0 where
-  pub none : (device : State) → StandsFor bytes device → ⊥
+  pub why : ((device : State) → StandsFor bytes device → ⊥) ⊎ ((at : ℕ) × IsUndone IsDeviceBase next_state at bytes)
   pub told : number ≡ DAMAGED
 
 abbrev pub IsRefusedBy : Bool → List ℕ → ℕ → Type 0

@@ -1,13 +1,12 @@
 -- A target that C serves, whose device is kept in a file or is in memory alone.
 use Rattle.std.specs.Prelude.{ℕ, ◌≡◌, ◌⊎◌, Bool, true, false, List, [], ◌∷◌, is_some, Option, Some, None}
 use Rattle.stored_file.specs.File.{FileState, LeavesOnly}
-use Rattle.system_file.specs.Calls.{told_of}
-use Rattle.handed_file.specs.Handed.{made_calls, noted, waiting}
+use Rattle.handed_file.specs.Handed.{made_calls, noted, told_of, waiting}
 use Rattle.handed_file.specs.Handing.{done_call}
 use Rattle.handed_file.specs.declared.handed_file.FileCall.{FileCall}
 use Rattle.handed_file.specs.declared.handed_file.HandedFile.{HandedFile}
 use Rattle.device_meaning.specs.State.{State}
-use Rattle.durable_device.specs.Kept.{IsKept, StandsFor}
+use Rattle.durable_device.specs.Kept.{IsKept, IsKeptInBase, StandsFor}
 use Rattle.tcp_device.specs.Deeds.{Deed}
 use Rattle.tcp_device.specs.Deeds as deed
 use Rattle.tcp_device.specs.State.{with_target}
@@ -16,6 +15,8 @@ use Rattle.tcp_admin.specs.declared.subsystem.Subsystem.{Subsystem}
 use Rattle.tcp_durable.specs.Resuming.{Resumes}
 use Rattle.tcp_durable.specs.Waiting.{IsCommittedBut}
 use Rattle.tcp_durable.specs.declared.keeper.Keeper.{Keeper}
+use Rattle.tcp_library.specs.declared.session.Folding.{Folding}
+use Rattle.tcp_library.specs.declared.session.Folding.TheVariants.{NotDone, Done, NoRoom, Failed}
 use Rattle.tcp_library.specs.declared.session.Session.{Session}
 
 -- ---- the file
@@ -142,6 +143,40 @@ pub record HasCommitted (old new : Session) (answer : Bool) : Type 0 where
 
 abbrev pub Commits : Session → Session → Bool → Type 0
 Commits old new answer = HasCommitted old new answer ⊎ GivesUp old new answer
+
+-- while C makes the calls for folding, a crash leaves the same device. Once it has made them, it is kept
+pub record IsFoldedTo (old new : Keeper HandedFile) (device : State) : Type 0 where
+  pub kept : IsKept device new.journal.gate (promised new)
+  pub moments : LeavesOnly (promised old) (promised new) (λ c. StandsFor c device)
+
+abbrev pub FoldsBy : Option (Keeper HandedFile) → Option (Keeper HandedFile) → State → Type 0
+FoldsBy None None device = ⊥
+FoldsBy (Some old) (Some new) device = IsFoldedTo old new device
+FoldsBy None (Some new) device = ⊥
+FoldsBy (Some old) None device = ⊥
+
+-- it is folded, or kept as it was for want of room, and nothing else happens
+pub record HasFolded (old new : Session) : Type 0 where
+  pub folds : FoldsBy old.keeper new.keeper old.served.device
+  pub usable : old.failed ≡ false
+  pub rest : new ≡ record old { keeper = new.keeper }
+
+-- what is kept is in the base alone
+abbrev pub IsInBase : Option (Keeper HandedFile) → State → Type 0
+IsInBase None device = ⊥
+IsInBase (Some k) device = IsKeptInBase device k.journal.gate (promised k)
+
+-- the file has to be opened again
+pub record FailsToFold (old new : Session) : Type 0 where
+  pub failed : new.failed ≡ true
+  pub served : new.served ≡ old.served
+
+-- what folding comes to
+abbrev pub FoldsTo : Session → Session → Folding → Type 0
+FoldsTo old new NotDone = new ≡ old
+FoldsTo old new Done = HasFolded old new × IsInBase new.keeper new.served.device
+FoldsTo old new NoRoom = HasFolded old new
+FoldsTo old new Failed = FailsToFold old new
 
 -- the next call is noted as done, and it was answered so before
 pub record TakesNext (old new : Keeper HandedFile) : Type 0 where

@@ -4,11 +4,11 @@ ghost use Rattle.std.specs.Prelude.{◌≡◌, ◌<◌, ◌≤◌, ◌++◌, len
 ghost use Rattle.image_text.specs.Text.{text};
 ghost use Rattle.tcp_device.specs.Deeds.{Closed, Does, Opened, Sent, Ticked};
 ghost use Rattle.tcp_queues.specs.Queues.{free_number};
-ghost use Rattle.tcp_library.specs.Answers.{Answers, Asked, GoesOnAt, Saves, as_number, call_kind, call_place, ending_of, milliseconds_of, next_bytes, number_or, of_next, sent_of};
+ghost use Rattle.tcp_library.specs.Answers.{Answers, Asked, Folds, GoesOnAt, Saves, as_number, call_kind, call_place, ending_of, milliseconds_of, next_bytes, number_or, of_next, sent_of};
 ghost use Rattle.tcp_library.specs.Sessions.{TakesDone, TakesFailed, WillBeKept, waiting_calls};
 
 use crate::kind::Kind;
-use crate::session::Session;
+use crate::session::{Folding, Session};
 use handed_file::FileCall;
 use image_text::{Buffer, ImageText};
 use std::alloc::Global;
@@ -44,6 +44,7 @@ pub fn answer(
         Kind::Turn => as_number(session.turn()),
         Kind::Save => save(session, alloc, out),
         Kind::Commit => as_number(session.commit(alloc)),
+        Kind::Fold => fold(session, alloc, count),
         Kind::Resume => as_number(resume(session, number)),
         Kind::Next => kind_of_next(session),
         Kind::Place => place_of_next(session),
@@ -180,26 +181,41 @@ fn resume(session: &mut Session, number: usize) -> bool
     number < RUNS && session.resume(number)
 }
 
+/// Folds the journal into a new file of at most so many bytes: 1 where it is done, once C has made the calls for it, 2 where it would be
+/// longer; 0 where there is none, or the file has to be opened again.
+fn fold(session: &mut Session, alloc: Global, room: usize) -> usize
+    requires { WillBeKept session.old }
+    ensures folds { Folds session.old session.new result }
+    ensures kept { WillBeKept session.new }
+{
+    match session.fold(alloc, room) {
+        Folding::NotDone | Folding::Failed => 0,
+        Folding::Done => 1,
+        Folding::NoRoom => 2,
+    }
+}
+
 /// Which call C is to make next; 0 for none.
 fn kind_of_next(session: &Session) -> usize
     ensures { result ≡ of_next call_kind session.now.failed (waiting_calls session.now) }
 {
     match session.next() {
-        Some(FileCall::Write { .. }) => 1,
+        Some(FileCall::Write { .. } | FileCall::Renew { .. }) => 1,
         Some(FileCall::Shorten { .. }) => 2,
         Some(FileCall::Sync) => 3,
         Some(FileCall::Replace { .. }) => 4,
+        Some(FileCall::Want { .. }) => 5,
         None => 0,
     }
 }
 
-/// At which offset, or to which length.
+/// At which offset, to which length, or how many bytes a new file would have.
 fn place_of_next(session: &Session) -> usize
     ensures { result ≡ of_next call_place session.now.failed (waiting_calls session.now) }
 {
     match session.next() {
-        Some(FileCall::Write { at, .. }) => *at,
-        Some(FileCall::Shorten { len }) => *len,
+        Some(FileCall::Write { at, .. } | FileCall::Renew { at, .. }) => *at,
+        Some(FileCall::Shorten { len } | FileCall::Want { len }) => *len,
         Some(FileCall::Sync | FileCall::Replace { .. }) | None => 0,
     }
 }
@@ -209,8 +225,12 @@ fn bytes_of_next(session: &Session) -> &[u8]
     ensures { result.now ≡ next_bytes session.now.failed (waiting_calls session.now) }
 {
     match session.next() {
-        Some(FileCall::Write { bytes, .. } | FileCall::Replace { bytes }) => bytes.as_slice(),
-        Some(FileCall::Shorten { .. } | FileCall::Sync) | None => &[],
+        Some(
+            FileCall::Write { bytes, .. }
+            | FileCall::Renew { bytes, .. }
+            | FileCall::Replace { bytes },
+        ) => bytes.as_slice(),
+        Some(FileCall::Shorten { .. } | FileCall::Sync | FileCall::Want { .. }) | None => &[],
     }
 }
 

@@ -1,12 +1,10 @@
 //! Targets whose device is kept in a file.
 
 ghost use Rattle.std.specs.Prelude.{◌≡◌, ◌⊎◌, IfOk, IfErr};
-ghost use Rattle.stored_file.specs.File.{IsOnDisk};
-ghost use Rattle.system_file.specs.Calls.{told_of};
-ghost use Rattle.handed_file.specs.Handed.{noted};
+ghost use Rattle.handed_file.specs.Handed.{noted, told_of};
 ghost use Rattle.image_text.specs.Fault.{load_number};
 ghost use Rattle.image_text.specs.declared.fault.LoadFault.TheVariants.{Memory};
-ghost use Rattle.durable_device.specs.Kept.{IsKept, IsKeptInBase};
+ghost use Rattle.durable_device.specs.Kept.{IsKept, IsRestarted};
 ghost use Rattle.tcp_library.specs.Opening.{IsCreated, IsNoImage, IsNoJournal, IsOpenedKept, IsRefusedKept, IsReopened, IsServed, fault_number};
 ghost use Rattle.tcp_library.specs.Sessions.{WillBeKept};
 
@@ -34,34 +32,30 @@ pub fn open(alloc: Global, bytes: &[u8]) -> Result<Session, u32>
     ensures kept { IfOk result WillBeKept }
     ensures refused { IfErr result (IsRefusedKept bytes.now) }
 {
-    let Ok(file) = HandedFile::new(alloc, bytes) else {
-        return Err(u32::from(LoadFault::Memory.number()));
-    };
+    let file = HandedFile::new(alloc, bytes);
     if bytes.starts_with(&MAGIC) {
-        reopen(alloc, file)
+        reopen(alloc, bytes, file)
     } else {
         create(alloc, bytes, file)
     }
 }
 
-/// The target of a journal, which is folded.
-fn reopen(alloc: Global, file: HandedFile) -> Result<Session, u32>
-    requires { IsOnDisk (told_of (noted file)) }
+/// The target of a journal.
+fn reopen(alloc: Global, bytes: &[u8], file: HandedFile) -> Result<Session, u32>
+    requires restarted { IsRestarted (told_of (noted file)) }
+    requires read { bytes.now ≡ (told_of (noted file)).seen }
     ensures opened { IfOk result (IsReopened (noted file)) }
     ensures kept { IfOk result WillBeKept }
     ensures refused { IfErr result (λ why. IsNoJournal (told_of (noted file)).seen why ⊎ (why ≡ load_number Memory)) }
 {
-    match DurableDevice::open(alloc, file) {
-        Ok(mut device) => match device.fold(alloc) {
-            Ok(()) => session(alloc, device),
-            Err(error) => Err(number_of(Fault::OfFile(error))),
-        },
+    match DurableDevice::open_read(alloc, file, bytes) {
+        Ok(device) => session(alloc, device),
         Err((fault, _)) => Err(number_of(fault)),
     }
 }
 
 /// The target of an image, and a journal that takes its place.
-fn create(alloc: Global, bytes: &[u8], file: HandedFile) -> Result<Session, u32>
+fn create(alloc: Global, bytes: &[u8], mut file: HandedFile) -> Result<Session, u32>
     ensures opened { IfOk result (IsCreated bytes.now (noted file)) }
     ensures kept { IfOk result WillBeKept }
     ensures refused { IfErr result (λ why. IsNoImage bytes.now why ⊎ (why ≡ load_number Memory)) }
@@ -71,6 +65,7 @@ fn create(alloc: Global, bytes: &[u8], file: HandedFile) -> Result<Session, u32>
         Ok(image) => image,
         Err(fault) => return Err(u32::from(fault.number())),
     };
+    file.grant(usize::MAX);
     match DurableDevice::create(alloc, image, file) {
         Ok(device) => session(alloc, device),
         Err((_, _)) => Err(u32::from(LoadFault::Memory.number())),
@@ -79,9 +74,8 @@ fn create(alloc: Global, bytes: &[u8], file: HandedFile) -> Result<Session, u32>
 
 /// A target before a device that is kept.
 fn session(alloc: Global, device: DurableDevice<HandedFile>) -> Result<Session, u32>
-    requires kept { IsKept device.store.machine device.store.journal.gate (told_of (noted device.store.journal.file)) }
-    requires in_base { IsKeptInBase device.store.machine device.store.journal.gate (told_of (noted device.store.journal.file)) }
-    ensures served { IfOk result (IsServed device.store.machine device.store.journal.file) }
+    requires { IsKept device.store.machine device.store.journal.gate (told_of (noted device.store.journal.file)) }
+    ensures served { IfOk result (IsServed device.store.machine device.store.journal) }
     ensures kept { IfOk result WillBeKept }
     ensures refused { IfErr result (λ why. why ≡ load_number Memory) }
 {
@@ -93,9 +87,8 @@ fn session(alloc: Global, device: DurableDevice<HandedFile>) -> Result<Session, 
 
 /// A target before a device that is kept.
 fn made(alloc: Global, device: DurableDevice<HandedFile>) -> Result<Session, AllocError>
-    requires kept { IsKept device.store.machine device.store.journal.gate (told_of (noted device.store.journal.file)) }
-    requires in_base { IsKeptInBase device.store.machine device.store.journal.gate (told_of (noted device.store.journal.file)) }
-    ensures served { IfOk result (IsServed device.store.machine device.store.journal.file) }
+    requires { IsKept device.store.machine device.store.journal.gate (told_of (noted device.store.journal.file)) }
+    ensures served { IfOk result (IsServed device.store.machine device.store.journal) }
     ensures kept { IfOk result WillBeKept }
 {
     let format = format_of(device.image().geometry());
@@ -112,7 +105,7 @@ fn number_of(fault: Fault) -> u32
     ensures { result ≡ fault_number fault }
 {
     match fault {
-        Fault::Unreadable | Fault::Damaged(_) => DAMAGED,
+        Fault::Unreadable | Fault::Damaged(_) | Fault::Undone(_) => DAMAGED,
         Fault::OfFile(_) => u32::from(LoadFault::Memory.number()),
     }
 }

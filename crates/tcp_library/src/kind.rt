@@ -29,13 +29,13 @@ pub enum Kind {
     Turn,
     /// For the image as it is now.
     Save,
-    /// To commit what was done, once C has made the calls for it.
+    /// To commit what was done, once C has made the calls for it, and to fold the journal where that is due.
     Commit,
     /// To give a run a turn of whose command no connection waits.
     Resume,
     /// Which call for the file C is to make next.
     Next,
-    /// At which offset, or to which length.
+    /// At which offset, to which length, or how many bytes a new file would have.
     Place,
     /// Of how many bytes.
     Size,
@@ -49,6 +49,8 @@ pub enum Kind {
     Name,
     /// For the name of the subsystem.
     Nqn,
+    /// To fold the journal into a new file of at most so many bytes.
+    Fold,
 }
 
 impl Kind {
@@ -77,6 +79,7 @@ impl Kind {
             18 => Some(Kind::Failed),
             19 => Some(Kind::Name),
             20 => Some(Kind::Nqn),
+            21 => Some(Kind::Fold),
             _ => None,
         }
     }

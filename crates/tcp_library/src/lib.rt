@@ -17,4 +17,4 @@ pub use exports::{
 };
 pub use handle::Handle;
 pub use kind::{Kind, OPENED};
-pub use session::Session;
+pub use session::{Folding, Session};

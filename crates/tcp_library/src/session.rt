@@ -1,6 +1,10 @@
 //! A target that C serves.
 
-ghost use Rattle.std.specs.Prelude.{◌≡◌, ◌⊎◌, ◌<◌, [], false, true, None, Some, IfSome, IsNone, IsTrue, is_some};
+ghost use Rattle.std.specs.Prelude.{◌≡◌, ◌⊎◌, ◌<◌, [], false, true, None, Some, IfSome, IsErrOf, IsNone, IsTrue, OnOk, is_some};
+ghost use Rattle.stored_file.specs.declared.stored_file.FileError.TheVariants.{NoRoom};
+ghost use Rattle.durable_device.specs.Kept.{IsKept, IsKeptInBase};
+ghost use Rattle.tcp_durable.specs.Waiting.{IsCommittedBut};
+ghost use Rattle.tcp_library.specs.Sessions.{IsCommitted, IsFoldedTo, promised};
 ghost use Rattle.tcp_device.specs.Deeds.{Served, Turned};
 ghost use Rattle.tcp_device.specs.Served.{next_run};
 ghost use Rattle.tcp_target.specs.Ready.{is_ready};
@@ -8,6 +12,7 @@ ghost use Rattle.tcp_target.specs.Ready.{is_ready};
 use crate::handle::subsystem_with;
 use handed_file::{FileCall, HandedFile};
 use std::alloc::Global;
+use stored_file::FileError;
 use tcp_associations::MOST_CONNECTIONS;
 use tcp_device::ServedTarget;
 use tcp_durable::Keeper;
@@ -27,7 +32,7 @@ pub struct Session {
 impl Session {
     ghost use Rattle.tcp_queues.specs.Queues.{place_at};
     ghost use Rattle.tcp_library.specs.Answers.{next_of};
-    ghost use Rattle.tcp_library.specs.Sessions.{Commits, Does, GoesOn, IsInMemory, IsNamed, MaySend, TakesDone, TakesFailed, WillBeKept, waiting_calls};
+    ghost use Rattle.tcp_library.specs.Sessions.{Commits, Does, FoldsTo, GoesOn, IsInMemory, IsNamed, MaySend, TakesDone, TakesFailed, WillBeKept, waiting_calls};
 
     /// A target whose device is in memory alone.
     pub fn in_memory(served: ServedTarget) -> Session
@@ -116,8 +121,8 @@ impl Session {
         }
     }
 
-    /// Commits what was done, and says whether that is so once C has made the calls for it; where it isn't, the file has to be opened
-    /// again.
+    /// Commits what was done, and folds the journal where it is due and there is room. Says whether that is so once C has made the calls
+    /// for it; where it isn't, the file has to be opened again.
     pub fn commit(&mut self, alloc: Global) -> bool
         requires kept { WillBeKept self.old }
         ensures committed { Commits self.old self.new result }
@@ -127,9 +132,31 @@ impl Session {
             _ if self.failed => false,
             None => true,
             Some(keeper) => {
-                self.failed = keeper.commit(alloc, &self.served).is_err();
+                self.failed = commit(keeper, alloc, &self.served).is_err();
                 !self.failed
             }
+        }
+    }
+
+    /// Folds the journal into a new file of at most so many bytes, for which C has room. Nothing happens where there is no journal, the
+    /// file has to be opened again, or something waits for a commit.
+    pub fn fold(&mut self, alloc: Global, room: usize) -> Folding
+        requires kept { WillBeKept self.old }
+        ensures folds { FoldsTo self.old self.new result }
+        ensures kept { WillBeKept self.new }
+    {
+        match &mut self.keeper {
+            Some(keeper) if !self.failed && keeper.is_committed(&self.served) => {
+                match fold(keeper, alloc, &self.served, room) {
+                    Ok(()) => Folding::Done,
+                    Err(FileError::NoRoom) => Folding::NoRoom,
+                    Err(FileError::Memory | FileError::Failed) => {
+                        self.failed = true;
+                        Folding::Failed
+                    }
+                }
+            }
+            Some(_) | None => Folding::NotDone,
         }
     }
 
@@ -188,4 +215,48 @@ impl Session {
     {
         self.failed = true;
     }
+}
+
+/// What came of folding a journal.
+#[derive(Clone, Copy)]
+pub enum Folding {
+    /// There is nothing to be folded.
+    NotDone,
+    /// It is folded, once C has made the calls.
+    Done,
+    /// The new file would be longer than C has room for: it is handed how long that is, and the journal is used on.
+    NoRoom,
+    /// The file has to be opened again.
+    Failed,
+}
+
+/// Commits what was done, and folds the journal where it is due.
+fn commit(
+    keeper: &mut Keeper<HandedFile>,
+    alloc: Global,
+    served: &ServedTarget,
+) -> Result<(), FileError>
+    requires { IsCommittedBut keeper.old.waiting.items served.now.device keeper.old.journal.gate (promised keeper.old) }
+    ensures committed { OnOk result (IsCommitted keeper.old keeper.new served.now.device) }
+    ensures waiting { OnOk result (keeper.new.waiting.items ≡ []) }
+{
+    keeper.commit(alloc, served)?;
+    keeper.fold_when_due(alloc, served)
+}
+
+/// Folds the journal into a new file of at most so many bytes.
+fn fold(
+    keeper: &mut Keeper<HandedFile>,
+    alloc: Global,
+    served: &ServedTarget,
+    room: usize,
+) -> Result<(), FileError>
+    requires { IsKept served.now.device keeper.old.journal.gate (promised keeper.old) }
+    ensures folded { OnOk result (IsFoldedTo keeper.old keeper.new served.now.device) }
+    ensures in_base { OnOk result (IsKeptInBase served.now.device keeper.new.journal.gate (promised keeper.new)) }
+    ensures no_room { IsErrOf result NoRoom → IsFoldedTo keeper.old keeper.new served.now.device }
+    ensures waiting { keeper.new.waiting ≡ keeper.old.waiting }
+{
+    keeper.journal.file.grant(room);
+    keeper.fold(alloc, served)
 }

@@ -1,6 +1,6 @@
 -- How many files a command makes.
-use Rattle.std.proofs.Common.{◌≡◌, ◌≢◌, ℕ, List, [], Option, Result, Ok, Err, OnOk, IfErr, inl, inr, refl}
-use Rattle.command_files.specs.Made.{Made, MakesAtMost, MakesAtMostOne, MakesOneName, MakesOnly}
+use Rattle.std.proofs.Common.{◌≡◌, ◌≢◌, ℕ, List, [], Option, Result, Ok, Err, OnOk, OnErr, IfErr, inl, inr, refl}
+use Rattle.command_files.specs.Made.{Made, MakesAtMost, MakesAtMostOne, MakesOneName}
 use Rattle.command_files.proofs.Proved.{only_one}
 use Rattle.command_files.specs.declared.failure.Failure.{Failure}
 use Rattle.command_files.specs.declared.failure.Failure.TheVariants.{CannotPrint}
@@ -22,3 +22,9 @@ pub one_where_stopped : {T : Type 0} (r : Result T Failure) (path : List ℕ) (b
 one_where_stopped (Ok done) path before after made stopped kept = at_most_one path before after made
 one_where_stopped (Err CannotPrint) path before after made stopped kept = at_most_one path before after (stopped refl)
 one_where_stopped (Err failure) path before after made stopped kept = inl (kept (λ e. cc))
+
+-- one that makes a file only where all is done
+pub one_where_done : {T E : Type 0} (r : Result T E) (path : List ℕ) (before after : Option (List Made)) → OnOk r (MakesAtMost path before after) → OnErr r (after ≡ before)
+    → MakesAtMostOne before after
+one_where_done (Ok done) path before after made kept = at_most_one path before after made
+one_where_done (Err failure) path before after made kept = inl kept

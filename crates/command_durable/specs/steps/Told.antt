@@ -1,16 +1,19 @@
 -- What the user is told of a file that isn't opened, and of a server that stops.
 use Rattle.std.specs.Prelude.{◌≡◌, List, ℕ}
-use Rattle.std.specs.Borrow.{Bor}
 use Rattle.stored_file.specs.declared.stored_file.FileError.{FileError}
-use Rattle.stored_file.specs.declared.stored_file.FileError.TheVariants.{Memory, Failed}
+use Rattle.stored_file.specs.declared.stored_file.FileError.TheVariants.{Memory, NoRoom, Failed}
 use Rattle.durable_machine.specs.declared.fault.Fault.{Fault}
-use Rattle.durable_machine.specs.declared.fault.Fault.TheVariants.{Unreadable, Damaged, OfFile}
+use Rattle.durable_machine.specs.declared.fault.Fault.TheVariants.{Unreadable, Damaged, Undone, OfFile}
+use Rattle.command_files.specs.declared.file_cause.FileCause.TheVariants as cause
 use Rattle.command_files.specs.declared.failure.Failure.{Failure}
+use Rattle.command_files.specs.declared.journal_fault.JournalFault.{JournalFault}
+use Rattle.command_files.specs.declared.journal_fault.JournalFault.TheVariants as journal
 use Rattle.command_files.specs.declared.failure.Failure.TheVariants.{CannotRead, CannotWrite, ImageRefused, JournalRefused, NoMemory}
 
--- a disk that fails
+-- a disk that fails, or has no room
 abbrev pub TellsError : FileError → List ℕ → Failure → Type 0
 TellsError Memory path NoMemory = Unit {0}
+TellsError NoRoom path (CannotWrite name why) = (name.now ≡ path) × (why ≡ cause.NoRoom)
 TellsError Failed path (CannotWrite name cause) = name.now ≡ path
 TellsError error path _ = ⊥
 
@@ -21,13 +24,14 @@ TellsUnread path (CannotRead name cause) = name.now ≡ path
 TellsUnread path NoMemory = Unit {0}
 TellsUnread path _ = ⊥
 
--- a damaged journal
-abbrev pub TellsDamage : ℕ → List ℕ → Failure → Type 0
-TellsDamage place path (JournalRefused name told) = (name.now ≡ path) × (told ≡ place)
-TellsDamage place path _ = ⊥
+-- a journal with this fault at a byte
+abbrev pub TellsDamage : JournalFault → ℕ → List ℕ → Failure → Type 0
+TellsDamage fault place path (JournalRefused name at said) = (name.now ≡ path) × (at ≡ place) × (said ≡ fault)
+TellsDamage fault place path _ = ⊥
 
--- a journal that isn't opened
+-- a journal that isn't opened; one without a base has its fault at the front
 abbrev pub TellsFault : Fault → List ℕ → Failure → Type 0
-TellsFault Unreadable path failure = TellsUnread path failure
-TellsFault (Damaged place) path failure = TellsDamage place path failure
+TellsFault Unreadable path failure = TellsDamage journal.NoBase 0 path failure
+TellsFault (Damaged place) path failure = TellsDamage journal.OpenGate place path failure
+TellsFault (Undone place) path failure = TellsDamage journal.Undone place path failure
 TellsFault (OfFile error) path failure = TellsError error path failure

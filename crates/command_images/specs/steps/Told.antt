@@ -1,13 +1,14 @@
 -- The failures that faults of loading become.
-use Rattle.std.specs.Prelude.{◌≡◌, ◌≢◌, ℕ, List}
+use Rattle.std.specs.Prelude.{◌≡◌, ◌≢◌, ◌⊎◌, ℕ, List}
 use Rattle.std.specs.Borrow.{Bor}
 use Rattle.image_text.specs.declared.fault.LoadFault.{LoadFault}
 use Rattle.image_text.specs.declared.fault.LoadFault.TheVariants.{Magic, Stream, Memory}
 use Rattle.device_meaning.specs.State.{State, new_state}
 use Rattle.durable_machine.specs.declared.fault.Fault.{Fault}
-use Rattle.durable_machine.specs.declared.fault.Fault.TheVariants.{Damaged, OfFile, Unreadable}
+use Rattle.durable_machine.specs.declared.fault.Fault.TheVariants.{Damaged, OfFile, Undone, Unreadable}
 use Rattle.durable_device.specs.Kept.{RefusesBytes}
 use Rattle.command_files.specs.declared.failure.Failure.{Failure}
+use Rattle.command_files.specs.declared.journal_fault.JournalFault.TheVariants as journal
 use Rattle.command_files.specs.declared.file_cause.FileCause.TheVariants.{Other}
 use Rattle.command_files.specs.declared.failure.Failure.TheVariants.{CannotRead, DeviceRefused, ImageRefused, JournalRefused, NoMemory}
 
@@ -17,17 +18,19 @@ told_of_image path Stream = CannotRead path Other
 told_of_image path Memory = NoMemory
 told_of_image path fault = ImageRefused path fault
 
--- that of a journal: the byte from which on it is damaged; without a base it is a file that begins as no image
-abbrev pub told_of_journal : Bor (List ℕ) → Fault → Failure
-told_of_journal path Unreadable = ImageRefused path Magic
-told_of_journal path (Damaged place) = JournalRefused path place
-told_of_journal path (OfFile error) = NoMemory
+-- that of a journal: the byte at which it has a fault. Without a base it is a file that begins as no image, or a journal with its fault
+-- at the front
+abbrev pub TellsJournal : Bor (List ℕ) → Fault → Failure → Type 0
+TellsJournal path Unreadable failure = (failure ≡ ImageRefused path Magic) ⊎ (failure ≡ JournalRefused path 0 journal.NoBase)
+TellsJournal path (Damaged place) failure = failure ≡ JournalRefused path place journal.OpenGate
+TellsJournal path (Undone place) failure = failure ≡ JournalRefused path place journal.Undone
+TellsJournal path (OfFile error) failure = failure ≡ NoMemory
 
 -- bytes are refused as a journal for a fault, which this tells
 pub record RefusesJournal (path : Bor (List ℕ)) (bytes : List ℕ) (failure : Failure) : Type 0 where
   pub fault : Fault
   pub refused : RefusesBytes bytes fault
-  pub told : failure ≡ told_of_journal path fault
+  pub told : TellsJournal path fault failure
 
 -- a device is refused that has more than a namespace, or memory is wanting, and nothing else
 abbrev pub RefusesMore : Bor (List ℕ) → State → Failure → Type 0

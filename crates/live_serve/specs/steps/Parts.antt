@@ -1,5 +1,5 @@
 -- A stream that is served in parts.
-use Rattle.std.specs.Prelude.{ℕ, Bool, true, false, ◌≡◌, ◌+◌, if◌then◌else◌, List, [], ◌∷◌, Option}
+use Rattle.std.specs.Prelude.{ℕ, Bool, false, ◌≡◌, ◌+◌, if◌then◌else◌, List, [], ◌∷◌, Option}
 use Rattle.image_store.specs.Namespace.{ZonedNamespace}
 use Rattle.device_meaning.specs.Judging.{interval_judge}
 use Rattle.device_events.specs.declared.event.Event.{Event}

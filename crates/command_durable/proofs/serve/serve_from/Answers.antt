@@ -25,7 +25,7 @@ returns-in-Err-clause-stopped g c =
     let told = g.F.Stored.StoredFile.told in
     let path = c.args.path.now in
     let now = g.F.Files.contents c.keep.new.self path in
-    inr (stopped_by path c.in-Err.fault
+    inr (inl (stopped_by path c.in-Err.fault
     (StopsDurably told (g.F.Files.contents c.args.files.now path) now (g.I.Read.remaining c.args.input.now)
     (g.O.Write.contents c.args.out.now) (g.O.Write.contents c.serve_and_end-served.new.out))
     c.failure_of.result c.failure_of.ensures (record {
@@ -36,7 +36,7 @@ returns-in-Err-clause-stopped g c =
       file = c.serve_and_end-served.new.device.store.journal.file;
       stops = c.in-Err.ensures.stopped;
       has = subst (λ f. AreAsTold now (told f).seen) c.into_file.ensures c.in_ok-keep.ensures.bytes;
-    }))
+    })))
 
 pub returns-in-Err-clause-made : goal.returns-in-Err-clause-made
 returns-in-Err-clause-made g c =

@@ -7,7 +7,7 @@ use Rattle.command_images.specs.Devices.{TellNamespace}
 use Rattle.command_images.specs.Images.{image_of}
 use Rattle.command_exec.specs.Executed.{commands_of}
 use Rattle.command_exec.proofs.Failing.{quiet, quiet_of_saving, exec_of_commands, exec_of_loading, exec_of_reading, exec_of_saving}
-use Rattle.command_exec.proofs.Saving.{executed_leaves, executes, executes_first}
+use Rattle.command_exec.proofs.Saving.{executed_leaves, executes, executes_first, executes_unsaved}
 use Rattle.command_exec.proofs.exec.exec_by.Goals as goal
 
 pub returns-in-Ok-clause-executed : goal.returns-in-Ok-clause-executed
@@ -67,19 +67,27 @@ returns-in-Ok-clause-others_stopped g c = λ stops.
 pub returns-in_err-device-clause-quiet : goal.returns-in_err-device-clause-quiet
 returns-in_err-device-clause-quiet g c =
     let p = err_from_is_err_and c.from_residual.result c.from_residual.ensures.1 in
-    rw p.1 (quiet (image_of c.args.matches.now) _ _ (search rules) p.0)
+    rw p.1 (quiet (image_of c.args.matches.now) _ _ _ (search rules) p.0)
 
 pub returns-in_err-file-clause-quiet : goal.returns-in_err-file-clause-quiet
 returns-in_err-file-clause-quiet g c =
     let p = err_from_is_err_and c.from_residual-in_err-file.result c.from_residual-in_err-file.ensures.1 in
-    rw p.1 (quiet (image_of c.args.matches.now) _ _ (search rules) p.0)
+    rw p.1 (quiet (image_of c.args.matches.now) _ _ _ (search rules) p.0)
 
 pub returns-clause-quiet : goal.returns-clause-quiet
-returns-clause-quiet g c = quiet (image_of c.args.matches.now) _ _ (search rules) c.of_commands.result
+returns-clause-quiet g c = quiet (image_of c.args.matches.now) _ _ _ (search rules) c.of_commands.result
 
 pub returns-in-Ok-clause-quiet : goal.returns-in-Ok-clause-quiet
 returns-in-Ok-clause-quiet g c =
-    IfErr-weaker c.run.result _ _ (quiet_of_saving c.required-path.result (image_of c.args.matches.now) _ _ c.required-path.ensures) c.run.ensures.failed
+    quiet_of_saving c.required-path.result (image_of c.args.matches.now) _ _ _ _ c.run.result c.required-path.ensures
+    (executes_unsaved (judge_by g.D.Domain.operations) g.F.Reader.Source.tells g.F.Writer.Sink.tells (g.F.Files.contents c.args.files.now) (g.F.Files.contents c.load_to_replace.new.files)
+    c.required-path.result.now c.required-commands.result.now c.args.matches.now
+    c.in_ok-file.file.items c.as_slice.result.now c.deref_mut.result.now.namespace c.in-Ok.events.items
+    (g.F.Files.made c.args.files.now) (g.F.Files.made c.read.new.files) (g.F.Files.made c.run.new.files)
+    c.load_to_replace.ensures.contents c.required-path.ensures c.required-commands.ensures (search rules) c.in_ok-file.ensures.bytes c.as_slice.ensures.value c.in-Ok.ensures
+    _ (g.O.Write.contents c.args.out.now) (g.O.Write.contents c.run.new.out) (subst (λ (s : State). g.F.Reader.Source.tells → TellNamespace (g.F.Files.contents c.args.files.now c.required-path.result.now) s.namespace)
+    (sym c.deref_mut.ensures.value) c.in_ok-device.ensures.namespace) (search rules))
+    c.run.ensures.failed c.run.ensures.unsaved
 
 pub returns-in_err-device-clause-crash : goal.returns-in_err-device-clause-crash
 returns-in_err-device-clause-crash g c = leaves_as_before (image_of c.args.matches.now) _ _ _ c.load_to_replace.ensures.tried

@@ -1,13 +1,13 @@
-use Rattle.std.proofs.Common.{subst, sym}
+use Rattle.std.proofs.Common.{refl, subst, sym}
 use Rattle.std.proofs.lemmas.Result.{err_from_is_err_and}
-use Rattle.command_files.proofs.Proved.{changes_join}
 use Rattle.command_files.specs.Surroundings.{around}
+use Rattle.command_files.proofs.Proved.{changes_join}
 use Rattle.device_meaning.specs.State.{State}
 use Rattle.command_images.specs.Devices.{TellNamespace}
 use Rattle.command_images.specs.Images.{image_of}
-use Rattle.command_serve.specs.Served.{StopsEarly}
+use Rattle.command_serve.specs.Served.{IsSilent, IsntSaved, StopsEarly}
 use Rattle.command_serve.proofs.Keeping.{named, unchanged}
-use Rattle.command_serve.proofs.Serving.{serves, stops_early, unloaded_unsaid}
+use Rattle.command_serve.proofs.Serving.{at_image, serves, stops_early, unloaded_silent}
 use Rattle.command_serve.proofs.serve.serve_from.Goals as goal
 
 pub returns-in_err-device-clause-changes : goal.returns-in_err-device-clause-changes
@@ -18,10 +18,16 @@ returns-in_err-device-clause-changes g c =
 pub returns-in_err-device-clause-stopped : goal.returns-in_err-device-clause-stopped
 returns-in_err-device-clause-stopped g c =
     let p = err_from_is_err_and c.from_residual.result c.from_residual.ensures.1 in
-    rw (p.1, p.2) (unloaded_unsaid
-    (StopsEarly (around g.F.Files g.F.Reader.Source.tells g.F.Writer.Sink.tells c.args.files.now c.load_to_replace.new.files) c.args.matches.now
-    (g.I.Read.remaining c.args.input.now) (g.O.Write.contents c.args.out.now)) g.F.Reader.Source.tells (g.F.Files.contents c.args.files.now c.required-path.result.now) c.required-path.result.now
-    c.in_err-device.field-0.0 c.in_err-device.ensures.failed)
+    let unread = g.I.Read.remaining c.args.input.now in
+    let written = g.O.Write.contents c.args.out.now in
+    let silent : IsSilent unread unread written written = (refl, refl) in
+    let here = around g.F.Files g.F.Reader.Source.tells g.F.Writer.Sink.tells c.args.files.now c.load_to_replace.new.files in
+    let stops = StopsEarly here c.args.matches.now unread written written in
+    let isnt = IsntSaved here c.args.matches.now unread written written in
+    rw (p.1, p.2) (at_image g.F.Reader.Source.tells (g.F.Files.contents c.args.files.now) stops isnt (IsSilent unread unread written written) c.required-path.result.now (image_of c.args.matches.now)
+    c.in_err-device.field-0.0 c.required-path.ensures
+    (unloaded_silent stops isnt (IsSilent unread unread written written) g.F.Reader.Source.tells (g.F.Files.contents c.args.files.now c.required-path.result.now) c.required-path.result.now
+    c.in_err-device.field-0.0 c.in_err-device.ensures.failed silent))
 
 pub returns-clause-changes : goal.returns-clause-changes
 returns-clause-changes g c =
@@ -47,4 +53,4 @@ returns-clause-stopped g c =
     c.deref_mut.result.now.namespace c.turns_between-turns.result (g.I.Read.remaining c.args.input.now) (g.O.Write.contents c.args.out.now)
     c.required-path.ensures c.turns_between-turns.ensures c.load_to_replace.ensures.contents c.load_to_replace.ensures.made (subst (λ (s : State). g.F.Reader.Source.tells → TellNamespace (g.F.Files.contents c.args.files.now c.required-path.result.now) s.namespace)
     (sym c.deref_mut.ensures.value) c.in_ok-device.ensures.namespace)
-    c.run.result c.run.ensures.stopped
+    c.run.result (g.I.Read.remaining c.run.new.input) (g.O.Write.contents c.run.new.out) c.run.ensures.stopped

@@ -1,4 +1,4 @@
-use Rattle.std.proofs.Common.{arith, ◌∙◌, refl, sym}
+use Rattle.std.proofs.Common.{arith, ◌∙◌, sym}
 use Rattle.durable_library.specs.Answers.{Asked}
 use Rattle.durable_library.proofs.Calling.{calls_known}
 use Rattle.durable_library.proofs.calls.call.Goals as goal

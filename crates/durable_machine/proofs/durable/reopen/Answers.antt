@@ -1,74 +1,124 @@
-use Rattle.std.proofs.Common.{rules, ◌≤◌, ℕ, List, length, sym, ◌∙◌, subst}
-use Rattle.stored_file.proofs.Moments.{weaken, then_on}
-use Rattle.event_journal.specs.Journal.{HasBatches}
-use Rattle.durable_machine.specs.Files.{IsStateAt, KeepsState}
+use Rattle.std.proofs.Common.{rules, refl, ◌≤◌, ℕ, List, length, take, drop, ap, sym, ◌∙◌, subst}
+use Rattle.durable_machine.specs.Restart.{IsReplayed}
 use Rattle.durable_machine.specs.Refused.{IsRefused, Refuses}
 use Rattle.durable_machine.proofs.Refusing.{refuses}
-use Rattle.durable_machine.proofs.Files.{one_state, keeps_state, keeps_itself, end_whole}
+use Rattle.durable_machine.proofs.Files.{end_whole, one_state}
+use Rattle.durable_machine.proofs.Restarting.{end_at_sector, end_there, gate_room, gate_size_whole, gate_whole, no_moment, opened, read_only, repairs_left, same_file, untouched}
 use Rattle.durable_machine.proofs.durable.reopen.Goals as goal
+
+pub gate_in-gate-requires-clause-within : goal.gate_in-gate-requires-clause-within
+gate_in-gate-requires-clause-within g c =
+    let loads = g.M.Machine.loads in
+    let next = g.M.Machine.next in
+    let one = g.met.M.Machine.one_base in
+    let old = g.F.StoredFile.told c.args.file.now in
+    let found = subst (λ (file : List ℕ). IsReplayed loads next c.in_ok-found.found.end c.in_ok-found.found.last file c.in_ok-found.found.machine) c.requires.read c.in_ok-found.ensures.state in
+    subst (λ (file : List ℕ). c.in_ok-found.found.end ≤ length file) (sym c.requires.read) (end_there loads next one old.seen c.in_ok-found.found.end c.in_ok-found.found.last c.in_ok-found.found.machine found)
+
+pub gate_in-gate-requires-clause-room : goal.gate_in-gate-requires-clause-room
+gate_in-gate-requires-clause-room g c =
+    let loads = g.M.Machine.loads in
+    let next = g.M.Machine.next in
+    let one = g.met.M.Machine.one_base in
+    let old = g.F.StoredFile.told c.args.file.now in
+    let found = subst (λ (file : List ℕ). IsReplayed loads next c.in_ok-found.found.end c.in_ok-found.found.last file c.in_ok-found.found.machine) c.requires.read c.in_ok-found.ensures.state in
+    gate_room loads next one old.seen c.in_ok-found.found.end c.in_ok-found.found.last c.in_ok-found.found.machine found
 
 pub repair-requires-clause-within : goal.repair-requires-clause-within
 repair-requires-clause-within g c =
-    let found = subst (λ (file : List ℕ). IsStateAt g.M.Machine.loads g.M.Machine.next c.in_ok-machine.end file c.in_ok-machine.machine) (c.deref.ensures.value ∙ c.in_ok-bytes.ensures.bytes) c.in_ok-machine.ensures.state in
-    subst (λ (file : List ℕ). c.in_ok-machine.end ≤ length file) (sym c.read_durable.ensures.seen) (end_whole _ _ _ _ _ found).2
+    let loads = g.M.Machine.loads in
+    let next = g.M.Machine.next in
+    let one = g.met.M.Machine.one_base in
+    let old = g.F.StoredFile.told c.args.file.now in
+    let found = subst (λ (file : List ℕ). IsReplayed loads next c.in_ok-found.found.end c.in_ok-found.found.last file c.in_ok-found.found.machine) c.requires.read c.in_ok-found.ensures.state in
+    end_there loads next one old.seen c.in_ok-found.found.end c.in_ok-found.found.last c.in_ok-found.found.machine found
 
 pub repair-requires-clause-whole : goal.repair-requires-clause-whole
 repair-requires-clause-whole g c =
-    (end_whole _ _ _ _ _ c.in_ok-machine.ensures.state).0
+    let loads = g.M.Machine.loads in
+    let next = g.M.Machine.next in
+    let one = g.met.M.Machine.one_base in
+    let old = g.F.StoredFile.told c.args.file.now in
+    let found = subst (λ (file : List ℕ). IsReplayed loads next c.in_ok-found.found.end c.in_ok-found.found.last file c.in_ok-found.found.machine) c.requires.read c.in_ok-found.ensures.state in
+    (end_at_sector loads next one old.seen c.in_ok-found.found.end c.in_ok-found.found.last c.in_ok-found.found.machine found, gate_whole loads next one old.seen c.in_ok-found.found.end c.in_ok-found.found.last c.in_ok-found.found.machine found, gate_size_whole _ _ _ c.gate_in-gate.ensures.size)
+
+pub repair-requires-clause-again : goal.repair-requires-clause-again
+repair-requires-clause-again g c =
+    let loads = g.M.Machine.loads in
+    let next = g.M.Machine.next in
+    let one = g.met.M.Machine.one_base in
+    let old = g.F.StoredFile.told c.args.file.now in
+    let found = subst (λ (file : List ℕ). IsReplayed loads next c.in_ok-found.found.end c.in_ok-found.found.last file c.in_ok-found.found.machine) c.requires.read c.in_ok-found.ensures.state in
+    ap (λ (file : List ℕ). take (length c.gate_in-gate.result.now) (drop c.in_ok-found.found.last file)) (sym c.requires.read) ∙ c.gate_in-gate.ensures.again
+
+pub repair-requires-clause-restarted : goal.repair-requires-clause-restarted
+repair-requires-clause-restarted g c =
+    let loads = g.M.Machine.loads in
+    let next = g.M.Machine.next in
+    let one = g.met.M.Machine.one_base in
+    let old = g.F.StoredFile.told c.args.file.now in
+    let found = subst (λ (file : List ℕ). IsReplayed loads next c.in_ok-found.found.end c.in_ok-found.found.last file c.in_ok-found.found.machine) c.requires.read c.in_ok-found.ensures.state in
+    repairs_left loads next one old old (same_file loads next g.met.M.Machine.one_base old) (no_moment loads next g.met.M.Machine.one_base old) c.requires.restarted c.in_ok-found.found.end c.in_ok-found.found.last _ c.in_ok-found.found.machine found c.gate_in-gate.ensures.size
 
 pub returns-in_err-repair-clause-any_moment : goal.returns-in_err-repair-clause-any_moment
 returns-in_err-repair-clause-any_moment g c =
     let loads = g.M.Machine.loads in
     let next = g.M.Machine.next in
+    let one = g.met.M.Machine.one_base in
     let old = g.F.StoredFile.told c.args.file.now in
-    let read = g.F.StoredFile.told c.read_durable.new.file in
-    let new = g.F.StoredFile.told c.repair.new.file in
-    let found = subst (λ (file : List ℕ). IsStateAt loads next c.in_ok-machine.end file c.in_ok-machine.machine) (c.deref.ensures.value ∙ c.in_ok-bytes.ensures.bytes) c.in_ok-machine.ensures.state in
-    let has = subst (HasBatches found.front found.batches c.in_ok-machine.end) (sym c.read_durable.ensures.seen) found.has in
-    then_on old read new (KeepsState loads next old.seen)
-    (weaken old read _ (KeepsState loads next old.seen) c.read_durable.ensures.any_moment (keeps_itself loads next g.met.M.Machine.one_base old.seen))
-    (weaken read new _ (KeepsState loads next old.seen) (c.repair.ensures.any_moment found.front found.batches has) (λ file stands. keeps_state loads next g.met.M.Machine.one_base c.in_ok-machine.end old.seen file c.in_ok-machine.machine found stands))
+    let found = subst (λ (file : List ℕ). IsReplayed loads next c.in_ok-found.found.end c.in_ok-found.found.last file c.in_ok-found.found.machine) c.requires.read c.in_ok-found.ensures.state in
+    opened loads next one old old (same_file loads next g.met.M.Machine.one_base old) (no_moment loads next g.met.M.Machine.one_base old) c.requires.restarted c.in_ok-found.found.end c.in_ok-found.found.last _ c.in_ok-found.found.machine found c.gate_in-gate.ensures.size (g.F.StoredFile.told c.repair.new.file) c.repair.ensures.any_moment c.repair.ensures.kept
 
 pub returns-clause-any_moment : goal.returns-clause-any_moment
 returns-clause-any_moment g c =
     let loads = g.M.Machine.loads in
     let next = g.M.Machine.next in
+    let one = g.met.M.Machine.one_base in
     let old = g.F.StoredFile.told c.args.file.now in
-    let read = g.F.StoredFile.told c.read_durable.new.file in
-    let new = g.F.StoredFile.told c.repair.new.file in
-    let found = subst (λ (file : List ℕ). IsStateAt loads next c.in_ok-machine.end file c.in_ok-machine.machine) (c.deref.ensures.value ∙ c.in_ok-bytes.ensures.bytes) c.in_ok-machine.ensures.state in
-    let has = subst (HasBatches found.front found.batches c.in_ok-machine.end) (sym c.read_durable.ensures.seen) found.has in
-    then_on old read new (KeepsState loads next old.seen)
-    (weaken old read _ (KeepsState loads next old.seen) c.read_durable.ensures.any_moment (keeps_itself loads next g.met.M.Machine.one_base old.seen))
-    (weaken read new _ (KeepsState loads next old.seen) (c.repair.ensures.any_moment found.front found.batches has) (λ file stands. keeps_state loads next g.met.M.Machine.one_base c.in_ok-machine.end old.seen file c.in_ok-machine.machine found stands))
+    let found = subst (λ (file : List ℕ). IsReplayed loads next c.in_ok-found.found.end c.in_ok-found.found.last file c.in_ok-found.found.machine) c.requires.read c.in_ok-found.ensures.state in
+    opened loads next one old old (same_file loads next g.met.M.Machine.one_base old) (no_moment loads next g.met.M.Machine.one_base old) c.requires.restarted c.in_ok-found.found.end c.in_ok-found.found.last _ c.in_ok-found.found.machine found c.gate_in-gate.ensures.size (g.F.StoredFile.told c.repair.new.file) c.repair.ensures.any_moment c.repair.ensures.kept
+
+pub returns-in_err-found-clause-any_moment : goal.returns-in_err-found-clause-any_moment
+returns-in_err-found-clause-any_moment g c =
+    let loads = g.M.Machine.loads in
+    let next = g.M.Machine.next in
+    read_only loads next g.met.M.Machine.one_base (g.F.StoredFile.told c.args.file.now) (g.F.StoredFile.told c.args.file.now) (same_file loads next g.met.M.Machine.one_base _) (no_moment loads next g.met.M.Machine.one_base _) c.requires.restarted
 
 pub returns-clause-state : goal.returns-clause-state
 returns-clause-state g c =
-    let found = subst (λ (file : List ℕ). IsStateAt g.M.Machine.loads g.M.Machine.next c.in_ok-machine.end file c.in_ok-machine.machine) (c.deref.ensures.value ∙ c.in_ok-bytes.ensures.bytes) c.in_ok-machine.ensures.state in
+    let loads = g.M.Machine.loads in
+    let next = g.M.Machine.next in
+    let one = g.met.M.Machine.one_base in
+    let old = g.F.StoredFile.told c.args.file.now in
+    let found = subst (λ (file : List ℕ). IsReplayed loads next c.in_ok-found.found.end c.in_ok-found.found.last file c.in_ok-found.found.machine) c.requires.read c.in_ok-found.ensures.state in
     record {
-      is = (c.in_ok-machine.end, found);
-      no_other = λ other is. one_state g.M.Machine.loads g.M.Machine.next g.met.M.Machine.one_base _ _ other (c.in_ok-machine.end, found) is;
+      is = (c.in_ok-found.found.end, found.is);
+      no_other = λ other is. one_state loads next one _ _ other (c.in_ok-found.found.end, found.is) is;
     }
 
 pub returns-clause-durable : goal.returns-clause-durable
 returns-clause-durable g c =
-    let found = subst (λ (file : List ℕ). IsStateAt g.M.Machine.loads g.M.Machine.next c.in_ok-machine.end file c.in_ok-machine.machine) (c.deref.ensures.value ∙ c.in_ok-bytes.ensures.bytes) c.in_ok-machine.ensures.state in
-    let has = subst (HasBatches found.front found.batches c.in_ok-machine.end) (sym c.read_durable.ensures.seen) found.has in
+    let loads = g.M.Machine.loads in
+    let next = g.M.Machine.next in
+    let one = g.met.M.Machine.one_base in
+    let old = g.F.StoredFile.told c.args.file.now in
+    let found = subst (λ (file : List ℕ). IsReplayed loads next c.in_ok-found.found.end c.in_ok-found.found.last file c.in_ok-found.found.machine) c.requires.read c.in_ok-found.ensures.state in
+    let has = found.is.has in
     record {
-      front = found.front;
-      first = found.first;
-      begins = found.begins;
-      batches = found.batches;
-      rests = c.in_ok-repair.ensures.settled found.front found.batches (end_whole _ _ _ _ _ found).1 has;
-      leads = found.leads;
+      front = found.is.front;
+      first = found.is.first;
+      begins = found.is.begins;
+      batches = found.is.batches;
+      rests = c.in_ok-repair.ensures.settled found.is.front found.is.batches (end_whole loads next c.in_ok-found.found.end old.seen c.in_ok-found.found.machine found.is).1 has;
+      leads = found.is.leads;
     }
 
-pub returns-in_err-machine-clause-refused : goal.returns-in_err-machine-clause-refused
-returns-in_err-machine-clause-refused g c =
+pub returns-in_err-found-clause-refused : goal.returns-in_err-found-clause-refused
+returns-in_err-found-clause-refused g c =
     let loads = g.M.Machine.loads in
     let next = g.M.Machine.next in
     let old = g.F.StoredFile.told c.args.file.now in
-    let read = g.F.StoredFile.told c.read_durable.new.file in
-    let refused = subst (λ (file : List ℕ). IsRefused loads next file c.in_err-machine.field-0.0) (c.deref.ensures.value ∙ c.in_ok-bytes.ensures.bytes) c.in_err-machine.ensures.refused in
-    let is : Refuses loads next old read c.in_err-machine.field-0.0 = refuses loads next old read c.in_err-machine.field-0.0 refused (record { seen = c.read_durable.ensures.seen; any_moment = c.read_durable.ensures.any_moment }) in
+    let refused = subst (λ (file : List ℕ). IsRefused loads next file c.in_err-found.field-0.0) c.requires.read c.in_err-found.ensures.refused in
+    let is : Refuses loads next old old c.in_err-found.field-0.0 = refuses loads next old old c.in_err-found.field-0.0 refl refused
+    (untouched loads next g.met.M.Machine.one_base old old (same_file loads next g.met.M.Machine.one_base old) (no_moment loads next g.met.M.Machine.one_base old) c.requires.restarted) in
     search rules

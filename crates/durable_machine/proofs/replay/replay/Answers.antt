@@ -2,10 +2,10 @@ use Rattle.std.proofs.Common.{rules, ◌<◌, ◌≤◌, ◌+◌, ◌-◌, ℕ, 
 use Rattle.event_journal.specs.Journal.{BeginsOpen, IsEnd}
 use Rattle.event_journal.proofs.ReadFrames.{rest_of}
 use Rattle.durable_machine.specs.Bases.{BeginsBase}
-use Rattle.durable_machine.specs.Replay.{AreAllDone}
+use Rattle.durable_machine.specs.Replay.{AreAllDone, IsIdleAt}
 use Rattle.durable_machine.specs.Refused.{IsDamaged}
 use Rattle.durable_machine.proofs.Refusing.{too_short, damaged}
-use Rattle.durable_machine.proofs.Replaying.{is_state, is_damaged}
+use Rattle.durable_machine.proofs.Replaying.{is_replayed, is_damaged, is_undone}
 use Rattle.durable_machine.proofs.replay.replay.Goals as goal
 
 pub returns-then-file-front-clause-refused : goal.returns-then-file-front-clause-refused
@@ -18,13 +18,13 @@ pub returns-then-not-is_end-clause-refused : goal.returns-then-not-is_end-clause
 returns-then-not-is_end-clause-refused g c =
     let file = c.args.file.now in
     let front = c.in_sectors-front.result in
-    let end = front + c.in_ok-taken.taken in
+    let end = front + c.in-Ok.batches.taken in
     let begins : BeginsBase g.M.Machine.loads c.in-Some.machine c.in-Some.base file = search rules in
     let enough : front ≤ length file = search rules in
-    let all = subst (λ (bytes : List ℕ). AreAllDone g.M.Machine.next bytes c.in_ok-taken.taken c.in-Some.machine c.replay_batches.new.machine) (rest_of front file) c.in_ok-taken.ensures.done in
+    let all = subst (λ (bytes : List ℕ). AreAllDone g.M.Machine.next bytes c.in-Ok.batches.taken c.in-Ok.batches.last c.in-Some.machine c.replay_batches.new.machine) (rest_of front file) c.in-Ok.ensures.done in
     let further : BeginsOpen (take (length file - end) (drop end file)) × (4096 < length (take (length file - end) (drop end file))) = search rules in
     let found : IsDamaged g.M.Machine.loads g.M.Machine.next end file =
-    is_damaged g.M.Machine.next g.M.Machine.loads file c.in-Some.base front c.in_ok-taken.taken c.in-Some.machine c.replay_batches.new.machine begins c.in_sectors-front.ensures enough all
+    is_damaged g.M.Machine.next g.M.Machine.loads file c.in-Some.base front c.in-Ok.batches.taken c.in-Ok.batches.last c.in-Some.machine c.replay_batches.new.machine begins c.in_sectors-front.ensures enough all
     (subst BeginsOpen (rest_of end file) further.0) (subst (λ (bytes : List ℕ). 4096 < length bytes) (rest_of end file) further.1) in
     (found, damaged g.M.Machine.loads g.M.Machine.next g.met.M.Machine.one_base end file found)
 
@@ -32,9 +32,20 @@ pub returns-clause-state : goal.returns-clause-state
 returns-clause-state g c =
     let file = c.args.file.now in
     let front = c.in_sectors-front.result in
-    let end = front + c.in_ok-taken.taken in
+    let end = front + c.in-Ok.batches.taken in
     let begins : BeginsBase g.M.Machine.loads c.in-Some.machine c.in-Some.base file = search rules in
     let enough : front ≤ length file = search rules in
-    let all = subst (λ (bytes : List ℕ). AreAllDone g.M.Machine.next bytes c.in_ok-taken.taken c.in-Some.machine c.replay_batches.new.machine) (rest_of front file) c.in_ok-taken.ensures.done in
+    let all = subst (λ (bytes : List ℕ). AreAllDone g.M.Machine.next bytes c.in-Ok.batches.taken c.in-Ok.batches.last c.in-Some.machine c.replay_batches.new.machine) (rest_of front file) c.in-Ok.ensures.done in
     let last : IsEnd (take (length file - end) (drop end file)) = search rules in
-    is_state g.M.Machine.next g.M.Machine.loads file c.in-Some.base front c.in_ok-taken.taken c.in-Some.machine c.replay_batches.new.machine begins c.in_sectors-front.ensures enough all (subst IsEnd (rest_of end file) last)
+    is_replayed g.M.Machine.next g.M.Machine.loads file c.in-Some.base front c.in-Ok.batches.taken c.in-Ok.batches.last c.in-Some.machine c.replay_batches.new.machine begins c.in_sectors-front.ensures enough all (subst IsEnd (rest_of end file) last)
+
+pub returns-in-Err-Idle-clause-refused : goal.returns-in-Err-Idle-clause-refused
+returns-in-Err-Idle-clause-refused g c =
+    let file = c.args.file.now in
+    let front = c.in_sectors-front.result in
+    let begins : BeginsBase g.M.Machine.loads c.in-Some.machine c.in-Some.base file = search rules in
+    let enough : front ≤ length file = search rules in
+    let bytes = take (length file - front) (drop front file) in
+    let halts : IsIdleAt g.M.Machine.next c.in-Err-Idle.at bytes c.in-Some.machine × (c.in-Err-Idle.at ≤ length bytes) = search rules in
+    is_undone g.M.Machine.next g.M.Machine.loads file c.in-Some.base front c.in-Err-Idle.at c.in-Some.machine begins c.in_sectors-front.ensures enough
+    (subst (λ (bytes : List ℕ). IsIdleAt g.M.Machine.next c.in-Err-Idle.at bytes c.in-Some.machine) (rest_of front file) halts.0)

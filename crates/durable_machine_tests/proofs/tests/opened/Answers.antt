@@ -1,4 +1,4 @@
-use Rattle.std.proofs.Common.{◌∙◌, sym, subst, ℕ}
+use Rattle.std.proofs.Common.{◌∙◌, inl, sym, subst, ℕ}
 use Rattle.stored_file.specs.Unsynced.{LeftSince}
 use Rattle.durable_machine_tests.proofs.tests.opened.Goals as goal
 
@@ -6,4 +6,9 @@ pub open-requires : goal.open-requires
 open-requires c =
     let file = c.in_ok-new.field-0 in
     let unchanged = c.in_ok-new.ensures in
-    record { restarted = λ x left. unchanged.2 x (subst (λ (n : ℕ). LeftSince file.first.items file.changes.items n x) unchanged.1 left) ∙ sym unchanged.0 }
+    record {
+      restarted = record {
+        left = λ x left. inl (unchanged.2 x (subst (λ (n : ℕ). LeftSince file.first.items file.changes.items n x) unchanged.1 left) ∙ sym unchanged.0);
+        synced = λ x is. inl (unchanged.3 x is ∙ sym unchanged.0);
+      };
+    }

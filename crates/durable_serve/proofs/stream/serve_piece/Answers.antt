@@ -14,6 +14,7 @@ loop-rest-init g c = record {
   still = c.requires.healthy;
   partial = c.requires.partial;
   kept = c.requires.kept;
+  faults = omega arith;
 }
 
 pub loop-rest-preserved : goal.loop-rest-preserved
@@ -27,6 +28,7 @@ loop-rest-preserved g c = record {
   still = c.in_ok-count.ensures.still;
   partial = c.in_ok-count.ensures.partial;
   kept = c.in_ok-count.ensures.kept;
+  faults = omega (arith, c.loop-rest.invariant.faults, c.serve_batch.ensures.cause.later);
 }
 
 pub returns-clause-served : goal.returns-clause-served

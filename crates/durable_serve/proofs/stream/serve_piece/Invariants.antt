@@ -1,4 +1,4 @@
-use Rattle.std.proofs.Common.{◌≡◌, ◌++◌, length, None}
+use Rattle.std.proofs.Common.{◌≡◌, ◌≤◌, ◌++◌, length, None}
 use Rattle.event_frames.specs.Streams.{IsPartial}
 use Rattle.durable_device.specs.Kept.{IsKept}
 use Rattle.durable_serve.specs.Served.{Adds, seen}
@@ -12,6 +12,7 @@ invariant-loop-rest g l = record {
   still : l.session.fault ≡ None;
   partial : IsPartial l.session.pending;
   kept : IsKept l.device.store.machine l.device.store.journal.gate (g.F.StoredFile.told l.device.store.journal.file);
+  faults : (g.F.StoredFile.told l.fn.device.store.journal.file).faults ≤ (g.F.StoredFile.told l.device.store.journal.file).faults;
 }
 
 abbrev pub decreases-loop-rest : goal.decreases-loop-rest

@@ -1,4 +1,4 @@
-use Rattle.std.proofs.Common.{◌≡◌, length, take, refl, rules}
+use Rattle.std.proofs.Common.{◌≡◌, length, take, refl, arith, rules}
 use Rattle.std.proofs.KnownBytes.{Keeps-refl}
 use Rattle.std.proofs.lemmas.Result.{err_from_is_err_and}
 use Rattle.event_frames.specs.Streams.{behind}
@@ -10,7 +10,7 @@ pub loop-init : goal.loop-init
 loop-init g c =
     let first = begun (g.R.Read.remaining c.args.reader.now) (seen c.args.device.now.store.machine (g.W.Write.contents c.args.out.now))
     c.args.device.now.store.journal.gate (g.F.StoredFile.told c.args.device.now.store.journal.file) c.args.session.now c.requires.fresh c.requires.kept in
-    record { so_far = first.0; still = first.1; partial = first.2; kept = c.requires.kept }
+    record { so_far = first.0; still = first.1; partial = first.2; kept = c.requires.kept; faults = omega arith }
 
 pub loop-preserved : goal.loop-preserved
 loop-preserved g c = record {
@@ -30,6 +30,7 @@ loop-preserved g c = record {
   still = c.in_ok-serve_piece.ensures.still;
   partial = c.in_ok-serve_piece.ensures.partial;
   kept = c.in_ok-folded.ensures.kept;
+  faults = omega (arith, c.loop.invariant.faults, c.serve_piece.ensures.cause.later, c.fold_when_due.ensures.cause.later);
 }
 
 pub returns-then-count-eq0-clause-served : goal.returns-then-count-eq0-clause-served

@@ -22,7 +22,7 @@ returns-in_err-push_drained-clause-stopped g c =
     (seen c.give_turns.new.device.store.machine (g.W.Write.contents c.give_turns.new.out))
     (g.F.StoredFile.told c.args.device.now.store.journal.file) (g.F.StoredFile.told c.give_turns.new.device.store.journal.file)
     c.in_ok-given.given c.give_turns.new.device.store.journal.gate (seen c.give_turns.new.device.store.machine (g.W.Write.contents c.give_turns.new.out)) Memory
-    c.in_ok-given.ensures.given c.in_ok-given.ensures.kept refl tt)
+    c.in_ok-given.ensures.given c.in_ok-given.ensures.kept refl refl)
 
 pub returns-clause-served : goal.returns-clause-served
 returns-clause-served g c =
@@ -42,5 +42,5 @@ returns-clause-stopped g c =
     (seen c.give_turns.new.device.store.machine (g.W.Write.contents c.give_turns.new.out))
     (g.F.StoredFile.told c.args.device.now.store.journal.file) (g.F.StoredFile.told c.give_turns.new.device.store.journal.file)
     c.in_ok-given.given c.give_turns.new.device.store.journal.gate (seen c.give_turns.new.device.store.machine (g.W.Write.contents c.write.new.out)) why
-    c.in_ok-given.ensures.given c.in_ok-given.ensures.kept refl (unwritten_unanswered why is))
+    c.in_ok-given.ensures.given c.in_ok-given.ensures.kept refl (unwritten_unanswered why _ _ is))
     c.write.ensures.unwritten

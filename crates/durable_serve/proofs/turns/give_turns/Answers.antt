@@ -7,6 +7,7 @@ use Rattle.durable_serve.proofs.turns.give_turns.Goals as goal
 pub loop-given-init : goal.loop-given-init
 loop-given-init g c = record {
   kept = c.requires.kept;
+  faults = omega arith;
   goes = goes_begun c.args.turns (seen c.args.device.now.store.machine (g.W.Write.contents c.args.out.now)) c.args.device.now.store.journal.gate
       (g.F.StoredFile.told c.args.device.now.store.journal.file) c.requires.kept;
 }
@@ -14,6 +15,7 @@ loop-given-init g c = record {
 pub loop-given-preserved : goal.loop-given-preserved
 loop-given-preserved g c = record {
   kept = c.in_ok-were.ensures.kept;
+  faults = omega (arith, c.loop-given.invariant.faults, c.give_round.ensures.cause.later);
   goes = goes_on c.args.turns c.loop-given.given c.counted.result.0 c.loop-given.idle c.counted.result.1 c.loop-given.run c.next_number-run.result
       c.round_length-count.result c.in_ok-were.were
       (seen c.args.device.now.store.machine (g.W.Write.contents c.args.out.now)) (seen c.loop-given.device.store.machine (g.W.Write.contents c.loop-given.out))

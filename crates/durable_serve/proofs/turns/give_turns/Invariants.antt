@@ -1,4 +1,4 @@
-use Rattle.std.proofs.Common.{◌+◌, ◌-◌, ◌*◌}
+use Rattle.std.proofs.Common.{◌≤◌, ◌+◌, ◌-◌, ◌*◌}
 use Rattle.durable_device.specs.Kept.{IsKept}
 use Rattle.durable_serve.specs.Served.{seen}
 use Rattle.durable_serve.specs.steps.Parts.{GoesRound}
@@ -7,6 +7,7 @@ use Rattle.durable_serve.proofs.turns.give_turns.Given as goal
 abbrev pub invariant-loop-given : goal.invariant-loop-given
 invariant-loop-given g l = record {
   kept : IsKept l.device.store.machine l.device.store.journal.gate (g.F.StoredFile.told l.device.store.journal.file);
+  faults : (g.F.StoredFile.told l.fn.device.store.journal.file).faults ≤ (g.F.StoredFile.told l.device.store.journal.file).faults;
   goes : GoesRound l.turns l.given l.idle l.run
       (seen l.fn.device.store.machine (g.W.Write.contents l.fn.out)) (seen l.device.store.machine (g.W.Write.contents l.out))
       (g.F.StoredFile.told l.fn.device.store.journal.file) (g.F.StoredFile.told l.device.store.journal.file);

@@ -1,5 +1,5 @@
 use Rattle.std.proofs.lemmas.Result.{on_ok_weaker}
-use Rattle.live_serve.proofs.Turns.{drained}
+use Rattle.live_serve.proofs.Turns.{drained, given_starved}
 use Rattle.live_serve.proofs.answers.drain.Goals as goal
 
 pub returns-in-Ok-clause-answered : goal.returns-in-Ok-clause-answered
@@ -12,3 +12,8 @@ returns-in-Ok-clause-answered g c =
 
 pub returns-in-Ok-clause-round : goal.returns-in-Ok-clause-round
 returns-in-Ok-clause-round g c = c.give_turns.ensures.round
+
+pub returns-in-Err-clause-first : goal.returns-in-Err-clause-first
+returns-in-Err-clause-first g c = λ memory.
+    given_starved c.args.turns c.in_ok-given.given c.args.device.now c.give_turns.new.device
+    (g.W.Write.contents c.args.out.now) (g.W.Write.contents c.give_turns.new.out) c.in_ok-given.ensures.given

@@ -1,5 +1,6 @@
 use Rattle.std.proofs.Common.{◌+◌, ◌%◌, inl, inr, refl, arith}
-use Rattle.live_serve.proofs.Turns.{goes_begun, goes_done, goes_on, went_on, went_so_far}
+use Rattle.std.proofs.lemmas.Result.{err_from_is_err_and}
+use Rattle.live_serve.proofs.Turns.{goes_begun, goes_done, goes_on, then_starved, went_on, went_so_far}
 use Rattle.live_serve.proofs.drains.give_turns.Goals as goal
 
 pub loop-given-init : goal.loop-given-init
@@ -39,3 +40,11 @@ pub returns-in_err-was-clause-round : goal.returns-in_err-was-clause-round
 returns-in_err-was-clause-round g c =
     went_on c.args.turns c.loop-given.given c.loop-given.idle c.loop-given.run c.args.device.now c.loop-given.device c.give_turn.new.device
     (g.W.Write.contents c.args.out.now) (g.W.Write.contents c.loop-given.out) c.loop-given.invariant (omega (arith, c.loop-given-test.true)) c.give_turn.ensures.happened
+
+pub returns-in_err-was-clause-first : goal.returns-in_err-was-clause-first
+returns-in_err-was-clause-first g c =
+    let p = err_from_is_err_and c.from_residual.result c.from_residual.ensures.1 in
+    rw (p.1, p.2) (λ memory.
+    then_starved c.args.turns c.loop-given.given c.loop-given.idle c.loop-given.run c.args.device.now c.loop-given.device c.give_turn.new.device
+    (g.W.Write.contents c.args.out.now) (g.W.Write.contents c.loop-given.out) (g.W.Write.contents c.give_turn.new.out) c.loop-given.invariant
+    c.give_turn.ensures.happened (c.in_err-was.ensures.silent memory))

@@ -64,7 +64,7 @@ returns-in_err-give_turns-clause-stopped g c =
     (seen c.serve_piece.new.device (g.W.Write.contents c.serve_piece.new.out) c.serve_piece.new.keeper)
     (seen c.give_turns.new.device (g.W.Write.contents c.give_turns.new.out) c.serve_piece.new.keeper)
     c.in_ok-count.ensures.bytes c.in_ok-serve_piece.ensures.carries c.in_err-give_turns.field-0.0
-    c.in_err-give_turns.ensures.unanswered c.give_turns.ensures.round refl)
+    c.in_err-give_turns.ensures.unanswered c.give_turns.ensures.round refl c.in_err-give_turns.ensures.first)
 
 pub returns-clause-stopped : goal.returns-clause-stopped
 returns-clause-stopped g c =

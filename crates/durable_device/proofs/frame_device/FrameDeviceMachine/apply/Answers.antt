@@ -21,5 +21,5 @@ returns c =
     all ∙ ap (λ (n : ℕ). take n c.deref.result.now) c.data_length.ensures ∙ ap (λ (l : List ℕ). take (data_length answer) l) c.deref.ensures.value
     ∙ front_of (data_length answer) c.self.inside.output.len out _ c.perform-reply.ensures.within bound in
     let gives : option_map given_reply reply ≡ Some r = ap (λ (bytes : List ℕ). Some (record { reply = answer; bytes = bytes })) copied in
-    event_done c.args.self.now c.perform-reply.new.device c.args.frame.now e r reply c.may_change-changes.result tells done
-    c.may_change-changes.ensures.identifier c.may_change-changes.ensures.told gives
+    event_done c.args.self.now c.perform-reply.new.device c.args.frame.now e r reply c.may_change-changes.result c.is_want_of_memory-starved.result tells done
+    c.may_change-changes.ensures.identifier c.may_change-changes.ensures.told c.is_want_of_memory-starved.ensures gives

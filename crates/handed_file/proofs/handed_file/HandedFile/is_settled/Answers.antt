@@ -1,8 +1,6 @@
-use Rattle.std.proofs.Common.{◌≡◌, false, [], List, ap, sym, ◌∙◌, rules}
-use Rattle.system_file.specs.Calls.{Call}
-use Rattle.handed_file.specs.Handing.{all_done, has_refused}
+use Rattle.std.proofs.Common.{◌≡◌, false, [], rules}
+use Rattle.handed_file.specs.Handing.{has_refused}
 use Rattle.handed_file.specs.Handed.{made_calls, noted, waiting}
-use Rattle.handed_file.specs.declared.handed_file.FileCall.{FileCall}
 use Rattle.handed_file.proofs.Ordered.{all_made}
 use Rattle.handed_file.proofs.handed_file.HandedFile.is_settled.Goals as goal
 

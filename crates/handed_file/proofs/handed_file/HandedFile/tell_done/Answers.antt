@@ -1,4 +1,4 @@
-use Rattle.std.proofs.Common.{◌≡◌, ℕ, suc, length, ap, arith}
+use Rattle.std.proofs.Common.{◌≡◌, suc, length, ap, arith}
 use Rattle.handed_file.proofs.handed_file.HandedFile.tell_done.Goals as goal
 
 pub returns-in-None-clause-told : goal.returns-in-None-clause-told

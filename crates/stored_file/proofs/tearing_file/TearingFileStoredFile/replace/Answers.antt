@@ -11,6 +11,9 @@ returns-clause-crash c = λ file left.
     inr ((left_now _ _ _ _ c.in_ok-push.ensures.items file left).2 ∙ settled)
 
 pub returns-clause-durable : goal.returns-clause-durable
-returns-clause-durable c = λ file left.
+returns-clause-durable c =
     let settled : c.in_ok-settled.settled.items ≡ c.in_ok-next.next.items = search rules in
-    (left_now _ _ _ _ c.in_ok-push.ensures.items file left).2 ∙ settled
+    record {
+      left = λ file left. (left_now _ _ _ _ c.in_ok-push.ensures.items file left).2 ∙ settled;
+      synced = λ file is. is;
+    }
