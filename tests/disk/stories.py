@@ -157,7 +157,7 @@ class Keeping:
         self.events = [event for unit in self.units for event in unit]
         self.references = References(self.units)
         self.stretches: List[Stretch] = []
-        self.number = self.acknowledged = 0
+        self.number = self.acknowledged = self.ahead = 0
         self._begin({IMAGE: blank()})
 
     def serve(self, most: int, kill: str = "", fail: str = "") -> None:
@@ -238,7 +238,10 @@ class Keeping:
     def _take(self, session: Session, folder: Path, words: str) -> None:
         """Goes on from what a program left."""
         stretch = self.stretches[-1]
+        end = _end_of_run(self.units, self.number)
         for step in session.steps:
+            ahead = range(step.allowed[-1] + 1, min(step.allowed[-1] + self.ahead, end) + 1)
+            step = step._replace(allowed=(*step.allowed, *ahead))
             if step.allowed[0] == self.number:
                 # what an earlier program left, and didn't acknowledge
                 step = step._replace(allowed=(*range(self.acknowledged, self.number), *step.allowed))
@@ -258,8 +261,12 @@ class Keeping:
             return self.keeper.look(folder / IMAGE)
 
     def _found(self, allowed: Sequence[int]) -> int:
-        """Which of the states the file has, as programs read it."""
-        return self.references.found(self._look(self.contents), allowed)
+        """Which of the states the file has, as programs read it: the first, if several look alike. These differ in turns of a run that a
+        program was killed in, so up to the run's end the device may be ahead by as many."""
+        what = self._look(self.contents)
+        number = self.references.found(what, allowed)
+        self.ahead = max(other for other in allowed if what == self.references.seen(other)) - number
+        return number
 
 
 def disk_after(stretch: Stretch, last: int) -> Disk:
