@@ -7,6 +7,7 @@
 # modules and completions. install.sh says which files they take and how these are built. The same files make the same bytes: times are
 # SOURCE_DATE_EPOCH, or that of the last commit. dist_try.sh tries both. Needs tar, gzip and, for the package, binutils and dpkg-deb.
 set -eu
+unset CDPATH
 umask 022
 top=$(cd "$(dirname "$0")" && pwd)
 folder=${1:-dist}
@@ -26,7 +27,9 @@ mkdir -p "$folder"
 DESTDIR=$work/local "$top/install.sh" --prefix /usr/local
 mv "$work/local/usr/local" "$work/$name"
 strip --strip-unneeded "$work/$name"/bin/*
-tar -C "$work" --sort=name --mtime="@$SOURCE_DATE_EPOCH" --owner=0 --group=0 --numeric-owner -cf - "$name" | gzip -9n > "$folder/$name.tar.gz"
+tar -C "$work" --sort=name --mtime="@$SOURCE_DATE_EPOCH" --owner=0 --group=0 --numeric-owner -cf "$work/$name.tar" "$name"
+gzip -9n "$work/$name.tar"
+cp "$work/$name.tar.gz" "$folder/$name.tar.gz"
 echo "$folder/$name.tar.gz"
 
 # ---- the package

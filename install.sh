@@ -19,6 +19,7 @@
 #
 # If one is missing, or older than its sources, it prints the command that builds it, and installs nothing.
 set -eu
+unset CDPATH
 umask 022
 top=$(cd "$(dirname "$0")" && pwd)
 
@@ -160,8 +161,12 @@ stage() {
 
 # copies it beside its place, so that nothing is half installed if this fails
 bring() {
+    if [ -d "${DESTDIR-}$3" ]; then
+        echo "${DESTDIR-}$3 is a folder" >&2
+        return 1
+    fi
     mkdir -p "$(dirname "${DESTDIR-}$3")"
-    cp -T "$work$3" "${DESTDIR-}$3.new"
+    cp -T --remove-destination "$work$3" "${DESTDIR-}$3.new"
     chmod "$1" "${DESTDIR-}$3.new"
 }
 

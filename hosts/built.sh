@@ -1,6 +1,7 @@
 #!/bin/sh
 # Prints where the static library of a crate is, proving and building it first where a source is newer: hosts/built.sh CRATE
 set -eu
+unset CDPATH
 top=$(cd "$(dirname "$0")/.." && pwd)
 crate=$top/crates/$1
 built=$crate/out/lib$1.a

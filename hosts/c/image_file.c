@@ -81,8 +81,7 @@ static int create(const char *name, mode_t mode)
     return -1;
 }
 
-/* Gives a file the permissions of another one, and its owner where the system lets it. */
-static bool take_after(int file, const struct stat *before)
+bool image_file_take_after(int file, const struct stat *before)
 {
     /* only root gives a file to another user; a group of this user's own can be kept all the same */
     if (fchown(file, before->st_uid, before->st_gid) != 0 && fchown(file, (uid_t)-1, before->st_gid) != 0)
@@ -122,7 +121,7 @@ static enum image_file_result replace(const struct names *names, const unsigned 
     int file = create(names->unfinished, is_there ? 0600 : 0666);
     if (file < 0)
         return IMAGE_FILE_AS_IT_WAS;
-    bool placed = (!is_there || take_after(file, &before)) && write_all(file, bytes, count)
+    bool placed = (!is_there || image_file_take_after(file, &before)) && write_all(file, bytes, count)
                   && rename(names->unfinished, names->path) == 0;
     int cause = errno;
     if (!placed)

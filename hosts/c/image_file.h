@@ -4,6 +4,7 @@
 
 #include <stdbool.h>
 #include <stddef.h>
+#include <sys/stat.h>
 
 enum image_file_result {
     IMAGE_FILE_REPLACED,
@@ -19,5 +20,8 @@ enum image_file_result image_file_put(const char *path, const unsigned char *byt
 
 /* The same: is the new file in place, and on the disk? */
 bool image_file_replace(const char *path, const unsigned char *bytes, size_t count);
+
+/* Gives a new file the permissions of the one whose place it takes, and its owner where the system lets it. */
+bool image_file_take_after(int file, const struct stat *before);
 
 #endif

@@ -1,5 +1,6 @@
 #define _GNU_SOURCE
 #include "kept_file.h"
+#include "image_file.h"
 
 #include <errno.h>
 #include <fcntl.h>
@@ -39,7 +40,7 @@ enum kept_result kept_file_open(struct kept_file *kept, const char *path)
     if (kept->file < 0)
         return KEPT_NOT_OPENED;
     if (flock(kept->file, LOCK_EX | LOCK_NB) != 0)
-        return KEPT_IN_USE;
+        return errno == EWOULDBLOCK ? KEPT_IN_USE : KEPT_NOT_OPENED;
     if (fstat(kept->file, &held) != 0 || stat(kept->path, &there) != 0)
         return KEPT_NOT_OPENED;
     /* who held it before may have given the name to a new file */
@@ -134,15 +135,34 @@ static bool write_bytes(struct calls *c, int file, size_t at)
     return true;
 }
 
-/* An empty new file, or the one for which room was made. */
+/* Removes a file that a program left which was killed; not one that is locked, since a program holds it. */
+static bool remove_stale(const char *path)
+{
+    int file = open(path, O_RDONLY | O_NOFOLLOW | O_CLOEXEC);
+    if (file < 0)
+        return errno == ENOENT;
+    bool removed = flock(file, LOCK_EX | LOCK_NB) == 0 && unlink(path) == 0;
+    int cause = errno;
+    close(file);
+    errno = cause == EWOULDBLOCK ? EBUSY : cause;
+    return removed;
+}
+
+/* An empty new file, locked from the first on, or the one for which room was made. */
 static int take_new_file(struct kept_file *kept)
 {
     int file = kept->room;
     kept->room = -1;
-    if (file >= 0)
+    if (file >= 0 || !remove_stale(kept->unfinished))
         return file;
-    unlink(kept->unfinished); /* what a program left that was killed: none but the one that holds the file writes it */
-    return open(kept->unfinished, O_RDWR | O_CREAT | O_EXCL | O_CLOEXEC, 0600);
+    file = open(kept->unfinished, O_RDWR | O_CREAT | O_EXCL | O_CLOEXEC, 0600);
+    if (file >= 0 && flock(file, LOCK_EX | LOCK_NB) != 0) {
+        int cause = errno;
+        close(file);
+        errno = cause;
+        return -1;
+    }
+    return file;
 }
 
 size_t kept_file_make_room(struct kept_file *kept)
@@ -170,9 +190,8 @@ static bool replace(struct calls *c)
     int file = take_new_file(kept);
     if (file < 0)
         return false;
-    if (flock(file, LOCK_EX | LOCK_NB) == 0 && fstat(kept->file, &before) == 0 && fchmod(file, before.st_mode & 07777) == 0 &&
-        write_bytes(c, file, 0) && ftruncate(file, (off_t)tell(c, KEPT_SIZE)) == 0 && fsync(file) == 0 &&
-        rename(kept->unfinished, kept->path) == 0) {
+    if (fstat(kept->file, &before) == 0 && image_file_take_after(file, &before) && write_bytes(c, file, 0) &&
+        ftruncate(file, (off_t)tell(c, KEPT_SIZE)) == 0 && fsync(file) == 0 && rename(kept->unfinished, kept->path) == 0) {
         close(kept->file);
         kept->file = file;
         return sync_folder(kept->folder);

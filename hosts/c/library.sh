@@ -4,6 +4,7 @@
 #   hosts/c/library.sh FOLDER [FLAG..]      the flags are for the C compiler
 # The object of a crate defines only the crate's exports, so one archive can have both.
 set -eu
+unset CDPATH
 here=$(cd "$(dirname "$0")" && pwd)
 folder=${1:?a folder for libpifnjarl.a is wanted}
 shift

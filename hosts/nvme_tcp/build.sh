@@ -2,6 +2,7 @@
 # Makes the target, FOLDER/nvme_tcp, proving and building crates/tcp_library first where a source is newer:
 #   hosts/nvme_tcp/build.sh FOLDER [FLAG..]      the flags are for the C compiler
 set -eu
+unset CDPATH
 here=$(cd "$(dirname "$0")" && pwd)
 folder=$1
 shift

@@ -10,6 +10,7 @@
 
 #include <arpa/inet.h>
 #include <errno.h>
+#include <fcntl.h>
 #include <limits.h>
 #include <netinet/in.h>
 #include <netinet/tcp.h>
@@ -113,7 +114,8 @@ static bool fold(unsigned char *target, struct image *image)
     size_t room = kept_file_make_room(&image->kept);
     if (room == 0) {
         if (!image->lacks_room)
-            fprintf(stderr, "nvme_tcp: cannot fold %s: %s; its journal goes on growing\n", image->kept.path, strerror(errno));
+            fprintf(stderr, "%s: cannot fold %s: %s; its journal goes on growing\n", program_invocation_short_name, image->kept.path,
+                    strerror(errno));
         image->lacks_room = true;
         return true;
     }
@@ -557,8 +559,23 @@ static void print_usage(FILE *to)
     fprintf(to, "usage: %s IMAGE [--memory] [--listen ADDRESS:PORT]\n", program_invocation_short_name);
 }
 
+/* Has standard input, output and error lead somewhere, so that no file which is opened gets the number of one, and no message goes into
+   it. */
+static bool open_streams(void)
+{
+    int stream;
+    do
+        stream = open("/dev/null", O_RDWR);
+    while (stream >= 0 && stream <= STDERR_FILENO);
+    if (stream > STDERR_FILENO)
+        close(stream);
+    return stream >= 0;
+}
+
 int main(int words, char **word)
 {
+    if (!open_streams())
+        return 1;
     if (words == 2 && strcmp(word[1], "--help") == 0) {
         print_usage(stdout);
         return 0;

@@ -2,7 +2,10 @@
 
 from __future__ import annotations
 
+import fcntl
+import os
 import signal
+import subprocess
 import tempfile
 import unittest
 from pathlib import Path
@@ -73,6 +76,38 @@ class WhatIsKept(Kept):
             self.assertEqual(target.stop(), 0)
         with self.again() as target, Host(target.address) as host:
             self.assertEqual(host.queue(1).report(most=1)[0].write_pointer, 1)
+
+
+class Files(Kept):
+    """The files that a target opens and makes."""
+
+    def test_no_message_goes_into_the_journal(self) -> None:
+        """Of a target that begins without standard output and error, whose numbers are free then."""
+        with self.again():
+            pass
+        before = self.image.read_bytes()
+        words = 'exec "$NVME_TCP_TARGET" "$0" --listen 127.0.0.1:99999 <&- >&- 2>&-'
+        self.assertEqual(subprocess.run(["sh", "-c", words, self.image]).returncode, 1)
+        self.assertEqual(self.image.read_bytes(), before)
+
+    def test_a_new_file_that_a_program_holds_is_left_alone(self) -> None:
+        held = self.image.with_name(self.image.name + ".unfinished")
+        with open(held, "w") as file:
+            fcntl.flock(file, fcntl.LOCK_EX)
+            with self.assertRaises(AssertionError):
+                Target(self.image, is_durable=True, is_quiet=True)
+            self.assertTrue(held.exists())
+        with self.again():
+            self.assertFalse(held.exists())
+
+    @unittest.skipIf(os.geteuid() != 0, "only root gives a file to another user")
+    def test_the_owner_stays(self) -> None:
+        os.chown(self.image, 1234, 1235)
+        self.image.chmod(0o640)
+        with self.again():
+            pass
+        about = self.image.stat()
+        self.assertEqual((about.st_uid, about.st_gid, about.st_mode & 0o7777), (1234, 1235, 0o640))
 
 
 class Runs(Kept):

@@ -72,8 +72,6 @@ class Room(Kept):
         self.assertEqual(self.errors.read_text(), "")
 
     def test_without_room_the_old_file_is_used_on(self) -> None:
-        self.full.touch()
-        self.full.unlink()
         with self.target() as target, Host(target.address) as host:
             queue = host.queue(1)
             self.full.touch()

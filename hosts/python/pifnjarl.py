@@ -419,6 +419,10 @@ class _Frame(NamedTuple):
     completion: Optional[_Completion]
 
 
+CUT_OFF = "an exception has cut off what was sent to the device: open it again"
+"""Why a device takes nothing more, if an exception came while bytes moved, and was caught: nobody knows whether they did."""
+
+
 class _Stream:
     """A program that serves a device. Frames go to it in the order of the calls, and what answers them comes in the same order.
 
@@ -452,26 +456,25 @@ class _Stream:
             frame = _HEADER.pack(request, part, queue, number, len(data), 0) + entry + data
         except struct.error:
             raise ValueError("a queue, a zone or a number of turns is less than 0, or more than its field holds") from None
-        if self.over is not None:
-            raise DeviceError(self.over)
-        if self.moving:
-            raise DeviceError("an exception has cut off what was sent to the device: shut it, and open it again")
+        self._check()
         self._out += frame
 
     def push(self) -> None:
         """Writes what was sent."""
-        while self._out and self._move():
-            pass
+        self._check()
+        self._write_out()
 
     def wait(self) -> None:
         """Waits until a frame has come."""
         while not self._has_frame():
+            self._check()
             if not self._move():
                 raise self._ended()
 
     def poll(self) -> bool:
         """Has a frame come? Doesn't wait."""
         while not self._has_frame():
+            self._check()
             if not self._polled.poll(0):
                 return False
             if not self._move():
@@ -492,13 +495,24 @@ class _Stream:
             return
         self.over = "the device is shut"
         if not self.moving:
-            self.push()
+            self._write_out()
         told = self._last_words()
         status = self._program.returncode
         # 3 is of a frame that an exception has cut off: it wasn't done, and what came before it is saved
         if status != 0 and not (self.moving and status == 3):
             self.over = told or self._cause(status)
             raise DeviceError(self.over)
+
+    def _check(self) -> None:
+        """Raises why nothing goes or comes any more: the program has ended, or an exception has cut off what went."""
+        if self.over is not None:
+            raise DeviceError(self.over)
+        if self.moving:
+            raise DeviceError(CUT_OFF)
+
+    def _write_out(self) -> None:
+        while self._out and self._move():
+            pass
 
     def _last_words(self) -> str:
         """What the program tells when it has ended. A Ctrl-C meanwhile waits for it too; only a second one doesn't."""
@@ -1046,10 +1060,12 @@ class Device:
         if self._stream.over is not None:
             return
         try:
-            while self._under_way:
+            while self._under_way and not self._stream.moving:
                 self._take()
         finally:
             self._stream.end()
+        if self._stream.moving:
+            raise DeviceError(CUT_OFF)
         for asked in self._unseen:
             if asked.refusal is not None:
                 raise asked.refusal

@@ -217,6 +217,8 @@ def main() -> int:
     parser.add_argument("-o", "--output", type=Path, required=True, metavar="PAGE", help="the page that is written")
     parser.add_argument("--replies", type=Path, help="what `zscli exec` printed: it has to be what the image gives")
     words = parser.parse_args()
+    if words.output.exists() and any(words.output.samefile(it) for it in (words.image, words.commands) if it.exists()):
+        parser.error(f"{words.output} is what the page is made of")
     try:
         words.output.write_text(drawing.page(story(words.image, words.commands, words.replies)), encoding="utf-8")
     except (PageError, pifnjarl.DeviceError, OSError, UnicodeDecodeError) as error:

@@ -498,6 +498,32 @@ class Ends(Over):
                 self.assertEqual(device.append(64, b"z" * 512), 64)
                 self.assertEqual(device.read(64, 2), b"z" * 512 + bytes(512))
 
+    def test_nothing_is_waited_for_once_the_device_has_ended(self) -> None:
+        """Also if another device has the numbers of its pipes by then."""
+        device = pifnjarl.Device(self.image)
+        append = device.append_async(64, bytes(512))
+        device._stream.end()
+        with pifnjarl.Device(self.image) as other:
+            another = other.append_async(0, bytes(512))
+            self.assertRaises(pifnjarl.DeviceError, append.wait)
+            self.assertEqual(another.wait(), 0)
+
+    def test_what_an_exception_cut_off_is_not_sent_again(self) -> None:
+        """It comes between a write and what is noted of it: each call says so from then on."""
+        write = os.write
+
+        def cut_off(file: int, data: bytes) -> int:
+            write(file, data)
+            raise KeyboardInterrupt
+
+        device = pifnjarl.Device(self.image)
+        with mock.patch("os.write", cut_off):
+            self.assertRaises(KeyboardInterrupt, device.append, 0, bytes(512))
+        self.assertRaises(pifnjarl.DeviceError, device.report)
+        self.assertRaisesRegex(pifnjarl.DeviceError, "cut off", device.shut)
+        with pifnjarl.Device(self.image) as again:
+            self.assertIn(again.report()[0].write_pointer, (0, 1))
+
     def test_a_program_that_was_killed_is_told(self) -> None:
         """By one error, whose text says by what, however often it is asked."""
         for durable, words in ((False, "SIGKILL: the image is as it was saved last"), (True, "SIGKILL: what it had answered is on the")):
