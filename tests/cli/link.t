@@ -38,6 +38,7 @@ Where there is no such byte, the block's run ends there with 7001h, which is 286
   $ block() { { printf "$1"; head -c 512 /dev/zero; } | head -c 512 > block; }
   $ run() { block "$1"; zscli trace program block --emit 512 | tail -n 1; }
   $ link field --verbose
+  guard: guarded.c, line 14, in field: a guard ends the run where 1 byte isn't within the 512 of the block; see to it just before, as by `if (offset > 511) return 0;`
   12 slots; compares put in: 1 of accesses, 0 of emits, 0 of the block's size
   $ zscli disasm program
   stxdw [r10-8], r2
@@ -62,6 +63,8 @@ Where there is no such byte, the block's run ends there with 7001h, which is 286
 So is an emit whose length isn't known: 7002h, where it would be of no byte, or end after the block.
 
   $ link record --verbose
+  guard: guarded.c, line 20, in record: a guard ends the run where a record has no byte; see to it just before, as by `if (length == 0) return 0;`
+  guard: guarded.c, line 20, in record: a guard ends the run where a record has more than the 510 bytes of its area from its address on; see to it just before, as by `if (length > 510) return 0;`
   10 slots; compares put in: 0 of accesses, 2 of emits, 0 of the block's size
   $ run '\3\0abc'
   exit 0 8 0300616263
@@ -80,10 +83,20 @@ A program that asks for the block's size ends with 7003h on blocks of another si
   $ zscli trace program block --emit 512 | tail -n 1
   exit 28675 4 -
 
-A loop that can be left early has as many rounds as there are slots for. A block that needs more ends with 7004h.
+A loop that can be left early, and has more rounds than there are slots for, is refused, with the line of the jump back.
 
-  $ link entries --verbose
-  there is room for 256 rounds of a loop: a block that needs more ends its run with R0 = 7004h
+  $ rm program
+  $ link entries
+  link refused: guarded.c, line 36, in entries: a loop of 512 rounds, which take 8178 of 8181 slots, and a program has 4096 at most; give it a constant bound, fewer rounds, or less in each, or link with --cut-loops
+  [3]
+  $ ls program
+  ls: cannot access 'program': No such file or directory
+  [2]
+
+With `--cut-loops` it has as many rounds as there are slots for. A block that needs more ends with 7004h.
+
+  $ link entries --verbose --cut-loops
+  cut: guarded.c, line 36, in entries: there is room for 256 rounds of a loop: a block that needs more ends its run with R0 = 7004h
   4095 slots; compares put in: 0 of accesses, 0 of emits, 0 of the block's size
   $ zscli verify program --block 512 --emit 0
   accepted 4095
@@ -95,11 +108,11 @@ A loop that can be left early has as many rounds as there are slots for. A block
 A constant text that a called function chooses.
 
   $ link texts --verbose
-  16 slots; compares put in: 0 of accesses, 0 of emits, 0 of the block's size
+  15 slots; compares put in: 0 of accesses, 0 of emits, 0 of the block's size
   $ run '\2'
-  exit 0 14 04006576656e
+  exit 0 13 04006576656e
   $ run '\3'
-  exit 0 16 04006f646421
+  exit 0 15 04006f646421
 
 Where several functions aren't static, one has to be named. The sentence names two of them.
 
@@ -116,7 +129,10 @@ A loop that has too many rounds. The sentence says where it is, what is wrong, a
   $ grep -n 'for (' "$ROOT/tests/cli/data/loop.c"
   6:    for (int i = 0; i < 4096; i++)
   $ zscli link loop.o --block 4096 -o program
-  link refused: loop.c, line 6, in filter: a loop that isn't known to be over after 1365 rounds; give it a constant bound, fewer rounds, or less in each
+  link refused: loop.c, line 6, in filter: a loop that isn't known to be over after 1365 rounds, and 16385 slots; give it a constant bound, fewer rounds, or less in each, or link with --cut-loops
+  [3]
+  $ zscli link loop.o --block 4096 -o program --cut-loops
+  link refused: loop.c, line 6, in filter: a loop that isn't known to be over after 1365 rounds, and 16385 slots; give it a constant bound, fewer rounds, or less in each
   [3]
   $ zscli link loop.o --block 4096 -o program --function other
   link refused: no function other
@@ -126,14 +142,14 @@ Where the table of lines is damaged, it has the slot of the function instead of 
 
   $ change loop 164 377
   $ zscli link changed.o --block 4096 -o program
-  link refused: filter, slot 2: a loop that isn't known to be over after 1365 rounds; give it a constant bound, fewer rounds, or less in each; behind `clang -g` the line is told
+  link refused: filter, slot 9: a loop that isn't known to be over after 1365 rounds, and 16385 slots; give it a constant bound, fewer rounds, or less in each, or link with --cut-loops; behind `clang -g` the line is told
   [3]
 
 Other functions of which no program is made.
 
   $ refuse() { zscli link refused.o --block 512 -o program --function $1; }
   $ refuse counts
-  link refused: refused.c, line 12, in counts: an address of data that can be changed; call functions of this file, and keep what changes on the stack or in scratch
+  link refused: refused.c, line 12, in counts: count: an address of data that can be changed; call functions of this file, and keep what changes on the stack or in scratch
   [3]
   $ refuse finds
   link refused: refused.c, line 18, in finds: memchr: calls, or takes the address of, what is not in the object; write the function into the file; of the C library there are memcpy, memset and memcmp
@@ -167,33 +183,34 @@ Files that are no object of eBPF.
 
   $ printf 'long' > short.o
   $ zscli link short.o --block 512 -o program
-  link refused: ELF header: shorter than the 64 bytes of an ELF header
+  link refused: short.o: not an ELF file
   [3]
-  $ zscli link "$ROOT/tests/cli/data/guarded.c" --block 512 -o program
-  link refused: ELF header: byte 0: not the magic number of an ELF file
+  $ cp "$ROOT/tests/cli/data/guarded.c" text.o
+  $ zscli link text.o --block 512 -o program
+  link refused: text.o: not an ELF file
   [3]
   $ change lines 4 1
   $ zscli link changed.o --block 512 -o program
-  link refused: ELF header: byte 4: not the class of objects of 64 bits
+  link refused: changed.o: ELF header: byte 4: not the class of objects of 64 bits
   [3]
   $ change lines 18 76
   $ zscli link changed.o --block 512 -o program
-  link refused: ELF header: byte 18: not an object of eBPF
+  link refused: changed.o: ELF header: byte 18: not an object of eBPF
   [3]
 
 Objects with a wrong byte in a section's header, in a symbol and in a relocation.
 
   $ change lines 585 1
   $ zscli link changed.o --block 512 -o program
-  link refused: section 2: has a name behind the names of sections
+  link refused: changed.o: section 2: has a name behind the names of sections
   [3]
   $ change lines 353 1
   $ zscli link changed.o --block 512 -o program
-  link refused: symbol 5: has a name behind the names of symbols
+  link refused: changed.o: symbol 5: has a name behind the names of symbols
   [3]
   $ change lines 384 5
   $ zscli link changed.o --block 512 -o program
-  link refused: section 4, relocation 0: has a type that no relocation of eBPF has
+  link refused: changed.o: section 4, relocation 0: has a type that no relocation of eBPF has
   [3]
 
 No file is made in any of these cases.
@@ -202,34 +219,21 @@ No file is made in any of these cases.
   ls: cannot access 'program': No such file or directory
   [2]
 
-A store into the block: a program is made, with a note that says where `verify` refuses it, and what to write instead.
+A store into the block: no program is made, since `verify` would refuse it. The sentence says where, and what to write instead.
 
   $ grep -n 'block.0' "$ROOT/tests/cli/data/store.c"
   4:    block[0] = 1;
   $ zscli link store.o --block 512 -o store.bin
-  note: store.c, line 4, in filter: verify refuses slot 5 of the program, a store outside, or into the context or the block; store to the stack or to scratch, at an offset that is compared with a constant or masked just before
-  $ zscli verify store.bin --block 512 --emit 512
-  refused 5 6
+  link refused: store.c, line 4, in filter: verify refuses slot 5 of the program, a store outside, or into the context or the block; store to the stack or to scratch, at an offset that is compared with a constant or masked just before
   [3]
-  $ zscli disasm store.bin --slots
-     0  stxdw [r10-8], r2
-     1  ldxdw r0, [r10-8]
-     2  sub r2, r0
-     3  jgt r2, 511, +4
-     4  add r2, r0
-     5  stb [r2+0], 1
-     6  mov r0, 0
-     7  exit
-     8  mov r0, 28673
-     9  exit
+  $ ls store.bin
+  ls: cannot access 'store.bin': No such file or directory
+  [2]
 
-A call of a helper other than 1 has such a note too.
+So is a call of a helper other than 1.
 
-  $ zscli link refused.o --block 512 -o program --function helps --verbose
-  note: refused.c, line 74, in helps: verify refuses slot 1 of the program, a helper other than 1; call no helper but emit
-  3 slots; compares put in: 0 of accesses, 0 of emits, 0 of the block's size
-  $ zscli verify program --block 512 --emit 512
-  refused 1 7
+  $ zscli link refused.o --block 512 -o program --function helps
+  link refused: refused.c, line 74, in helps: verify refuses slot 1 of the program, a helper other than 1; call no helper but emit
   [3]
 
 Files that fail, standard output that takes nothing, a block size that there isn't, and no program to write.

@@ -1,7 +1,9 @@
 //! The command that makes a program of an object as clang makes it.
 #![tactic(auto)]
 
+mod guard_lines;
 pub mod link;
 mod making;
 mod refusal;
 mod source;
+mod variables;

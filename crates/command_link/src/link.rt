@@ -5,7 +5,7 @@ ghost use Rattle.command_files.specs.Arguments.{value_of};
 ghost use Rattle.command_files.specs.Made.{MakesOne};
 ghost use Rattle.command_files.specs.declared.arguments.TheConstants.{PROGRAM};
 
-use crate::making::{LinkedProgram, made};
+use crate::making::{Asked, LinkedProgram, made};
 use crate::refusal::Refusal;
 use clap::ArgMatches;
 use command_files::arguments::{
@@ -13,8 +13,7 @@ use command_files::arguments::{
 };
 use command_files::{Failure, Files, printed, read, write};
 use command_words::{Argument, Takes, Words};
-use ebpf_link::Linked;
-use program_interface::BlockSize;
+use ebpf_link::{Linked, LoopRule};
 use std::alloc::{AllocError, Global};
 use std::io::Write;
 
@@ -27,18 +26,23 @@ const FUNCTION: &str = "function";
 
 const VERBOSE: &str = "verbose";
 
+const CUT_LOOPS: &str = "cut-loops";
+
+const STRICT: &str = "strict";
+
 const LONG_ABOUT: &str = "\
 Makes a program of an object, a file of C as `clang -target bpf -c` makes it, for blocks of one size.
 
 The program starts with the object's only global function, or the one that --function names. Functions that it calls are put \
 where they are called, constant data onto the stack, and memcpy, memset and memcmp of a constant length are written out. Loops \
 are unrolled as often as they can go round, as far as is known of registers. In front of an access or an emit that isn't known \
-to lie within an area stands a compare, that ends the block run where it does not. So ends a block run that needs more rounds of \
-a loop than there is room for.
+to lie within an area stands a guard: a compare that ends the run with this block where it does not. `guard` and a sentence tell \
+of each where it is, what it ends the run for, and what to write so that none is needed. Where a guard always ends the run, and \
+where a loop has more rounds than there are slots for, no program is made. With --cut-loops a loop has as many rounds as there \
+is room for, and a block that needs more ends the run.
 
-Of an object of which no program is made, `link refused` and a sentence tell the function, the line, where `clang -g` wrote \
-it, and what to write instead, and no file is written. Of a program that `verify` refuses even with --emit B, `note` and a \
-sentence tell the same, and the slot; it is written.";
+Of an object of which no program is made, or one that `verify` refuses even with --emit B, `link refused` and a sentence tell \
+the function, the line, where `clang -g` wrote it, and what to write instead, and no file is written.";
 
 const EXAMPLE: &str = "\
 Example:
@@ -77,6 +81,20 @@ pub static WORDS: Words = Words {
             help: "The function to start with",
         },
         Argument {
+            id: CUT_LOOPS,
+            long: CUT_LOOPS,
+            short: None,
+            takes: Takes::Nothing,
+            help: "Give loops as many rounds as there are slots for, and list those that have more",
+        },
+        Argument {
+            id: STRICT,
+            long: STRICT,
+            short: None,
+            takes: Takes::Nothing,
+            help: "Refuse a program with a guard that may end a run",
+        },
+        Argument {
             id: VERBOSE,
             long: VERBOSE,
             short: None,
@@ -105,9 +123,19 @@ pub fn link<'a, F: Files, O: Write>(
     ensures contents { OnErr result (F.contents files.new ≡ F.contents files.old) }
 {
     let block = block_size(number(matches, BLOCK_OPTION)?)?;
-    let object = read(required(matches, OBJECT), files)?;
+    let path = required(matches, OBJECT);
+    let object = read(path, files)?;
     let name = required(matches, FUNCTION);
-    let made = program(alloc, object.as_slice(), name, block, out)?;
+    let asked = Asked {
+        block,
+        rule: if required(matches, CUT_LOOPS) == "true" {
+            LoopRule::Cut
+        } else {
+            LoopRule::Whole
+        },
+        is_strict: required(matches, STRICT) == "true",
+    };
+    let made = program(alloc, path, object.as_slice(), name, &asked, out)?;
     let notes = notes(alloc, &made, required(matches, VERBOSE) == "true")?;
     printed(out.write_all(notes.as_bytes()))?;
     write(required(matches, PROGRAM), made.bytes.as_slice(), files)
@@ -116,12 +144,13 @@ pub fn link<'a, F: Files, O: Write>(
 /// The program of the object of these bytes; where there is none, standard output tells why.
 fn program<'a, O: Write>(
     alloc: Global,
+    path: &str,
     bytes: &[u8],
     name: &str,
-    block: BlockSize,
+    asked: &Asked,
     out: &mut O,
 ) -> Result<LinkedProgram, Failure<'a>> {
-    match made(alloc, bytes, name, block) {
+    match made(alloc, path, bytes, name, asked) {
         Ok(found) => Ok(found),
         Err(Refusal::Memory) => Err(Failure::NoMemory),
         Err(Refusal::Told(text)) => {
@@ -131,18 +160,9 @@ fn program<'a, O: Write>(
     }
 }
 
-/// What is told of a program: where it has not all rounds, where `verify` refuses it, and with numbers its own.
+/// What is told of a program: its guards and the loops that are cut, and with numbers its own.
 fn notes(alloc: Global, made: &LinkedProgram, has_numbers: bool) -> Result<String, AllocError> {
-    let mut notes = String::new(alloc);
-    if let Some(rounds) = made.linked.rounds {
-        writeln!(
-            notes,
-            "there is room for {rounds} rounds of a loop: a block that needs more ends its run with R0 = 7004h"
-        )?;
-    }
-    if let Some(text) = &made.refused {
-        writeln!(notes, "note: {text}")?;
-    }
+    let mut notes = String::from_str(alloc, made.told.as_str())?;
     if has_numbers {
         push_numbers(&made.linked, &mut notes)?;
     }

@@ -1,13 +1,16 @@
 //! A program of an object's bytes.
 
-use crate::refusal::{Refusal, of_gathering, of_inlining, of_linking, of_start, of_verdict};
-use crate::source::{Source, source_of};
+use crate::guard_lines::{guard_lines, of_guard};
+use crate::refusal::{
+    Refusal, of_gathering, of_inlining, of_linking, of_object, of_start, of_verdict,
+};
+use crate::source::{Source, origin_of_slot, source_of};
 use accepted_programs::Refusal as Verdict;
 use ebpf_calls::{named_function, only_function};
 use ebpf_decode::{decode, push_instruction};
 use ebpf_gather::{Gathered, Origin, gather, origins};
 use ebpf_inline::inline;
-use ebpf_link::{Linked, link};
+use ebpf_link::{Linked, LoopRule, link};
 use ebpf_object::{Function, Object};
 use instruction_set::Instruction;
 use interval_domain::Intervals;
@@ -21,8 +24,19 @@ pub(crate) struct LinkedProgram {
     pub linked: Linked,
     /// Those of the program.
     pub bytes: Vec<u8>,
-    /// What `verify` refuses of it with the greatest limit, if it does.
-    pub refused: Option<String>,
+    /// What is told of its guards, and of loops that are cut.
+    pub told: String,
+}
+
+/// What is asked for of a program.
+#[derive(Drop)]
+pub(crate) struct Asked {
+    /// The size of the blocks.
+    pub block: BlockSize,
+    /// What becomes of a loop that isn't whole.
+    pub rule: LoopRule,
+    /// May no guard end a run?
+    pub is_strict: bool,
 }
 
 /// The function with a name, or the only one that can be seen from outside where none is given.
@@ -56,15 +70,15 @@ fn laid_out(
     source: &Source<'_, '_>,
     gathered: &Gathered,
     origins: &[Option<Origin>],
-    block: BlockSize,
+    asked: &Asked,
 ) -> Result<Linked, Refusal> {
     let slots = match inline(alloc, &gathered.unit) {
         Ok(slots) => slots,
         Err(fault) => return Err(Refusal::of(of_inlining(alloc, source, gathered, fault))),
     };
-    match link(alloc, &slots, gathered.own, block) {
+    match link(alloc, &slots, gathered.own, asked.block, asked.rule) {
         Ok(linked) => Ok(linked),
-        Err(fault) => Err(Refusal::of(of_linking(alloc, source, origins, fault))),
+        Err(fault) => Err(Refusal::of(of_linking(alloc, source, origins, asked.rule, fault))),
     }
 }
 
@@ -84,23 +98,40 @@ fn verdict(alloc: Global, bytes: &[u8], block: BlockSize) -> Result<Option<Verdi
 
 /// What a slot of a program was made of.
 fn origin_at(linked: &Linked, origins: &[Option<Origin>], slot: usize) -> Option<Origin> {
-    *origins.get(*linked.origins.get(slot)?)?
+    origin_of_slot(origins, *linked.origins.get(slot)?)
 }
 
-/// What is told of what the verifier refuses.
-fn refused_text(
+/// Refuses a program that the verifier refuses.
+fn check_verdict(
     alloc: Global,
     source: &Source<'_, '_>,
     linked: &Linked,
     origins: &[Option<Origin>],
     verdict: Option<Verdict>,
-) -> Result<Option<String>, AllocError> {
+) -> Result<(), Refusal> {
     match verdict {
-        None => Ok(None),
+        None => Ok(()),
         Some(refusal) => {
             let origin = origin_at(linked, origins, refusal.slot);
-            Ok(Some(of_verdict(alloc, source, origin, refusal)?))
+            Err(Refusal::of(of_verdict(alloc, source, origin, refusal)))
         }
+    }
+}
+
+/// Refuses a program with a guard, where there may be none.
+fn check_strict(
+    alloc: Global,
+    source: &Source<'_, '_>,
+    linked: &Linked,
+    origins: &[Option<Origin>],
+    asked: &Asked,
+) -> Result<(), Refusal> {
+    match linked.places.first() {
+        Some(place) if asked.is_strict => {
+            let origin = origin_of_slot(origins, place.slot);
+            Err(Refusal::of(of_guard(alloc, source, origin, place.need)))
+        }
+        _ => Ok(()),
     }
 }
 
@@ -109,7 +140,7 @@ fn program(
     alloc: Global,
     object: &Object<'_>,
     function: Function,
-    block: BlockSize,
+    asked: &Asked,
 ) -> Result<LinkedProgram, Refusal> {
     let source = source_of(alloc, object)?;
     let gathered = match gather(alloc, object, function) {
@@ -117,28 +148,31 @@ fn program(
         Err(fault) => return Err(Refusal::of(of_gathering(alloc, &source, fault))),
     };
     let origins = origins(alloc, &gathered)?;
-    let linked = laid_out(alloc, &source, &gathered, &origins, block)?;
+    let linked = laid_out(alloc, &source, &gathered, &origins, asked)?;
+    check_strict(alloc, &source, &linked, &origins, asked)?;
     let bytes = bytes_of(alloc, linked.slots.as_slice())?;
-    let verdict = verdict(alloc, bytes.as_slice(), block)?;
-    let refused = refused_text(alloc, &source, &linked, &origins, verdict)?;
+    let verdict = verdict(alloc, bytes.as_slice(), asked.block)?;
+    check_verdict(alloc, &source, &linked, &origins, verdict)?;
+    let told = guard_lines(alloc, &source, &linked, &origins)?;
     Ok(LinkedProgram {
         linked,
         bytes,
-        refused,
+        told,
     })
 }
 
-/// The program of the object of these bytes, that starts with the function of a name.
+/// The program of the object of these bytes, of the file with this name, that starts with the function of a name.
 pub(crate) fn made(
     alloc: Global,
+    path: &str,
     bytes: &[u8],
     name: &str,
-    block: BlockSize,
+    asked: &Asked,
 ) -> Result<LinkedProgram, Refusal> {
     let object = match Object::read(bytes) {
         Ok(object) => object,
-        Err(fault) => return Err(Refusal::of(format!(in alloc; "{fault}"))),
+        Err(fault) => return Err(Refusal::of(of_object(alloc, path, fault))),
     };
     let function = start(alloc, &object, name)?;
-    program(alloc, &object, function, block)
+    program(alloc, &object, function, asked)
 }

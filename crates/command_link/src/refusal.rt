@@ -1,12 +1,15 @@
 //! What the user is told of an object that no program is made of, or one that `verify` refuses.
 
-use crate::source::{Place, Source, symbol_name};
+use crate::guard_lines::of_end;
+use crate::source::{Place, Source, origin_of_slot, symbol_name};
+use crate::variables::variable_name;
 use accepted_programs::{Reason, Refusal as Verdict};
+use command_files::Shown;
 use ebpf_calls::StartFault;
 use ebpf_gather::{GatherFault, Gathered, Origin, SlotProblem, Wanted};
 use ebpf_inline::InlineFault;
-use ebpf_link::LinkFault;
-use ebpf_object::Object;
+use ebpf_link::{GuardPlace, LinkFault, LoopRule, Widest};
+use ebpf_object::{HeaderFault, Object, ObjectFault};
 use ebpf_units::UnitFault;
 use std::alloc::{AllocError, Global};
 
@@ -35,6 +38,10 @@ fn advice(problem: SlotProblem) -> &'static str {
             "write the function into the file; of the C library there are memcpy, memset and memcmp"
         }
         SlotProblem::Length(_) => "give it a constant up to 512, or write a loop",
+        SlotProblem::FunctionAddress | SlotProblem::CallByAddress => {
+            "call by address isn't possible: call the functions by their names, as in a switch"
+        }
+        SlotProblem::OtherAddress => "keep in constant data only addresses of constant data",
         SlotProblem::Instruction(_) => "write it without atomics, and for -mcpu=v2, v3 or v4",
     }
 }
@@ -73,13 +80,23 @@ fn verdict_advice(reason: Reason) -> &'static str {
     }
 }
 
+/// What to write in place of a loop of which not all rounds have room.
+fn loop_advice(rule: LoopRule) -> &'static str {
+    match rule {
+        LoopRule::Whole => {
+            "give it a constant bound, fewer rounds, or less in each, or link with --cut-loops"
+        }
+        LoopRule::Cut => "give it a constant bound, fewer rounds, or less in each",
+    }
+}
+
 /// What is told: where it is, if that is known, what is wrong, and what to write instead.
-fn sentence(
+pub(crate) fn sentence(
     alloc: Global,
     source: &Source<'_, '_>,
     place: Option<Place<'_>>,
     problem: &str,
-    advice: &'static str,
+    advice: &str,
 ) -> Result<String, AllocError> {
     match place {
         Some(place) => {
@@ -90,13 +107,18 @@ fn sentence(
     }
 }
 
-/// What is wrong with a slot, and of which function it calls.
+/// What is wrong with a slot, and of which function it calls, or which variable it has the address of.
 fn slot_problem(
     alloc: Global,
     object: &Object<'_>,
+    origin: Origin,
     problem: SlotProblem,
 ) -> Result<String, AllocError> {
     match problem {
+        SlotProblem::Reference(_) => match variable_name(object, origin) {
+            Some(name) => format!(in alloc; "{name}: {problem}"),
+            None => format!(in alloc; "{problem}"),
+        },
         SlotProblem::Missing(symbol) | SlotProblem::Length(symbol) => {
             let called = symbol_name(object, symbol);
             format!(in alloc; "{called}: {problem}")
@@ -107,10 +129,15 @@ fn slot_problem(
 
 /// The slot of a function of a unit, as one of the object.
 fn origin_of(gathered: &Gathered, function: usize, slot: usize) -> Option<Origin> {
+    let before = if function == gathered.unit.start {
+        gathered.before
+    } else {
+        0
+    };
     match gathered.functions.get(function)? {
         Wanted::Symbol(symbol) => Some(Origin {
             symbol: *symbol,
-            slot,
+            slot: slot.saturating_sub(before),
         }),
         Wanted::Library(_) => None,
     }
@@ -142,22 +169,40 @@ fn unit_problem(fault: UnitFault) -> &'static str {
     }
 }
 
-/// What is told of so many slots, most of them of a loop, if there is one.
+/// What is told of a program of so many slots, most of them perhaps of a loop.
 fn of_length(
     alloc: Global,
     source: &Source<'_, '_>,
-    place: Option<Place<'_>>,
+    origins: &[Option<Origin>],
+    rule: LoopRule,
     count: usize,
+    widest: Option<Widest>,
 ) -> Result<String, AllocError> {
-    let (loops, advice) = match place {
-        Some(_) => (
-            "a loop whose rounds are most of ",
-            "write fewer rounds, or less in each",
-        ),
-        None => ("", "write less"),
-    };
-    let problem = format!(in alloc; "{loops}{count} slots, and a program has 4096 at most")?;
-    sentence(alloc, source, place, problem.as_str(), advice)
+    match widest {
+        Some(
+            Widest {
+                back,
+                rounds,
+                slots,
+            },
+        ) => {
+            let place = source.place_of(origin_of_slot(origins, back));
+            let problem = format!(in alloc;
+                "a loop of {rounds} rounds, which take {slots} of {count} slots, and a program has 4096 at most"
+            )?;
+            sentence(alloc, source, place, problem.as_str(), loop_advice(rule))
+        }
+        None => {
+            let problem = format!(in alloc; "{count} slots, and a program has 4096 at most")?;
+            sentence(
+                alloc,
+                source,
+                None,
+                problem.as_str(),
+                "write less; leave out `#pragma unroll`, where clang unrolled a loop",
+            )
+        }
+    }
 }
 
 /// What is told of a slot of a program that the verifier refuses, and that was made of another one.
@@ -177,6 +222,21 @@ pub(crate) fn of_verdict(
         problem.as_str(),
         verdict_advice(reason),
     )
+}
+
+/// What is told of a file that is no object.
+pub(crate) fn of_object(
+    alloc: Global,
+    path: &str,
+    fault: ObjectFault,
+) -> Result<String, AllocError> {
+    let path = Shown(path);
+    match fault {
+        ObjectFault::Header(HeaderFault::Short | HeaderFault::Magic) => {
+            format!(in alloc; "{path}: not an ELF file")
+        }
+        _ => format!(in alloc; "{path}: {fault}"),
+    }
 }
 
 /// What is told of an object in which a program could start with several functions, or with none.
@@ -222,7 +282,7 @@ pub(crate) fn of_gathering(
                 slot,
             };
             let place = source.place(origin);
-            let told = slot_problem(alloc, source.object, problem)?;
+            let told = slot_problem(alloc, source.object, origin, problem)?;
             sentence(alloc, source, Some(place), told.as_str(), advice(problem))
         }
     }
@@ -255,6 +315,7 @@ pub(crate) fn of_linking(
     alloc: Global,
     source: &Source<'_, '_>,
     origins: &[Option<Origin>],
+    rule: LoopRule,
     fault: LinkFault,
 ) -> Result<String, AllocError> {
     match fault {
@@ -262,17 +323,30 @@ pub(crate) fn of_linking(
         LinkFault::Leaves(_) => {
             format!(in alloc; "{fault}; compile the file by `clang -target bpf -O2 -c`")
         }
-        LinkFault::Loop { slots, rounds } => {
-            let place = source.loop_place(origins, &slots);
+        LinkFault::Loop {
+            back,
+            rounds,
+            count,
+        } => {
+            let place = source.place_of(origin_of_slot(origins, back));
             let problem = format!(in alloc;
-                "a loop that isn't known to be over after {rounds} rounds"
+                "a loop that isn't known to be over after {rounds} rounds, and {count} slots"
             )?;
-            let advice = "give it a constant bound, fewer rounds, or less in each";
-            sentence(alloc, source, place, problem.as_str(), advice)
+            sentence(alloc, source, place, problem.as_str(), loop_advice(rule))
         }
-        LinkFault::TooLong { count, slots } => {
-            of_length(alloc, source, source.loop_place(origins, &slots), count)
+        LinkFault::TooLong { count, widest } => of_length(
+            alloc, source, origins, rule, count, widest,
+        ),
+        LinkFault::Ends(GuardPlace { slot, need }) => {
+            of_end(alloc, source, origin_of_slot(origins, slot), need)
         }
+        LinkFault::Address(slot) => sentence(
+            alloc,
+            source,
+            source.place_of(origin_of_slot(origins, slot)),
+            "an address that may be the context's or another one",
+            "read what is needed of the context before",
+        ),
     }
 }
 

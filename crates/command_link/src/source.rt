@@ -15,6 +15,11 @@ pub(crate) struct Source<'a, 'b> {
     pub lines: Lines<'a>,
 }
 
+/// What a slot of a program was made of, of those of the object's functions.
+pub(crate) fn origin_of_slot(origins: &[Option<Origin>], slot: usize) -> Option<Origin> {
+    *origins.get(slot)?
+}
+
 /// A text of an object as one that can be shown.
 fn text(bytes: &[u8]) -> &str {
     match from_utf8(bytes) {
@@ -74,9 +79,9 @@ impl<'a> Source<'a, '_> {
         self.lines.row(function.section, byte)
     }
 
-    /// The place of a slot whose line this is.
-    fn place_with(&self, origin: Origin, row: Option<Row>) -> Place<'a> {
-        let line = match row {
+    /// Where a slot of a function stands.
+    pub fn place(&self, origin: Origin) -> Place<'a> {
+        let line = match self.row(origin) {
             Some(row) => match self.lines.file_name(&row) {
                 Some(name) => Some((text(name), row.line)),
                 None => None,
@@ -90,61 +95,11 @@ impl<'a> Source<'a, '_> {
         }
     }
 
-    /// Where a slot of a function stands.
-    pub fn place(&self, origin: Origin) -> Place<'a> {
-        self.place_with(origin, self.row(origin))
-    }
-
     /// The same, where it is a slot of the object's.
     pub fn place_of(&self, origin: Option<Origin>) -> Option<Place<'a>> {
         match origin {
             Some(origin) => Some(self.place(origin)),
             None => None,
-        }
-    }
-
-    /// The first line of those of slots of one function that stand in the file in which the function begins.
-    fn first_row(&self, first: Origin, origins: &[Option<Origin>], slots: &[usize]) -> Option<Row> {
-        let function = self.function(first.symbol)?;
-        let begin = self.lines.first_row(function.section, function.offset)?;
-        let mut least: Option<Row> = None;
-        for slot in slots {
-            if let Some(row) = self.row_within(first, &begin, origins, *slot) {
-                least = match least {
-                    Some(earlier) if earlier.line <= row.line => Some(earlier),
-                    _ => Some(row),
-                };
-            }
-        }
-        least
-    }
-
-    /// The line of a slot, where that is of the same function as another one, and its line in the file of a row.
-    fn row_within(
-        &self,
-        first: Origin,
-        begin: &Row,
-        origins: &[Option<Origin>],
-        slot: usize,
-    ) -> Option<Row> {
-        let origin = (*origins.get(slot)?)?;
-        if origin.symbol != first.symbol {
-            return None;
-        }
-        let row = self.row(origin)?;
-        if row.is_of_file_of(begin) {
-            Some(row)
-        } else {
-            None
-        }
-    }
-
-    /// Where a loop of these slots of a program stands; nothing, where there are none.
-    pub fn loop_place(&self, origins: &[Option<Origin>], slots: &[usize]) -> Option<Place<'a>> {
-        let first = (*origins.get(*slots.first()?)?)?;
-        match self.first_row(first, origins, slots) {
-            Some(row) => Some(self.place_with(first, Some(row))),
-            None => Some(self.place(first)),
         }
     }
 

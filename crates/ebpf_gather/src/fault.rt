@@ -20,6 +20,15 @@ pub enum SlotProblem {
     /// It calls memcpy, memset or memcmp with a length that isn't a number known there, or is more than the stack has bytes.
     #[error("a length that is no small constant")]
     Length(usize),
+    /// It refers to data that has the address of a function.
+    #[error("constant data with the address of a function")]
+    FunctionAddress,
+    /// It refers to data that has another address than one of constant data, or a part of one.
+    #[error("constant data with an address that isn't one of constant data")]
+    OtherAddress,
+    /// It calls what a register has the address of.
+    #[error("a call by an address")]
+    CallByAddress,
     /// No instruction of this profile stands there.
     #[error("{0}")]
     Instruction(FaultKind),

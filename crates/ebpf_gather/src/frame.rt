@@ -56,7 +56,10 @@ fn depth(slots: &[FunctionSlot], instruction: &Instruction) -> usize {
     }
 }
 
-/// How many bytes below R10 are a function's own: whole words, down to the lowest byte that an instruction names by R10 or by a register
+/// The bytes by which clang takes the stack to be aligned.
+pub(crate) const ALIGNED: usize = 16;
+
+/// How many bytes below R10 are a function's own: a multiple of those by which the stack is aligned, down to the lowest byte that an instruction names by R10 or by a register
 /// to which the function moves it.
 pub(crate) fn frame_bytes(slots: &[FunctionSlot]) -> usize {
     let mut most = 0;
@@ -65,5 +68,5 @@ pub(crate) fn frame_bytes(slots: &[FunctionSlot]) -> usize {
             most = depth(slots, instruction).max(most);
         }
     }
-    most.min(STACK_BYTES).div_ceil(8) * 8
+    most.min(STACK_BYTES).div_ceil(ALIGNED) * ALIGNED
 }

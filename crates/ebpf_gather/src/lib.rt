@@ -2,6 +2,7 @@
 //! what `ebpf_units` and `ebpf_inline` make one program of.
 #![tactic(auto)]
 
+mod addresses;
 mod fault;
 mod frame;
 mod gathering;

@@ -10,7 +10,7 @@ use crate::library::library_function;
 use crate::wanted::{LibraryCall, Wanted, number_of, symbol_of};
 use ebpf_calls::{Reference, reference_of};
 use ebpf_decode::{read, slot_at};
-use ebpf_object::{Function, Object};
+use ebpf_object::{Function, Object, Symbol, SymbolKind};
 use ebpf_units::FunctionSlot;
 use instruction_set::{Instruction, Operation, Register, Source};
 use program_interface::{MOST_SLOTS, REGISTERS, STACK_BYTES};
@@ -23,6 +23,72 @@ pub(crate) struct Found {
     pub functions: Vec<Wanted>,
     /// The numbers of the sections of data, by theirs in the program.
     pub sections: Vec<usize>,
+    /// What slots and data have the addresses of, each once.
+    pub uses: Vec<Use>,
+}
+
+/// A slot of the function of a symbol.
+#[derive(Clone, Copy)]
+pub(crate) struct Place {
+    pub symbol: usize,
+    pub slot: usize,
+}
+
+/// Bytes of a section that are used, as those of a table, and the first slot by which they are.
+#[derive(Clone, Copy)]
+pub(crate) struct Use {
+    /// The section's number in the program.
+    pub section: usize,
+    pub first: usize,
+    pub end: usize,
+    pub by: Place,
+}
+
+impl Found {
+    /// Notes that the variable that has a byte of a section is used; the whole section, where none is known that has it.
+    pub fn note_use(
+        &mut self,
+        object: &Object<'_>,
+        number: usize,
+        byte: usize,
+        by: Place,
+    ) -> Result<(), AllocError> {
+        let Some(section) = self.sections.get(number) else {
+            return Ok(());
+        };
+        let (first, end) = variable_at(object, *section, byte);
+        let is_there = self.uses.iter().any(|used| used.section == number
+            && used.first == first
+            && used.end == end);
+        if is_there {
+            return Ok(());
+        }
+        self.uses.extend_from_slice(&[Use {
+            section: number,
+            first,
+            end,
+            by,
+        }])
+    }
+}
+
+/// Is a symbol that of a variable which has this byte of a section?
+fn has(symbol: &Symbol, section: usize, byte: usize) -> bool {
+    symbol.kind == SymbolKind::Data
+        && symbol.place == ebpf_object::Place::Section(section)
+        && symbol.value <= byte
+        && byte - symbol.value < symbol.size
+}
+
+/// The bytes of the variable that has a byte of a section: the first, and the one behind the last. Where none has it, all of the section.
+fn variable_at(object: &Object<'_>, section: usize, byte: usize) -> (usize, usize) {
+    for number in 0..object.symbol_count() {
+        let symbol = object.symbol(number);
+        if has(&symbol, section, byte) {
+            return (symbol.value, symbol.value.saturating_add(symbol.size));
+        }
+    }
+    (0, usize::MAX)
 }
 
 /// Why a slot isn't made.
@@ -49,6 +115,9 @@ pub(crate) fn function_of(object: &Object<'_>, symbol: usize) -> Option<Function
     }
 }
 
+/// The opcode by which clang calls what a register has the address of.
+const CALL_BY_REGISTER: u8 = 0x8d;
+
 /// The instruction at a slot.
 fn instruction_at(code: &[u8], slot: usize) -> Result<Instruction, SlotProblem>
     requires { slot < MOST_SLOTS }
@@ -58,6 +127,7 @@ fn instruction_at(code: &[u8], slot: usize) -> Result<Instruction, SlotProblem>
     };
     match read(&fields, slot_at(code, slot + 1)) {
         Ok(instruction) => Ok(instruction),
+        Err(_) if fields.opcode == CALL_BY_REGISTER => Err(SlotProblem::CallByAddress),
         Err(kind) => Err(SlotProblem::Instruction(kind)),
     }
 }
@@ -218,7 +288,12 @@ fn made_at(
         return Ok(FunctionSlot::Inside);
     }
     match slot_of(object, function, slot, found) {
-        Ok(made) => Ok(made),
+        Ok(made) => {
+            if let FunctionSlot::Address { section, byte, .. } = made {
+                found.note_use(object, section, byte, Place { symbol, slot })?;
+            }
+            Ok(made)
+        }
         Err(SlotFault::Memory(error)) => Err(GatherFault::Memory(error)),
         Err(SlotFault::Problem(problem)) => Err(GatherFault::Slot {
             function: symbol,

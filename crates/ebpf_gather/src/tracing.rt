@@ -89,6 +89,28 @@ fn push_call(
     push_times(into, origin, kept)
 }
 
+/// The slot of the object that a slot of a function is: of one of the C library's that of the call, of those in front none.
+fn origin_in(
+    gathered: &Gathered,
+    function: usize,
+    slot: usize,
+    caller: Option<Origin>,
+) -> Option<Origin> {
+    let before = if function == gathered.unit.start {
+        gathered.before
+    } else {
+        0
+    };
+    match gathered.functions.get(function) {
+        Some(Wanted::Symbol(symbol)) if slot >= before => Some(Origin {
+            symbol: *symbol,
+            slot: slot - before,
+        }),
+        Some(Wanted::Symbol(_)) => None,
+        _ => caller,
+    }
+}
+
 /// The slots of a function, with those of all that it calls. Those of the C library's are those of the call.
 #[cycle(origins)]
 fn push_function(
@@ -102,13 +124,7 @@ fn push_function(
         return Ok(());
     };
     for slot in 0..body.slots.len() {
-        let origin = match gathered.functions.get(function) {
-            Some(Wanted::Symbol(symbol)) => Some(Origin {
-                symbol: *symbol,
-                slot,
-            }),
-            _ => caller,
-        };
+        let origin = origin_in(gathered, function, slot, caller);
         push_slot(into, gathered, &body.slots, slot, origin, depth)?;
         if into.len() > MOST_SLOTS {
             break;

@@ -1,5 +1,5 @@
 -- The ends of block runs to which guards lead.
-use Rattle.std.specs.Prelude.{ℕ, ℤ, List, [], ◌∷◌, ◌+◌, pos, length}
+use Rattle.std.specs.Prelude.{ℕ, ℤ, List, [], ◌∷◌, ◌+◌, pos}
 use Rattle.instruction_set.specs.declared.instruction.Instruction.{Instruction}
 use Rattle.instruction_set.specs.declared.instruction.Instruction.TheVariants.{Arithmetic, Exit, Jump}
 use Rattle.instruction_set.specs.declared.instruction.Source.TheVariants.{Immediate}

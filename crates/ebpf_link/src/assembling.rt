@@ -1,7 +1,7 @@
 //! Pieces as slots: what computes nothing that is read is left out, and jumps get their distances.
 
-use crate::fault::LinkFault;
-use crate::guards::Guard;
+use crate::fault::{LinkFault, Widest};
+use crate::guards::{Guard, GuardPlace, Need};
 use crate::layout::Layout;
 use crate::lists::{number_at, set_number, zeros};
 use crate::liveness::{Registers, at, before, bit, reads, writes};
@@ -19,8 +19,19 @@ pub struct Linked {
     pub origins: Vec<usize>,
     /// How many guards of each kind were put in, also such as other instructions were then left out with.
     pub guards: [usize; Guard::COUNT],
-    /// So many rounds of each loop were laid out at least, if one wasn't laid out to its end.
-    pub rounds: Option<usize>,
+    /// The guards that may end a block run of a block of the size that the program is made for, and what must hold.
+    pub places: Vec<GuardPlace>,
+    /// The loops that weren't laid out to their ends.
+    pub cuts: Vec<Cut>,
+}
+
+/// A loop that is laid out no further than so many rounds.
+#[derive(Clone, Copy, Debug, PartialEq, Eq)]
+pub struct Cut {
+    /// The slot of the jump back, of those that were given.
+    pub back: usize,
+    /// How many rounds are laid out.
+    pub rounds: usize,
 }
 
 /// Does an instruction nothing else than to write its destination?
@@ -271,17 +282,46 @@ fn too_long(
     sizes: &[usize],
     count: usize,
 ) -> Result<LinkFault, AllocError> {
-    let slots = match greatest(&loop_sizes(alloc, layout, sizes)?) {
-        Some(first) => layout.loop_slots(alloc, first)?,
-        None => Vec::new(alloc),
+    let counts = loop_sizes(alloc, layout, sizes)?;
+    let widest = match greatest(&counts) {
+        Some(first) => Some(Widest {
+            back: layout.back(first),
+            rounds: number_at(&layout.rounds, first),
+            slots: number_at(&counts, first),
+        }),
+        None => None,
     };
-    Ok(LinkFault::TooLong { count, slots })
+    Ok(LinkFault::TooLong { count, widest })
+}
+
+/// Is there such a guard among these?
+fn has(places: &[GuardPlace], wanted: GuardPlace) -> bool {
+    places.iter().any(|place| *place == wanted)
+}
+
+/// The guards in front of slots that were given, each once; but not that of the block's size.
+fn guard_places(alloc: Global, layout: &Layout<'_>) -> Result<Vec<GuardPlace>, AllocError> {
+    let mut places = Vec::new(alloc);
+    for place in layout.places.iter() {
+        let slot = number_at(layout.origins, place.slot);
+        let need = place.need;
+        let found = GuardPlace { slot, need };
+        if !matches!(need, Need::BlockSize(_)) && !has(&places, found) {
+            places.extend_from_slice(&[found])?;
+        }
+    }
+    Ok(places)
 }
 
 /// The program of the pieces that were laid out.
 pub(crate) fn assembled(alloc: Global, layout: &Layout<'_>) -> Result<Linked, LinkFault> {
     let pieces = layout.pieces.as_slice();
-    let all = layout.slots.len().saturating_add(Guard::COUNT);
+    // behind the slots there are the ends of guards, and the other way of an access
+    let all = layout
+        .slots
+        .len()
+        .saturating_add(Guard::COUNT)
+        .saturating_add(1);
     let mut sizes = sizes(alloc, pieces, all)?;
     without_idle_stores(layout, &mut sizes);
     let count = count(&sizes);
@@ -305,6 +345,7 @@ pub(crate) fn assembled(alloc: Global, layout: &Layout<'_>) -> Result<Linked, Li
         slots,
         origins: origins(alloc, layout, &sizes)?,
         guards,
-        rounds: layout.fewest_rounds(),
+        places: guard_places(alloc, layout)?,
+        cuts: layout.cuts(alloc)?,
     })
 }

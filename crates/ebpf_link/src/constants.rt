@@ -105,6 +105,30 @@ fn number_loaded(known: &Known, size: Size, byte: usize) -> Option<u64> {
     }
 }
 
+/// Does a store of a number change nothing, since the stack has it already?
+pub(crate) fn is_idle_store(known: &Known, instruction: &Instruction) -> bool {
+    let Instruction::StoreImmediate {
+        size,
+        dst,
+        offset,
+        value,
+    } = *instruction
+    else {
+        return false;
+    };
+    let Some(byte) = byte_at(known.get(dst).offsets(), offset) else {
+        return false;
+    };
+    let stored = Instruction::immediate_word(value);
+    match (size, number_loaded(known, size, byte)) {
+        (Size::Byte, Some(number)) => stored % 0x100 == number,
+        (Size::HalfWord, Some(number)) => stored % 0x1_0000 == number,
+        (Size::Word, Some(number)) => stored % 0x1_0000_0000 == number,
+        (Size::DoubleWord, Some(number)) => stored == number,
+        _ => false,
+    }
+}
+
 /// A move of a number, in place of a load of it from the stack.
 pub(crate) fn number_in_place(known: &Known, instruction: &Instruction) -> Option<Instruction> {
     let Instruction::Load {

@@ -3,6 +3,7 @@
 ghost use Rattle.std.specs.Prelude.{◌≡◌};
 ghost use Rattle.ebpf_link.specs.declared.fault.LinkFault.TheVariants.{Memory};
 
+use crate::guards::GuardPlace;
 use std::alloc::AllocError;
 use thiserror::Error;
 
@@ -15,22 +16,41 @@ pub enum LinkFault {
     /// An instruction leads to a slot at which none begins.
     #[error("an instruction leads to slot {0}, where none begins")]
     Leaves(usize),
-    /// A loop has no end that is known, or so many rounds that the program has more slots than can be.
+    /// A loop has no end that is known, or so many rounds that more is laid out than is looked at.
     #[error("a loop that isn't known to be over after {rounds} rounds")]
     Loop {
-        /// The slots of the loop, of those that were given.
-        slots: Vec<usize>,
+        /// The slot of the jump back, of those that were given.
+        back: usize,
         /// How many rounds were laid out.
         rounds: usize,
+        /// How many instructions were.
+        count: usize,
     },
     /// There are more slots than a program can have.
     #[error("{count} slots, and a program has {most} at most", most = program_interface::MOST_SLOTS)]
     TooLong {
         /// How many.
         count: usize,
-        /// The slots of the loop that most of them are of, of those that were given; none, where there is no loop.
-        slots: Vec<usize>,
+        /// The loop that most of them are of, if there is one.
+        widest: Option<Widest>,
     },
+    /// A guard always ends the block run.
+    #[error("the block run always ends in front of slot {}", .0.slot)]
+    Ends(GuardPlace),
+    /// An address may be one of the context or of another area, and no register has the context's.
+    #[error("an address in the context or in another area, at slot {0}")]
+    Address(usize),
+}
+
+/// The loop that most slots of a program are of.
+#[derive(Clone, Copy, Debug, PartialEq, Eq)]
+pub struct Widest {
+    /// The slot of the jump back, of those that were given.
+    pub back: usize,
+    /// How many rounds it has, where it was come to last.
+    pub rounds: usize,
+    /// How many slots are of it.
+    pub slots: usize,
 }
 
 impl From<AllocError> for LinkFault {

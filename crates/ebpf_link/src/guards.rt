@@ -9,7 +9,6 @@ use crate::folding::folded;
 use crate::known::{Known, narrow, step};
 use crate::layout::Layout;
 use crate::liveness::{ALL, at, bit, reads, writes};
-use crate::origins::area_in;
 use crate::pieces::{compare, compute};
 use instruction_set::{
     Access, AccessKind, Instruction, Operation, Register, Relation, Size, Source,
@@ -71,25 +70,91 @@ impl Guard {
     }
 }
 
+/// What must hold where a guard lets a block run go on.
+#[derive(Clone, Copy, Debug, PartialEq, Eq)]
+pub enum Need {
+    /// So many bytes, which are accessed or emitted, lie in an area of so many.
+    Inside {
+        /// The area.
+        area: Area,
+        /// How many bytes.
+        bytes: usize,
+        /// How many the area has.
+        length: usize,
+    },
+    /// A record has a byte.
+    SomeByte,
+    /// A record has at most so many bytes, of those that there may be from its address on.
+    Most(usize),
+    /// A record has at most so many bytes, which are left of the limit.
+    Left(usize),
+    /// A block has so many bytes.
+    BlockSize(usize),
+    /// A loop is over after so many rounds.
+    Rounds(usize),
+}
+
+/// A guard in front of what stands at a slot, and what must hold.
+#[derive(Clone, Copy, Debug, PartialEq, Eq)]
+pub struct GuardPlace {
+    /// The slot, of those that were given.
+    pub slot: usize,
+    /// What must hold.
+    pub need: Need,
+}
+
 /// Where an address must lie, in bytes behind the first one of an area.
 #[derive(Clone, Copy)]
 pub(crate) struct Within {
     pub area: Area,
     pub low: i64,
     pub high: i64,
+    /// What is told of it.
+    pub need: Need,
 }
 
-/// The area that an access goes to, as far as can be told.
-pub(crate) fn area_of(told: Option<Area>, kind: AccessKind) -> Area {
-    match (told, kind) {
-        (Some(area), _) => area,
-        (None, AccessKind::Load) => Area::Block,
-        (None, AccessKind::Store) => Area::Scratch,
+impl Within {
+    /// The bounds of the distance, as numbers to compare with.
+    pub fn compared(self) -> (i32, i32) {
+        let high = self.high.clamp(0, 100_000) as i32;
+        (self.low.clamp(0, 100_000) as i32, high)
     }
 }
 
+/// Any place of an area, for so many bytes.
+pub(crate) fn whole(area: Area, length: usize, bytes: usize) -> Within {
+    Within {
+        area,
+        low: 0,
+        high: small(length),
+        need: Need::Inside {
+            area,
+            bytes,
+            length,
+        },
+    }
+}
+
+/// A register that has an address, at which distance from its area's first byte, and the cell that has what it had before.
+#[derive(Clone, Copy)]
+pub(crate) struct Anchor {
+    pub register: Register,
+    pub distance: i32,
+    pub spare: Option<i16>,
+}
+
+/// What makes an address again of its distance.
+pub(crate) fn address_again(base: Register, anchor: Anchor) -> [Option<Instruction>; 2] {
+    let added = compute(Operation::Add, base, Source::Register(anchor.register));
+    if anchor.distance == 0 {
+        return [Some(added), None];
+    }
+    let back = Source::Immediate(anchor.distance.clamp(-100_000, 100_000).wrapping_neg());
+    [Some(added), Some(compute(Operation::Add, base, back))]
+}
+
 /// The length of an area, which is small.
-fn small(length: usize) -> i64 {
+pub(crate) fn small(length: usize) -> i64 {
     if length < 0x10_0000 {
         length as i64
     } else {
@@ -104,10 +169,14 @@ pub(crate) fn narrowed(within: Within, access: Access, length: usize) -> Within 
     let high = small(length)
         .wrapping_sub(offset)
         .wrapping_sub(i64::from(access.size));
+    let bytes = match within.need {
+        Need::Inside { bytes, .. } => bytes,
+        _ => 0,
+    };
     Within {
-        area: within.area,
         low: within.low.max(low),
         high: within.high.min(high),
+        ..whole(within.area, length, bytes.max(usize::from(access.size)))
     }
 }
 
@@ -143,14 +212,20 @@ impl Layout<'_> {
     pub(crate) fn put_guard(
         &mut self,
         known: &mut Known,
+        need: Need,
         guard: Guard,
         relation: Relation,
         dst: Register,
         number: i32,
     ) -> Result<bool, LinkFault> {
         let branch = compare(relation, dst, number);
+        self.note_guard(need)?;
         self.push_guard(branch, guard)?;
-        Ok(narrow(known, &branch, false))
+        let goes_on = narrow(known, &branch, false);
+        if !goes_on {
+            self.note_end(need);
+        }
+        Ok(goes_on)
     }
 
     /// A register, other than this one, that has an address whose distance from an area's first byte is known, and this distance.
@@ -167,7 +242,12 @@ impl Layout<'_> {
     }
 
     /// A register that an instruction at a slot doesn't use, and whether nothing reads what it has.
-    fn temporary(&self, slot: usize, instruction: &Instruction, but: Register) -> (Register, bool) {
+    pub(crate) fn temporary(
+        &self,
+        slot: usize,
+        instruction: &Instruction,
+        but: Register,
+    ) -> (Register, bool) {
         let used = reads(instruction) | bit(but);
         let live = at(&self.live, slot) | used;
         for number in 0..10u8 {
@@ -193,34 +273,90 @@ impl Layout<'_> {
         guard: Guard,
         base: Register,
         within: Within,
-        anchor: Register,
-        distance: i64,
+        anchor: Anchor,
     ) -> Result<bool, LinkFault> {
-        let source = Source::Register(anchor);
-        let shift = distance.clamp(-100_000, 100_000) as i32;
-        self.put(known, compute(Operation::Subtract, base, source))?;
-        if shift != 0 {
-            self.put(
-                known,
-                compute(Operation::Add, base, Source::Immediate(shift)),
-            )?;
-        }
-        let high = within.high.clamp(0, 100_000) as i32;
-        let low = within.low.clamp(0, 100_000) as i32;
-        if !self.put_guard(known, guard, Relation::Greater, base, high)? {
+        self.put_distance(known, base, anchor)?;
+        let need = within.need;
+        let (low, high) = within.compared();
+        if !self.put_guard(known, need, guard, Relation::Greater, base, high)? {
             return Ok(false);
         }
-        if low > 0 && !self.put_guard(known, guard, Relation::Less, base, low)? {
+        if low > 0 && !self.put_guard(known, need, guard, Relation::Less, base, low)? {
             return Ok(false);
         }
-        self.put(known, compute(Operation::Add, base, source))?;
-        if shift != 0 {
-            self.put(
-                known,
-                compute(Operation::Add, base, Source::Immediate(-shift)),
-            )?;
-        }
+        self.put_address(known, base, anchor)?;
         Ok(true)
+    }
+
+    /// Puts the distance of an address from its area's first byte in its place.
+    pub(crate) fn put_distance(
+        &mut self,
+        known: &mut Known,
+        base: Register,
+        anchor: Anchor,
+    ) -> Result<(), LinkFault> {
+        let source = Source::Register(anchor.register);
+        self.put(known, compute(Operation::Subtract, base, source))?;
+        if anchor.distance != 0 {
+            let source = Source::Immediate(anchor.distance);
+            self.put(known, compute(Operation::Add, base, source))?;
+        }
+        Ok(())
+    }
+
+    /// Puts an address back in the place of its distance.
+    pub(crate) fn put_address(
+        &mut self,
+        known: &mut Known,
+        base: Register,
+        anchor: Anchor,
+    ) -> Result<(), LinkFault> {
+        for instruction in address_again(base, anchor) {
+            if let Some(instruction) = instruction {
+                self.put(known, instruction)?;
+            }
+        }
+        Ok(())
+    }
+
+    /// A register that has an address whose distance from an area's first byte is known; where none has one, one that gets it.
+    pub(crate) fn put_anchor(
+        &mut self,
+        known: &mut Known,
+        slot: usize,
+        instruction: &Instruction,
+        base: Register,
+        area: Area,
+    ) -> Result<Option<Anchor>, LinkFault> {
+        if let Some((register, distance)) = self.anchor(known, area, base) {
+            return Ok(Some(Anchor {
+                register,
+                distance: distance.clamp(-100_000, 100_000) as i32,
+                spare: None,
+            }));
+        }
+        let Some(cell) = self.kept_address(area) else {
+            return Ok(None);
+        };
+        let (register, is_free) = self.temporary(slot, instruction, base);
+        let spare = if is_free { None } else { Some(self.cell(2)) };
+        if let Some(spare) = spare {
+            self.put(known, stored(register, spare))?;
+        }
+        self.put(known, loaded(register, cell))?;
+        Ok(Some(Anchor {
+            register,
+            distance: 0,
+            spare,
+        }))
+    }
+
+    /// Gives a register back what it had before an address was put into it.
+    pub(crate) fn put_back(&mut self, known: &mut Known, anchor: Anchor) -> Result<(), LinkFault> {
+        match anchor.spare {
+            Some(spare) => self.put(known, loaded(anchor.register, spare)),
+            None => Ok(()),
+        }
     }
 
     /// A cell of the stack that has the first address of an area.
@@ -251,29 +387,18 @@ impl Layout<'_> {
         if base == Register::FRAME_POINTER || within.high < within.low || within.high < 0 {
             return Ok(true);
         }
-        if let Some((anchor, distance)) = self.anchor(known, within.area, base) {
-            return self.put_over(known, guard, base, within, anchor, distance);
-        }
-        let Some(cell) = self.kept_address(within.area) else {
+        let Some(anchor) = self.put_anchor(known, slot, instruction, base, within.area)? else {
             return Ok(true);
         };
-        let (other, is_free) = self.temporary(slot, instruction, base);
-        let spare = self.cell(2);
-        if !is_free {
-            self.put(known, stored(other, spare))?;
-        }
-        self.put(known, loaded(other, cell))?;
-        if !self.put_over(known, guard, base, within, other, 0)? {
+        if !self.put_over(known, guard, base, within, anchor)? {
             return Ok(false);
         }
-        if !is_free {
-            self.put(known, loaded(other, spare))?;
-        }
+        self.put_back(known, anchor)?;
         Ok(true)
     }
 
     /// Is surely something stored by a register, from a slot on?
-    fn is_stored_from(&self, slot: usize, base: Register) -> bool {
+    pub(crate) fn is_stored_from(&self, slot: usize, base: Register) -> bool {
         for later in slot..self.slots.len() {
             let Some(Some(instruction)) = self.slots.get(later) else {
                 continue;
@@ -293,11 +418,7 @@ impl Layout<'_> {
     /// Where the accesses by a register must point that surely come from a slot on.
     fn accessed_from(&self, slot: usize, base: Register, area: Area) -> Within {
         let length = area.length(self.block.bytes() as usize);
-        let mut within = Within {
-            area,
-            low: 0,
-            high: length as i64,
-        };
+        let mut within = whole(area, length, 0);
         for later in slot..self.slots.len() {
             let Some(instruction) = self.slots.get(later) else {
                 break;
@@ -336,12 +457,9 @@ impl Layout<'_> {
                 return Ok(true);
             }
         }
-        let kind = if self.is_stored_from(slot, access.base) {
-            AccessKind::Store
-        } else {
-            access.kind
+        let Some(area) = self.open_areas(known, slot, instruction).first() else {
+            return Ok(true);
         };
-        let area = area_of(area_in(known, access.base), kind);
         let within = self.accessed_from(slot, access.base, area);
         self.put_within(known, Guard::Memory, slot, instruction, access.base, within)
     }
@@ -358,7 +476,7 @@ pub(crate) fn stored(src: Register, offset: i16) -> Instruction {
 }
 
 /// A load of a cell of the stack.
-fn loaded(dst: Register, offset: i16) -> Instruction {
+pub(crate) fn loaded(dst: Register, offset: i16) -> Instruction {
     Instruction::Load {
         size: Size::DoubleWord,
         dst,

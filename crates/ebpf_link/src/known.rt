@@ -6,6 +6,7 @@ ghost use Rattle.accepted_programs.specs.Facts.{compared_fact, fact, source_fact
 ghost use Rattle.ebpf_link.specs.Deciding.{edge};
 ghost use Rattle.interval_domain.specs.Intervals.{intervals};
 
+use crate::area_sets::{AreaSet, NO_AREA};
 use crate::constants::{WORDS, Words, join_words, store_words};
 use crate::fields::{Fields, NO_FIELDS, fields_behind, join_fields};
 use crate::origins::{Areas, CellAreas, Twins, join_origins, step_origins};
@@ -30,6 +31,8 @@ pub(crate) struct Known {
     pub areas: Areas,
     /// And of those in cells of the stack.
     pub cell_areas: CellAreas,
+    /// And of those anywhere in scratch.
+    pub scratch: AreaSet,
     /// Copies.
     pub twins: Twins,
     /// Was the block's size compared with the one that the program is made for?
@@ -52,8 +55,8 @@ impl Known {
     }
 }
 
-/// What is known at the start of a block run.
-pub(crate) fn at_start() -> Known {
+/// What is known at the start of a block run, where scratch may have addresses in these areas.
+pub(crate) fn at_start(scratch: AreaSet) -> Known {
     let zero = Intervals::constant(0);
     Known {
         facts: Facts {
@@ -76,9 +79,10 @@ pub(crate) fn at_start() -> Known {
             fit: None,
         },
         fields: NO_FIELDS,
-        words: [None; WORDS],
-        areas: [None; REGISTERS],
-        cell_areas: [None; accepted_programs::CELLS],
+        words: [Some(0); WORDS],
+        areas: [NO_AREA; REGISTERS],
+        cell_areas: [NO_AREA; accepted_programs::CELLS],
+        scratch,
         twins: [None; REGISTERS],
         is_sized: false,
     }
@@ -86,6 +90,7 @@ pub(crate) fn at_start() -> Known {
 
 /// Joins what is known on another way.
 pub(crate) fn join(known: &mut Known, other: &Known) {
+    join_origins(known, other);
     for j in 0..REGISTERS {
         let joined = known.facts.registers[j].join(other.facts.registers[j]);
         known.facts.registers[j] = joined;
@@ -94,7 +99,6 @@ pub(crate) fn join(known: &mut Known, other: &Known) {
     known.facts.emitted = known.facts.emitted.max(other.facts.emitted);
     join_fields(&mut known.fields, &other.fields);
     join_words(&mut known.words, &other.words);
-    join_origins(known, other);
     known.is_sized = known.is_sized && other.is_sized;
 }
 

@@ -4,8 +4,10 @@ ghost use Rattle.std.specs.Prelude.{◌≡◌, ◌+◌, ◌++◌, ◌∷◌, [],
 ghost use Rattle.ebpf_link.specs.Guards.{cut_pieces, guard_end, guard_index, guard_piece};
 ghost use Rattle.ebpf_link.specs.declared.pieces.Piece.TheVariants.{Begins, Plain};
 
+use crate::area_sets::AreaSet;
+use crate::assembling::Cut;
 use crate::fault::LinkFault;
-use crate::guards::{Guard, stored};
+use crate::guards::{Guard, GuardPlace, Need, stored};
 use crate::known::{Known, at_start, join};
 use crate::lists::{number_at, set_answer};
 use crate::liveness::Registers;
@@ -61,6 +63,16 @@ pub(crate) struct Layout<'a> {
     pub uses_scratch: bool,
     /// Is there a guard of each kind?
     pub guarded: [bool; Guard::COUNT],
+    /// The guards, and which slots they are in front of.
+    pub places: Vec<GuardPlace>,
+    /// The slot that is laid out.
+    pub here: usize,
+    /// What ends a block run at each slot, where it always does.
+    pub ended: Vec<Option<Need>>,
+    /// Is what stands at each slot come to anywhere?
+    pub passed: Vec<bool>,
+    /// The areas of addresses that a block run leaves in scratch.
+    pub scratch: AreaSet,
 }
 
 /// Joins what is known into a row.
@@ -112,6 +124,41 @@ impl Layout<'_> {
             *guarded = true;
         }
         self.push(Piece::Jump(jump, self.end_of(guard)))
+    }
+
+    /// Notes what must hold where a guard of a slot lets a block run go on.
+    pub(crate) fn note_guard(&mut self, need: Need) -> Result<(), LinkFault> {
+        let slot = self.here;
+        self.places.extend_from_slice(&[GuardPlace { slot, need }])?;
+        Ok(())
+    }
+
+    /// Notes that a guard always ends the block run here.
+    pub(crate) fn note_end(&mut self, need: Need) {
+        if let Some(found) = self.ended.get_mut(self.here) {
+            *found = Some(need);
+        }
+    }
+
+    /// The first slot that is never come to, though what is before it is, since a guard always ends the block run.
+    fn first_ended(&self) -> Option<GuardPlace> {
+        for slot in 0..self.slots.len() {
+            if let (Some(Some(need)), Some(false)) = (self.ended.get(slot), self.passed.get(slot)) {
+                return Some(GuardPlace { slot, need: *need });
+            }
+        }
+        None
+    }
+
+    /// Refuses a program in which a guard always ends the block run.
+    pub(crate) fn check_ends(&self) -> Result<(), LinkFault> {
+        match self.first_ended() {
+            Some(place) => Err(LinkFault::Ends(GuardPlace {
+                slot: number_at(self.origins, place.slot),
+                need: place.need,
+            })),
+            None => Ok(()),
+        }
     }
 
     /// Puts a jump to where a slot begins next.
@@ -239,29 +286,25 @@ impl Layout<'_> {
         self.put_end(Guard::Rounds)
     }
 
-    /// The slots that those of a loop were made of.
-    pub(crate) fn loop_slots(&self, alloc: Global, first: usize) -> Result<Vec<usize>, AllocError> {
-        let mut slots = Vec::new(alloc);
-        for slot in first..self.loops.end(first).saturating_add(1) {
-            if let Some(origin) = self.origins.get(slot) {
-                slots.extend_from_slice(&[*origin])?;
-            }
-        }
-        Ok(slots)
+    /// The slot that the jump back to where a loop begins was made of.
+    pub(crate) fn back(&self, first: usize) -> usize {
+        number_at(self.origins, self.loops.back(self.slots, first))
     }
 
     /// What is told of a program that has more pieces than are looked at.
-    fn too_long(&self, alloc: Global, slot: usize) -> Result<LinkFault, AllocError> {
-        let Some(first) = self.loops.innermost(slot) else {
-            return Ok(LinkFault::TooLong {
-                count: self.pieces.len(),
-                slots: Vec::new(alloc),
-            });
-        };
-        Ok(LinkFault::Loop {
-            slots: self.loop_slots(alloc, first)?,
-            rounds: number_at(&self.rounds, first),
-        })
+    fn too_long(&self, slot: usize) -> LinkFault {
+        let count = self.pieces.len();
+        match self.loops.innermost(slot) {
+            Some(first) => LinkFault::Loop {
+                back: self.back(first),
+                rounds: number_at(&self.rounds, first),
+                count,
+            },
+            None => LinkFault::TooLong {
+                count,
+                widest: None,
+            },
+        }
     }
 
     /// Counts a round of the loop that begins at a slot: the first, where it is come to from outside.
@@ -318,24 +361,22 @@ impl Layout<'_> {
         }
     }
 
-    /// The fewest rounds of a loop that isn't laid out to its end.
-    pub(crate) fn fewest_rounds(&self) -> Option<usize> {
-        let mut fewest = None;
+    /// The loops that aren't laid out to their ends.
+    pub(crate) fn cuts(&self, alloc: Global) -> Result<Vec<Cut>, AllocError> {
+        let mut cuts = Vec::new(alloc);
         for (slot, is_cut) in self.is_cut.iter().enumerate() {
             if *is_cut {
                 let rounds = number_at(self.caps, slot);
-                fewest = match fewest {
-                    Some(fewest) if fewest <= rounds => Some(fewest),
-                    _ => Some(rounds),
-                };
+                let back = self.back(slot);
+                cuts.extend_from_slice(&[Cut { back, rounds }])?;
             }
         }
-        fewest
+        Ok(cuts)
     }
 
     /// Lays all slots out.
     pub(crate) fn run(&mut self, alloc: Global) -> Result<(), LinkFault> {
-        let mut known = at_start();
+        let mut known = at_start(self.plan.scratch);
         if self.own <= 488 {
             self.keep_addresses(&mut known)?;
         }
@@ -359,7 +400,7 @@ impl Layout<'_> {
                 break;
             }
         }
-        Err(self.too_long(alloc, slot)?)
+        Err(self.too_long(slot))
     }
 }
 
@@ -369,6 +410,15 @@ pub(crate) fn boxed(alloc: Global, known: Known) -> Result<Box<Known>, AllocErro
         Ok(known) => Ok(known),
         Err(error) => Err(AllocError::from(error)),
     }
+}
+
+/// So many slots at which nothing ends the block run.
+pub(crate) fn no_needs(alloc: Global, count: usize) -> Result<Vec<Option<Need>>, AllocError> {
+    let mut needs = Vec::new(alloc);
+    for _ in 0..count {
+        needs.extend_from_slice(&[None])?;
+    }
+    Ok(needs)
 }
 
 /// So many rows with nothing.

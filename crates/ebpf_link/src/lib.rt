@@ -2,6 +2,7 @@
 //! can be come to, as far as a verifier's facts tell, with guards in front of what these don't tell.
 #![tactic(auto)]
 
+mod area_sets;
 mod assembling;
 mod constants;
 mod deciding;
@@ -21,11 +22,14 @@ mod origins;
 mod pieces;
 mod planning;
 mod remainders;
+mod several;
+mod spilling;
 mod stack;
+mod sums;
 mod threading;
 mod visiting;
 
-pub use assembling::Linked;
-pub use fault::LinkFault;
-pub use guards::{BLOCK_GUARD, EMIT_GUARD, Guard, MEMORY_GUARD, ROUNDS_GUARD};
-pub use planning::link;
+pub use assembling::{Cut, Linked};
+pub use fault::{LinkFault, Widest};
+pub use guards::{BLOCK_GUARD, EMIT_GUARD, Guard, GuardPlace, MEMORY_GUARD, Need, ROUNDS_GUARD};
+pub use planning::{LoopRule, link};

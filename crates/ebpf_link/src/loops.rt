@@ -98,6 +98,19 @@ impl Loops {
         number_at(&self.ends, head)
     }
 
+    /// The last slot from which a jump leads back to where a loop begins; that itself, where none does.
+    pub fn back(&self, slots: &[Option<Instruction>], head: usize) -> usize {
+        let mut last = head;
+        for slot in head..self.end(head).saturating_add(1) {
+            if let Some(instruction) = slots.get(slot) {
+                if back(slot, instruction) == Some(head) {
+                    last = slot;
+                }
+            }
+        }
+        last
+    }
+
     /// Does a loop begin at a slot?
     pub fn begins(&self, slot: usize) -> bool {
         matches!(self.heads.get(slot), Some(true))

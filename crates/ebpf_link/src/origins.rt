@@ -1,18 +1,19 @@
-//! Which area an address is of, where its distance isn't known, and which registers have the same word.
+//! In which areas an address may be, where its distance isn't known, and which registers have the same word.
 
+use crate::area_sets::{ANY_AREA, AreaSet, NO_AREA};
 use crate::known::Known;
 use crate::liveness::{bit, writes};
-use crate::stack::cell_of;
+use crate::stack::{cell_of, is_touched};
 use accepted_programs::CELLS;
 use instruction_set::{Instruction, Operation, Register, Size, Source, Width};
-use program_interface::{Area, REGISTERS};
-use word_domain::Domain;
+use program_interface::REGISTERS;
+use word_domain::{Domain, Offsets};
 
-/// The area of each register's address, if it is one.
-pub(crate) type Areas = [Option<Area>; REGISTERS];
+/// The areas in which each register's address may be.
+pub(crate) type Areas = [AreaSet; REGISTERS];
 
 /// And of each cell of the stack.
-pub(crate) type CellAreas = [Option<Area>; CELLS];
+pub(crate) type CellAreas = [AreaSet; CELLS];
 
 /// A register that another one was copied from, and whether all of its word was.
 #[derive(Clone, Copy, PartialEq, Eq)]
@@ -24,67 +25,111 @@ pub(crate) struct Twin {
 /// The register that each was copied from, where both still have what they had then.
 pub(crate) type Twins = [Option<Twin>; REGISTERS];
 
-/// Keeps what both ways know.
+/// Adds what another way knows, of which the facts are still apart.
 pub(crate) fn join_origins(known: &mut Known, other: &Known) {
     for j in 0..REGISTERS {
-        if known.areas[j] != other.areas[j] {
-            known.areas[j] = None;
-        }
+        let register = Register::from_number(j as u8);
+        let areas = areas_in(known, register).with(areas_in(other, register));
+        known.areas[j] = areas;
         if known.twins[j] != other.twins[j] {
             known.twins[j] = None;
         }
     }
     for j in 0..CELLS {
-        if known.cell_areas[j] != other.cell_areas[j] {
-            known.cell_areas[j] = None;
-        }
+        let areas = known.cell_areas[j].with(other.cell_areas[j]);
+        known.cell_areas[j] = areas;
     }
+    known.scratch = known.scratch.with(other.scratch);
 }
 
-/// The area of a register's address.
-pub(crate) fn area_in(known: &Known, register: Register) -> Option<Area> {
-    match known.get(register).offsets() {
-        Some(told) => Some(told.area),
+/// The least word that is an address.
+const FIRST_ADDRESS: u64 = 0x1_0000_0000;
+
+/// May a register have an address?
+pub(crate) fn is_address(known: &Known, register: Register) -> bool {
+    let fact = known.get(register);
+    fact.offsets().is_some() || fact.bounds().high >= FIRST_ADDRESS
+}
+
+/// The areas in which a register's address may be.
+pub(crate) fn areas_in(known: &Known, register: Register) -> AreaSet {
+    let fact = known.get(register);
+    match fact.offsets() {
+        Some(told) => AreaSet::of(told.area),
+        None if !is_address(known, register) => NO_AREA,
         None => known.areas[register.index()],
     }
 }
 
-/// The area of an operand's address.
-fn area_of_source(known: &Known, source: Source) -> Option<Area> {
+/// The areas to which an access by a register may go: any, where it isn't known that the register has an address.
+pub(crate) fn accessed_areas(known: &Known, register: Register) -> AreaSet {
+    let areas = areas_in(known, register);
+    if areas == NO_AREA { ANY_AREA } else { areas }
+}
+
+/// The areas of an operand's address.
+fn areas_of_source(known: &Known, source: Source) -> AreaSet {
     match source {
-        Source::Register(register) => area_in(known, register),
-        Source::Immediate(_) => None,
+        Source::Register(register) => areas_in(known, register),
+        Source::Immediate(_) => NO_AREA,
     }
 }
 
-/// The area of the address that an instruction gives.
-fn area_given(known: &Known, instruction: &Instruction) -> Option<Area> {
+/// The areas of addresses in the cells of the stack that eight bytes at an offset from an address may touch.
+fn areas_in_cells(known: &Known, told: Option<Offsets>, offset: i16) -> AreaSet {
+    let mut areas = NO_AREA;
+    for j in 0..CELLS {
+        if is_touched(j, told, offset) {
+            areas = areas.with(known.cell_areas[j]);
+        }
+    }
+    areas
+}
+
+/// The areas of an address that is loaded.
+fn areas_loaded(known: &Known, src: Register, offset: i16) -> AreaSet {
+    let from = accessed_areas(known, src);
+    let mut areas = NO_AREA;
+    if from.stack {
+        areas = areas_in_cells(known, known.get(src).offsets(), offset);
+    }
+    if from.scratch {
+        areas = areas.with(known.scratch);
+    }
+    areas
+}
+
+/// The areas of the address that arithmetic of 64 bits gives.
+fn areas_computed(operation: Operation, first: AreaSet, second: AreaSet) -> AreaSet {
+    match operation {
+        Operation::Move => second,
+        Operation::Add | Operation::Or | Operation::And | Operation::Xor => first.with(second),
+        Operation::Subtract if second == NO_AREA => first,
+        Operation::Subtract => NO_AREA,
+        _ if first == NO_AREA && second == NO_AREA => NO_AREA,
+        _ => ANY_AREA,
+    }
+}
+
+/// The areas of the address that an instruction gives.
+fn areas_given(known: &Known, instruction: &Instruction) -> AreaSet {
     match *instruction {
         Instruction::Load {
             size: Size::DoubleWord,
             src,
             offset,
             ..
-        } => {
-            let cell = cell_of(known.get(src).offsets(), offset)?;
-            *known.cell_areas.get(cell)?
-        }
+        } => areas_loaded(known, src, offset),
         Instruction::Arithmetic {
             width: Width::Bits64,
             operation,
             dst,
             source,
-        } => match (
-            operation,
-            area_in(known, dst),
-            area_of_source(known, source),
-        ) {
-            (Operation::Move, _, area) => area,
-            (Operation::Add, Some(area), None) | (Operation::Add, None, Some(area)) => Some(area),
-            (Operation::Subtract, Some(area), None) => Some(area),
-            _ => None,
-        },
-        _ => None,
+        } => {
+            let (first, second) = (areas_in(known, dst), areas_of_source(known, source));
+            areas_computed(operation, first, second)
+        }
+        _ => NO_AREA,
     }
 }
 
@@ -113,40 +158,58 @@ fn twin_given(known: &Known, instruction: &Instruction) -> Option<Twin> {
     }
 }
 
-/// Notes what a store of a register leaves in a cell.
-fn store_area(known: &mut Known, instruction: &Instruction) {
-    let (size, dst, offset, area) = match *instruction {
+/// Notes that eight bytes at an offset from an address may have an address in these areas.
+fn store_areas(known: &mut Known, dst: Register, offset: i16, areas: AreaSet) {
+    let to = accessed_areas(known, dst);
+    let told = known.get(dst).offsets();
+    if to.scratch {
+        known.scratch = known.scratch.with(areas);
+    }
+    if !to.stack {
+        return;
+    }
+    let cell = cell_of(told, offset);
+    for j in 0..CELLS {
+        if cell == Some(j) {
+            known.cell_areas[j] = areas;
+        } else if is_touched(j, told, offset) {
+            let joined = known.cell_areas[j].with(areas);
+            known.cell_areas[j] = joined;
+        }
+    }
+}
+
+/// Notes what a store leaves where it may go.
+fn note_store(known: &mut Known, instruction: &Instruction) {
+    match *instruction {
         Instruction::StoreRegister {
-            size,
+            size: Size::DoubleWord,
             dst,
             src,
             offset,
-        } => (size, dst, offset, area_in(known, src)),
+        } => {
+            let areas = areas_in(known, src);
+            store_areas(known, dst, offset, areas);
+        }
         Instruction::StoreImmediate {
-            size,
+            size: Size::DoubleWord,
             dst,
             offset,
             ..
-        } => (size, dst, offset, None),
-        _ => return,
-    };
-    match cell_of(known.get(dst).offsets(), offset) {
-        Some(cell) if cell < CELLS => {
-            known.cell_areas[cell] = if size == Size::DoubleWord { area } else { None };
-        }
+        } => store_areas(known, dst, offset, NO_AREA),
         _ => {}
     }
 }
 
 /// Changes what is known of areas and copies to what it is behind an instruction that isn't a jump.
 pub(crate) fn step_origins(known: &mut Known, instruction: &Instruction) {
-    store_area(known, instruction);
-    let area = area_given(known, instruction);
+    note_store(known, instruction);
+    let areas = areas_given(known, instruction);
     let twin = twin_given(known, instruction);
     let written = writes(instruction);
     for j in 0..REGISTERS {
         if (written & bit(Register::from_number(j as u8))) != 0 {
-            known.areas[j] = None;
+            known.areas[j] = NO_AREA;
             known.twins[j] = None;
         }
         if let Some(found) = known.twins[j] {
@@ -156,7 +219,7 @@ pub(crate) fn step_origins(known: &mut Known, instruction: &Instruction) {
         }
     }
     if let Some(dst) = instruction.destination() {
-        known.areas[dst.index()] = area;
+        known.areas[dst.index()] = areas;
         known.twins[dst.index()] = twin;
     }
 }

@@ -1,9 +1,10 @@
 //! How far a program is laid out: all rounds of its loops, as far as they are known, or as many as there are slots for.
 
+use crate::area_sets::{AreaSet, NO_AREA};
 use crate::assembling::{Linked, assembled};
 use crate::fault::LinkFault;
 use crate::guards::Guard;
-use crate::layout::{Layout, empty_rows};
+use crate::layout::{Layout, empty_rows, no_needs};
 use crate::lists::{no_answers, number_at, set_number, zeros};
 use crate::liveness::{Registers, live_registers};
 use crate::loops::Loops;
@@ -13,13 +14,24 @@ use instruction_set::Instruction;
 use program_interface::{BlockSize, MOST_SLOTS};
 use std::alloc::{AllocError, Global};
 
-/// How much records may have.
+/// What becomes of a loop of which not all rounds can be laid out.
+#[derive(Clone, Copy, Debug, PartialEq, Eq)]
+pub enum LoopRule {
+    /// No program is made.
+    Whole,
+    /// It has as many rounds as there are slots for.
+    Cut,
+}
+
+/// What is known beforehand: how much records may have, and what scratch may.
 #[derive(Clone, Copy)]
 pub(crate) struct Plan {
     /// So many bytes has a record at most that can be of several lengths.
     pub longest: u64,
     /// Is it left out of sight how much can be emitted in all?
     pub is_counted: bool,
+    /// The areas of addresses that scratch may have.
+    pub scratch: AreaSet,
 }
 
 /// What is laid out.
@@ -33,8 +45,8 @@ struct Parts {
     block: BlockSize,
 }
 
-/// Lays a program out, with so many rounds of each loop.
-fn laid_out<'a>(
+/// Lays a program out, with so many rounds of each loop, where block runs leave no addresses in scratch but of these areas.
+fn laid_once<'a>(
     alloc: Global,
     parts: &'a Parts,
     caps: &'a [usize],
@@ -60,9 +72,32 @@ fn laid_out<'a>(
         uses_block: false,
         uses_scratch: false,
         guarded: [false; Guard::COUNT],
+        places: Vec::new(alloc),
+        here: 0,
+        ended: no_needs(alloc, count)?,
+        passed: no_answers(alloc, count)?,
+        scratch: plan.scratch,
     };
     layout.run(alloc)?;
     Ok(layout)
+}
+
+/// Lays a program out, with so many rounds of each loop.
+fn laid_out<'a>(
+    alloc: Global,
+    parts: &'a Parts,
+    caps: &'a [usize],
+    plan: Plan,
+) -> Result<Layout<'a>, LinkFault> {
+    let mut plan = plan;
+    for _ in 0..4 {
+        let layout = laid_once(alloc, parts, caps, plan)?;
+        if layout.scratch == plan.scratch {
+            return Ok(layout);
+        }
+        plan.scratch = layout.scratch;
+    }
+    laid_once(alloc, parts, caps, plan)
 }
 
 /// The number in the middle of two.
@@ -82,6 +117,7 @@ fn longest(alloc: Global, parts: &Parts, caps: &[usize]) -> Result<u64, LinkFaul
         let plan = Plan {
             longest: middle as u64,
             is_counted: true,
+            scratch: NO_AREA,
         };
         if laid_out(alloc, parts, caps, plan)?.emitted <= limit {
             low = middle;
@@ -104,10 +140,12 @@ fn made_with(alloc: Global, parts: &Parts, caps: &[usize]) -> Result<Made, LinkF
     let plan = Plan {
         longest: u64::MAX,
         is_counted: true,
+        scratch: NO_AREA,
     };
     let layout = laid_out(alloc, parts, caps, plan)?;
     let linked = assembled(alloc, &layout)?;
     if layout.emitted <= parts.block.bytes() as usize {
+        layout.check_ends()?;
         return Ok(Made {
             linked,
             is_cut: layout.is_cut,
@@ -116,8 +154,10 @@ fn made_with(alloc: Global, parts: &Parts, caps: &[usize]) -> Result<Made, LinkF
     let plan = Plan {
         longest: longest(alloc, parts, caps)?,
         is_counted: false,
+        scratch: NO_AREA,
     };
     let layout = laid_out(alloc, parts, caps, plan)?;
+    layout.check_ends()?;
     Ok(Made {
         linked: assembled(alloc, &layout)?,
         is_cut: layout.is_cut,
@@ -234,6 +274,11 @@ fn to_raise(alloc: Global, is_cut: &[bool]) -> Result<Vec<usize>, AllocError> {
     Ok(heads)
 }
 
+/// Is there more than a program can have?
+fn is_length(fault: &LinkFault) -> bool {
+    matches!(fault, LinkFault::Loop { .. } | LinkFault::TooLong { .. })
+}
+
 /// A program with as many rounds as there are slots for: first the same for each loop, then more for one after the other.
 fn cut(alloc: Global, parts: &Parts) -> Result<Option<Linked>, LinkFault> {
     let mut caps = zeros(alloc, parts.slots.len())?;
@@ -248,14 +293,13 @@ fn cut(alloc: Global, parts: &Parts) -> Result<Option<Linked>, LinkFault> {
     Ok(Some(best.linked))
 }
 
-/// A program with all rounds; where it has more slots than can be, with as many rounds as there are slots for.
-fn planned(alloc: Global, parts: &Parts) -> Result<Linked, LinkFault> {
+/// A program with all rounds; where it has more slots than can be, and loops may be cut, with as many rounds as there are slots for.
+fn planned(alloc: Global, parts: &Parts, rule: LoopRule) -> Result<Linked, LinkFault> {
     let mut caps = zeros(alloc, parts.slots.len())?;
     fill(&mut caps, usize::MAX);
     match made_with(alloc, parts, &caps) {
         Ok(found) => Ok(found.linked),
-        Err(LinkFault::Memory(error)) => Err(LinkFault::Memory(error)),
-        Err(LinkFault::Leaves(slot)) => Err(LinkFault::Leaves(slot)),
+        Err(fault) if rule == LoopRule::Whole || !is_length(&fault) => Err(fault),
         Err(fault) => match cut(alloc, parts)? {
             Some(linked) => Ok(linked),
             None => Err(fault),
@@ -263,18 +307,20 @@ fn planned(alloc: Global, parts: &Parts) -> Result<Linked, LinkFault> {
     }
 }
 
-/// A program that does on blocks of one size what these slots do, without a jump back, as far as that can be told: where a loop would go
-/// round more often than there are slots for, and where an access or an emit would trap, a guard ends the block run. Below so many
-/// bytes of the stack there are 24 that the slots don't use.
+/// A program that does on blocks of one size what these slots do, without a jump back, as far as that can be told: where an access or an
+/// emit would trap, a guard ends the block run, and where loops may be cut, where one would go round more often than there are slots
+/// for. Below so many bytes of the stack there are 24 that the slots don't use.
 ///
 /// # Errors
 ///
-/// An instruction leads to no other; a loop isn't known to end and can't be left before; there are more slots than a program can have.
+/// An instruction leads to no other; a loop isn't known to end; there are more slots than a program can have; a guard always ends the
+/// block run; an address may be of the context or of another area.
 pub fn link(
     alloc: Global,
     slots: &[Option<Instruction>],
     own: usize,
     block: BlockSize,
+    rule: LoopRule,
 ) -> Result<Linked, LinkFault> {
     let Sequence { slots, origins } = ordered(alloc, &with_remainders(alloc, slots)?)?;
     let parts = Parts {
@@ -285,5 +331,5 @@ pub fn link(
         own,
         block,
     };
-    planned(alloc, &parts)
+    planned(alloc, &parts, rule)
 }

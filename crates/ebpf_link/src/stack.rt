@@ -44,6 +44,18 @@ fn has_byte(cell: usize, first: i128, last: i128) -> bool {
     first <= start + 7 && start <= last
 }
 
+/// May eight bytes at an offset from an address have a byte of a cell?
+pub(crate) fn is_touched(cell: usize, told: Option<Offsets>, offset: i16) -> bool {
+    match told {
+        Some(told) if !matches!(told.area, Area::Stack) => false,
+        Some(told) => {
+            let last = moved(told.high, offset).saturating_add(7);
+            has_byte(cell, moved(told.low, offset), last)
+        }
+        None => true,
+    }
+}
+
 /// Forgets the cells that have a byte from one distance to another.
 fn forget(cells: &mut [Option<Intervals>; CELLS], first: i128, last: i128) {
     for j in 0..CELLS {

@@ -4,17 +4,19 @@ ghost use Rattle.std.specs.Prelude.{IfSome, true, ◌≡◌, ◌≤◌};
 ghost use Rattle.ebpf_link.specs.Deciding.{IsOpposite};
 ghost use Rattle.ebpf_link.specs.Masks.{AddsNoBits, IsIdle, IsMaskOver};
 
-use crate::constants::{number_in_place, with_number};
+use crate::constants::{is_idle_store, number_in_place, with_number};
 use crate::deciding::decided;
 use crate::fault::LinkFault;
 use crate::fields::loaded_at_once;
 use crate::folding::rebased;
-use crate::guards::Guard;
+use crate::guards::{Guard, Need};
 use crate::known::{Known, narrow, source_fact};
 use crate::layout::{Layout, boxed};
+use crate::lists::set_answer;
 use crate::liveness::{Registers, at, bit, reads};
 use crate::origins::better_copy;
 use crate::pieces::{compute, target};
+use crate::sums::sum_in_place;
 use instruction_set::{Instruction, Operation, Register, Relation, Size, Source, Width};
 use program_interface::Area;
 use std::alloc::Global;
@@ -146,7 +148,7 @@ fn idle_mask(known: &Known, instruction: &Instruction) -> Option<(Width, Registe
 }
 
 /// The least number of ones alone that isn't less than a small one.
-fn mask_over(most: u64) -> u32
+pub(crate) fn mask_over(most: u64) -> u32
     requires { most ≤ 0xfffff }
     ensures { IsMaskOver most result }
 {
@@ -163,6 +165,9 @@ fn mask_over(most: u64) -> u32
 fn better(known: &Known, instruction: &Instruction, others: Registers) -> Instruction {
     if let Some(load) = loaded_at_once(known, instruction) {
         return load;
+    }
+    if let Some(sum) = sum_in_place(known, instruction) {
+        return sum;
     }
     match number_in_place(known, instruction) {
         Some(number) => number,
@@ -227,12 +232,15 @@ impl Layout<'_> {
     }
 
     /// Puts an instruction that is no jump, and what makes more known behind it. False where what is behind is never come to.
-    fn put_straight(
+    pub(crate) fn put_straight(
         &mut self,
         known: &mut Known,
         slot: usize,
         instruction: Instruction,
     ) -> Result<bool, LinkFault> {
+        if is_idle_store(known, &instruction) || self.put_spill(known, slot, &instruction)? {
+            return Ok(true);
+        }
         let mask = idle_mask(known, &instruction);
         let size = self.loads_block_size(known, &instruction);
         let bytes = self.block.bytes() as i32;
@@ -258,7 +266,8 @@ impl Layout<'_> {
         }
         if let Some(dst) = size {
             known.is_sized = true;
-            return self.put_guard(known, Guard::Block, Relation::NotEqual, dst, bytes);
+            let need = Need::BlockSize(bytes.max(0) as usize);
+            return self.put_guard(known, need, Guard::Block, Relation::NotEqual, dst, bytes);
         }
         Ok(true)
     }
@@ -275,7 +284,7 @@ impl Layout<'_> {
     }
 
     /// Puts a jump to a slot; to none, where it is before the first.
-    fn jump(&mut self, jump: Instruction, to: i64) -> Result<(), LinkFault> {
+    pub(crate) fn jump(&mut self, jump: Instruction, to: i64) -> Result<(), LinkFault> {
         if to < 0 {
             return Err(LinkFault::Leaves(0));
         }
@@ -345,14 +354,30 @@ impl Layout<'_> {
     /// Lays an instruction out that is no jump.
     fn visit_straight(
         &mut self,
+        alloc: Global,
         slot: usize,
         instruction: Instruction,
         mut known: Box<Known>,
     ) -> Result<(), LinkFault> {
         self.put_copies(&mut known, &instruction)?;
+        let areas = self.open_areas(&known, slot, &instruction);
+        if areas.count() > 1 {
+            return self.visit_several(alloc, slot, instruction, known, areas);
+        }
+        self.visit_guarded(slot, instruction, known)
+    }
+
+    /// Lays an instruction out that is no jump, behind its guards.
+    pub(crate) fn visit_guarded(
+        &mut self,
+        slot: usize,
+        instruction: Instruction,
+        mut known: Box<Known>,
+    ) -> Result<(), LinkFault> {
         if !self.guard(&mut known, slot, &instruction)? {
             return Ok(());
         }
+        set_answer(&mut self.passed, slot, true);
         if !self.put_straight(&mut known, slot, instruction)? {
             return Ok(());
         }
@@ -367,15 +392,17 @@ impl Layout<'_> {
         known: Box<Known>,
     ) -> Result<(), LinkFault> {
         self.push_begin(slot)?;
+        self.here = slot;
         let instruction = match self.slots.get(slot) {
             Some(Some(instruction)) => *instruction,
             _ => return Err(LinkFault::Leaves(slot)),
         };
         let Some(distance) = instruction.distance() else {
             if matches!(instruction, Instruction::Exit) {
+                self.scratch = self.scratch.with(known.scratch);
                 return self.push_plain(instruction);
             }
-            return self.visit_straight(slot, instruction, known);
+            return self.visit_straight(alloc, slot, instruction, known);
         };
         let to = target(slot, distance);
         if let Instruction::Branch { .. } = instruction {

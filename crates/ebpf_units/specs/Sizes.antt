@@ -17,12 +17,16 @@ use Rattle.program_interface.specs.declared.area.TheConstants.{STACK_BYTES}
 
 -- ---- frames
 
+-- the bytes below a caller's frame that so many registers take: whole words of 16 bytes, since the stack is aligned so (BPF's data layout)
+abbrev pub kept_bytes : ℕ → ℕ
+kept_bytes count = 8 * (count + count % 2)
+
 -- the frame of a function that is called: it begins below the caller's and the registers that are kept for that
 abbrev pub called_frame : TranslationUnit → Frame → ℕ → Frame
 called_frame unit frame callee = record {
   function = callee;
   depth = frame.depth;
-  below = frame.below + frame_bytes unit frame.function + 8 * length (kept_registers unit callee);
+  below = frame.below + frame_bytes unit frame.function + kept_bytes (length (kept_registers unit callee));
 }
 
 -- the same frame, behind which there is one less

@@ -3,7 +3,7 @@
 ghost use Rattle.std.specs.Prelude.{◌≡◌, ◌≤◌, ◌<◌, ◌+◌, ◌-◌, IfOk, None, Some, if◌then◌else◌, is_some, length, vec_len};
 ghost use Rattle.common_definitions.specs.Checks.{first_failed};
 ghost use Rattle.ebpf_units.specs.Frames.{moved_frame_pointer};
-ghost use Rattle.ebpf_units.specs.Sizes.{HasFrame, body_slots, call_slots, called_frame, callee_slots, few_slots, frame_checks, inside_slots, slots_at, tree_slots, within};
+ghost use Rattle.ebpf_units.specs.Sizes.{HasFrame, body_slots, call_slots, called_frame, callee_slots, few_slots, frame_checks, inside_slots, kept_bytes, slots_at, tree_slots, within};
 ghost use Rattle.ebpf_units.specs.Units.{frame_bytes, slots_of};
 ghost use Rattle.program_interface.specs.declared.area.TheConstants.{STACK_BYTES};
 
@@ -27,6 +27,15 @@ fn few_slots(slots: usize) -> Result<usize, UnitFault>
     }
 }
 
+/// The bytes that so many registers take that are kept for a call: whole words of 16, so that frames stay aligned as clang takes them
+/// to be.
+fn kept_bytes(count: usize) -> usize
+    requires { count ≤ 4 }
+    ensures { result ≡ kept_bytes count }
+{
+    8 * (count + count % 2)
+}
+
 /// The frame of a function that is called by the one of a frame: it begins below that and what is kept for it.
 pub fn called_frame(unit: &TranslationUnit, frame: Frame, callee: usize) -> Frame
     requires there { frame.function < vec_len unit.now.functions }
@@ -38,7 +47,7 @@ pub fn called_frame(unit: &TranslationUnit, frame: Frame, callee: usize) -> Fram
     Frame {
         function: callee,
         depth: frame.depth,
-        below: frame.below + frame_bytes(unit, frame.function) + 8 * kept,
+        below: frame.below + frame_bytes(unit, frame.function) + kept_bytes(kept),
     }
 }
 

@@ -11,7 +11,7 @@ use ebpf_calls::only_function;
 use ebpf_decode::{decode, push_instruction};
 use ebpf_gather::gather;
 use ebpf_inline::inline;
-use ebpf_link::{LinkFault, Linked, link};
+use ebpf_link::{LinkFault, Linked, LoopRule, link};
 use ebpf_object::Object;
 use instruction_set::{Instruction, Program};
 use interval_domain::Intervals;
@@ -67,7 +67,7 @@ fn check(rt: &impl Abort, alloc: Global, draft: &Draft) -> Result<(), Fail> {
     let name = draft.name;
     let block = BlockSize::new(draft.block).ok_or("no block")?;
     let (slots, own) = slots_of(alloc, draft.object)?;
-    let linked = match link(alloc, &slots, own, block) {
+    let linked = match link(alloc, &slots, own, block, LoopRule::Cut) {
         Ok(linked) => linked,
         Err(LinkFault::Loop { .. } | LinkFault::TooLong { .. }) => {
             assert!(rt; draft.ended.is_none(), "{name} isn't made");
