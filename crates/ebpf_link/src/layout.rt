@@ -140,25 +140,17 @@ impl Layout<'_> {
         }
     }
 
-    /// The first slot that is never come to, though what is before it is, since a guard always ends the block run.
-    fn first_ended(&self) -> Option<GuardPlace> {
+    /// The first slot that is never come to, though what is before it is, since a guard always ends the block run; of those that were given.
+    pub(crate) fn first_ended(&self) -> Option<GuardPlace> {
         for slot in 0..self.slots.len() {
             if let (Some(Some(need)), Some(false)) = (self.ended.get(slot), self.passed.get(slot)) {
-                return Some(GuardPlace { slot, need: *need });
+                return Some(GuardPlace {
+                    slot: number_at(self.origins, slot),
+                    need: *need,
+                });
             }
         }
         None
-    }
-
-    /// Refuses a program in which a guard always ends the block run.
-    pub(crate) fn check_ends(&self) -> Result<(), LinkFault> {
-        match self.first_ended() {
-            Some(place) => Err(LinkFault::Ends(GuardPlace {
-                slot: number_at(self.origins, place.slot),
-                need: place.need,
-            })),
-            None => Ok(()),
-        }
     }
 
     /// Puts a jump to where a slot begins next.

@@ -3,7 +3,7 @@
 use crate::area_sets::{AreaSet, NO_AREA};
 use crate::assembling::{Linked, assembled};
 use crate::fault::LinkFault;
-use crate::guards::Guard;
+use crate::guards::{Guard, GuardPlace};
 use crate::layout::{Layout, empty_rows, no_needs};
 use crate::lists::{no_answers, number_at, set_number, zeros};
 use crate::liveness::{Registers, live_registers};
@@ -133,6 +133,8 @@ fn longest(alloc: Global, parts: &Parts, caps: &[usize]) -> Result<u64, LinkFaul
 struct Made {
     linked: Linked,
     is_cut: Vec<bool>,
+    /// A guard that always ends the block run, if there is one.
+    ended: Option<GuardPlace>,
 }
 
 /// A program with so many rounds of each loop.
@@ -145,9 +147,9 @@ fn made_with(alloc: Global, parts: &Parts, caps: &[usize]) -> Result<Made, LinkF
     let layout = laid_out(alloc, parts, caps, plan)?;
     let linked = assembled(alloc, &layout)?;
     if layout.emitted <= parts.block.bytes() as usize {
-        layout.check_ends()?;
         return Ok(Made {
             linked,
+            ended: layout.first_ended(),
             is_cut: layout.is_cut,
         });
     }
@@ -157,9 +159,9 @@ fn made_with(alloc: Global, parts: &Parts, caps: &[usize]) -> Result<Made, LinkF
         scratch: NO_AREA,
     };
     let layout = laid_out(alloc, parts, caps, plan)?;
-    layout.check_ends()?;
     Ok(Made {
         linked: assembled(alloc, &layout)?,
+        ended: layout.first_ended(),
         is_cut: layout.is_cut,
     })
 }
@@ -298,7 +300,10 @@ fn planned(alloc: Global, parts: &Parts, rule: LoopRule) -> Result<Linked, LinkF
     let mut caps = zeros(alloc, parts.slots.len())?;
     fill(&mut caps, usize::MAX);
     match made_with(alloc, parts, &caps) {
-        Ok(found) => Ok(found.linked),
+        Ok(found) => match found.ended {
+            Some(place) => Err(LinkFault::Ends(place)),
+            None => Ok(found.linked),
+        },
         Err(fault) if rule == LoopRule::Whole || !is_length(&fault) => Err(fault),
         Err(fault) => match cut(alloc, parts)? {
             Some(linked) => Ok(linked),

@@ -67,7 +67,7 @@ fn check(rt: &impl Abort, alloc: Global, draft: &Draft) -> Result<(), Fail> {
     let name = draft.name;
     let block = BlockSize::new(draft.block).ok_or("no block")?;
     let (slots, own) = slots_of(alloc, draft.object)?;
-    let linked = match link(alloc, &slots, own, block, LoopRule::Cut) {
+    let linked = match link(alloc, &slots, own, block, LoopRule::Whole) {
         Ok(linked) => linked,
         Err(LinkFault::Loop { .. } | LinkFault::TooLong { .. }) => {
             assert!(rt; draft.ended.is_none(), "{name} isn't made");
