@@ -4,3 +4,4 @@ pub mod Guards
 pub mod Masks
 pub mod Remainders
 pub mod Spelling
+pub mod Sums

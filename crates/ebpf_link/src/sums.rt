@@ -1,5 +1,8 @@
 //! Sums in place of ORs: clang makes an OR of an address whose low bits are zeros and an offset that has no others.
 
+ghost use Rattle.std.specs.Prelude.{true, ◌≡◌, ◌≤ℤ◌, IfSome, pos};
+ghost use Rattle.ebpf_link.specs.Sums.{AreSums, IsSumOf, sum_of};
+
 use crate::known::{Known, source_fact};
 use crate::visiting::mask_over;
 use instruction_set::{Instruction, Operation, Width};
@@ -9,27 +12,32 @@ use word_domain::Domain;
 /// The greatest number that is looked for below an address: what is aligned by more, clang doesn't know of.
 const MOST_BELOW: u64 = 0xfff;
 
-/// The distance of an address, where it is known alone.
-fn only_distance(fact: Intervals) -> Option<u32> {
-    match fact.fact() {
-        Fact::Pointer { low, high, .. } if low == high && low >= 0 => Some(low as u32),
-        _ => None,
-    }
+/// A distance that isn't negative.
+fn distance_of(low: i32) -> u32
+    requires { pos 0 ≤ℤ low }
+    ensures { pos result ≡ low }
+{
+    low as u32
 }
 
 /// Have an address and a number no bit in common, as far as is known of them?
-fn are_apart(address: Intervals, number: Intervals) -> bool {
-    let Fact::Words(bounds) = number.fact() else {
+fn are_apart(address: Intervals, number: Intervals) -> bool
+    ensures { result ≡ true → AreSums address number }
+{
+    let (Fact::Pointer { low, high, .. }, Fact::Words(bounds)) = (address.fact(), number.fact())
+    else {
         return false;
     };
-    let Some(distance) = only_distance(address) else {
+    if low != high || low < 0 || bounds.high > MOST_BELOW {
         return false;
-    };
-    bounds.high <= MOST_BELOW && distance & mask_over(bounds.high) == 0
+    }
+    distance_of(low) & mask_over(bounds.high) == 0
 }
 
 /// Has an OR of two words no bit of both, as far as is known of them?
-fn are_operands_apart(first: Intervals, second: Intervals) -> bool {
+fn are_operands_apart(first: Intervals, second: Intervals) -> bool
+    ensures { result ≡ true → AreSums first second }
+{
     if are_apart(first, second) {
         return true;
     }
@@ -37,7 +45,9 @@ fn are_operands_apart(first: Intervals, second: Intervals) -> bool {
 }
 
 /// The same arithmetic, as a sum.
-fn as_sum(instruction: Instruction) -> Instruction {
+fn as_sum(instruction: Instruction) -> Instruction
+    ensures { result ≡ sum_of instruction }
+{
     match instruction {
         Instruction::Arithmetic {
             width,
@@ -55,7 +65,9 @@ fn as_sum(instruction: Instruction) -> Instruction {
 }
 
 /// A sum in place of an OR of an address and a number that have no bit in common.
-pub(crate) fn sum_in_place(known: &Known, instruction: &Instruction) -> Option<Instruction> {
+pub(crate) fn sum_in_place(known: &Known, instruction: &Instruction) -> Option<Instruction>
+    ensures { IfSome result (λ other. IsSumOf known.now.facts instruction.now other) }
+{
     let Instruction::Arithmetic {
         width: Width::Bits64,
         operation: Operation::Or,
