@@ -21,7 +21,7 @@ _zscli() {
         "zscli fold") commands="" options="--help" ;;
         "zscli asm") commands="" options="--help" ;;
         "zscli disasm") commands="" options="--slots --help" ;;
-        "zscli link") commands="" options="--block --output --function --verbose --help" ;;
+        "zscli link") commands="" options="--block --output --function --cut-loops --strict --verbose --help" ;;
         "zscli trace") commands="" options="--emit --argument --fuel --registers --help" ;;
         "zscli verify") commands="" options="--block --emit --profile --explain --facts --json --help" ;;
         "zscli unpack") commands="" options="--block --json --help" ;;

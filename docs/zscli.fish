@@ -72,6 +72,8 @@ complete -c zscli -n '__zscli_begins link' -F
 complete -c zscli -n '__zscli_begins link' -l block -x -d 'Bytes of a block'
 complete -c zscli -n '__zscli_begins link' -s o -l output -r -F -d 'The program that is written'
 complete -c zscli -n '__zscli_begins link' -l function -x -d 'The function to start with'
+complete -c zscli -n '__zscli_begins link' -l cut-loops -d 'Give loops as many rounds as there are slots for, and list those that have more'
+complete -c zscli -n '__zscli_begins link' -l strict -d 'Refuse a program with a guard that may end a run'
 complete -c zscli -n '__zscli_begins link' -l verbose -d 'Print how many slots the program has, and how many compares were put in'
 complete -c zscli -n '__zscli_begins link' -l help -d 'Print help'
 complete -c zscli -n '__zscli_begins trace' -F

@@ -132,6 +132,8 @@ _zscli_link() {
         '--block[Bytes of a block]:B: ' \
         '-o[The program that is written]:PROGRAM:_files' '--output[The program that is written]:PROGRAM:_files' \
         '--function[The function to start with]:NAME: ' \
+        '--cut-loops[Give loops as many rounds as there are slots for, and list those that have more]' \
+        '--strict[Refuse a program with a guard that may end a run]' \
         '--verbose[Print how many slots the program has, and how many compares were put in]' \
         '(- *)--help[Print help]'
 }
