@@ -12,7 +12,7 @@
 #include <sys/stat.h>
 
 enum { BLOCK_BYTES = 512, HEADER_BYTES = 16, ENTRY_BYTES = 64, BLOCKS = 64, COMMANDS = 32 };
-enum { SEND = 0x79, APPEND = 0x7d, RESET = 4 };
+enum { READ = 0x02, SEND = 0x79, APPEND = 0x7d, RESET = 4 };
 enum { COMMAND_BYTES = 2 * (HEADER_BYTES + ENTRY_BYTES) + BLOCKS * BLOCK_BYTES };
 static const off_t LONG = 64 << 20; /* by how much a journal grows before it is folded */
 
@@ -66,6 +66,18 @@ static bool write_much(struct pifnjarl_durable *device, unsigned char number)
     return pifnjarl_durable_serve(device, frames, count) == PIFNJARL_DURABLE_DONE;
 }
 
+/* Is the last block of zone 0 what was written there last? */
+static bool holds(struct pifnjarl_durable *device, unsigned char number)
+{
+    unsigned char frame[COMMAND_BYTES], reply[HEADER_BYTES + 16 + BLOCK_BYTES], block[BLOCK_BYTES];
+    size_t count = frame_of(frame, READ, 0, 0, 0);
+    frame[HEADER_BYTES + 40] = BLOCKS - 1; /* its LBA */
+    memset(block, number, sizeof block);
+    return pifnjarl_durable_serve(device, frame, count) == PIFNJARL_DURABLE_DONE
+           && pifnjarl_durable_replies(device, 0, reply, sizeof reply) == sizeof reply
+           && memcmp(reply + HEADER_BYTES + 16, block, sizeof block) == 0;
+}
+
 static off_t size_of(const char *path)
 {
     struct stat about;
@@ -91,7 +103,7 @@ static void folds(const char *path)
     CHECK(pifnjarl_durable_fold(device) == PIFNJARL_DURABLE_NO_ROOM && errno == ENOSPC && size_of(path) == grown);
     CHECK(write_much(device, 2) && size_of(path) > grown);
     is_full = false;
-    CHECK(pifnjarl_durable_fold(device) == PIFNJARL_DURABLE_DONE && size_of(path) < grown);
+    CHECK(pifnjarl_durable_fold(device) == PIFNJARL_DURABLE_DONE && size_of(path) < grown && holds(device, 2));
     pifnjarl_durable_close(device);
 }
 
@@ -105,15 +117,18 @@ static void grows(const char *path)
     CHECK(size_of(path) >= 2 * LONG);
     pifnjarl_durable_close(device);
     device = open_again(path);
-    CHECK(write_much(device, 4) && size_of(path) > 2 * LONG);
+    CHECK(write_much(device, 4) && size_of(path) > 2 * LONG && holds(device, 4));
     is_full = false;
     pifnjarl_durable_close(device);
     device = open_again(path);
-    CHECK(write_much(device, 5) && size_of(path) < LONG);
+    CHECK(write_much(device, 5) && size_of(path) < LONG && holds(device, 5));
     off_t most = 0;
     for (int more = 0; more < 2 * 64 && write_much(device, 6); more++)
         most = size_of(path) > most ? size_of(path) : most;
     CHECK(most > LONG - LONG / 8 && most < LONG + LONG / 8);
+    pifnjarl_durable_close(device);
+    device = open_again(path);
+    CHECK(holds(device, 6));
     pifnjarl_durable_close(device);
 }
 
