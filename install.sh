@@ -3,12 +3,16 @@
 #
 #   ./install.sh [--prefix DIR]         installs below DIR, /usr/local where none is named
 #   ./install.sh --list [..]            prints the files that it would install
-#   ./install.sh --uninstall [..]       removes them
+#   ./install.sh --uninstall [--prefix DIR]
+#                                       removes those that it installed, unless they were changed: DIR/share/pifnjarl/installed lists them
+#                                       with their checksums
 #
-# With DESTDIR in the environment, files go below DESTDIR and still name DIR, as for a package. Some places have options of their own:
+# With DESTDIR in the environment, files go below DESTDIR and still name DIR, as for a package, and no list is written. Some places have
+# options of their own:
 #
 #   --libdir FOLDER       the library and pkgconfig/pifnjarl.pc, by default DIR/lib
-#   --pythondir FOLDER    the Python module, by default DIR/lib/python3/dist-packages
+#   --pythondir FOLDER    the Python module, by default the first folder below DIR/lib where python3 looks for modules, or, if there is
+#                         none or with DESTDIR, DIR/lib/python3/dist-packages
 #   --zshdir FOLDER       the completion for zsh, by default DIR/share/zsh/site-functions
 #
 # It takes these files, or those that the variables name:
@@ -66,8 +70,24 @@ while [ $# -gt 0 ]; do
     esac
     shift
 done
+
+# the first folder below DIR/lib where python3 looks for modules
+python_folder() {
+    python3 -I -c 'import site; print(*site.getsitepackages(), site.getusersitepackages(), sep="\n")' 2> /dev/null |
+        while read -r folder; do
+            case $folder in
+            "$prefix"/lib/*)
+                echo "$folder"
+                break
+                ;;
+            esac
+        done
+}
+
 libraries=${libraries:-$prefix/lib}
+[ -n "$python" ] || [ -n "${DESTDIR-}" ] || python=$(python_folder)
 python=${python:-$prefix/lib/python3/dist-packages}
+list=$prefix/share/pifnjarl/installed
 zsh=${zsh:-$prefix/share/zsh/site-functions}
 program=${ZSCLI:-$top/crates/zscli/out/zscli}
 library=${LIBPIFNJARL:-$top/hosts/c/out/libpifnjarl.a}
@@ -145,8 +165,29 @@ print() {
     echo "$3"
 }
 
+# the checksum of a file that is staged, and its place, as sha256sum prints them
+sum() {
+    (cd "$work" && sha256sum "./${3#/}" | sed 's|  \./|  /|')
+}
+
+# removes a file that was installed with this checksum
 remove() {
-    rm -f "${DESTDIR-}$3"
+    [ -e "$2" ] || return 0
+    if [ "$(sha256sum < "$2")" = "$1  -" ]; then
+        rm "$2"
+    else
+        echo "install.sh: $2 was changed since, and is left" >&2
+    fi
+}
+
+uninstall() {
+    [ -z "${DESTDIR-}" ] || fail "--uninstall is of no tree that was made with DESTDIR" 2
+    [ -f "$list" ] || fail "there is no $list, so nothing that install.sh installed"
+    while read -r checksum place; do
+        remove "$checksum" "$place"
+    done < "$list"
+    rm "$list"
+    rmdir "$prefix/share/doc/pifnjarl" "$prefix/share/pifnjarl" 2> /dev/null || true
 }
 
 # puts a file into the tree that is made first
@@ -185,11 +226,11 @@ ended() {
 }
 
 case $doing in
-list) tree print ;;
-uninstall)
-    tree remove
-    rmdir "${DESTDIR-}$prefix/share/doc/pifnjarl" 2> /dev/null || true
+list)
+    tree print
+    [ -n "${DESTDIR-}" ] || echo "$list"
     ;;
+uninstall) uninstall ;;
 install)
     look
     bringing=
@@ -197,9 +238,14 @@ install)
     trap ended EXIT
     trap 'exit 1' HUP INT TERM
     tree stage
+    tree sum > "$work/installed"
     bringing=yes
     tree bring
     bringing=
     tree place
+    if [ -z "${DESTDIR-}" ]; then
+        mkdir -p "$(dirname "$list")"
+        cp -T --remove-destination "$work/installed" "$list"
+    fi
     ;;
 esac

@@ -112,7 +112,7 @@ is_tree() {
     root=$1
     folder=$2
     shift 2
-    "$top/install.sh" --list "$@" | sort > "$work/listed"
+    DESTDIR=$root "$top/install.sh" --list "$@" | sort > "$work/listed"
     find "$root$folder" ! -type d | sed "s|^$root||" | sort | diff "$work/listed" -
 }
 
@@ -133,6 +133,17 @@ try 'a relative prefix is refused' refuses_words --prefix none
 try 'a prefix with a blank is refused' refuses_words --prefix "$work/no ne"
 try 'a missing prefix is refused' refuses_words --prefix
 try 'a wrong word is refused' refuses_words --perfix="$work/none"
+# where the module goes that has this prefix, if python3 looks for modules where Debian's does
+module_goes() {
+    mkdir -p "$work/debian"
+    printf '#!/bin/sh\nprintf "%%s\\n" /usr/local/lib/python3.11/dist-packages /usr/lib/python3/dist-packages\n' > "$work/debian/python3"
+    chmod 755 "$work/debian/python3"
+    PATH=$work/debian:$PATH "$top/install.sh" --list --prefix "$1" | grep -Fx "$2/pifnjarl.py"
+}
+
+try 'the module below /usr/local' module_goes /usr/local /usr/local/lib/python3.11/dist-packages
+try 'the module below /usr' module_goes /usr /usr/lib/python3/dist-packages
+try 'the module elsewhere' module_goes /opt/pifnjarl /opt/pifnjarl/lib/python3/dist-packages
 try 'install' "$top/install.sh" --prefix "$work/a"
 try 'the tree is the listed one' is_tree "" "$work/a" --prefix "$work/a"
 try 'again, over it' "$top/install.sh" --prefix="$work/a"
@@ -180,10 +191,13 @@ unit_fits() {
     [ -x "$program" ] && grep -q '^Documentation=man:pifnjarl-nvme-tcp(8)$' "$unit" && [ -e "$a/share/man/man8/pifnjarl-nvme-tcp.8" ]
 }
 
-# systemd-analyze, where it can look at a unit at all
-unit_is_valid() {
+# systemd-analyze can look at a unit, as it can't in some containers
+looks_at_units() {
     printf '[Service]\nExecStart=/bin/true\n' > "$work/any.service"
-    systemd-analyze verify --man=no "$work/any.service" || return 0
+    systemd-analyze verify --man=no "$work/any.service" > "$work/out" 2>&1
+}
+
+unit_is_valid() {
     systemd-analyze verify --man=no "$a/lib/systemd/system/pifnjarl-nvme-tcp@.service" > verified 2>&1 || return 1
     cat verified
     [ ! -s verified ]
@@ -194,7 +208,11 @@ try 'zscli runs' formats
 try 'the target runs' target_helps
 [ "$target" = stub ] || try 'the target serves' target_serves
 try 'the service fits' unit_fits
-try_with systemd-analyze 'the service is valid' unit_is_valid
+if looks_at_units; then
+    try 'the service is valid' unit_is_valid
+else
+    echo "skipped, without a systemd-analyze that looks at units: the service is valid"
+fi
 
 # ---- pages and completions
 
@@ -301,12 +319,29 @@ fi
 
 # ---- the end
 
+# what was changed since, and what others put there, is left
+others_are_left() {
+    echo other > "$a/share/doc/pifnjarl/other"
+    echo changed >> "$a/include/pifnjarl_entry.h"
+    status_of --prefix "$a" --uninstall
+    [ "$status" = 0 ] && [ "$(cat "$work/said")" = "install.sh: $a/include/pifnjarl_entry.h was changed since, and is left" ] &&
+        [ "$(find "$a" ! -type d | sort)" = "$(printf '%s\n' "$a/include/pifnjarl_entry.h" "$a/share/doc/pifnjarl/other")" ]
+}
+
 nothing_is_left() {
-    "$top/install.sh" --prefix "$a" --uninstall
+    "$top/install.sh" --prefix "$a" && "$top/install.sh" --prefix "$a" --uninstall
+    rm "$a/share/doc/pifnjarl/other"
     find "$a" ! -type d
     [ -z "$(find "$a" ! -type d)" ]
 }
 
+nothing_to_uninstall() {
+    status_of --prefix "$a" --uninstall
+    [ "$status" = 1 ] && grep -qF "there is no $a/share/pifnjarl/installed" "$work/said"
+}
+
+try 'uninstall leaves the files of others' others_are_left
 try 'uninstall' nothing_is_left
+try 'there is nothing to uninstall' nothing_to_uninstall
 echo "$passed passed, $failed failed"
 [ "$failed" = 0 ]
