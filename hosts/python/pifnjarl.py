@@ -28,7 +28,8 @@ handle, whose `wait` gives what the command came to.
     ...     [append.wait() for append in appends]
     [16, 17, 18]
 
-The image is saved by `save`, and where the device ends: by `shut`, or after `with`, whatever exception leaves it. With `durable=True` a
+The image is saved by `save`, and where the device ends: by `shut`, or after `with`, whatever exception leaves it, or where the device
+is dropped. With `durable=True` a
 method returns when what it did is on the disk: after a crash the device that is opened again has it, with its programs, results and
 runs. The program is the one that the variable `PIFNJARL_ZSCLI` names, or `zscli` of the repository that has this file, or of the path.
 """
@@ -42,6 +43,8 @@ import signal
 import struct
 import subprocess
 import tempfile
+import warnings
+import weakref
 from collections import deque
 from contextlib import contextmanager, suppress
 from enum import Enum, IntEnum
@@ -770,9 +773,28 @@ class Run:
         return self._result
 
 
+def _put_before(error: BaseException, failed: BaseException) -> None:
+    """Has a traceback of an exception show another one first."""
+    failed.__context__ = None
+    while error.__context__ is not None and error is not failed:
+        error = error.__context__
+    if error is not failed:
+        error.__context__ = failed
+
+
+def _end_left(stream: _Stream) -> None:
+    """Ends the program of a device that was dropped and isn't shut."""
+    if stream.over is None:
+        warnings.warn("a device was dropped that isn't shut", ResourceWarning, source=stream)
+        with suppress(DeviceError):
+            stream.end()
+
+
 class Device:
     """A device over an image file. It holds the file, and what happens is in its memory, until it saves or ends; with `durable`, it is
     on the disk before a method returns, in a journal that takes the image's place.
+
+    One that is dropped ends too, as by `shut`, with a `ResourceWarning`; what fails then, nobody is told.
 
     Its methods are called one at a time. Where nothing else is said, one that raises `Refused` changed nothing. A zone is its
     lowest LBA; `open`, `close`, `finish`, `reset` and `offline` also take `ALL_ZONES`.
@@ -795,6 +817,7 @@ class Device:
         self._unseen: List[_Asked] = []
         durably = ["--durable"] if durable else []
         self._stream = _Stream([zscli(program), "serve", os.fspath(image), "--frames", *durably])
+        weakref.finalize(self, _end_left, self._stream)
         try:
             # what answers this says that the image is loaded; no run is left whose identifier a command could get
             self.drain()
@@ -807,12 +830,15 @@ class Device:
     def __enter__(self) -> Device:
         return self
 
-    def __exit__(self, kind: Optional[Type[BaseException]], *_: object) -> None:
-        # an exception that leaves `with` isn't covered by a refusal
-        if kind is None:
+    def __exit__(self, kind: Optional[Type[BaseException]], leaves: Optional[BaseException], *_: object) -> None:
+        if leaves is None:
             self.shut()
-        else:
+            return
+        # an exception that leaves `with` is covered neither by a refusal nor by what fails as the device ends
+        try:
             self._stream.end()
+        except DeviceError as failed:
+            _put_before(leaves, failed)
 
     # ---- blocks
 

@@ -4,6 +4,7 @@
 from __future__ import annotations
 
 import doctest
+import gc
 import os
 import random
 import re
@@ -538,6 +539,49 @@ class Ends(Over):
             shown = "".join(traceback.format_exception(None, raised.exception, raised.exception.__traceback__))
             self.assertNotIn("During handling", shown)
             self.assertNotIn("BrokenPipe", shown)
+
+    def test_an_exception_goes_on_where_the_device_fails_to_end(self) -> None:
+        """It leaves `with`, and a traceback shows what failed before it."""
+        (self.folder / "inner").mkdir()
+        image = self.folder / "inner/zoned.img"
+        pifnjarl.format_image(image)
+        with self.assertRaisesRegex(ValueError, "1.5") as raised:
+            with pifnjarl.Device(image) as device:
+                device.append(64, bytes(512))
+                shutil.rmtree(image.parent)
+                int("1.5")
+        failed = raised.exception.__context__
+        self.assertIsInstance(failed, pifnjarl.DeviceError)
+        self.assertRegex(str(failed), "cannot write .*zoned.img")
+        assert failed is not None
+        self.assertIsNone(failed.__context__)
+
+    def test_a_device_that_is_dropped_ends(self) -> None:
+        """Its program has saved the image by then; also where a run refers to it."""
+        for keeps_run in (False, True):
+            device: Optional[pifnjarl.Device] = pifnjarl.Device(self.image)
+            assert device is not None
+            program = device._stream._program
+            device.append(64, b"x" * 512)
+            if keeps_run:
+                device.open(128)
+                device.load(0, pifnjarl.EMITS_NOTHING, emit=0)
+                device.run(0, 64, 1, to=128)
+            with self.assertWarns(ResourceWarning):
+                device = None
+                gc.collect()
+            self.assertEqual(program.returncode, 0)
+            self.assertEqual(self.device().read(64, 1), b"x" * 512)
+            self.doCleanups()
+            self.setUp()
+
+    def test_a_device_ends_with_the_script(self) -> None:
+        script = "import pifnjarl\ndevice = pifnjarl.Device('zoned.img')\ndevice.append(64, b'x' * 512)\nprint(device._stream._program.pid)"
+        variables = {**os.environ, "PYTHONPATH": str(HERE), "PIFNJARL_ZSCLI": str(Path(pifnjarl.zscli()).resolve())}
+        words = [sys.executable, "-B", "-c", script]
+        ran = subprocess.run(words, cwd=self.folder, env=variables, capture_output=True, text=True, check=True)
+        self.assertRaises(ProcessLookupError, os.kill, int(ran.stdout), 0)
+        self.assertEqual(self.device().read(64, 1), b"x" * 512)
 
     def test_what_the_program_told_is_told(self) -> None:
         """An image that can't be written: the last words of the program are the error's, whatever is called then."""
