@@ -1,20 +1,21 @@
 -- Facts of the domain of addresses that tell at least as much as facts of the domain of intervals.
-use Rattle.std.proofs.Common.{ℕ, ℤ, pos, ◌≡◌, ◌-◌, ◌^◌, ◌<◌, ◌≤◌, ◌+ℤ◌, ◌-ℤ◌, ◌∙◌, Some, IsSome, refl, ap, arith}
-use Rattle.std.proofs.lemmas.Bool.{and_parts}
+use Rattle.std.proofs.Common.{ℕ, ℤ, pos, ◌≡◌, ◌^◌, ◌≤◌, ◌+ℤ◌, ◌-ℤ◌, ◌∙◌, ◌⊎◌, inl, inr, true, Some, None, IsSome, refl, sym, subst, min, max, arith}
+use Rattle.std.proofs.lemmas.Bool.{cond_both, eq-eqb}
 use Rattle.std.proofs.lemmas.Int.{ints}
-use Rattle.std.proofs.lemmas.Option.{cond_some}
+use Rattle.std.specs.Int.{int_max, int_min}
 use Rattle.std.specs.Int.Signed.{pos-nat_abs, yes_non_neg}
-use Rattle.std.specs.Prelude.{◌≤ℤ◌, ◌&&◌, int_le}
+use Rattle.std.specs.Prelude.{◌≤ℤ◌, ◌==◌, ◌&&◌, int_le, int_lt}
+use Rattle.instruction_set.specs.declared.operation.Width.TheVariants.{Bits64}
 use Rattle.program_interface.specs.Area.{address_of, length_of}
 use Rattle.program_interface.specs.declared.area.Area.{Area}
 use Rattle.program_interface.specs.declared.area.Area.TheVariants.{Context, Block, Stack, Scratch}
-use Rattle.address_domain.specs.Addresses.{address_at, words_of}
-use Rattle.interval_domain.specs.Fact.{IsFact, area_accessed, bounds_of, farthest, full, offsets_of}
+use Rattle.word_domain.specs.declared.bounds.Bounds.{Bounds}
+use Rattle.address_domain.specs.Addresses.{address_at, addresses, pointer_or, words_of}
+use Rattle.interval_domain.specs.Fact.{IsFact, area_accessed, bounds_of, farthest, full, join_of, offsets_of, range}
 use Rattle.interval_domain.specs.declared.fact.Fact.{Fact}
 use Rattle.interval_domain.specs.declared.fact.Fact.TheVariants.{Words, Pointer}
-use Rattle.profile_laws.proofs.CellRows.{int_le-true, le-int_le}
-use Rattle.profile_laws.proofs.RangesNear.{IsPart}
-use Rattle.profile_laws.proofs.Telling.{IsWithin, OffsetsWithin}
+use Rattle.profile_laws.proofs.Ranges.{IsPart}
+use Rattle.profile_laws.proofs.Telling.{IsWithin, OffsetsWithin, are_at_most, both_at_most}
 
 -- ---- addresses as words
 
@@ -42,78 +43,166 @@ pub record AreEnds (area : Area) (low high : ℤ) : Type 0 where
 pub ends : (area : Area) (low high : ℤ) → IsFact (Pointer area low high) → AreEnds area low high
 ends area low high is = record { least = address_is area low is.0; most = address_is area high (omega (arith, ints, is.0, is.1)) }
 
-pub words_ordered : (d : Fact) → IsFact d → (words_of d).low ≤ (words_of d).high
-words_ordered (Words b) is = is
-words_ordered (Pointer area low high) is = let are = ends area low high is in omega (arith, ints, are.least, are.most, is.1)
-
-pub pointer_below : (area : Area) (low high : ℤ) → IsFact (Pointer area low high) → (words_of (Pointer area low high)).high < 2 ^ 63
-pointer_below area low high is =
+-- the words of a pointer, between bounds
+pub pointer_part : (area : Area) (low high : ℤ) (c : Bounds) → IsFact (Pointer area low high) → c.low ≤ address_at area low → address_at area high ≤ c.high
+    → IsPart Bits64 (words_of (Pointer area low high)) c
+pointer_part area low high c is least most =
     let are = ends area low high is in
     let far = far_in area in
-    omega (arith, ints, are.most, is.2, far.below)
+    record {
+      ordered = omega (arith, ints, are.least, are.most, is.1);
+      fits = omega (arith, ints, are.most, is.2, far.below);
+      low = least;
+      high = most;
+    }
 
 -- ---- near facts
 
--- what a fact tells of each word, the first tells as well, where addresses are words too
-abbrev pub Tells : Fact → Fact → Type 0
-Tells d (Words c) = IsWithin (words_of d) c
-Tells (Words b) (Pointer area low high) = ⊥
-Tells (Pointer area low high) (Pointer area' low' high') = (area ≡ area') × (low' ≤ℤ low) × (high ≤ℤ high')
+-- of a pointer the first is one into the same area, with distances between its
+abbrev pub IsInto : Fact → Fact → Type 0
+IsInto d (Words c) = Unit {0}
+IsInto (Words b) (Pointer area low high) = ⊥
+IsInto (Pointer area low high) (Pointer area' low' high') = (area ≡ area') × (low' ≤ℤ low) × (high ≤ℤ high')
 
+-- what a fact tells of each word, the first tells as well, where addresses are words too
 pub record IsNear (d e : Fact) : Type 0 where
   pub fact : IsFact d
-  pub word : (words_of d).high < 2 ^ 64
-  pub told : Tells d e
-
-pub words_part : (d e : Fact) → IsNear d e → IsPart (words_of d) (bounds_of e)
-words_part d (Words c) near = record { ordered = words_ordered d near.fact; low = near.told.0; high = near.told.1 }
-words_part d (Pointer area low high) near =
-    record { ordered = words_ordered d near.fact; low = omega arith; high = omega (arith, near.word) }
-
--- what is told of any word
-pub told_any : (d : Fact) → (words_of d).high < 2 ^ 64 → Tells d (Words full)
-told_any d word = (omega arith, omega (arith, word))
+  pub part : IsPart Bits64 (words_of d) (bounds_of e)
+  pub into : IsInto d e
 
 pub near_wide : (d e : Fact) → IsNear d e → IsNear d (Words full)
-near_wide d e near = record { fact = near.fact; word = near.word; told = told_any d near.word }
+near_wide d e near =
+    let part = near.part in
+    record { fact = near.fact; part = record { ordered = part.ordered; fits = part.fits; low = omega arith; high = omega (arith, part.fits) }; into = tt }
 
-pub near_self : (d : Fact) → IsFact d → (words_of d).high < 2 ^ 64 → IsNear d d
-near_self (Words b) is word = record { fact = is; word = word; told = (omega arith, omega arith) }
-near_self (Pointer area low high) is word = record { fact = is; word = word; told = (refl, omega (arith, ints), omega (arith, ints)) }
+pub near_words : (b c : Bounds) → IsPart Bits64 b c → IsNear (Words b) (Words c)
+near_words b c part = record { fact = part.ordered; part = part; into = tt }
+
+pub pointer_full : (area : Area) (low high : ℤ) → IsFact (Pointer area low high) → IsPart Bits64 (words_of (Pointer area low high)) full
+pointer_full area low high is =
+    let part = pointer_part area low high (words_of (Pointer area low high)) is (omega arith) (omega arith) in
+    record { ordered = part.ordered; fits = part.fits; low = omega arith; high = omega (arith, part.fits) }
 
 -- ---- answers
 
-pub bounds_near : (d e : Fact) → IsNear d e → IsWithin (words_of d) (bounds_of e)
-bounds_near d e near = let part = words_part d e near in (part.low, part.high)
-
 pub offsets_near : (d e : Fact) → IsNear d e → OffsetsWithin (offsets_of d) (offsets_of e)
 offsets_near d (Words c) near = tt
-offsets_near (Words b) (Pointer area low high) near = absurd near.told
+offsets_near (Words b) (Pointer area low high) near = absurd near.into
 offsets_near (Pointer area low high) (Pointer area' low' high') near =
-    record { area = near.told.0; low = near.told.1; order = near.fact.1; high = near.told.2 }
+    record { area = near.into.0; low = near.into.1; order = near.fact.1; high = near.into.2 }
 
-pub access_near : (block : ℕ) (d e : Fact) (offset : ℤ) (size size' : ℕ) (area : Area) → IsNear d e → size ≤ size'
-    → area_accessed block e offset size' ≡ Some area → area_accessed block d offset size ≡ Some area
-access_near block d (Words c) offset size size' area near less known = cc
-access_near block (Words b) (Pointer area' low' high') offset size size' area near less known = absurd near.told
-access_near block (Pointer area low high) (Pointer area' low' high') offset size size' at near less known =
-    let named = cond_some (int_le (pos 0) (low' +ℤ offset) && int_le ((high' +ℤ offset) +ℤ pos size') (pos (length_of block area'))) area' at known in
-    let both = and_parts (int_le (pos 0) (low' +ℤ offset)) (int_le ((high' +ℤ offset) +ℤ pos size') (pos (length_of block area'))) named.0 in
-    let first = int_le-true (pos 0) (low' +ℤ offset) both.0 in
-    let last = int_le-true ((high' +ℤ offset) +ℤ pos size') (pos (length_of block area')) both.1 in
-    let same : length_of block area ≡ length_of block area' = ap (length_of block) near.told.0 in
-    let begins = le-int_le (pos 0) (low +ℤ offset) (omega (arith, ints, first, near.told.1)) in
-    let ends_inside = le-int_le ((high +ℤ offset) +ℤ pos size) (pos (length_of block area)) (omega (arith, ints, last, near.told.2, same, less)) in
-    rw (begins, ends_inside)
-    (ap Some (near.told.0 ∙ named.1))
+pub access_near : (block : ℕ) (d e : Fact) (offset : ℤ) (size size' : ℕ) → IsNear d e → size ≤ size'
+    → (area_accessed block e offset size' ≡ None)
+    ⊎ (IsSome (offsets_of e) × (area_accessed block d offset size ≡ area_accessed block e offset size'))
+access_near block d (Words c) offset size size' near less = inl refl
+access_near block (Words b) (Pointer area low high) offset size size' near less = absurd near.into
+access_near block (Pointer area low high) (Pointer area' low' high') offset size size' near less =
+    let length = pos (length_of block area') in
+    cond_both (int_le (pos 0) (low' +ℤ offset) && int_le ((high' +ℤ offset) +ℤ pos size') length) (Some area') None
+    (λ o. (o ≡ None) ⊎ (IsSome (offsets_of (Pointer area' low' high')) × (area_accessed block (Pointer area low high) offset size ≡ o)))
+    (λ known.
+    let both = both_at_most (pos 0) (low' +ℤ offset) ((high' +ℤ offset) +ℤ pos size') length known in
+    let fits = are_at_most (pos 0) (low +ℤ offset) ((high +ℤ offset) +ℤ pos size) length (omega (arith, ints, both.0, near.into.1))
+    (omega (arith, ints, both.1, near.into.2, less)) in
+    inr (refl, rw (near.into.0, fits) refl))
+    (λ _. inl refl)
 
-pub reached_near : (block : ℕ) (e : Fact) (offset : ℤ) (size : ℕ) (area : Area) → area_accessed block e offset size ≡ Some area → IsSome (offsets_of e)
-reached_near block (Words c) offset size area known = cc
-reached_near block (Pointer area' low high) offset size area known = refl
+-- ---- joins
 
-pub ordered_near : (d e : Fact) → IsNear d e → (bounds_of e).low ≤ (bounds_of e).high
-ordered_near d e near = let part = words_part d e near in omega (arith, part.ordered, part.low, part.high)
+-- areas with one address are one
+one_area : (area area' : Area) → (address_of area == address_of area') ≡ true → area ≡ area'
+one_area Context Context one = refl
+one_area Block Block one = refl
+one_area Stack Stack one = refl
+one_area Scratch Scratch one = refl
+one_area area area' one = cc
 
-pub greatest_near : (e : Fact) → IsSome (offsets_of e) → (bounds_of e).high ≡ 2 ^ 64 - 1
-greatest_near (Words c) is = cc
-greatest_near (Pointer area low high) is = refl
+hull_near : (b b' c : Bounds) → IsPart Bits64 b c → IsPart Bits64 b' c → IsNear (Words (range (min b.low b'.low) (max b.high b'.high))) (Words c)
+hull_near b b' c first second =
+    near_words (range (min b.low b'.low) (max b.high b'.high)) c
+    (record {
+      ordered = omega (arith, first.ordered, second.ordered);
+      fits = omega (arith, first.fits, second.fits);
+      low = omega (arith, first.low, second.low);
+      high = omega (arith, first.high, second.high);
+    })
+
+least_of : (area : Area) (low low' : ℤ) (n : ℕ) → n ≤ address_at area low → n ≤ address_at area low' → n ≤ address_at area (int_min low low')
+least_of area low low' n first second = cond_both (int_lt low' low) low' low (λ least. n ≤ address_at area least) (λ _. second) (λ _. first)
+
+most_of : (area : Area) (high high' : ℤ) (n : ℕ) → address_at area high ≤ n → address_at area high' ≤ n → address_at area (int_max high high') ≤ n
+most_of area high high' n first second = cond_both (int_lt high' high) high high' (λ most. address_at area most ≤ n) (λ _. first) (λ _. second)
+
+-- distances of both pointers, between those of one
+both_between : (low high low' high' least most : ℤ) → (least ≤ℤ low) × (low ≤ℤ high) × (high ≤ℤ most)
+    → (least ≤ℤ low') × (low' ≤ℤ high') × (high' ≤ℤ most)
+    → (least ≤ℤ int_min low low') × (int_min low low' ≤ℤ int_max high high') × (int_max high high' ≤ℤ most)
+both_between low high low' high' least most first second = grind (arith, ints)
+
+-- distances between those of one of two pointers
+one_between : (low high low' high' : ℤ) → (int_min low low' ≤ℤ low) × (int_min low low' ≤ℤ low') × (high ≤ℤ int_max high high') × (high' ≤ℤ int_max high high')
+one_between low high low' high' = grind (arith, ints)
+
+pub join_least : (d d' e : Fact) → IsNear d e → IsNear d' e → IsNear (addresses.join d d') e
+join_least (Words b) d' (Pointer area least most) first second = absurd first.into
+join_least d (Words b') (Pointer area least most) first second = absurd second.into
+join_least (Pointer at low high) (Pointer at' low' high') (Pointer area least most) first second =
+    let is = both_between low high low' high' (pos 0 -ℤ farthest) farthest first.fact second.fact in
+    let inside = both_between low high low' high' least most (first.into.1, first.fact.1, first.into.2) (second.into.1, second.fact.1, second.into.2) in
+    let same : (address_of at == address_of at') ≡ true = rw (first.into.0, second.into.0) (eq-eqb (address_of area) (address_of area) refl) in
+    rw same
+    (record {
+      fact = is;
+      part = pointer_full at (int_min low low') (int_max high high') is;
+      into = (first.into.0, inside.0, inside.2);
+    })
+join_least (Pointer at low high) (Pointer at' low' high') (Words c) first second =
+    let hull = range (min (address_at at low) (address_at at' low')) (max (address_at at high) (address_at at' high')) in
+    cond_both (address_of at == address_of at') (Pointer at (int_min low low') (int_max high high')) (Words full)
+    (λ f. IsNear (pointer_or f (Words hull)) (Words c))
+    (λ one.
+    let same = one_area at at' one in
+    let is = both_between low high low' high' (pos 0 -ℤ farthest) farthest first.fact second.fact in
+    record {
+      fact = is;
+      part = pointer_part at (int_min low low') (int_max high high') c is
+          (least_of at low low' c.low first.part.low (subst (λ a. c.low ≤ address_at a low') (sym same) second.part.low))
+          (most_of at high high' c.high first.part.high (subst (λ a. address_at a high' ≤ c.high) (sym same) second.part.high));
+      into = tt;
+    })
+    (λ _. hull_near (words_of (Pointer at low high)) (words_of (Pointer at' low' high')) c first.part second.part)
+join_least (Words b) (Words b') (Words c) first second = hull_near b b' c first.part second.part
+join_least d d' (Words c) first second = hull_near (words_of d) (words_of d') c first.part second.part
+
+-- what is told of a fact is told of its join with any other
+near_more : (d : Fact) (c c' : Bounds) → IsNear d (Words c) → IsWithin c c' → IsNear d (Words c')
+near_more d c c' near more =
+    let part = near.part in
+    record { fact = near.fact; part = record { ordered = part.ordered; fits = part.fits; low = omega (arith, part.low, more); high = omega (arith, part.high, more) }; into = tt }
+
+near_into : (d : Fact) (area area' : Area) (low high low' high' : ℤ) → IsNear d (Pointer area low high) → area ≡ area' → low' ≤ℤ low → high ≤ℤ high'
+    → IsNear d (Pointer area' low' high')
+near_into (Words b) area area' low high low' high' near same first last = absurd near.into
+near_into (Pointer at least most) area area' low high low' high' near same first last = record {
+  fact = near.fact;
+  part = near.part;
+  into = (near.into.0 ∙ same, omega (arith, ints, first, near.into.1), omega (arith, ints, last, near.into.2));
+}
+
+pub join_first : (d e e' : Fact) → IsNear d e → IsNear d (join_of e e')
+join_first d (Words c) (Words c') near = near_more d c (range (min c.low c'.low) (max c.high c'.high)) near (omega arith, omega arith)
+join_first d (Pointer area low high) (Pointer area' low' high') near =
+    let inside = one_between low high low' high' in
+    cond_both (address_of area == address_of area') (Pointer area (int_min low low') (int_max high high')) (Words full) (λ f. IsNear d f)
+    (λ _. near_into d area area low high (int_min low low') (int_max high high') near refl inside.0 inside.2)
+    (λ _. near_wide d (Pointer area low high) near)
+join_first d e e' near = near_wide d e near
+
+pub join_second : (d e e' : Fact) → IsNear d e' → IsNear d (join_of e e')
+join_second d (Words c) (Words c') near = near_more d c' (range (min c.low c'.low) (max c.high c'.high)) near (omega arith, omega arith)
+join_second d (Pointer area low high) (Pointer area' low' high') near =
+    let inside = one_between low high low' high' in
+    cond_both (address_of area == address_of area') (Pointer area (int_min low low') (int_max high high')) (Words full) (λ f. IsNear d f)
+    (λ one. near_into d area' area low' high' (int_min low low') (int_max high high') near (sym (one_area area area' one)) inside.1 inside.3)
+    (λ _. near_wide d (Pointer area' low' high') near)
+join_second d e e' near = near_wide d e' near

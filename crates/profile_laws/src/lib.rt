@@ -14,4 +14,5 @@ pub fn addresses_accept_what_intervals_accept()
     ensures { AcceptsWhatIsAccepted addresses intervals }
 {
     laws::accepted_fails_nowhere::<Intervals>();
+    laws::judges_without_sums::<Intervals>();
 }
