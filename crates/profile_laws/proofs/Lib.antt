@@ -1,10 +1,6 @@
 mod Acceptance
 mod AddressesTell
-mod Edges
-mod FactsNear
 mod NearFacts
 mod PointersNear
-mod Ranges
-mod Stacks
 mod Telling
 mod WordsNear

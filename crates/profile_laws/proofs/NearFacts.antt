@@ -14,7 +14,7 @@ use Rattle.address_domain.specs.Addresses.{address_at, addresses, pointer_or, wo
 use Rattle.interval_domain.specs.Fact.{IsFact, area_accessed, bounds_of, farthest, full, join_of, offsets_of, range}
 use Rattle.interval_domain.specs.declared.fact.Fact.{Fact}
 use Rattle.interval_domain.specs.declared.fact.Fact.TheVariants.{Words, Pointer}
-use Rattle.profile_laws.proofs.Ranges.{IsPart}
+use Rattle.profile_laws.proofs.WordsNear.{IsPart}
 use Rattle.profile_laws.proofs.Telling.{IsWithin, OffsetsWithin, are_at_most, both_at_most}
 
 -- ---- addresses as words
@@ -175,7 +175,7 @@ join_least (Words b) (Words b') (Words c) first second = hull_near b b' c first.
 join_least d d' (Words c) first second = hull_near (words_of d) (words_of d') c first.part second.part
 
 -- what is told of a fact is told of its join with any other
-near_more : (d : Fact) (c c' : Bounds) → IsNear d (Words c) → IsWithin c c' → IsNear d (Words c')
+pub near_more : (d : Fact) (c c' : Bounds) → IsNear d (Words c) → IsWithin c c' → IsNear d (Words c')
 near_more d c c' near more =
     let part = near.part in
     record { fact = near.fact; part = record { ordered = part.ordered; fits = part.fits; low = omega (arith, part.low, more); high = omega (arith, part.high, more) }; into = tt }

@@ -1,5 +1,5 @@
 -- What an arithmetic instruction makes over addresses tells at least as much as over intervals.
-use Rattle.std.proofs.Common.{ℕ, ℤ, suc, pos, negsuc, ◌≡◌, ◌+◌, ◌-◌, ◌%◌, ◌^◌, ◌<◌, ◌≤◌, ◌+ℤ◌, ◌-ℤ◌, ◌∙◌, ◌⊎◌, inl, inr, true, false, Option, Some, None, refl, sym, ap, subst, add_comm, arith}
+use Rattle.std.proofs.Common.{ℕ, ℤ, suc, pos, negsuc, ◌≡◌, ◌+◌, ◌-◌, ◌%◌, ◌^◌, ◌<◌, ◌≤◌, ◌+ℤ◌, ◌-ℤ◌, ◌∙◌, ◌⊎◌, inl, inr, Bool, true, false, Option, Some, None, refl, sym, ap, subst, add_comm, arith}
 use Rattle.std.proofs.lemmas.Bool.Decides.{nat_tests}
 use Rattle.std.proofs.lemmas.Bool.{and_right, cases_lt, cond-false, cond_both, eqb-true, le-ltb}
 use Rattle.std.proofs.lemmas.Int.{ints, to_z_pos}
@@ -18,16 +18,24 @@ use Rattle.interval_domain.specs.Arithmetic.{alu_of, difference_of, moved_back, 
 use Rattle.interval_domain.specs.Fact.{IsFact, bounds_of, farthest, full, is_single, pointer_to, range, single}
 use Rattle.interval_domain.specs.declared.fact.Fact.{Fact}
 use Rattle.interval_domain.specs.declared.fact.Fact.TheVariants.{Words, Pointer}
-use Rattle.profile_laws.proofs.NearFacts.{IsNear, address_is, ends, far_in, near_wide, near_words, pointer_full, pointer_part}
-use Rattle.profile_laws.proofs.Ranges.{IsPart}
-use Rattle.profile_laws.proofs.Telling.{are_at_most, both_at_most}
-use Rattle.profile_laws.proofs.WordsNear.{computed_in, made, made_part, words_made}
+use Rattle.profile_laws.proofs.NearFacts.{IsNear, address_is, ends, far_in, near_more, near_wide, near_words, pointer_full, pointer_part}
+use Rattle.profile_laws.proofs.WordsNear.{IsPart, whole_part, made, made_part, words_made}
+use Rattle.profile_laws.proofs.Telling.{IsWithin, are_at_most, both_at_most}
+
+abbrev add : Arithmetic
+add = Binary Bits64 Add
+
+abbrev subtract : Arithmetic
+subtract = Binary Bits64 Subtract
 
 -- ---- signed words
 
--- a signed number as it is added to words
-abbrev IsAdded : ℤ → ℕ → Type 0
-IsAdded by y = (by ≡ pos y) ⊎ ((by +ℤ pos (2 ^ 64)) ≡ pos y)
+-- words of one sign, within others, as signed numbers
+record OneSign (b c : Bounds) : Type 0 where
+  one : (nat_lt b.high (2 ^ 63) || nat_le (2 ^ 63) b.low) ≡ true
+  low : cast_signed w64 c.low ≤ℤ cast_signed w64 b.low
+  order : cast_signed w64 b.low ≤ℤ cast_signed w64 b.high
+  high : cast_signed w64 b.high ≤ℤ cast_signed w64 c.high
 
 signed_cases : (n : ℕ) → ((n < 2 ^ 63) × (cast_signed w64 n ≡ pos n)) ⊎ ((2 ^ 63 ≤ n) × (cast_signed w64 n ≡ negsuc (2 ^ 64 - suc n)))
 signed_cases n = elim (cases_lt n (2 ^ 63)) [
@@ -35,11 +43,14 @@ signed_cases n = elim (cases_lt n (2 ^ 63)) [
   | inr negative ↦ inr (negative, rw (le-ltb n (2 ^ 63) negative) refl)
 ]
 
-added : (n : ℕ) → n < 2 ^ 64 → IsAdded (cast_signed w64 n) n × IsAdded (pos 0 -ℤ cast_signed w64 n) (2 ^ 64 - n)
-added n fits = elim (signed_cases n) [
-  | inl positive ↦ (inl positive.1, inr (omega (arith, ints, positive.1)))
-  | inr negative ↦ (inr (omega (arith, ints, negative.1)), inl (omega (arith, ints, negative.1)))
-]
+one_sign : (b c : Bounds) → IsPart Bits64 b c → (nat_lt c.high (2 ^ 63) || nat_le (2 ^ 63) c.low) ≡ true → OneSign b c
+one_sign b c part one = grind (arith, ints, nat_tests, signed_cases c.low, signed_cases b.low, signed_cases b.high, signed_cases c.high)
+
+-- both ends, as they are added to addresses
+signed_ends : (b : Bounds) → IsPart Bits64 b b → (nat_lt b.high (2 ^ 63) || nat_le (2 ^ 63) b.low) ≡ true
+    → ((cast_signed w64 b.low ≡ pos b.low) × (cast_signed w64 b.high ≡ pos b.high))
+    ⊎ (((cast_signed w64 b.low +ℤ pos (2 ^ 64)) ≡ pos b.low) × ((cast_signed w64 b.high +ℤ pos (2 ^ 64)) ≡ pos b.high))
+signed_ends b part one = grind (arith, ints, nat_tests, signed_cases b.low, signed_cases b.high)
 
 -- the bounds of what moves a pointer back, as of what moves it on
 abbrev turned : Option (ℤ × ℤ) → Option (ℤ × ℤ)
@@ -59,45 +70,26 @@ IsNested by None = Unit {0}
 IsNested None (Some by') = ⊥
 IsNested (Some by) (Some by') = (by'.0 ≤ℤ by.0) × (by.0 ≤ℤ by.1) × (by.1 ≤ℤ by'.1)
 
-one_sign : (b c : Bounds) → IsPart Bits64 b c → (nat_lt c.high (2 ^ 63) || nat_le (2 ^ 63) c.low) ≡ true
-    → ((nat_lt b.high (2 ^ 63) || nat_le (2 ^ 63) b.low) ≡ true) × (cast_signed w64 c.low ≤ℤ cast_signed w64 b.low)
-    × (cast_signed w64 b.low ≤ℤ cast_signed w64 b.high) × (cast_signed w64 b.high ≤ℤ cast_signed w64 c.high)
-one_sign b c part one =
-    grind (arith, ints, nat_tests, signed_cases c.low, signed_cases b.low, signed_cases b.high, signed_cases c.high)
-
-whole_part : (b : Bounds) → IsPart Bits64 b full → IsPart Bits64 b b
-whole_part b part = record { ordered = part.ordered; fits = part.fits; low = omega arith; high = omega arith }
-
-signed_nested : (b c : Bounds) → IsPart Bits64 b c → IsNested (signed_bounds b) (signed_bounds c)
-signed_nested b c part =
-    cond_both (nat_lt c.high (2 ^ 63) || nat_le (2 ^ 63) c.low) _ _ (λ by. IsNested (signed_bounds b) by)
-    (λ one. let is = one_sign b c part one in rw is.0 (is.1, is.2, is.3))
-    (λ _. tt)
-
-turned_nested : (by by' : Option (ℤ × ℤ)) → IsNested by by' → IsNested (turned by) (turned by')
-turned_nested by None nested = tt
-turned_nested None (Some by') nested = absurd nested
-turned_nested (Some by) (Some by') nested =
-    (omega (arith, ints, nested.2), omega (arith, ints, nested.1), omega (arith, ints, nested.0))
+nested : (b c : Bounds) → IsPart Bits64 b c
+    → IsNested (signed_bounds b) (signed_bounds c) × IsNested (turned (signed_bounds b)) (turned (signed_bounds c))
+nested b c part =
+    cond_both (nat_lt c.high (2 ^ 63) || nat_le (2 ^ 63) c.low) _ _
+    (λ by. IsNested (signed_bounds b) by × IsNested (turned (signed_bounds b)) (turned by))
+    (λ one.
+    let is = one_sign b c part one in
+    rw is.one
+    ((is.low, is.order, is.high), (omega (arith, ints, is.high), omega (arith, ints, is.order), omega (arith, ints, is.low))))
+    (λ _. (tt, tt))
 
 -- ---- pointers that are moved
 
--- a pointer that is within the farthest distances of another is within them itself
-reach : (area : Area) (l h l' h' : ℤ) → l' ≤ℤ l → l ≤ℤ h → h ≤ℤ h' → (int_le (pos 0 -ℤ farthest) l' && int_le h' farthest) ≡ true
-    → ((int_le (pos 0 -ℤ farthest) l && int_le h farthest) ≡ true) × IsFact (Pointer area l h)
-reach area l h l' h' least order most near =
-    let both = both_at_most (pos 0 -ℤ farthest) l' h' farthest near in
-    let first : (pos 0 -ℤ farthest) ≤ℤ l = omega (arith, ints, both.0, least) in
-    let last : h ≤ℤ farthest = omega (arith, ints, both.1, most) in
-    (are_at_most (pos 0 -ℤ farthest) l h farthest first last, (first, order, last))
-
-reached : (area : Area) (l h : ℤ) → l ≤ℤ h → (int_le (pos 0 -ℤ farthest) l && int_le h farthest) ≡ true → IsFact (Pointer area l h)
-reached area l h order near = let both = both_at_most (pos 0 -ℤ farthest) l h farthest near in (both.0, order, both.1)
-
-beyond : (area : Area) (l h : ℤ) → (h ≤ℤ farthest → (pos 0 -ℤ farthest) ≤ℤ l → ⊥) → pointer_to area l h ≡ Words full
-beyond area l h not_both =
-    cond_both (int_le (pos 0 -ℤ farthest) l && int_le h farthest) (Pointer area l h) (Words full) (λ f. f ≡ Words full)
-    (λ near. let both = both_at_most (pos 0 -ℤ farthest) l h farthest near in absurd (not_both both.1 both.0)) (λ _. refl)
+-- a pointer is one as long as it is within the farthest distances
+near_enough : (area : Area) (l h : ℤ) (P : Fact → Type 0) → ((pos 0 -ℤ farthest) ≤ℤ l → h ≤ℤ farthest → P (Pointer area l h)) → P (Words full)
+    → P (pointer_to area l h)
+near_enough area l h P near far =
+    cond_both (int_le (pos 0 -ℤ farthest) l && int_le h farthest) (Pointer area l h) (Words full) P
+    (λ there. let both = both_at_most (pos 0 -ℤ farthest) l h farthest there in near both.0 both.1)
+    (λ _. far)
 
 module _ (area area' : Area) (low high low' high' : ℤ) (near : IsNear (Pointer area low high) (Pointer area' low' high')) (words : Fact) where
   moved_near : (by by' : Option (ℤ × ℤ)) → IsNested by by' → IsNear (pointer_or (moved_on area low high by) words) (Words full)
@@ -105,138 +97,123 @@ module _ (area area' : Area) (low high low' high' : ℤ) (near : IsNear (Pointer
   moved_near by None nested fine = fine
   moved_near None (Some by') nested fine = absurd nested
   moved_near (Some by) (Some by') nested fine =
-      let l = low +ℤ by.0 in
-      let h = high +ℤ by.1 in
-      let l' = low' +ℤ by'.0 in
-      let h' = high' +ℤ by'.1 in
-      cond_both (int_le (pos 0 -ℤ farthest) l' && int_le h' farthest) (Pointer area' l' h') (Words full)
-      (λ f. IsNear (pointer_or (pointer_to area l h) words) f)
-      (λ there.
-      let first : l' ≤ℤ l = omega (arith, ints, near.into.1, nested.0) in
-      let last : h ≤ℤ h' = omega (arith, ints, near.into.2, nested.2) in
-      let order : l ≤ℤ h = omega (arith, ints, near.fact.1, nested.1) in
-      let is = reach area l h l' h' first order last there in
-      rw is.0
-      (record {
-        fact = is.1;
-        part = pointer_full area l h is.1;
-        into = (near.into.0, first, last);
-      }))
-      (λ _. fine)
+      let first : (low' +ℤ by'.0) ≤ℤ (low +ℤ by.0) = omega (arith, ints, near.into.1, nested.0) in
+      let order : (low +ℤ by.0) ≤ℤ (high +ℤ by.1) = omega (arith, ints, near.fact.1, nested.1) in
+      let last : (high +ℤ by.1) ≤ℤ (high' +ℤ by'.1) = omega (arith, ints, near.into.2, nested.2) in
+      near_enough area' (low' +ℤ by'.0) (high' +ℤ by'.1) (λ f. IsNear (pointer_or (pointer_to area (low +ℤ by.0) (high +ℤ by.1)) words) f)
+      (λ least most.
+      let is : IsFact (Pointer area (low +ℤ by.0) (high +ℤ by.1)) = (omega (arith, ints, least, first), order, omega (arith, ints, most, last)) in
+      rw (are_at_most (pos 0 -ℤ farthest) (low +ℤ by.0) (high +ℤ by.1) farthest is.0 is.2)
+      (record { fact = is; part = pointer_full area (low +ℤ by.0) (high +ℤ by.1) is; into = (near.into.0, first, last) }))
+      fine
 
-  -- words among which is a pointer are too great to move another
+  -- words among which is an address are too great to move another
   far : (at : Area) (first last : ℤ) (c : Bounds) → IsNear (Pointer at first last) (Words c)
-      → (moved_on area' low' high' (signed_bounds c) ≡ Words full) × (moved_on area' low' high' (turned (signed_bounds c)) ≡ Words full)
+      → (moved_on area' low' high' (signed_bounds c) ≡ Words full) × (moved_back area' low' high' (signed_bounds c) ≡ Words full)
   far at first last c inside =
       let are = ends at first last inside.fact in
       let at_is = far_in at in
-      let most : 2 ^ 31 ≤ c.high = omega (arith, ints, are.most, at_is.above, inside.fact.0, inside.fact.1, inside.part.high) in
-      let least : c.low < 2 ^ 63 = omega (arith, ints, are.least, at_is.below, inside.fact.1, inside.fact.2, inside.part.low) in
       cond_both (nat_lt c.high (2 ^ 63) || nat_le (2 ^ 63) c.low) _ _
-      (λ by. (moved_on area' low' high' by ≡ Words full) × (moved_on area' low' high' (turned by) ≡ Words full))
+      (λ by. (moved_on area' low' high' by ≡ Words full) × (moved_back area' low' high' by ≡ Words full))
       (λ one.
+      let least : c.low < 2 ^ 63 = omega (arith, ints, are.least, at_is.below, inside.fact.1, inside.fact.2, inside.part.low) in
       let positive : c.high < 2 ^ 63 = grind (arith, nat_tests) in
-      let is = to_z_pos w64 c.high positive in (
-        beyond area' (low' +ℤ cast_signed w64 c.low) (high' +ℤ cast_signed w64 c.high)
-            (λ near_high near_low. omega (arith, ints, is, most, near.fact.0, near.fact.1, near.into.2, near_high)),
-        beyond area' (low' +ℤ (pos 0 -ℤ cast_signed w64 c.high)) (high' +ℤ (pos 0 -ℤ cast_signed w64 c.low))
-            (λ near_high near_low. omega (arith, ints, is, most, near.fact.1, near.fact.2, near.into.1, near_low)),
+      let is = to_z_pos w64 c.high positive in
+      let most : pos (2 ^ 31) ≤ℤ cast_signed w64 c.high = omega (arith, ints, is, are.most, at_is.above, inside.fact.0, inside.fact.1, inside.part.high) in (
+        near_enough area' (low' +ℤ cast_signed w64 c.low) (high' +ℤ cast_signed w64 c.high) (λ f. f ≡ Words full)
+            (λ near_low near_high. absurd (omega (arith, ints, most, near.fact.0, near.fact.1, near.into.2, near_high))) refl,
+        near_enough area' (low' -ℤ cast_signed w64 c.high) (high' -ℤ cast_signed w64 c.low) (λ f. f ≡ Words full)
+            (λ near_low near_high. absurd (omega (arith, ints, most, near.fact.1, near.fact.2, near.into.1, near_low))) refl,
       ))
       (λ _. (refl, refl))
 
-  on_near : (s : Fact) (c : Bounds) → IsNear s (Words c)
-      → IsNear (pointer_or (sum_of (Pointer area low high) s) words) (Words full)
+  on_near : (s : Fact) (c : Bounds) → IsNear s (Words c) → IsNear (pointer_or (sum_of (Pointer area low high) s) words) (Words full)
       → IsNear (pointer_or (sum_of (Pointer area low high) s) words) (moved_on area' low' high' (signed_bounds c))
-  on_near (Words b) c inside fine = moved_near (signed_bounds b) (signed_bounds c) (signed_nested b c inside.part) fine
-  on_near (Pointer at first last) c inside fine =
-      let is = far at first last c inside in
-      subst (λ f. IsNear (pointer_or (sum_of (Pointer area low high) (Pointer at first last)) words) f) (sym is.0) fine
+  on_near (Words b) c inside fine = moved_near (signed_bounds b) (signed_bounds c) (nested b c inside.part).0 fine
+  on_near (Pointer at first last) c inside fine = subst (λ f. IsNear words f) (sym (far at first last c inside).0) fine
 
-  back_near : (s : Fact) (c : Bounds) → IsNear s (Words c)
-      → IsNear (pointer_or (difference_of (Pointer area low high) s) words) (Words full)
+  back_near : (s : Fact) (c : Bounds) → IsNear s (Words c) → IsNear (pointer_or (difference_of (Pointer area low high) s) words) (Words full)
       → IsNear (pointer_or (difference_of (Pointer area low high) s) words) (moved_back area' low' high' (signed_bounds c))
   back_near (Words b) c inside fine =
       let is = back_is area low high (signed_bounds b) in
-      let is' = back_is area' low' high' (signed_bounds c) in
-      subst (λ f. IsNear (pointer_or (moved_back area low high (signed_bounds b)) words) f) (sym is')
+      subst (λ f. IsNear (pointer_or (moved_back area low high (signed_bounds b)) words) f) (sym (back_is area' low' high' (signed_bounds c)))
       (subst (λ g. IsNear (pointer_or g words) (moved_on area' low' high' (turned (signed_bounds c)))) (sym is)
-      (moved_near (turned (signed_bounds b)) (turned (signed_bounds c))
-      (turned_nested (signed_bounds b) (signed_bounds c) (signed_nested b c inside.part))
+      (moved_near (turned (signed_bounds b)) (turned (signed_bounds c)) (nested b c inside.part).1
       (subst (λ g. IsNear (pointer_or g words) (Words full)) is fine)))
-  back_near (Pointer at first last) c inside fine =
-      let is = back_is area' low' high' (signed_bounds c) in
-      let none = far at first last c inside in
-      subst (λ f. IsNear words f) (sym (is ∙ none.1)) fine
+  back_near (Pointer at first last) c inside fine = subst (λ f. IsNear words f) (sym (far at first last c inside).1) fine
 
--- ---- beside words
+-- ---- a pointer that is moved is what its words make
 
--- a word added to an address is the address at the distance that is the sum
-on_word : (area : Area) (low by : ℤ) (x y : ℕ) → pos x ≡ (pos (address_of area) +ℤ low) → low ≤ℤ farthest → IsAdded by y
-    → (pos 0 -ℤ farthest) ≤ℤ (low +ℤ by) → (low +ℤ by) ≤ℤ farthest → address_at area (low +ℤ by) ≡ (x + y) % 2 ^ 64
-on_word area low by x y is near sum least most =
-    let far = far_in area in
-    let at = address_is area (low +ℤ by) least in
-    elim sum [
-      | inl one ↦ omega (arith, ints, is, near, one, least, most, far.above, far.below, at)
-      | inr one ↦ omega (arith, ints, is, near, one, least, most, far.above, far.below, at)
-    ]
+-- both ends, of which neither or each wraps
+sum_within : (x x' r r' : ℕ) (b : Bounds) → IsPart Bits64 b b → r' < 2 ^ 64
+    → ((r ≡ x + b.low) × (r' ≡ x' + b.high)) ⊎ ((r + 2 ^ 64 ≡ x + b.low) × (r' + 2 ^ 64 ≡ x' + b.high)) → r ≤ r' → x ≤ x'
+    → IsWithin (range r r') (made add (range x x') b)
+sum_within x x' r r' b part fits ends_are order order' =
+    cond_both (is_single (range x x') && is_single b) _ _ (λ f. IsWithin (range r r') (bounds_of f))
+    (λ one. (grind (arith, nat_tests), grind (arith, nat_tests))) (λ _. (grind (arith, nat_tests), grind (arith, nat_tests)))
 
--- of a pointer both ends are between the bounds
-abbrev EndsIn : Fact → Bounds → Type 0
-EndsIn (Words b) m = Unit {0}
-EndsIn (Pointer area low high) m = IsFact (Pointer area low high) × (m.low ≤ address_at area low) × (address_at area high ≤ m.high)
+difference_within : (x x' r r' : ℕ) (b : Bounds) → IsPart Bits64 b b → r' < 2 ^ 64
+    → ((r + b.high ≡ x) × (r' + b.low ≡ x')) ⊎ ((r + b.high ≡ x + 2 ^ 64) × (r' + b.low ≡ x' + 2 ^ 64)) → r ≤ r' → x ≤ x'
+    → IsWithin (range r r') (made subtract (range x x') b)
+difference_within x x' r r' b part fits ends_are order order' =
+    cond_both (is_single (range x x') && is_single b) _ _ (λ f. IsWithin (range r r') (bounds_of f))
+    (λ one. (grind (arith, nat_tests), grind (arith, nat_tests))) (λ _. (grind (arith, nat_tests), grind (arith, nat_tests)))
 
-beside : (f : Fact) (w m : Bounds) → IsPart Bits64 w m → EndsIn f m → IsNear (pointer_or f (Words w)) (Words m)
-beside (Words b) w m part in_words = near_words w m part
-beside (Pointer area low high) w m part in_words =
-    record { fact = in_words.0; part = pointer_part area low high m in_words.0 in_words.1 in_words.2; into = tt }
+module _ (area : Area) (low high : ℤ) (b : Bounds) (is : IsFact (Pointer area low high)) (part : IsPart Bits64 b b) where
+  -- what is made of both as words tells at least as much
+  told_by : (m : Bounds) (l h : ℤ) → IsPart Bits64 m m → l ≤ℤ h → (IsFact (Pointer area l h) → IsWithin (words_of (Pointer area l h)) m)
+      → IsNear (pointer_or (pointer_to area l h) (Words m)) (Words m)
+  told_by m l h whole order lies =
+      near_enough area l h (λ f. IsNear (pointer_or f (Words m)) (Words m))
+      (λ least most.
+      let moved : IsFact (Pointer area l h) = (least, order, most) in
+      let within = lies moved in
+      record { fact = moved; part = pointer_part area l h m moved within.0 within.1; into = tt })
+      (near_words m m whole)
 
--- a pointer moved by words, with bounds of all sums
-moved_ends : (area : Area) (low high : ℤ) (by : ℤ × ℤ) (y y' : ℕ) (m : Bounds) → IsFact (Pointer area low high) → by.0 ≤ℤ by.1
-    → IsAdded by.0 y → IsAdded by.1 y' → m.low ≤ (address_at area low + y) % 2 ^ 64 → (address_at area high + y') % 2 ^ 64 ≤ m.high
-    → EndsIn (moved_on area low high (Some by)) m
-moved_ends area low high by y y' m is order sum sum' least most =
-    let are = ends area low high is in
-    let l = low +ℤ by.0 in
-    let h = high +ℤ by.1 in
-    cond_both (int_le (pos 0 -ℤ farthest) l && int_le h farthest) (Pointer area l h) (Words full) (λ f. EndsIn f m)
-    (λ there.
-    let moved = reached area l h (omega (arith, ints, order, is.1)) there in
-    let first = on_word area low by.0 (address_at area low) y are.least (omega (arith, ints, is.1, is.2)) sum moved.0
-    (omega (arith, ints, moved.1, moved.2)) in
-    let last = on_word area high by.1 (address_at area high) y' are.most is.2 sum' (omega (arith, ints, moved.0, moved.1)) moved.2 in
-    (moved, omega (arith, first, least), omega (arith, last, most)))
-    (λ _. tt)
-
-module _ (area : Area) (low high : ℤ) (b m : Bounds) (is : IsFact (Pointer area low high)) (part : IsPart Bits64 b full) where
-  on_ends : m.low ≤ (address_at area low + b.low) % 2 ^ 64 → (address_at area high + b.high) % 2 ^ 64 ≤ m.high
-      → EndsIn (moved_on area low high (signed_bounds b)) m
-  on_ends least most =
-      cond_both (nat_lt b.high (2 ^ 63) || nat_le (2 ^ 63) b.low) _ _ (λ by. EndsIn (moved_on area low high by) m)
+  on_told : (m : Bounds) → m ≡ made add (words_of (Pointer area low high)) b → IsPart Bits64 m m
+      → IsNear (pointer_or (moved_on area low high (signed_bounds b)) (Words m)) (Words m)
+  on_told m same whole =
+      cond_both (nat_lt b.high (2 ^ 63) || nat_le (2 ^ 63) b.low) _ _ (λ by. IsNear (pointer_or (moved_on area low high by) (Words m)) (Words m))
       (λ one.
-      let order = (one_sign b b (whole_part b part) one).2 in
-      moved_ends area low high (cast_signed w64 b.low, cast_signed w64 b.high) b.low b.high m is order
-      (added b.low (omega (arith, part.ordered, part.fits))).0 (added b.high part.fits).0 least most)
-      (λ _. tt)
+      let order = (one_sign b b part one).order in
+      told_by m (low +ℤ cast_signed w64 b.low) (high +ℤ cast_signed w64 b.high) whole (omega (arith, ints, is.1, order))
+      (λ moved.
+      let are = ends area low high is in
+      let at = ends area (low +ℤ cast_signed w64 b.low) (high +ℤ cast_signed w64 b.high) moved in
+      let words = pointer_full area (low +ℤ cast_signed w64 b.low) (high +ℤ cast_signed w64 b.high) moved in
+      let from = pointer_full area low high is in
+      rw same
+      (sum_within (address_at area low) (address_at area high) _ _ b part words.fits
+      (elim (signed_ends b part one) [
+        | inl positive ↦ inl (omega (arith, ints, positive.0, are.least, at.least), omega (arith, ints, positive.1, are.most, at.most))
+        | inr negative ↦ inr (omega (arith, ints, negative.0, are.least, at.least), omega (arith, ints, negative.1, are.most, at.most))
+      ])
+      words.ordered from.ordered)))
+      (λ _. near_words m m whole)
 
-  back_ends : m.low ≤ (address_at area low + (2 ^ 64 - b.high)) % 2 ^ 64 → (address_at area high + (2 ^ 64 - b.low)) % 2 ^ 64 ≤ m.high
-      → EndsIn (moved_back area low high (signed_bounds b)) m
-  back_ends least most =
-      subst (λ f. EndsIn f m) (sym (back_is area low high (signed_bounds b)))
-      (cond_both (nat_lt b.high (2 ^ 63) || nat_le (2 ^ 63) b.low) _ _ (λ by. EndsIn (moved_on area low high (turned by)) m)
+  back_told : (m : Bounds) → m ≡ made subtract (words_of (Pointer area low high)) b → IsPart Bits64 m m
+      → IsNear (pointer_or (moved_back area low high (signed_bounds b)) (Words m)) (Words m)
+  back_told m same whole =
+      cond_both (nat_lt b.high (2 ^ 63) || nat_le (2 ^ 63) b.low) _ _ (λ by. IsNear (pointer_or (moved_back area low high by) (Words m)) (Words m))
       (λ one.
-      let order = (one_sign b b (whole_part b part) one).2 in
-      moved_ends area low high (pos 0 -ℤ cast_signed w64 b.high, pos 0 -ℤ cast_signed w64 b.low) (2 ^ 64 - b.high) (2 ^ 64 - b.low) m is
-      (omega (arith, ints, order)) (added b.high part.fits).1 (added b.low (omega (arith, part.ordered, part.fits))).1 least most)
-      (λ _. tt))
+      let order = (one_sign b b part one).order in
+      told_by m (low -ℤ cast_signed w64 b.high) (high -ℤ cast_signed w64 b.low) whole (omega (arith, ints, is.1, order))
+      (λ moved.
+      let are = ends area low high is in
+      let at = ends area (low -ℤ cast_signed w64 b.high) (high -ℤ cast_signed w64 b.low) moved in
+      let words = pointer_full area (low -ℤ cast_signed w64 b.high) (high -ℤ cast_signed w64 b.low) moved in
+      let from = pointer_full area low high is in
+      rw same
+      (difference_within (address_at area low) (address_at area high) _ _ b part words.fits
+      (elim (signed_ends b part one) [
+        | inl positive ↦ inl (omega (arith, ints, positive.1, are.least, at.least), omega (arith, ints, positive.0, are.most, at.most))
+        | inr negative ↦ inr (omega (arith, ints, negative.1, are.least, at.least), omega (arith, ints, negative.0, are.most, at.most))
+      ])
+      words.ordered from.ordered)))
+      (λ _. near_words m m whole)
 
 -- ---- sums and differences
-
-abbrev add : Arithmetic
-add = Binary Bits64 Add
-
-abbrev subtract : Arithmetic
-subtract = Binary Bits64 Subtract
 
 -- a pointer is no single word
 add_pointer : (d : Fact) (area : Area) (low high : ℤ) → alu_of add d (Pointer area low high) ≡ sum_of (Pointer area low high) d
@@ -249,43 +226,54 @@ subtract_pointer (Words b) area low high =
     cond-false (is_single b && is_single full) _ _ (and_right (is_single b) false refl)
 subtract_pointer (Pointer area' low' high') area low high = refl
 
-module _ (c c' : Bounds) where
-  add_ends : (d s : Fact) → IsNear d (Words c) → IsNear s (Words c') → EndsIn (alu_of add d s) (made add c c')
-  add_ends (Words b) (Words b') first second = subst (λ f. EndsIn f (made add c c')) (sym (words_made add b b')) tt
-  add_ends (Pointer area low high) (Pointer area' low' high') first second = tt
-  add_ends (Pointer area low high) (Words b) first second =
-      let sum = computed_in add (words_of (Pointer area low high)) c b c' first.part second.part in
-      let least = sum (address_at area low) b.low (omega arith, first.part.ordered) (omega arith, second.part.ordered) in
-      let most = sum (address_at area high) b.high (first.part.ordered, omega arith) (second.part.ordered, omega arith) in
-      on_ends area low high b (made add c c') first.fact (near_wide (Words b) (Words c') second).part least.0.0 most.0.1
-  add_ends (Words b) (Pointer area low high) first second =
-      let sum = computed_in add b c (words_of (Pointer area low high)) c' first.part second.part in
-      let least = sum b.low (address_at area low) (omega arith, first.part.ordered) (omega arith, second.part.ordered) in
-      let most = sum b.high (address_at area high) (first.part.ordered, omega arith) (second.part.ordered, omega arith) in
-      let is = add_pointer (Words b) area low high in
-      let low_is = add_comm b.low (address_at area low) in
-      let high_is = add_comm b.high (address_at area high) in
-      subst (λ f. EndsIn f (made add c c')) (sym is)
-      (on_ends area low high b (made add c c') second.fact (near_wide (Words b) (Words c) first).part
-      (subst (λ n. (made add c c').low ≤ n % 2 ^ 64) low_is least.0.0) (subst (λ n. n % 2 ^ 64 ≤ (made add c c').high) high_is most.0.1))
+whole : (a : Arithmetic) (d s : Fact) → IsNear d (Words full) → IsNear s (Words full)
+    → IsPart Bits64 (made a (words_of d) (words_of s)) (made a (words_of d) (words_of s))
+whole a d s first second = made_part a _ _ _ _ (whole_part (words_of d) full first.part) (whole_part (words_of s) full second.part)
 
-  subtract_ends : (d s : Fact) → IsNear d (Words c) → IsNear s (Words c') → EndsIn (alu_of subtract d s) (made subtract c c')
-  subtract_ends (Words b) (Words b') first second = subst (λ f. EndsIn f (made subtract c c')) (sym (words_made subtract b b')) tt
-  subtract_ends d (Pointer area low high) first second = subst (λ f. EndsIn f (made subtract c c')) (sym (subtract_pointer d area low high)) tt
-  subtract_ends (Pointer area low high) (Words b) first second =
-      let difference = computed_in subtract (words_of (Pointer area low high)) c b c' first.part second.part in
-      let least = difference (address_at area low) b.high (omega arith, first.part.ordered) (second.part.ordered, omega arith) in
-      let most = difference (address_at area high) b.low (first.part.ordered, omega arith) (omega arith, second.part.ordered) in
-      back_ends area low high b (made subtract c c') first.fact (near_wide (Words b) (Words c') second).part least.0.0 most.0.1
+-- what is made of both as words is told as well
+abbrev IsTold : Arithmetic → Fact → Fact → Type 0
+IsTold a d s = IsNear (pointer_or (alu_of a d s) (Words (made a (words_of d) (words_of s)))) (Words (made a (words_of d) (words_of s)))
 
--- what is made of facts that tell as much as words
-module _ (a : Arithmetic) (ends_in : (c c' : Bounds) (d s : Fact) → IsNear d (Words c) → IsNear s (Words c') → EndsIn (alu_of a d s) (made a c c')) where
+words_are_told : (a : Arithmetic) (d s : Fact) (b : Bounds) → IsNear d (Words full) → IsNear s (Words full) → alu_of a d s ≡ Words b → IsTold a d s
+words_are_told a d s b first second is = rw is (near_words _ _ (whole a d s first second))
+
+and_turns : (x y : Bool) → (x && y) ≡ (y && x)
+and_turns true true = refl
+and_turns true false = refl
+and_turns false true = refl
+and_turns false false = refl
+
+sum_turns : (p b : Bounds) → made add b p ≡ made add p b
+sum_turns p b = rw (add_comm b.low p.low, add_comm b.high p.high, and_turns (is_single b) (is_single p)) refl
+
+add_told : (d s : Fact) → IsNear d (Words full) → IsNear s (Words full) → IsTold add d s
+add_told (Words b) (Words b') first second = words_are_told add (Words b) (Words b') (made add b b') first second (words_made add b b')
+add_told (Pointer area low high) (Pointer area' low' high') first second =
+    words_are_told add (Pointer area low high) (Pointer area' low' high') full first second refl
+add_told (Pointer area low high) (Words b) first second =
+    on_told area low high b first.fact (whole_part b full second.part) _ refl (whole add (Pointer area low high) (Words b) first second)
+add_told (Words b) (Pointer area low high) first second =
+    let m = made add b (words_of (Pointer area low high)) in
+    subst (λ f. IsNear (pointer_or f (Words m)) (Words m)) (sym (add_pointer (Words b) area low high))
+    (on_told area low high b second.fact (whole_part b full first.part) m (sum_turns (words_of (Pointer area low high)) b)
+    (whole add (Words b) (Pointer area low high) first second))
+
+subtract_told : (d s : Fact) → IsNear d (Words full) → IsNear s (Words full) → IsTold subtract d s
+subtract_told (Words b) (Words b') first second = words_are_told subtract (Words b) (Words b') (made subtract b b') first second (words_made subtract b b')
+subtract_told d (Pointer area low high) first second =
+    words_are_told subtract d (Pointer area low high) full first second (subtract_pointer d area low high)
+subtract_told (Pointer area low high) (Words b) first second =
+    back_told area low high b first.fact (whole_part b full second.part) _ refl (whole subtract (Pointer area low high) (Words b) first second)
+
+module _ (a : Arithmetic) (told : (d s : Fact) → IsNear d (Words full) → IsNear s (Words full) → IsTold a d s) where
   beside_words : (d s : Fact) (c c' : Bounds) → IsNear d (Words c) → IsNear s (Words c') → IsNear (addresses.alu a d s) (alu_of a (Words c) (Words c'))
   beside_words d s c c' first second =
+      let made_is = words_made a (words_of d) (words_of s) in
+      let more = made_part a (words_of d) c (words_of s) c' first.part second.part in
       subst (λ f. IsNear (addresses.alu a d s) f) (sym (words_made a c c'))
-      (subst (λ f. IsNear (pointer_or (alu_of a d s) f) (Words (made a c c'))) (sym (words_made a (words_of d) (words_of s)))
-      (beside (alu_of a d s) (made a (words_of d) (words_of s)) (made a c c')
-      (made_part a (words_of d) c (words_of s) c' first.part second.part) (ends_in c c' d s first second)))
+      (subst (λ f. IsNear (pointer_or (alu_of a d s) f) (Words (made a c c'))) (sym made_is)
+      (near_more _ (made a (words_of d) (words_of s)) (made a c c') (told d s (near_wide d (Words c) first) (near_wide s (Words c') second))
+      (more.low, more.high)))
 
   fine : (d e s t : Fact) → IsNear d e → IsNear s t → IsNear (addresses.alu a d s) (Words full)
   fine d e s t first second =
@@ -293,13 +281,13 @@ module _ (a : Arithmetic) (ends_in : (c c' : Bounds) (d s : Fact) → IsNear d (
       (beside_words d s full full (near_wide d e first) (near_wide s t second))
 
 add_near : (d e s t : Fact) → IsNear d e → IsNear s t → IsNear (addresses.alu add d s) (alu_of add e t)
-add_near d (Words c) s (Words c') first second = beside_words add add_ends d s c c' first second
+add_near d (Words c) s (Words c') first second = beside_words add add_told d s c c' first second
 add_near (Words b) (Pointer area' low' high') s t first second = absurd first.into
 add_near d e (Words b) (Pointer area' low' high') first second = absurd second.into
-add_near d (Pointer area' low' high') s (Pointer area low high) first second = fine add add_ends d (Pointer area' low' high') s (Pointer area low high) first second
+add_near d (Pointer area' low' high') s (Pointer area low high) first second = fine add add_told d (Pointer area' low' high') s (Pointer area low high) first second
 add_near (Pointer area low high) (Pointer area' low' high') s (Words c') first second =
     on_near area area' low high low' high' first (alu_of add (as_words (Pointer area low high)) (as_words s)) s c' second
-    (fine add add_ends (Pointer area low high) (Pointer area' low' high') s (Words c') first second)
+    (fine add add_told (Pointer area low high) (Pointer area' low' high') s (Words c') first second)
 add_near d (Words c) (Pointer area low high) (Pointer area' low' high') first second =
     let words = alu_of add (as_words d) (as_words (Pointer area low high)) in
     let is = add_pointer d area low high in
@@ -307,17 +295,17 @@ add_near d (Words c) (Pointer area low high) (Pointer area' low' high') first se
     (subst (λ g. IsNear (pointer_or g words) (sum_of (Pointer area' low' high') (Words c))) (sym is)
     (on_near area area' low high low' high' second words d c first
     (subst (λ g. IsNear (pointer_or g words) (Words full)) is
-    (fine add add_ends d (Words c) (Pointer area low high) (Pointer area' low' high') first second))))
+    (fine add add_told d (Words c) (Pointer area low high) (Pointer area' low' high') first second))))
 
 subtract_near : (d e s t : Fact) → IsNear d e → IsNear s t → IsNear (addresses.alu subtract d s) (alu_of subtract e t)
-subtract_near d (Words c) s (Words c') first second = beside_words subtract subtract_ends d s c c' first second
+subtract_near d (Words c) s (Words c') first second = beside_words subtract subtract_told d s c c' first second
 subtract_near (Words b) (Pointer area' low' high') s t first second = absurd first.into
 subtract_near (Pointer area low high) (Pointer area' low' high') s (Words c') first second =
     back_near area area' low high low' high' first (alu_of subtract (as_words (Pointer area low high)) (as_words s)) s c' second
-    (fine subtract subtract_ends (Pointer area low high) (Pointer area' low' high') s (Words c') first second)
+    (fine subtract subtract_told (Pointer area low high) (Pointer area' low' high') s (Words c') first second)
 subtract_near d e s (Pointer area low high) first second =
     subst (λ f. IsNear (addresses.alu subtract d s) f) (sym (subtract_pointer e area low high))
-    (fine subtract subtract_ends d e s (Pointer area low high) first second)
+    (fine subtract subtract_told d e s (Pointer area low high) first second)
 
 -- ---- moves, and what takes a pointer for any word
 
