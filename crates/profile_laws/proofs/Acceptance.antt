@@ -31,7 +31,7 @@ use Rattle.program_interface.specs.declared.area.Area.{Area}
 use Rattle.accepted_programs.specs.FirstRefusal.{IsPassed}
 use Rattle.accepted_programs.specs.Laws.{AcceptedFailsNowhere, JudgesWithoutSums}
 use Rattle.accepted_programs.specs.declared.reason.Reason.{Reason}
-use Rattle.accepted_programs.specs.declared.reason.Reason.TheVariants.{JumpBack, JumpOutside, FallsOff, WriteToFramePointer, LoadOutside, StoreOutside, UnknownHelper, EmitAddress, EmitLength, EmitLimit}
+use Rattle.accepted_programs.specs.declared.reason.Reason.TheVariants.{LoadOutside, StoreOutside, EmitAddress, EmitLength, EmitLimit}
 use Rattle.profile_laws.specs.Laws.{AcceptsWhatIsAccepted}
 use Rattle.instruction_set.specs.declared.access.AccessKind.TheVariants as kinds
 use Rattle.program_meaning.specs.declared.word.Arithmetic.TheVariants as word
@@ -98,20 +98,12 @@ module _ {D : Type 0} {Near : D → D → Type 0} {operations others : Operation
   start_near : FactsNear (facts_at_start operations) (facts_at_start others)
   start_near =
       let none = tells.constant 0 (lit< tt) in
+      let context = tells.pointer Context 0 (lit< tt) in
+      let bytes = tells.pointer Block 0 (lit< tt) in
+      let scratch = tells.pointer Scratch 0 (lit< tt) in
+      let stack = tells.pointer Stack 512 (lit< tt) in
       record {
-        registers = (
-          none,
-          (
-            tells.pointer Context 0 (lit< tt),
-            (
-              tells.pointer Block 0 (lit< tt),
-              (
-                tells.pointer Scratch 0 (lit< tt),
-                (none, (none, (none, (none, (none, (none, (tells.pointer Stack 512 (lit< tt), tt))))))),
-              ),
-            ),
-          ),
-        );
+        registers = (none, (context, (bytes, (scratch, (none, (none, (none, (none, (none, (none, (stack, tt)))))))))));
         cells = none_near tells;
         emitted = omega arith;
       }
@@ -332,16 +324,12 @@ module _ {D : Type 0} {Near : D → D → Type 0} {operations others : Operation
   module _ (program : List (Option Instruction)) (sizes : Sizes) where
     check_passes : (slot : ℕ) (f g : Facts D) (i : Instruction) → FactsNear tells f g → record_fits others sizes.block g ≡ false → (reason : Reason)
         → fails others program sizes slot g i reason ≡ false → fails operations program sizes slot f i reason ≡ false
-    check_passes slot f g i are no_fit JumpBack e = e
-    check_passes slot f g i are no_fit JumpOutside e = e
-    check_passes slot f g i are no_fit FallsOff e = e
-    check_passes slot f g i are no_fit WriteToFramePointer e = e
     check_passes slot f g i are no_fit LoadOutside e = loads_pass sizes.block f g are (access_of i) e
     check_passes slot f g i are no_fit StoreOutside e = stores_pass sizes.block f g are (access_of i) e
-    check_passes slot f g i are no_fit UnknownHelper e = e
     check_passes slot f g i are no_fit EmitAddress e = when_emitted (is_emit i) _ _ (address_passes sizes.block f g are no_fit) e
     check_passes slot f g i are no_fit EmitLength e = when_emitted (is_emit i) _ _ (amiss_passes sizes.block f g are no_fit) e
     check_passes slot f g i are no_fit EmitLimit e = when_emitted (is_emit i) _ _ (limit_passes sizes.block f g are sizes.limit) e
+    check_passes slot f g i are no_fit reason e = e
 
     module _ (passed : (slot : ℕ) → IsPassed others program sizes slot) (judged : JudgesWithoutSums others) where
       -- nothing is known of registers together

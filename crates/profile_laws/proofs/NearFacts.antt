@@ -71,9 +71,7 @@ pub record IsNear (d e : Fact) : Type 0 where
   pub into : IsInto d e
 
 pub near_wide : (d e : Fact) → IsNear d e → IsNear d (Words full)
-near_wide d e near =
-    let part = near.part in
-    record { fact = near.fact; part = record { ordered = part.ordered; fits = part.fits; low = omega arith; high = omega (arith, part.fits) }; into = tt }
+near_wide d e near = record { fact = near.fact; part = grind arith; into = tt }
 
 pub near_words : (b c : Bounds) → IsPart Bits64 b c → IsNear (Words b) (Words c)
 near_words b c part = record { fact = part.ordered; part = part; into = tt }
@@ -81,7 +79,7 @@ near_words b c part = record { fact = part.ordered; part = part; into = tt }
 pub pointer_full : (area : Area) (low high : ℤ) → IsFact (Pointer area low high) → IsPart Bits64 (words_of (Pointer area low high)) full
 pointer_full area low high is =
     let part = pointer_part area low high (words_of (Pointer area low high)) is (omega arith) (omega arith) in
-    record { ordered = part.ordered; fits = part.fits; low = omega arith; high = omega (arith, part.fits) }
+    grind arith
 
 -- ---- answers
 
@@ -118,14 +116,7 @@ one_area Scratch Scratch one = refl
 one_area area area' one = cc
 
 hull_near : (b b' c : Bounds) → IsPart Bits64 b c → IsPart Bits64 b' c → IsNear (Words (range (min b.low b'.low) (max b.high b'.high))) (Words c)
-hull_near b b' c first second =
-    near_words (range (min b.low b'.low) (max b.high b'.high)) c
-    (record {
-      ordered = omega (arith, first.ordered, second.ordered);
-      fits = omega (arith, first.fits, second.fits);
-      low = omega (arith, first.low, second.low);
-      high = omega (arith, first.high, second.high);
-    })
+hull_near b b' c first second = near_words (range (min b.low b'.low) (max b.high b'.high)) c (grind arith)
 
 least_of : (area : Area) (low low' : ℤ) (n : ℕ) → n ≤ address_at area low → n ≤ address_at area low' → n ≤ address_at area (int_min low low')
 least_of area low low' n first second = cond_both (int_lt low' low) low' low (λ least. n ≤ address_at area least) (λ _. second) (λ _. first)
@@ -176,9 +167,7 @@ join_least d d' (Words c) first second = hull_near (words_of d) (words_of d') c 
 
 -- what is told of a fact is told of its join with any other
 pub near_more : (d : Fact) (c c' : Bounds) → IsNear d (Words c) → IsWithin c c' → IsNear d (Words c')
-near_more d c c' near more =
-    let part = near.part in
-    record { fact = near.fact; part = record { ordered = part.ordered; fits = part.fits; low = omega (arith, part.low, more); high = omega (arith, part.high, more) }; into = tt }
+near_more d c c' near more = record { fact = near.fact; part = grind arith; into = tt }
 
 near_into : (d : Fact) (area area' : Area) (low high low' high' : ℤ) → IsNear d (Pointer area low high) → area ≡ area' → low' ≤ℤ low → high ≤ℤ high'
     → IsNear d (Pointer area' low' high')

@@ -1,5 +1,5 @@
 -- What an arithmetic instruction makes over addresses tells at least as much as over intervals.
-use Rattle.std.proofs.Common.{ℕ, ℤ, suc, pos, negsuc, ◌≡◌, ◌+◌, ◌-◌, ◌%◌, ◌^◌, ◌<◌, ◌≤◌, ◌+ℤ◌, ◌-ℤ◌, ◌∙◌, ◌⊎◌, inl, inr, Bool, true, false, Option, Some, None, refl, sym, ap, subst, add_comm, arith}
+use Rattle.std.proofs.Common.{ℕ, ℤ, suc, pos, negsuc, ◌≡◌, ◌+◌, ◌-◌, ◌^◌, ◌<◌, ◌≤◌, ◌+ℤ◌, ◌-ℤ◌, ◌⊎◌, inl, inr, Bool, true, false, refl, sym, ap, subst, add_comm, arith}
 use Rattle.std.proofs.lemmas.Bool.Decides.{nat_tests}
 use Rattle.std.proofs.lemmas.Bool.{and_right, cases_lt, cond-false, cond_both, eqb-true, le-ltb}
 use Rattle.std.proofs.lemmas.Int.{ints, to_z_pos}
@@ -8,7 +8,6 @@ use Rattle.std.specs.Prelude.{◌≤ℤ◌, ◌&&◌, ◌||◌, int_le, nat_le, 
 use Rattle.instruction_set.specs.declared.operation.Operation.TheVariants.{Add, Subtract, Move}
 use Rattle.instruction_set.specs.declared.operation.SignExtension.TheVariants.{Bits8To32}
 use Rattle.instruction_set.specs.declared.operation.Width.TheVariants.{Bits32, Bits64}
-use Rattle.program_interface.specs.Area.{address_of}
 use Rattle.program_interface.specs.declared.area.Area.{Area}
 use Rattle.program_meaning.specs.declared.word.Arithmetic.{Arithmetic}
 use Rattle.program_meaning.specs.declared.word.Arithmetic.TheVariants.{Binary, MoveSigned}
@@ -18,7 +17,7 @@ use Rattle.interval_domain.specs.Arithmetic.{alu_of, difference_of, moved_back, 
 use Rattle.interval_domain.specs.Fact.{IsFact, bounds_of, farthest, full, is_single, pointer_to, range, single}
 use Rattle.interval_domain.specs.declared.fact.Fact.{Fact}
 use Rattle.interval_domain.specs.declared.fact.Fact.TheVariants.{Words, Pointer}
-use Rattle.profile_laws.proofs.NearFacts.{IsNear, address_is, ends, far_in, near_more, near_wide, near_words, pointer_full, pointer_part}
+use Rattle.profile_laws.proofs.NearFacts.{AreEnds, IsNear, ends, far_in, near_more, near_wide, near_words, pointer_full, pointer_part}
 use Rattle.profile_laws.proofs.WordsNear.{IsPart, whole_part, made, made_part, words_made}
 use Rattle.profile_laws.proofs.Telling.{IsWithin, are_at_most, both_at_most}
 
@@ -52,35 +51,6 @@ signed_ends : (b : Bounds) → IsPart Bits64 b b → (nat_lt b.high (2 ^ 63) || 
     ⊎ (((cast_signed w64 b.low +ℤ pos (2 ^ 64)) ≡ pos b.low) × ((cast_signed w64 b.high +ℤ pos (2 ^ 64)) ≡ pos b.high))
 signed_ends b part one = grind (arith, ints, nat_tests, signed_cases b.low, signed_cases b.high)
 
--- the bounds of what moves a pointer back, as of what moves it on
-abbrev turned : Option (ℤ × ℤ) → Option (ℤ × ℤ)
-turned None = None
-turned (Some by) = Some (pos 0 -ℤ by.1, pos 0 -ℤ by.0)
-
-back_is : (area : Area) (low high : ℤ) (by : Option (ℤ × ℤ)) → moved_back area low high by ≡ moved_on area low high (turned by)
-back_is area low high None = refl
-back_is area low high (Some by) =
-    let least : (low -ℤ by.1) ≡ (low +ℤ (pos 0 -ℤ by.1)) = omega (arith, ints) in
-    let most : (high -ℤ by.0) ≡ (high +ℤ (pos 0 -ℤ by.0)) = omega (arith, ints) in
-    rw (least, most) refl
-
--- where there are the second, there are the first, in order and between them
-abbrev IsNested : Option (ℤ × ℤ) → Option (ℤ × ℤ) → Type 0
-IsNested by None = Unit {0}
-IsNested None (Some by') = ⊥
-IsNested (Some by) (Some by') = (by'.0 ≤ℤ by.0) × (by.0 ≤ℤ by.1) × (by.1 ≤ℤ by'.1)
-
-nested : (b c : Bounds) → IsPart Bits64 b c
-    → IsNested (signed_bounds b) (signed_bounds c) × IsNested (turned (signed_bounds b)) (turned (signed_bounds c))
-nested b c part =
-    cond_both (nat_lt c.high (2 ^ 63) || nat_le (2 ^ 63) c.low) _ _
-    (λ by. IsNested (signed_bounds b) by × IsNested (turned (signed_bounds b)) (turned by))
-    (λ one.
-    let is = one_sign b c part one in
-    rw is.one
-    ((is.low, is.order, is.high), (omega (arith, ints, is.high), omega (arith, ints, is.order), omega (arith, ints, is.low))))
-    (λ _. (tt, tt))
-
 -- ---- pointers that are moved
 
 -- a pointer is one as long as it is within the farthest distances
@@ -92,19 +62,14 @@ near_enough area l h P near far =
     (λ _. far)
 
 module _ (area area' : Area) (low high low' high' : ℤ) (near : IsNear (Pointer area low high) (Pointer area' low' high')) (words : Fact) where
-  moved_near : (by by' : Option (ℤ × ℤ)) → IsNested by by' → IsNear (pointer_or (moved_on area low high by) words) (Words full)
-      → IsNear (pointer_or (moved_on area low high by) words) (moved_on area' low' high' by')
-  moved_near by None nested fine = fine
-  moved_near None (Some by') nested fine = absurd nested
-  moved_near (Some by) (Some by') nested fine =
-      let first : (low' +ℤ by'.0) ≤ℤ (low +ℤ by.0) = omega (arith, ints, near.into.1, nested.0) in
-      let order : (low +ℤ by.0) ≤ℤ (high +ℤ by.1) = omega (arith, ints, near.fact.1, nested.1) in
-      let last : (high +ℤ by.1) ≤ℤ (high' +ℤ by'.1) = omega (arith, ints, near.into.2, nested.2) in
-      near_enough area' (low' +ℤ by'.0) (high' +ℤ by'.1) (λ f. IsNear (pointer_or (pointer_to area (low +ℤ by.0) (high +ℤ by.1)) words) f)
+  moved_near : (l h l' h' : ℤ) → l' ≤ℤ l → l ≤ℤ h → h ≤ℤ h' → IsNear (pointer_or (pointer_to area l h) words) (Words full)
+      → IsNear (pointer_or (pointer_to area l h) words) (pointer_to area' l' h')
+  moved_near l h l' h' first order last fine =
+      near_enough area' l' h' (λ f. IsNear (pointer_or (pointer_to area l h) words) f)
       (λ least most.
-      let is : IsFact (Pointer area (low +ℤ by.0) (high +ℤ by.1)) = (omega (arith, ints, least, first), order, omega (arith, ints, most, last)) in
-      rw (are_at_most (pos 0 -ℤ farthest) (low +ℤ by.0) (high +ℤ by.1) farthest is.0 is.2)
-      (record { fact = is; part = pointer_full area (low +ℤ by.0) (high +ℤ by.1) is; into = (near.into.0, first, last) }))
+      let is : IsFact (Pointer area l h) = (omega (arith, ints, least, first), order, omega (arith, ints, most, last)) in
+      rw (are_at_most (pos 0 -ℤ farthest) l h farthest is.0 is.2)
+      (record { fact = is; part = pointer_full area l h is; into = (near.into.0, first, last) }))
       fine
 
   -- words among which is an address are too great to move another
@@ -129,17 +94,30 @@ module _ (area area' : Area) (low high low' high' : ℤ) (near : IsNear (Pointer
 
   on_near : (s : Fact) (c : Bounds) → IsNear s (Words c) → IsNear (pointer_or (sum_of (Pointer area low high) s) words) (Words full)
       → IsNear (pointer_or (sum_of (Pointer area low high) s) words) (moved_on area' low' high' (signed_bounds c))
-  on_near (Words b) c inside fine = moved_near (signed_bounds b) (signed_bounds c) (nested b c inside.part).0 fine
+  on_near (Words b) c inside fine =
+      cond_both (nat_lt c.high (2 ^ 63) || nat_le (2 ^ 63) c.low) _ _
+      (λ by. IsNear (pointer_or (moved_on area low high (signed_bounds b)) words) (moved_on area' low' high' by))
+      (λ one.
+      let is = one_sign b c inside.part one in
+      let moved = rw is.one at fine in
+      rw is.one
+      (moved_near (low +ℤ cast_signed w64 b.low) (high +ℤ cast_signed w64 b.high) (low' +ℤ cast_signed w64 c.low) (high' +ℤ cast_signed w64 c.high)
+      (omega (arith, ints, near.into.1, is.low)) (omega (arith, ints, near.fact.1, is.order)) (omega (arith, ints, near.into.2, is.high)) moved))
+      (λ _. fine)
   on_near (Pointer at first last) c inside fine = subst (λ f. IsNear words f) (sym (far at first last c inside).0) fine
 
   back_near : (s : Fact) (c : Bounds) → IsNear s (Words c) → IsNear (pointer_or (difference_of (Pointer area low high) s) words) (Words full)
       → IsNear (pointer_or (difference_of (Pointer area low high) s) words) (moved_back area' low' high' (signed_bounds c))
   back_near (Words b) c inside fine =
-      let is = back_is area low high (signed_bounds b) in
-      subst (λ f. IsNear (pointer_or (moved_back area low high (signed_bounds b)) words) f) (sym (back_is area' low' high' (signed_bounds c)))
-      (subst (λ g. IsNear (pointer_or g words) (moved_on area' low' high' (turned (signed_bounds c)))) (sym is)
-      (moved_near (turned (signed_bounds b)) (turned (signed_bounds c)) (nested b c inside.part).1
-      (subst (λ g. IsNear (pointer_or g words) (Words full)) is fine)))
+      cond_both (nat_lt c.high (2 ^ 63) || nat_le (2 ^ 63) c.low) _ _
+      (λ by. IsNear (pointer_or (moved_back area low high (signed_bounds b)) words) (moved_back area' low' high' by))
+      (λ one.
+      let is = one_sign b c inside.part one in
+      let moved = rw is.one at fine in
+      rw is.one
+      (moved_near (low -ℤ cast_signed w64 b.high) (high -ℤ cast_signed w64 b.low) (low' -ℤ cast_signed w64 c.high) (high' -ℤ cast_signed w64 c.low)
+      (omega (arith, ints, near.into.1, is.high)) (omega (arith, ints, near.fact.1, is.order)) (omega (arith, ints, near.into.2, is.low)) moved))
+      (λ _. fine)
   back_near (Pointer at first last) c inside fine = subst (λ f. IsNear words f) (sym (far at first last c inside).1) fine
 
 -- ---- a pointer that is moved is what its words make
@@ -161,13 +139,14 @@ difference_within x x' r r' b part fits ends_are order order' =
 
 module _ (area : Area) (low high : ℤ) (b : Bounds) (is : IsFact (Pointer area low high)) (part : IsPart Bits64 b b) where
   -- what is made of both as words tells at least as much
-  told_by : (m : Bounds) (l h : ℤ) → IsPart Bits64 m m → l ≤ℤ h → (IsFact (Pointer area l h) → IsWithin (words_of (Pointer area l h)) m)
+  told_by : (m : Bounds) (l h : ℤ) → IsPart Bits64 m m → l ≤ℤ h
+      → (AreEnds area l h → IsPart Bits64 (words_of (Pointer area l h)) full → IsWithin (words_of (Pointer area l h)) m)
       → IsNear (pointer_or (pointer_to area l h) (Words m)) (Words m)
   told_by m l h whole order lies =
       near_enough area l h (λ f. IsNear (pointer_or f (Words m)) (Words m))
       (λ least most.
       let moved : IsFact (Pointer area l h) = (least, order, most) in
-      let within = lies moved in
+      let within = lies (ends area l h moved) (pointer_full area l h moved) in
       record { fact = moved; part = pointer_part area l h m moved within.0 within.1; into = tt })
       (near_words m m whole)
 
@@ -177,19 +156,16 @@ module _ (area : Area) (low high : ℤ) (b : Bounds) (is : IsFact (Pointer area 
       cond_both (nat_lt b.high (2 ^ 63) || nat_le (2 ^ 63) b.low) _ _ (λ by. IsNear (pointer_or (moved_on area low high by) (Words m)) (Words m))
       (λ one.
       let order = (one_sign b b part one).order in
-      told_by m (low +ℤ cast_signed w64 b.low) (high +ℤ cast_signed w64 b.high) whole (omega (arith, ints, is.1, order))
-      (λ moved.
       let are = ends area low high is in
-      let at = ends area (low +ℤ cast_signed w64 b.low) (high +ℤ cast_signed w64 b.high) moved in
-      let words = pointer_full area (low +ℤ cast_signed w64 b.low) (high +ℤ cast_signed w64 b.high) moved in
-      let from = pointer_full area low high is in
+      told_by m (low +ℤ cast_signed w64 b.low) (high +ℤ cast_signed w64 b.high) whole (omega (arith, ints, is.1, order))
+      (λ at words.
       rw same
       (sum_within (address_at area low) (address_at area high) _ _ b part words.fits
       (elim (signed_ends b part one) [
-        | inl positive ↦ inl (omega (arith, ints, positive.0, are.least, at.least), omega (arith, ints, positive.1, are.most, at.most))
-        | inr negative ↦ inr (omega (arith, ints, negative.0, are.least, at.least), omega (arith, ints, negative.1, are.most, at.most))
+        | inl signed ↦ inl (omega (arith, ints, signed.0, are.least, at.least), omega (arith, ints, signed.1, are.most, at.most))
+        | inr signed ↦ inr (omega (arith, ints, signed.0, are.least, at.least), omega (arith, ints, signed.1, are.most, at.most))
       ])
-      words.ordered from.ordered)))
+      words.ordered (pointer_full area low high is).ordered)))
       (λ _. near_words m m whole)
 
   back_told : (m : Bounds) → m ≡ made subtract (words_of (Pointer area low high)) b → IsPart Bits64 m m
@@ -198,19 +174,16 @@ module _ (area : Area) (low high : ℤ) (b : Bounds) (is : IsFact (Pointer area 
       cond_both (nat_lt b.high (2 ^ 63) || nat_le (2 ^ 63) b.low) _ _ (λ by. IsNear (pointer_or (moved_back area low high by) (Words m)) (Words m))
       (λ one.
       let order = (one_sign b b part one).order in
-      told_by m (low -ℤ cast_signed w64 b.high) (high -ℤ cast_signed w64 b.low) whole (omega (arith, ints, is.1, order))
-      (λ moved.
       let are = ends area low high is in
-      let at = ends area (low -ℤ cast_signed w64 b.high) (high -ℤ cast_signed w64 b.low) moved in
-      let words = pointer_full area (low -ℤ cast_signed w64 b.high) (high -ℤ cast_signed w64 b.low) moved in
-      let from = pointer_full area low high is in
+      told_by m (low -ℤ cast_signed w64 b.high) (high -ℤ cast_signed w64 b.low) whole (omega (arith, ints, is.1, order))
+      (λ at words.
       rw same
       (difference_within (address_at area low) (address_at area high) _ _ b part words.fits
       (elim (signed_ends b part one) [
-        | inl positive ↦ inl (omega (arith, ints, positive.1, are.least, at.least), omega (arith, ints, positive.0, are.most, at.most))
-        | inr negative ↦ inr (omega (arith, ints, negative.1, are.least, at.least), omega (arith, ints, negative.0, are.most, at.most))
+        | inl signed ↦ inl (omega (arith, ints, signed.1, are.least, at.least), omega (arith, ints, signed.0, are.most, at.most))
+        | inr signed ↦ inr (omega (arith, ints, signed.1, are.least, at.least), omega (arith, ints, signed.0, are.most, at.most))
       ])
-      words.ordered from.ordered)))
+      words.ordered (pointer_full area low high is).ordered)))
       (λ _. near_words m m whole)
 
 -- ---- sums and differences

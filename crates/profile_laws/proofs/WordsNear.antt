@@ -10,9 +10,8 @@ use Rattle.instruction_set.specs.declared.operation.Width.{Width}
 use Rattle.instruction_set.specs.declared.operation.Width.TheVariants.{Bits64, Bits32}
 use Rattle.program_meaning.specs.Word.{count, computed}
 use Rattle.word_domain.specs.declared.bounds.Bounds.{Bounds}
-use Rattle.interval_domain.specs.Range.{combined, difference, if_unsigned, number_count, product, quotient, remainder, shifted_left, shifted_right, sum, top}
+use Rattle.interval_domain.specs.Range.{combined, number_count, top}
 use Rattle.std.proofs.lemmas.Bool.{cond_both}
-use Rattle.std.specs.Prelude.{◌&&◌}
 use Rattle.instruction_set.specs.Spelling.{extension_width}
 use Rattle.instruction_set.specs.declared.operation.SignExtension.{SignExtension}
 use Rattle.program_meaning.specs.declared.word.Arithmetic.{Arithmetic}
@@ -20,7 +19,7 @@ use Rattle.program_meaning.specs.declared.word.Arithmetic.TheVariants.{Binary, N
 use Rattle.word_domain.specs.Domain.{Belongs}
 use Rattle.interval_domain.proofs.Proved.{intervals_sound}
 use Rattle.interval_domain.specs.Arithmetic.{alu_of, are_known, cut, estimated, extended_of, operand_of}
-use Rattle.interval_domain.specs.Fact.{ContainsWord, IsFact, IsInBounds, bounds_of, is_single}
+use Rattle.interval_domain.specs.Fact.{ContainsWord, IsFact, IsInBounds, bounds_of}
 use Rattle.interval_domain.specs.declared.fact.Fact.{Fact}
 use Rattle.interval_domain.specs.declared.fact.Fact.TheVariants.{Words}
 use Rattle.instruction_set.specs.declared.operation.SwapSize.TheVariants as kept
@@ -48,17 +47,11 @@ pub top_part : (w : Width) (b : Bounds) → b.low ≤ b.high → b.high < number
 top_part w b ordered fits = record { ordered = ordered; fits = fits; low = omega arith; high = omega arith }
 
 module _ (w : Width) (d e s t : Bounds) (first : IsPart w d e) (second : IsPart w s t) where
-  sum_part : IsPart w (sum w d s) (sum w e t)
-  sum_part = grind (arith, nat_tests)
-
-  difference_part : IsPart w (difference w d s) (difference w e t)
-  difference_part = grind (arith, nat_tests)
-
-  product_part : IsPart w (product w d s) (product w e t)
-  product_part = grind (arith, nat_tests, mul-le d.high s.high e.high t.high, mul-le e.low t.low d.low s.low, mul-le d.low s.low d.high s.high)
-
-  quotient_part : IsPart w (quotient d s) (quotient e t)
-  quotient_part =
+  pub combined_part : (operation : Operation) → IsPart w (combined w operation d s) (combined w operation e t)
+  combined_part Add = grind (arith, nat_tests)
+  combined_part Subtract = grind (arith, nat_tests)
+  combined_part Multiply = grind (arith, nat_tests, mul-le d.high s.high e.high t.high, mul-le e.low t.low d.low s.low, mul-le d.low s.low d.high s.high)
+  combined_part Divide =
       grind (
         arith,
         nat_tests,
@@ -67,48 +60,31 @@ module _ (w : Width) (d e s t : Bounds) (first : IsPart w d e) (second : IsPart 
         quotient_grows d.high s.low e.high t.low,
         div-le_self d.high s.low,
       )
-
-  remainder_part : IsPart w (remainder d s) (remainder e t)
-  remainder_part = grind (arith, nat_tests)
-
-  unsigned_part : (b c : Bounds) → IsPart w b c → IsPart w (if_unsigned w d s b) (if_unsigned w e t c)
-  unsigned_part b c inside = grind (arith, nat_tests)
-
-  left_part : IsPart w (shifted_left w d s) (shifted_left w e t)
-  left_part = grind (arith, nat_tests)
-
-  right_part : IsPart w (shifted_right w d s) (shifted_right w e t)
-  right_part =
+  combined_part SignedDivide =
+      grind (
+        arith,
+        nat_tests,
+        quotient_grows d.low s.high d.high s.low,
+        quotient_grows e.low t.high d.low s.high,
+        quotient_grows d.high s.low e.high t.low,
+        div-le_self d.high s.low,
+      )
+  combined_part And = grind arith
+  combined_part LeftShift =
+      let p = 2 ^ count w s.low in
+      grind (arith, nat_tests, mul-le d.low p d.high p, mul-le e.low p d.low p, mul-le d.high p e.high p)
+  combined_part RightShift =
       let c = count w s.low in
       grind (arith, nat_tests, shifted c d.low d.high, shifted c e.low d.low, shifted c d.high e.high, shr_le d.high c)
-
-module _ (w : Width) (d e s t : Bounds) (first : IsPart w d e) (second : IsPart w s t) where
-  arithmetic_part : IsPart w (combined w ArithmeticShift d s) (combined w ArithmeticShift e t)
-  arithmetic_part = let inside = right_part w d e s t first second in grind (arith, nat_tests)
-
-  pub combined_part : (operation : Operation) → IsPart w (combined w operation d s) (combined w operation e t)
-  combined_part Add = sum_part w d e s t first second
-  combined_part Subtract = difference_part w d e s t first second
-  combined_part Multiply = product_part w d e s t first second
-  combined_part Divide = quotient_part w d e s t first second
-  combined_part SignedDivide = unsigned_part w d e s t first second (quotient d s) (quotient e t) (quotient_part w d e s t first second)
-  combined_part And = grind arith
-  combined_part LeftShift = left_part w d e s t first second
-  combined_part RightShift = right_part w d e s t first second
-  combined_part Modulo = remainder_part w d e s t first second
-  combined_part SignedModulo = unsigned_part w d e s t first second (remainder d s) (remainder e t) (remainder_part w d e s t first second)
+  combined_part Modulo = grind (arith, nat_tests)
+  combined_part SignedModulo = grind (arith, nat_tests)
   combined_part Move = second
-  combined_part ArithmeticShift = arithmetic_part
+  combined_part ArithmeticShift =
+      let c = count w s.low in
+      grind (arith, nat_tests, shifted c d.low d.high, shifted c e.low d.low, shifted c d.high e.high, shr_le d.high c)
   combined_part operation = top_part w (top w) (omega arith) (omega arith)
 
 -- ---- operands
-pub single_part : (w : Width) (b c : Bounds) → IsPart w b c → is_single c ≡ true → is_single b ≡ true
-single_part w b c part one = grind (arith, nat_tests)
-
-both_single : (d e s t : Bounds) → IsPart Bits64 d e → IsPart Bits64 s t → (is_single e && is_single t) ≡ true
-    → (is_single d && is_single s) ≡ true
-both_single d e s t first second are = grind (arith, nat_tests)
-
 cut_part : (b c : Bounds) → IsPart Bits64 b c → IsPart Bits32 (cut b) (cut c)
 cut_part b c part = grind (arith, nat_tests)
 
@@ -117,7 +93,7 @@ operand_part Bits32 b c part = cut_part b c part
 operand_part Bits64 b c part = part
 
 widened : (w : Width) (b c : Bounds) → IsPart w b c → IsPart Bits64 b c
-widened Bits32 b c part = record { ordered = part.ordered; fits = omega (arith, part.fits); low = part.low; high = part.high }
+widened Bits32 b c part = grind arith
 widened Bits64 b c part = part
 
 all_part : (w : Width) → IsPart w (top w) (top w)
@@ -166,11 +142,11 @@ module _ (a : Arithmetic) (d e s t : Bounds) (first : IsPart Bits64 d e) (second
 
 known_part : (a : Arithmetic) (d e s t : Bounds) → IsPart Bits64 d e → IsPart Bits64 s t → are_known a (Words e) (Words t) ≡ true
     → are_known a (Words d) (Words s) ≡ true
-known_part (Binary w Move) d e s t first second are = single_part Bits64 s t second are
-known_part (Binary w operation) d e s t first second are = both_single d e s t first second are
-known_part (Negate w) d e s t first second are = single_part Bits64 d e first are
-known_part (MoveSigned extension) d e s t first second are = single_part Bits64 s t second are
-known_part (SwapBytes swap size) d e s t first second are = single_part Bits64 d e first are
+known_part (Binary w Move) d e s t first second are = grind (arith, nat_tests)
+known_part (Binary w operation) d e s t first second are = grind (arith, nat_tests)
+known_part (Negate w) d e s t first second are = grind (arith, nat_tests)
+known_part (MoveSigned extension) d e s t first second are = grind (arith, nat_tests)
+known_part (SwapBytes swap size) d e s t first second are = grind (arith, nat_tests)
 
 estimated_part : (a : Arithmetic) (d e s t : Bounds) → IsPart Bits64 d e → IsPart Bits64 s t
     → IsPart Bits64 (bounds_of (estimated a (Words d) (Words s))) (bounds_of (estimated a (Words e) (Words t)))
