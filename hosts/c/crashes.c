@@ -324,7 +324,8 @@ static void causes(const char *path)
         memory_left = 0;
         CHECK((folds ? pifnjarl_durable_fold(device) : pifnjarl_durable_serve(device, frame, count)) == PIFNJARL_DURABLE_NO_MEMORY);
         memory_left = -1;
-        CHECK(pifnjarl_durable_serve(device, frame, count) == PIFNJARL_DURABLE_FAILED);
+        /* a fold that wanted memory has changed nothing */
+        CHECK(pifnjarl_durable_serve(device, frame, count) == (folds ? PIFNJARL_DURABLE_DONE : PIFNJARL_DURABLE_FAILED));
         pifnjarl_durable_close(device);
     }
     CHECK(strcmp(pifnjarl_durable_words(PIFNJARL_DURABLE_NO_FRAMES), "no frames") == 0);

@@ -15,15 +15,16 @@ enum durable_kind {
     DURABLE_ASKS_OPENED = 0, /* what opening came to */
     DURABLE_SERVE = 1,       /* does what the frames in the piece ask for: 1 where it is done, once the calls for it are made; else 0 */
     DURABLE_NEXT = 2,        /* the next call, of enum durable_call */
-    DURABLE_PLACE = 3,       /* its offset, its length, or how many bytes a new file would have */
-    DURABLE_SIZE = 4,        /* how many bytes it writes */
+    DURABLE_PLACE = 3,       /* its offset, or its length */
+    DURABLE_SIZE = 4,        /* how many bytes it writes, or the new file that is wanted has */
     DURABLE_BYTES = 5,       /* puts these from a number on, as many as there is room for, and how many */
     DURABLE_DONE = 6,        /* it is done */
     DURABLE_FAILED = 7,      /* it failed: the file has to be opened again */
     DURABLE_REPLIES = 8,     /* puts the frames of the replies from a number on, as many bytes as there is room for, and how many; none
                                 before the calls are done */
-    DURABLE_FOLD = 9         /* folds the journal into a new file of at most `count` bytes, for which there is room: 1 where it is done, once
-                                the calls are made; 2 where it would be longer, which DURABLE_WANT tells then; else 0 */
+    DURABLE_FOLD = 9,        /* folds the journal into a new file of at most `count` bytes: 1 where it is done, once the calls are made; 2
+                                where it would be longer, whose bytes DURABLE_WANT tells then; 3 where memory is wanting for it; else 0 */
+    DURABLE_FOLDED = 10      /* what came of the last fold, 1, 2 or 3, also of one that DURABLE_SERVE tried; 1 before the first */
 };
 
 enum durable_call {
@@ -32,8 +33,9 @@ enum durable_call {
     DURABLE_TRUNCATE = 2, /* to a length */
     DURABLE_SYNC = 3,     /* waits until all is on the disk */
     DURABLE_REPLACE = 4,  /* puts a new file in the place of this one, on the disk before it has the name, and brings the name there */
-    DURABLE_WANT = 5      /* makes nothing: a journal that has grown long wanted to be folded into so long a file, by DURABLE_PLACE, and is
-                             used on. Where there is room for that, DURABLE_FOLD folds it */
+    DURABLE_WANT = 5      /* changes nothing: the journal was to be folded into a new file of these bytes, and is used on. There are none
+                             where memory is wanting for them. Once such a file is on the disk, DURABLE_FOLD of as many bytes has it put in
+                             place */
 };
 
 size_t durable_library_handle_bytes(void);

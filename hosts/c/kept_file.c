@@ -33,7 +33,7 @@ static bool name(struct kept_file *kept, const char *path)
 enum kept_result kept_file_open(struct kept_file *kept, const char *path)
 {
     struct stat held, there;
-    *kept = (struct kept_file){.file = -1, .room = -1};
+    *kept = (struct kept_file){.file = -1, .written = -1};
     if (!name(kept, path))
         return KEPT_NOT_OPENED;
     kept->file = open(kept->path, O_RDWR | O_CLOEXEC);
@@ -47,27 +47,26 @@ enum kept_result kept_file_open(struct kept_file *kept, const char *path)
     return held.st_dev == there.st_dev && held.st_ino == there.st_ino ? KEPT_OPENED : KEPT_IN_USE;
 }
 
-/* Gives back the room for a new file. */
-static void leave_room(struct kept_file *kept)
+/* Removes a new file that isn't put in the place of the old one, and keeps in errno what failed before. */
+static void discard(struct kept_file *kept, int file)
 {
     int cause = errno;
-    if (kept->room >= 0) {
+    if (file >= 0) {
         unlink(kept->unfinished);
-        close(kept->room);
+        close(file);
     }
-    kept->room = -1;
     errno = cause;
 }
 
 void kept_file_close(struct kept_file *kept)
 {
-    leave_room(kept);
+    discard(kept, kept->written);
     if (kept->file >= 0)
         close(kept->file); /* and with it the lock */
     free(kept->path);
     free(kept->unfinished);
     free(kept->folder);
-    *kept = (struct kept_file){.file = -1, .room = -1};
+    *kept = (struct kept_file){.file = -1, .written = -1};
 }
 
 /* Brings a folder to the disk, and with it the names in it. */
@@ -148,14 +147,12 @@ static bool remove_stale(const char *path)
     return removed;
 }
 
-/* An empty new file, locked from the first on, or the one for which room was made. */
-static int take_new_file(struct kept_file *kept)
+/* An empty new file, locked from the first on. */
+static int create(struct kept_file *kept)
 {
-    int file = kept->room;
-    kept->room = -1;
-    if (file >= 0 || !remove_stale(kept->unfinished))
-        return file;
-    file = open(kept->unfinished, O_RDWR | O_CREAT | O_EXCL | O_CLOEXEC, 0600);
+    if (!remove_stale(kept->unfinished))
+        return -1;
+    int file = open(kept->unfinished, O_RDWR | O_CREAT | O_EXCL | O_CLOEXEC, 0600);
     if (file >= 0 && flock(file, LOCK_EX | LOCK_NB) != 0) {
         int cause = errno;
         close(file);
@@ -165,42 +162,74 @@ static int take_new_file(struct kept_file *kept)
     return file;
 }
 
-size_t kept_file_make_room(struct kept_file *kept)
+/* A new file of the bytes of the next call, with the permissions of the old one, all of it on the disk; -1 where there is none. */
+static int write_new(struct calls *c)
 {
-    size_t wanted = kept->wanted;
-    kept->wanted = 0;
-    if (wanted == 0)
-        return 0;
-    leave_room(kept);
-    kept->room = take_new_file(kept);
-    int cause = kept->room < 0 ? errno : EINTR;
-    while (kept->room >= 0 && cause == EINTR)
-        cause = posix_fallocate(kept->room, 0, (off_t)wanted);
-    if (cause != 0)
-        leave_room(kept);
-    errno = cause;
-    return cause == 0 ? wanted : 0;
+    struct stat before;
+    int file = create(c->kept);
+    if (file < 0)
+        return -1;
+    if (fstat(c->kept->file, &before) == 0 && image_file_take_after(file, &before) && write_bytes(c, file, 0) && fsync(file) == 0)
+        return file;
+    discard(c->kept, file);
+    return -1;
+}
+
+/* Does a file have the bytes of the next call? */
+static bool has_bytes(struct calls *c, int file)
+{
+    unsigned char piece[1 << 15], read[1 << 15];
+    struct stat about;
+    size_t count = tell(c, KEPT_SIZE);
+    bool same = fstat(file, &about) == 0 && (size_t)about.st_size == count;
+    for (size_t done = 0; same && done < count;) {
+        ssize_t more = pread(file, read, sizeof read, (off_t)done);
+        size_t size = more > 0 ? (size_t)more : 0;
+        same = size > 0 && c->ask(c->library, KEPT_BYTES, done, piece, size) == size && memcmp(piece, read, size) == 0;
+        done += size;
+    }
+    return same;
+}
+
+/* The new file that was written before, if it has these bytes, or one that is written now; -1 where there is none. */
+static int take_new(struct calls *c)
+{
+    int file = c->kept->written;
+    c->kept->written = -1;
+    if (file >= 0 && has_bytes(c, file))
+        return file;
+    discard(c->kept, file);
+    return write_new(c);
 }
 
 /* Puts a new file in the place of the old one, and holds it from the first on. */
 static bool replace(struct calls *c)
 {
     struct kept_file *kept = c->kept;
-    struct stat before;
-    int file = take_new_file(kept);
+    int file = take_new(c);
     if (file < 0)
         return false;
-    if (fstat(kept->file, &before) == 0 && image_file_take_after(file, &before) && write_bytes(c, file, 0) &&
-        ftruncate(file, (off_t)tell(c, KEPT_SIZE)) == 0 && fsync(file) == 0 && rename(kept->unfinished, kept->path) == 0) {
-        close(kept->file);
-        kept->file = file;
-        return sync_folder(kept->folder);
+    if (rename(kept->unfinished, kept->path) != 0) {
+        discard(kept, file);
+        return false;
     }
-    int cause = errno;
-    unlink(kept->unfinished);
-    close(file);
-    errno = cause;
-    return false;
+    close(kept->file);
+    kept->file = file;
+    return sync_folder(kept->folder);
+}
+
+/* Writes the new file that is wanted, where it is for a fold; else it is only noted that a fold is due. That it can't be written is no
+   failure. */
+static void want(struct calls *c)
+{
+    struct kept_file *kept = c->kept;
+    kept->is_due = true;
+    if (!kept->is_fold)
+        return;
+    discard(kept, kept->written);
+    errno = ENOMEM;
+    kept->written = tell(c, KEPT_SIZE) == 0 ? -1 : write_new(c);
+    kept->cause = errno;
 }
 
 static bool make(struct calls *c, enum kept_call next)
@@ -210,7 +239,7 @@ static bool make(struct calls *c, enum kept_call next)
     case KEPT_TRUNCATE: return ftruncate(c->kept->file, (off_t)tell(c, KEPT_PLACE)) == 0;
     case KEPT_SYNC: return fsync(c->kept->file) == 0;
     case KEPT_REPLACE: return replace(c);
-    case KEPT_WANT: c->kept->wanted = tell(c, KEPT_PLACE); return true;
+    case KEPT_WANT: want(c); return true;
     case KEPT_NONE: break;
     }
     return false;
@@ -230,4 +259,42 @@ bool kept_file_make_calls(struct kept_file *kept, kept_ask *ask, void *library)
         tell(&c, KEPT_DONE);
     }
     return true;
+}
+
+/* The calls for a fold without room, which say what the new file is: it is written. */
+static bool write_wanted(struct kept_file *kept, kept_ask *ask, void *library)
+{
+    kept->is_fold = true;
+    bool made = kept_file_make_calls(kept, ask, library);
+    kept->is_fold = false;
+    return made;
+}
+
+/* Folds a journal into the new file that is written. */
+static enum kept_folded fold_into_written(struct kept_file *kept, kept_ask *ask, kept_fold *fold, void *library)
+{
+    struct stat about;
+    if (fstat(kept->written, &about) != 0)
+        return KEPT_NO_ROOM;
+    enum kept_folded folded = fold(library, (size_t)about.st_size);
+    if (!kept_file_make_calls(kept, ask, library))
+        return KEPT_NOT_FOLDED;
+    return folded == KEPT_NO_ROOM ? KEPT_NO_MEMORY : folded;
+}
+
+enum kept_folded kept_file_fold(struct kept_file *kept, kept_ask *ask, kept_fold *fold, void *library)
+{
+    enum kept_folded folded = fold(library, 0);
+    if (folded == KEPT_NO_ROOM && !write_wanted(kept, ask, library))
+        folded = KEPT_NOT_FOLDED;
+    if (folded == KEPT_NO_ROOM && kept->written >= 0) {
+        folded = fold_into_written(kept, ask, fold, library);
+    } else if (folded == KEPT_NO_ROOM) {
+        errno = kept->cause;
+        folded = errno == ENOMEM ? KEPT_NO_MEMORY : KEPT_NO_ROOM;
+    }
+    discard(kept, kept->written);
+    kept->written = -1;
+    kept->is_due = false;
+    return folded;
 }

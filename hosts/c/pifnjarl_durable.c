@@ -13,6 +13,8 @@ struct pifnjarl_durable {
     struct kept_file kept;
     struct pifnjarl_geometry geometry;
     bool failed; /* the file has to be opened again */
+    enum pifnjarl_durable_result folded; /* what came of the last fold */
+    int cause;                           /* why it wasn't made */
 };
 
 static size_t ask(struct pifnjarl_durable *device, enum durable_kind kind, size_t number, unsigned char *out, size_t room)
@@ -45,22 +47,47 @@ static enum pifnjarl_durable_result refused(struct pifnjarl_durable *device, enu
     return errno == ENOMEM ? PIFNJARL_DURABLE_NO_MEMORY : other;
 }
 
-/* Folds the journal into the new file that wanted room, if there is room for it. Where more was served since it wanted that, the file may
-   be longer now, and wants room again. */
-static enum pifnjarl_durable_result fold_where_wanted(struct pifnjarl_durable *device)
+static size_t ask_to_fold(void *library, size_t room)
 {
+    struct pifnjarl_durable *device = library;
     unsigned char none[1];
-    enum pifnjarl_durable_result result = PIFNJARL_DURABLE_DONE;
-    while (result == PIFNJARL_DURABLE_DONE && device->kept.wanted != 0) {
-        size_t room = kept_file_make_room(&device->kept);
-        if (room == 0)
-            return PIFNJARL_DURABLE_NO_ROOM;
-        errno = 0;
-        if (durable_library_call(device->handle, DURABLE_FOLD, 0, room, (const unsigned char *)"", 0, none, 0) == 0)
-            return refused(device, PIFNJARL_DURABLE_FAILED);
-        result = make_calls(device);
+    return durable_library_call(device->handle, DURABLE_FOLD, 0, room, (const unsigned char *)"", 0, none, 0);
+}
+
+static enum pifnjarl_durable_result result_of(enum kept_folded folded)
+{
+    switch (folded) {
+    case KEPT_FOLDED: return PIFNJARL_DURABLE_DONE;
+    case KEPT_NO_ROOM: return PIFNJARL_DURABLE_NO_ROOM;
+    case KEPT_NO_MEMORY: return PIFNJARL_DURABLE_NO_MEMORY;
+    case KEPT_NOT_FOLDED: break;
     }
-    return result;
+    return errno == 0 || errno == ENOMEM ? PIFNJARL_DURABLE_FAILED : PIFNJARL_DURABLE_CANNOT_WRITE;
+}
+
+/* Folds the journal, and keeps what came of it. */
+static enum pifnjarl_durable_result fold(struct pifnjarl_durable *device)
+{
+    errno = 0;
+    enum kept_folded folded = kept_file_fold(&device->kept, ask_of_call, ask_to_fold, device);
+    device->failed = folded == KEPT_NOT_FOLDED;
+    device->folded = result_of(folded);
+    device->cause = errno;
+    return device->folded;
+}
+
+/* Folds a journal that has grown long. Where it can't be folded, it is used on. */
+static enum pifnjarl_durable_result fold_when_due(struct pifnjarl_durable *device)
+{
+    if (device->kept.is_due) {
+        enum pifnjarl_durable_result result = fold(device);
+        return device->failed ? result : PIFNJARL_DURABLE_DONE;
+    }
+    if (tell(device, DURABLE_FOLDED) == KEPT_NO_MEMORY) { /* the library itself lacked it, before there was a new file */
+        device->folded = PIFNJARL_DURABLE_NO_MEMORY;
+        device->cause = ENOMEM;
+    }
+    return PIFNJARL_DURABLE_DONE;
 }
 
 static enum pifnjarl_durable_result begin(struct pifnjarl_durable *device, const char *path)
@@ -113,9 +140,7 @@ enum pifnjarl_durable_result pifnjarl_durable_serve(struct pifnjarl_durable *dev
     if (durable_library_call(device->handle, DURABLE_SERVE, 0, 0, bytes, count, none, 0) == 0)
         return refused(device, PIFNJARL_DURABLE_NO_FRAMES);
     enum pifnjarl_durable_result result = make_calls(device);
-    if (result == PIFNJARL_DURABLE_DONE)
-        result = fold_where_wanted(device);
-    return result == PIFNJARL_DURABLE_NO_ROOM ? PIFNJARL_DURABLE_DONE : result; /* the journal goes on growing */
+    return result == PIFNJARL_DURABLE_DONE ? fold_when_due(device) : result;
 }
 
 size_t pifnjarl_durable_replies(struct pifnjarl_durable *device, size_t from, void *out, size_t room)
@@ -126,13 +151,13 @@ size_t pifnjarl_durable_replies(struct pifnjarl_durable *device, size_t from, vo
 
 enum pifnjarl_durable_result pifnjarl_durable_fold(struct pifnjarl_durable *device)
 {
-    if (device->failed)
-        return PIFNJARL_DURABLE_FAILED;
-    errno = 0;
-    if (tell(device, DURABLE_FOLD) == 0) /* it says how much room it wants */
-        return refused(device, PIFNJARL_DURABLE_FAILED);
-    enum pifnjarl_durable_result result = make_calls(device);
-    return result == PIFNJARL_DURABLE_DONE ? fold_where_wanted(device) : result;
+    return device->failed ? PIFNJARL_DURABLE_FAILED : fold(device);
+}
+
+enum pifnjarl_durable_result pifnjarl_durable_folded(const struct pifnjarl_durable *device)
+{
+    errno = device->cause;
+    return device->folded;
 }
 
 struct pifnjarl_geometry pifnjarl_durable_geometry(const struct pifnjarl_durable *device)
@@ -149,7 +174,7 @@ const char *pifnjarl_durable_words(enum pifnjarl_durable_result result)
     case PIFNJARL_DURABLE_IN_USE: return "in use by another program";
     case PIFNJARL_DURABLE_CANNOT_READ: return "cannot read";
     case PIFNJARL_DURABLE_FAILED: return "an earlier call failed";
-    case PIFNJARL_DURABLE_NO_ROOM: return "no room for the new file";
+    case PIFNJARL_DURABLE_NO_ROOM: return "the new file can't be written";
     case PIFNJARL_DURABLE_CANNOT_WRITE: return "cannot write";
     case PIFNJARL_DURABLE_NO_FRAMES: return "no frames";
     }

@@ -20,13 +20,14 @@ enum pifnjarl_durable_result {
     PIFNJARL_DURABLE_NO_MEMORY = 2,
     PIFNJARL_DURABLE_IN_USE = 3,      /* another program holds the file */
     PIFNJARL_DURABLE_CANNOT_READ = 4, /* errno tells why */
-    PIFNJARL_DURABLE_FAILED = 5,      /* an earlier call failed */
-    PIFNJARL_DURABLE_NO_ROOM = 6,     /* no room for the new file: nothing has changed, and the device is used on; errno tells why */
+    PIFNJARL_DURABLE_FAILED = 5,      /* an earlier call failed; or a fold did for want of memory, after which the device isn't used on */
+    PIFNJARL_DURABLE_NO_ROOM = 6,     /* the new file can't be written, as for want of room: nothing has changed, and the device is used on;
+                                         errno says why */
     PIFNJARL_DURABLE_CANNOT_WRITE = 7, /* the file can't be written, or brought to the disk: errno tells why */
     PIFNJARL_DURABLE_NO_FRAMES = 8     /* bytes are no frames: of the frames before them in this call none or some are kept */
 };
-/* After FAILED, CANNOT_WRITE, NO_FRAMES, and after NO_MEMORY of serve or fold, the device does nothing any more: close it, and open it
-   again. What was told as done before is there. */
+/* After FAILED, CANNOT_WRITE, NO_FRAMES, and after NO_MEMORY of serve, the device does nothing any more: close it, and open it again. What
+   was told as done before is there. After NO_MEMORY of fold nothing has changed, and the device is used on. */
 
 struct pifnjarl_durable;
 
@@ -38,15 +39,20 @@ enum pifnjarl_durable_result pifnjarl_durable_open(const char *path, struct pifn
 struct pifnjarl_geometry pifnjarl_durable_geometry(const struct pifnjarl_durable *device);
 
 /* Does what frames ask for. Once it says that this is done, all of it is on the disk. Frames that come together are brought there
-   together. Where the journal has grown by 64 MiB it is folded, if there is room for the new file; else it goes on growing. */
+   together. Where the journal has grown by 64 MiB since the device was opened, or since it was to be folded last, it is folded; where the
+   new file can't be written, it goes on growing, and serve says DONE all the same: pifnjarl_durable_folded says what came of it. */
 enum pifnjarl_durable_result pifnjarl_durable_serve(struct pifnjarl_durable *device, const void *frames, size_t count);
+
+/* What came of the last fold, also of one that serve tried by itself: DONE, also where there was none yet; or NO_ROOM or NO_MEMORY, and
+   errno says why. Then the journal goes on growing, and serve tries again when it has grown by 64 MiB more. */
+enum pifnjarl_durable_result pifnjarl_durable_folded(const struct pifnjarl_durable *device);
 
 /* Puts the frames of the replies to what was served last into `out`, from their byte `from` on, as many as it has room for, and gives how
    many. */
 size_t pifnjarl_durable_replies(struct pifnjarl_durable *device, size_t from, void *out, size_t room);
 
-/* Puts the device as it is, with its programs, results and runs, in the place of its journal, which gets shorter by that. It needs room for
-   that beside the old one. */
+/* Puts the device as it is, with its programs, results and runs, in the place of its journal, which gets shorter by that. The new file is
+   written beside the old one, and brought to the disk, before it takes its place. */
 enum pifnjarl_durable_result pifnjarl_durable_fold(struct pifnjarl_durable *device);
 
 /* Closes a device. Nothing is lost by it, but for what frames asked for that weren't served. Null is no device. */

@@ -85,7 +85,7 @@ try 'crashes compiles' compile crashes -Wl,--wrap=pwrite,--wrap=fsync,--wrap=ren
 try 'crashes' "$work/crashes" "$work/zoned.img"
 tail -n 1 "$work/out"
 cp "$here/../../examples/empty.img" "$work/full.img"
-try 'full_disk compiles' compile full_disk -Wl,--wrap=posix_fallocate
+try 'full_disk compiles' compile full_disk -Wl,--wrap=pwrite,--wrap=fsync,--wrap=malloc,--wrap=realloc,--wrap=durable_library_call
 try 'full_disk' "$work/full_disk" "$work/full.img"
 tail -n 1 "$work/out"
 cp "$here/../../examples/empty.img" "$work/stack.img"

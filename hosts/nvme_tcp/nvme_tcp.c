@@ -46,7 +46,7 @@ struct image {
     struct kept_file kept;
     bool is_durable;
     bool has_runs;
-    bool lacks_room; /* there was no room to fold the journal, and that was said */
+    bool lacks_room; /* the journal can't be folded, and that was said */
 };
 
 static struct connection connections[TARGET_CONNECTIONS];
@@ -108,24 +108,24 @@ static uint64_t now(void)
     return (uint64_t)at.tv_sec * 1000000 + (uint64_t)at.tv_nsec / 1000;
 }
 
-/* Folds the journal into the new file that wanted room. Where there is no room, that is said once, and the journal goes on growing. */
+static size_t ask_to_fold(void *target, size_t room)
+{
+    return target_fold(target, room);
+}
+
+/* Folds the journal. Where the new file can't be written, that is said once, and the journal goes on growing. */
 static bool fold(unsigned char *target, struct image *image)
 {
-    size_t room = kept_file_make_room(&image->kept);
-    if (room == 0) {
-        if (!image->lacks_room)
-            fprintf(stderr, "%s: cannot fold %s: %s; its journal goes on growing\n", program_invocation_short_name, image->kept.path,
-                    strerror(errno));
-        image->lacks_room = true;
-        return true;
-    }
-    image->lacks_room = false;
     errno = ENOMEM;
-    if (target_fold(target, room) == TARGET_NOT_FOLDED) {
+    enum kept_folded folded = kept_file_fold(&image->kept, ask_of_call, ask_to_fold, target);
+    bool lacks_room = folded == KEPT_NO_ROOM || folded == KEPT_NO_MEMORY;
+    if (folded == KEPT_NOT_FOLDED)
         complain_of_call("cannot fold", image->kept.path);
-        return false;
-    }
-    return make_calls(target, image);
+    else if (lacks_room && !image->lacks_room)
+        fprintf(stderr, "%s: cannot fold %s: %s; its journal goes on growing\n", program_invocation_short_name, image->kept.path,
+                strerror(errno));
+    image->lacks_room = lacks_room;
+    return folded != KEPT_NOT_FOLDED;
 }
 
 /* Brings what was done to the disk, where it is kept there. */
@@ -138,7 +138,7 @@ static bool commit(unsigned char *target, struct image *image)
     }
     uint64_t began = now();
     bool made = make_calls(target, image);
-    while (made && image->kept.wanted != 0)
+    if (made && image->kept.is_due)
         made = fold(target, image);
     at_disk += now() - began;
     return made;

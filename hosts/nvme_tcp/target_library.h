@@ -30,7 +30,8 @@
 /* what came of folding a journal */
 #define TARGET_NOT_FOLDED 0 /* there is none, or the file has to be opened again */
 #define TARGET_FOLDED 1     /* it is folded, once the calls are made */
-#define TARGET_NO_ROOM 2    /* the new file would be longer than there is room for, as KEPT_WANT tells then: the journal is used on */
+#define TARGET_NO_ROOM 2    /* the new file would be longer than there is room for, and KEPT_WANT has its bytes: the journal is used on */
+#define TARGET_NO_MEMORY 3  /* memory is wanting for it: the journal is used on */
 
 enum target_kind {
     TARGET_ASKS_OPENED = 0,
@@ -169,13 +170,13 @@ static inline bool target_turn(unsigned char *target)
 }
 
 /* Commits what was done, once the calls for it are made; false where the file has to be opened again. Where the device is in memory alone
-   there is nothing to do. Where the journal has grown by 64 MiB, one of the calls is KEPT_WANT, which tells how much room folding it takes. */
+   there is nothing to do. Where the journal has grown by 64 MiB, one of the calls is KEPT_WANT: it is to be folded. */
 static inline bool target_commit(unsigned char *target)
 {
     return target_ask(target, TARGET_COMMIT, 0, 0) != 0;
 }
 
-/* Folds the journal into a new file of at most so many bytes, for which there is room on the disk. */
+/* Folds the journal into a new file of at most so many bytes. */
 static inline size_t target_fold(unsigned char *target, size_t room)
 {
     return target_ask(target, TARGET_FOLD, 0, room);

@@ -72,26 +72,35 @@ class Room(Kept):
         self.assertEqual(self.errors.read_text(), "")
 
     def test_without_room_the_old_file_is_used_on(self) -> None:
+        """Whether the new file can't be written or, after 64 MiB more, can't be brought to the disk."""
         with self.target() as target, Host(target.address) as host:
             queue = host.queue(1)
             self.full.touch()
-            self.write(queue, 2 * LONG + LONG // 2)
+            self.write(queue, LONG + LONG // 4)
+            self.assertGreater(self.size(), LONG)
+            self.assertEqual(self.said(), 1)
+            self.full.write_text("sync")
+            self.write(queue, LONG)
             self.assertGreater(self.size(), 2 * LONG)
             self.assertEqual(self.said(), 1)
             data = queue.read(0, 64)
             self.assertEqual(target.stop(), 0)
-        # no room is needed to open it
+        self.assertFalse(self.image.with_name(self.image.name + ".unfinished").exists())
+
+        # no room is needed to open it, and it isn't folded before it has grown by as much again
         with self.target() as target, Host(target.address) as host:
             queue = host.queue(1)
             self.assertEqual(queue.read(0, 64), data)
             queue.zone_action(Action.RESET, 4096)
             self.assertGreater(self.size(), 2 * LONG)
-            self.assertEqual(self.said(), 1)
-            self.assertEqual(target.stop(), 0)
-        self.full.unlink()
-        with self.target() as target, Host(target.address) as host:
-            queue = host.queue(1)
-            queue.append(4096, bytes(BLOCK))
+            self.full.unlink()
+            self.write(queue, LONG - LONG // 4)
+            self.assertGreater(self.size(), 2 * LONG)
+            self.write(queue, LONG // 2)
             self.assertLess(self.size(), LONG // 2)
-            self.assertEqual(queue.read(0, 64), data)
+            self.assertEqual(self.said(), 0)
+            data = queue.read(0, 64)
+            self.assertEqual(target.stop(), 0)
+        with self.target() as target, Host(target.address) as host:
+            self.assertEqual(host.queue(1).read(0, 64), data)
         self.assertFalse(self.image.with_name(self.image.name + ".unfinished").exists())

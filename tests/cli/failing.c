@@ -3,6 +3,7 @@
      FAILING_OUTPUT   standard output takes so many writes, and then fails with EIO
      FAILING_ROOM     no file grows over so many bytes: a write beyond them fails with ENOSPC
      FAILING_NEW      no file that is to take another's place does: a write beyond so many bytes of NAME.unfinished fails with ENOSPC
+     FAILING_SYNC     nor does one here: NAME.unfinished isn't brought to the disk, and fsync fails with EIO
      FAILING_READS    of a file so many bytes can be read, and then reading fails with EIO */
 #define _GNU_SOURCE
 #include <errno.h>
@@ -16,6 +17,7 @@
 #include <unistd.h>
 
 static off_t outputs = -1, room = -1, new_room = -1, readable = -1; /* -1: no bound */
+static bool sync_fails;
 
 static off_t bound(const char *variable)
 {
@@ -29,6 +31,7 @@ __attribute__((constructor)) static void begin(void)
     room = bound("FAILING_ROOM");
     new_room = bound("FAILING_NEW");
     readable = bound("FAILING_READS");
+    sync_fails = bound("FAILING_SYNC") >= 0;
 }
 
 static bool is_file(int descriptor)
@@ -37,15 +40,20 @@ static bool is_file(int descriptor)
     return fstat(descriptor, &about) == 0 && S_ISREG(about.st_mode);
 }
 
-/* How many bytes a file may have. */
-static off_t room_of(int descriptor)
+static bool is_unfinished(int descriptor)
 {
     static const char ending[] = ".unfinished";
     char link[32], name[4096];
     snprintf(link, sizeof link, "/proc/self/fd/%d", descriptor);
-    ssize_t count = new_room < 0 ? -1 : readlink(link, name, sizeof name);
+    ssize_t count = readlink(link, name, sizeof name);
     size_t last = sizeof ending - 1;
-    return count >= (ssize_t)last && memcmp(name + count - last, ending, last) == 0 ? new_room : room;
+    return count >= (ssize_t)last && memcmp(name + count - last, ending, last) == 0;
+}
+
+/* How many bytes a file may have. */
+static off_t room_of(int descriptor)
+{
+    return new_room >= 0 && is_unfinished(descriptor) ? new_room : room;
 }
 
 /* Where the next read or write of a descriptor begins. */
@@ -87,4 +95,13 @@ ssize_t read(int descriptor, void *bytes, size_t count)
         return fits < 0 ? fits : syscall(SYS_read, descriptor, bytes, fits);
     }
     return syscall(SYS_read, descriptor, bytes, count);
+}
+
+int fsync(int descriptor)
+{
+    if (sync_fails && is_unfinished(descriptor)) {
+        errno = EIO;
+        return -1;
+    }
+    return (int)syscall(SYS_fsync, descriptor);
 }

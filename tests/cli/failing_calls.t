@@ -139,7 +139,8 @@ Where a new image has no room, the old one stays, also where standard output fai
   cannot write work
   [1]
 
-A journal without room for a new base stays in use: `serve --durable` goes on with it, and folds it once there is room.
+A journal whose new file can't be written, or brought to the disk, stays in use: `serve --durable` goes on with it, and folds it when it
+has grown by 64 MiB more.
 
   $ zscli format journal --block 512 --zones 2 --size 256 --capacity 256 --open 2 --active 2
   $ head -c 131072 /dev/zero > data
@@ -150,14 +151,24 @@ A journal without room for a new base stays in use: `serve --durable` goes on wi
   $ zscli serve journal --frames --durable < once > out
   $ cp journal before
   $ failing NEW=100 zscli fold journal
-  journal: no room is left
+  journal: no new file can be written beside it, as where no room is left
+  cannot write journal
+  [1]
+  $ failing SYNC=1 zscli fold journal
+  journal: no new file can be written beside it, as where no room is left
   cannot write journal
   [1]
   $ cmp journal before
   $ failing NEW=100 zscli serve journal --frames --durable < many > out
   $ [ $(wc -c < journal) -gt 73400320 ]
+  $ failing SYNC=1 zscli serve journal --frames --durable < many > out
+  $ [ $(wc -c < journal) -gt 146800640 ]
   $ zscli serve journal --frames --durable < once > out
-  $ [ $(wc -c < journal) -lt 1048576 ]
+  $ [ $(wc -c < journal) -gt 146800640 ]
+  $ zscli serve journal --frames --durable < many > out
+  $ [ $(wc -c < journal) -lt 16777216 ]
+  $ ls journal*
+  journal
   $ rm journal before data many often
 
 Where no event changes anything the image isn't written, and needs no room.

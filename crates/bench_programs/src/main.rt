@@ -17,7 +17,7 @@ use runs::{Form, repeat, run};
 use std::rt::Clock;
 use std::time::Instant;
 use std::{env, io};
-use verified_run::{Prepared, Stack};
+use verified_run::{Prepared, Stack, StepCount};
 use verifier::Verified;
 
 /// The nanoseconds of some block runs.
@@ -28,9 +28,11 @@ fn round(
     asked: &Asked,
     scratch: &mut [u8; SCRATCH_BYTES],
     group: &mut [u8; LARGEST_BLOCK],
+    count: &mut StepCount,
 ) -> io::Result<u128> {
     let start = Instant::now(rt)?;
-    let done = repeat(program, form, &asked.block, asked.repeats, scratch, group);
+    let (block, repeats) = (&asked.block, asked.repeats);
+    let done = repeat(program, form, block, repeats, scratch, group, count);
     let spent = start.elapsed(rt)?.as_nanos();
     if !done {
         return Err(io::Error::other("a block run was not done"));
@@ -43,7 +45,8 @@ fn time_runs(rt: &HostRuntime, asked: &Asked, form: Form) -> io::Result<()> {
     let Some(sizes) = RunSizes::new(asked.size, asked.size.bytes()) else {
         return Err(io::Error::other("the limit is more than a block"));
     };
-    let program = Prepared::new(rt.alloc(), load(rt.alloc(), &asked.program, sizes)?)?;
+    let verified = load(rt.alloc(), &asked.program, sizes)?;
+    let (program, mut count) = Prepared::new(rt.alloc(), verified)?;
     let context = [0; CONTEXT_BYTES];
     let mut scratch = [0; SCRATCH_BYTES];
     let mut group = [0; LARGEST_BLOCK];
@@ -56,6 +59,7 @@ fn time_runs(rt: &HostRuntime, asked: &Asked, form: Form) -> io::Result<()> {
         &mut scratch,
         stack,
         &mut group,
+        &mut count,
     ) else {
         return Err(io::Error::other("a block run was not done"));
     };
@@ -65,7 +69,8 @@ fn time_runs(rt: &HostRuntime, asked: &Asked, form: Form) -> io::Result<()> {
     )?;
     let mut least = u128::MAX;
     for _ in 0..asked.rounds {
-        least = least.min(round(rt, &program, form, asked, &mut scratch, &mut group)?);
+        let (scratch, group) = (&mut scratch, &mut group);
+        least = least.min(round(rt, &program, form, asked, scratch, group, &mut count)?);
     }
     print_least(rt, asked, least.saturating_mul(1000), "ps")
 }

@@ -30,6 +30,7 @@ pub fn run(
     scratch: &mut [u8; SCRATCH_BYTES],
     stack: &mut Stack,
     group: &mut [u8; LARGEST_BLOCK],
+    count: &mut StepCount,
 ) -> Option<Exit> {
     let verified = program.verified();
     let sizes = verified.sizes();
@@ -42,10 +43,7 @@ pub fn run(
             let mut machine = Machine::new(block, context, scratch, &mut bytes);
             run_checked(verified, &mut machine, group)
         }
-        Form::Prepared => {
-            let count = &mut StepCount::new();
-            Some(program.run_over(block, context, scratch, stack, group, count))
-        }
+        Form::Prepared => { Some(program.run_over(block, context, scratch, stack, group, count)) }
     }
 }
 
@@ -82,13 +80,15 @@ pub fn repeat(
     repeats: u32,
     scratch: &mut [u8; SCRATCH_BYTES],
     group: &mut [u8; LARGEST_BLOCK],
+    count: &mut StepCount,
 ) -> bool {
     let mut context = [0; CONTEXT_BYTES];
     let mut stack = Stack::new();
     let mut done = true;
     for repeat in 0..repeats {
         context[0] = (repeat % 0x100) as u8;
-        done &= run(program, form, block, &context, scratch, &mut stack, group).is_some();
+        let stack = &mut stack;
+        done &= run(program, form, block, &context, scratch, stack, group, count).is_some();
     }
     done
 }

@@ -14,13 +14,15 @@ use Rattle.durable_machine.specs.declared.fault.Fault.TheVariants.{Unreadable, D
 use Rattle.device_meaning.specs.State.{State, new_state}
 use Rattle.durable_device.specs.Kept.{IsOldOrStandsFor, KeepsRestarted, LeavesFound, MayBeLeft, RefusesFile, StandsFor, StandsForIt}
 use Rattle.durable_device.specs.Machine.{IsDeviceBase, next_state}
+use Rattle.durable_device.specs.declared.durable_device.Folding.{Folding}
+use Rattle.durable_device.specs.declared.durable_device.Folding.TheVariants as folding
 use Rattle.command_files.specs.UserTold.{IsUnread}
 use Rattle.command_files.specs.declared.failure.Failure.{Failure}
 use Rattle.command_files.specs.declared.journal_fault.JournalFault.{JournalFault}
 use Rattle.command_files.specs.declared.failure.Failure.TheVariants.{CannotRead, CannotWrite, ImageRefused, JournalRefused, NoMemory}
 use Rattle.command_images.specs.UserTold.{IsUnheld, LoadingFails, UpgradeFails}
 use Rattle.command_durable.specs.Opening.{IsFoundFaulty, FailsToOpen, IsFound, IsNotFound, Leaves, OfDevice, OfJournal, OnlyRead, Opens, OpeningFails}
-use Rattle.command_durable.specs.steps.Told.{TellsError, TellsFault, TellsUnread}
+use Rattle.command_durable.specs.steps.Told.{TellsError, TellsFault, TellsUnfolded, TellsUnread}
 
 -- an error has another fact by one that it has
 pub err_so : {T E : Type 0} (r : Result T E) (P Q : E → Type 0) → ((e : E) → P e → Q e) → IfErr r P → IfErr r Q
@@ -167,9 +169,15 @@ module _ {S : Type 0} (told : S → FileState) (contents : Option (List ℕ)) wh
       OfDevice opens.file left opens.found s opens.means
       (found_then IsDeviceBase next_state (told opens.file) (told opened) (told left) P opens.moments (weaken (told opened) (told left) (λ c. StandsFor c s) P moments (λ c stands. inr stands)))
 
-  pub unfolded : (opened left : S) (s : State) (error : FileError) (path : List ℕ) (failure : Failure) → Opens told contents (told opened) s
-      → LeavesOnly (told opened) (told left) (λ c. StandsFor c s) → TellsError error path failure → FailsToOpen told contents path failure
-  unfolded opened left s error path failure opens moments tells = record {
+  unfolded_fails : (came : Result Folding FileError) (path : List ℕ) (failure : Failure) → TellsUnfolded came path failure → OpeningFails told contents path failure
+  unfolded_fails (Ok folding.NoRoom) path (CannotWrite name why) is = is.0
+  unfolded_fails (Ok folding.NoMemory) path NoMemory same = tt
+  unfolded_fails (Ok came) path _ none = absurd none
+  unfolded_fails (Err error) path failure tells = error_fails error path failure tells
+
+  pub unfolded : (opened left : S) (s : State) (came : Result Folding FileError) (path : List ℕ) (failure : Failure) → Opens told contents (told opened) s
+      → LeavesOnly (told opened) (told left) (λ c. StandsFor c s) → TellsUnfolded came path failure → FailsToOpen told contents path failure
+  unfolded opened left s came path failure opens moments tells = record {
     left = stands_on opened left s opens moments;
-    why = error_fails error path failure tells;
+    why = unfolded_fails came path failure tells;
   }

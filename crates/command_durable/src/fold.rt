@@ -1,23 +1,24 @@
 //! The command `fold`: the events of a journal become a part of its base.
 
-ghost use Rattle.std.specs.Prelude.{◌≡◌, ℕ, List, Option, IfErr, IfOk, OnErr, OnOk, Some};
+ghost use Rattle.std.specs.Prelude.{◌≡◌, ℕ, List, Option, IfErr, IfOk, IfSome, IsNone, Ok, OnErr, OnOk, Some};
 ghost use Rattle.stored_file.specs.File.{LeavesOnly};
 ghost use Rattle.durable_device.specs.Kept.{IsKept, IsKeptInBase, StandsFor};
 ghost use Rattle.command_files.specs.Made.{KeepsModes, KeepsOthers, MakesAtMost};
 ghost use Rattle.command_images.specs.Images.{image_of};
 ghost use Rattle.command_durable.specs.Folding.{Folds, FoldsJournal, IsntFolded};
 ghost use Rattle.command_durable.specs.Opening.{FailsToOpen, Opens};
+ghost use Rattle.command_durable.specs.steps.Told.{TellsUnfolded};
 
 use crate::DurableFiles;
 use crate::opening::{failed, into_file, is_journal, reopen, stored};
 use clap::ArgMatches;
 use command_files::arguments::required;
-use command_files::{Failure, Files};
+use command_files::{Failure, FileCause, Files};
 use command_images::image_file::{self, IMAGE};
 use command_words::{Argument, Takes, Words};
-use durable_device::DurableDevice;
+use durable_device::{DurableDevice, Folding};
 use std::alloc::Global;
-use stored_file::StoredFile;
+use stored_file::{FileError, StoredFile};
 
 /// The command's name.
 pub const NAME: &str = "fold";
@@ -119,8 +120,22 @@ fn folded<'a, S: StoredFile + Drop>(
     ensures failed { (contents : Option (List ℕ)) → Opens S.told contents (S.told device.store.journal.file) device.store.machine
         → IfErr result (FailsToOpen S.told contents path.now) }
 {
-    match device.fold(alloc) {
-        Ok(()) => Ok(into_file(device)),
-        Err(error) => Err(failed(path, error)),
+    let came = device.fold(alloc);
+    match unfolded(path, came) {
+        None => Ok(into_file(device)),
+        Some(failure) => Err(failure),
+    }
+}
+
+/// What the user is told of a journal that isn't folded.
+fn unfolded<'a>(path: &'a str, came: Result<Folding, FileError>) -> Option<Failure<'a>>
+    ensures none { IsNone result → came ≡ Ok Folding.Done }
+    ensures told { IfSome result (TellsUnfolded came path.now) }
+{
+    match came {
+        Ok(Folding::Done) => None,
+        Ok(Folding::NoRoom) => Some(Failure::CannotWrite(path, FileCause::NoNewFile)),
+        Ok(Folding::NoMemory) => Some(Failure::NoMemory),
+        Err(error) => Some(failed(path, error)),
     }
 }

@@ -192,6 +192,7 @@ pub(crate) fn into_file<S: StoredFile + Drop>(device: DurableDevice<S>) -> S
     let Durable {
         machine: _machine,
         journal,
+        waiting: _waiting,
     } = store;
     let Journal { file, gate: _gate } = journal;
     file

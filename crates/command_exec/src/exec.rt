@@ -23,7 +23,7 @@ use command_images::device_file;
 use command_images::image_file::{self, IMAGE};
 use command_profile::{PROFILE, Profile, profile_asked};
 use command_words::{Argument, Takes, Words};
-use event_text::{Lines, event_lines};
+use event_text::{LineRoom, Lines, event_lines};
 use interval_domain::Intervals;
 use runner::{Device, Event, Stopped};
 use std::alloc::Global;
@@ -245,9 +245,9 @@ fn run<'a, D: Domain, F: Files, O: Write>(
         (AreLeft (judge_by D.operations) F.Writer.tells events.now device.old.namespace) (F.tried files.old) (F.tried files.new) }
     ensures modes { OnOk result (KeepsModes (F.modes files.old) (F.modes files.new)) }
 {
-    let lines = Lines::new(alloc, out)?;
-    let mut watched = Watched::new(lines);
     let mut output = vec![in alloc; 0; MOST_TRANSFER]?;
+    let room = LineRoom::new(alloc)?;
+    let mut watched = Watched::new(Lines::over(room, out));
     let done = serve_and_drain(device, events, output.as_mut_slice(), &mut watched);
     let refusals = watched.refusals();
     let lines = watched.into_out();

@@ -1,7 +1,7 @@
 -- Why a file can't be read or written.
 use Rattle.std.specs.Prelude.{ℕ, List, [], codes}
 use Rattle.command_files.specs.declared.file_cause.FileCause.{FileCause}
-use Rattle.command_files.specs.declared.file_cause.FileCause.TheVariants.{NotFound, PermissionDenied, NotADirectory, IsADirectory, ReadOnlyFilesystem, NoRoom, InUse, NotOrdinary, Other}
+use Rattle.command_files.specs.declared.file_cause.FileCause.TheVariants.{NotFound, PermissionDenied, NotADirectory, IsADirectory, ReadOnlyFilesystem, NoRoom, NoNewFile, InUse, NotOrdinary, Other}
 
 -- what a user is told of the file (profile)
 abbrev pub cause_words : FileCause → List ℕ
@@ -11,6 +11,7 @@ cause_words NotADirectory = codes "a part of its path is no folder"
 cause_words IsADirectory = codes "it is a folder"
 cause_words ReadOnlyFilesystem = codes "the file system is read-only"
 cause_words NoRoom = codes "no room is left"
+cause_words NoNewFile = codes "no new file can be written beside it, as where no room is left"
 cause_words InUse = codes "in use by another command"
 cause_words NotOrdinary = codes "not an ordinary file"
 cause_words Other = []

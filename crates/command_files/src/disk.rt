@@ -85,7 +85,7 @@ impl<R: rt::Files<File = File> + AllocGlobal> Disk<'_, R> {
     }
 
     /// Puts a file of these bytes in the place of the one whose name is held, as [`Files::begin`] and [`Files::finish`] do. Where it can't
-    /// be written, as for want of room, the name is held still.
+    /// be written or brought to the disk, as for want of room, the name is held still.
     ///
     /// # Errors
     ///

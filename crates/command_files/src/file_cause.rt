@@ -18,6 +18,8 @@ pub enum FileCause {
     ReadOnlyFilesystem,
     /// The file system, or what the user may have of it, is full.
     NoRoom,
+    /// A new file that was to take its place can't be written beside it, for want of room or another cause.
+    NoNewFile,
     /// Another command works on the file.
     InUse,
     /// The name is that of a device, a pipe or a socket, or of another thing that holds no bytes.
@@ -38,6 +40,8 @@ impl FileCause {
             FileCause::IsADirectory => "it is a folder",
             FileCause::ReadOnlyFilesystem => "the file system is read-only",
             FileCause::NoRoom => "no room is left",
+            FileCause::NoNewFile =>
+                "no new file can be written beside it, as where no room is left",
             FileCause::InUse => "in use by another command",
             FileCause::NotOrdinary => "not an ordinary file",
             FileCause::Other => "",

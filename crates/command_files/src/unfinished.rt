@@ -213,7 +213,8 @@ pub struct FileWriter {
 }
 
 impl FileWriter {
-    /// Hands the system all of these bytes, to a file of no bytes yet.
+    /// Hands the system all of these bytes, to a file of no bytes yet, and brings them to the disk: some file systems find only then that
+    /// they have no room.
     ///
     /// # Errors
     ///
@@ -221,7 +222,8 @@ impl FileWriter {
     pub(crate) fn write_whole(&mut self, bytes: &[u8]) -> Result<(), FileFault> {
         self.file.write_all(bytes)?;
         self.written.add(bytes);
-        Ok(self.file.flush()?)
+        self.file.flush()?;
+        synced(self.file.get_ref())
     }
 
     /// Hands the system all that was written and is still held back.

@@ -184,17 +184,18 @@ module _ (reads writes : Type 0) (contents then : List ℕ → Option (List ℕ)
   pub stops_by_line : {T : Type 0} (result : Result T Failure) (left printed : Option (List ℕ))
       → IfErr result (LinesStoppedBy path (λ failure. ⊥) (ServesFirstLines (from_there then loaded) namespace path drains unread before printed)
       (ServesLinesUnsaved (from_there then loaded) namespace drains unread before printed) (IsSilent unread left before printed)
-      (IsUnmade (from_there then loaded) unread left))
+      (IsUnmade (from_there then loaded) unread left before printed))
       → IfErr result (FailsByLine (from_there contents made) matches drains unread left before printed)
   stops_by_line (Ok value) left printed stops = tt
   stops_by_line (Err failure) left printed stops =
       lines_at_image reads contents (StopsByLine (from_there contents made) matches drains unread before printed)
       (IsntSavedByLine (from_there contents made) matches drains unread before printed) (IsSilent unread left before printed)
-      (IsUnmade (from_there contents made) unread left) path (image_of matches) failure is_named
+      (IsUnmade (from_there contents made) unread left before printed) path (image_of matches) failure is_named
       (lines_stopped_weaker path (ServesFirstLines (from_there then loaded) namespace path drains unread before printed)
       (StopsByLine (from_there contents made) matches drains unread before printed)
       (ServesLinesUnsaved (from_there then loaded) namespace drains unread before printed) (IsntSavedByLine (from_there contents made) matches drains unread before printed)
-      (IsSilent unread left before printed) (IsUnmade (from_there then loaded) unread left) (IsUnmade (from_there contents made) unread left) (λ failure. ⊥) (ReplacingFails reads (contents path) path) (λ failure none. absurd none)
+      (IsSilent unread left before printed) (IsUnmade (from_there then loaded) unread left before printed)
+      (IsUnmade (from_there contents made) unread left before printed) (λ failure. ⊥) (ReplacingFails reads (contents path) path) (λ failure none. absurd none)
       (λ why first. record {
         namespace = namespace;
         namespace_is = named;

@@ -72,7 +72,7 @@ module _ {K : Type 0} (has_kept : K → K → ZonedNamespace → Type 0) (turns 
   pub then_ended : EndsRuns between.state left between.written after → ServesAndDrains has_kept turns unread old (seen left after between.keeper)
   then_ended ended = record { between = between; served = served; ended = ended; same = refl }
 
-  pub then_stopped : (why : ServeFault) → StopsEnding between.state left why → StopsBefore has_kept turns unread old (seen left after between.keeper) why
+  pub then_stopped : (why : ServeFault) → StopsEnding between.state left between.written after why → StopsBefore has_kept turns unread old (seen left after between.keeper) why
   then_stopped why stopped = InRuns between served stopped refl
 
 -- ---- what is told

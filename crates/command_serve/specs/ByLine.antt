@@ -58,7 +58,7 @@ pub record ServesLinesUnsaved (here : Surroundings) (namespace : ZonedNamespace)
 -- why not all is done and saved, by what is told: a line is refused, the input can't be read, standard output fails, or memory is
 -- wanting, and then what was done before is saved (`stops`); or the image file can't be read again or written, and it isn't
 -- (`unsaved`); or no device is loaded of the file (`unloaded`), and nothing is read or printed (`silent`); or memory is wanting before a
--- line is read (`unmade`)
+-- line is read, and then no file is made either (`unmade`)
 abbrev pub LinesStoppedBy : List ℕ → (Failure → Type 0) → (LinesFault → Type 0) → Type 0 → Type 0 → Type 0 → Failure → Type 0
 LinesStoppedBy path unloaded stops unsaved silent unmade (LineRefused told line cause) = (told.now ≡ INPUT.now) × stops (fault.Line line cause)
 LinesStoppedBy path unloaded stops unsaved silent unmade CannotPrint = stops fault.Write
@@ -87,13 +87,14 @@ pub record IsntSavedByLine (here : Surroundings) (matches : ArgMatches) (drains 
   pub namespace_is : here.reads → TellNamespace (here.contents (image_of matches)) namespace
   pub unsaved : ServesLinesUnsaved here namespace drains unread before after
 
--- nothing is read, and no file made
-abbrev pub IsUnmade : Surroundings → Option (List ℕ) → Option (List ℕ) → Type 0
-IsUnmade here unread left = (left ≡ unread) × (here.after ≡ here.before)
+-- nothing is read and nothing printed, and no file made
+abbrev pub IsUnmade : Surroundings → Option (List ℕ) → Option (List ℕ) → Option (List ℕ) → Option (List ℕ) → Type 0
+IsUnmade here unread left before after = IsSilent unread left before after × (here.after ≡ here.before)
 
 -- why `serve` ends before all lines are done and it is saved, and what it leaves
 abbrev pub FailsByLine : Surroundings → ArgMatches → Bool → Option (List ℕ) → Option (List ℕ) → Option (List ℕ) → Option (List ℕ) → Failure
     → Type 0
 FailsByLine here matches drains unread left before after failure =
     LinesStoppedBy (image_of matches) (IsUnloaded here matches) (StopsByLine here matches drains unread before after)
-    (IsntSavedByLine here matches drains unread before after) (IsSilent unread left before after) (IsUnmade here unread left) failure
+    (IsntSavedByLine here matches drains unread before after) (IsSilent unread left before after)
+    (IsUnmade here unread left before after) failure

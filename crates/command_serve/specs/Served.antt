@@ -61,13 +61,14 @@ EndsRuns old new before after = HasDrained old new (λ replies. Appends before a
 abbrev pub Untold : List ReplyWithData → Type 0
 Untold replies = Unit {0}
 
--- the turns that end the runs stop: the reply to one isn't written, or memory is wanting before the first
-abbrev pub StopsEnding : State → State → ServeFault → Type 0
-StopsEnding old new fault.Read = ⊥
-StopsEnding old new (fault.Stream f) = ⊥
-StopsEnding old new fault.Write = (done : ℕ) × HasStoppedDraining old new Untold done
-StopsEnding old new fault.Save = ⊥
-StopsEnding old new fault.Memory = new ≡ old
+-- the turns that end the runs stop: the reply to one isn't written, and an output that fails doesn't tell what it took; or memory is
+-- wanting before the first, and nothing is written
+abbrev pub StopsEnding : State → State → Option (List ℕ) → Option (List ℕ) → ServeFault → Type 0
+StopsEnding old new before after fault.Read = ⊥
+StopsEnding old new before after (fault.Stream f) = ⊥
+StopsEnding old new before after fault.Write = (done : ℕ) × HasStoppedDraining old new Untold done
+StopsEnding old new before after fault.Save = ⊥
+StopsEnding old new before after fault.Memory = (new ≡ old) × (after ≡ before)
 
 -- where a server keeps images, of which `has_kept` tells, and gives so many turns at most between two reads
 module _ {K : Type 0} (has_kept : K → K → ZonedNamespace → Type 0) (turns : ℕ) where
@@ -82,7 +83,7 @@ module _ {K : Type 0} (has_kept : K → K → ZonedNamespace → Type 0) (turns 
   pub data StopsBefore (unread : Option (List ℕ)) (old new : Server K) (why : ServeFault) : Type 0 where
     InStream : (left : Option (List ℕ)) (stops : StopsServing has_kept turns unread left old new why) → StopsBefore unread old new why
     InRuns : (between : Server K) (served : ServesStream has_kept turns unread old between)
-        (ending : StopsEnding between.state new.state why) (same : new.keeper ≡ between.keeper) → StopsBefore unread old new why
+        (ending : StopsEnding between.state new.state between.written new.written why) (same : new.keeper ≡ between.keeper) → StopsBefore unread old new why
 
 -- all is done on a namespace, and at the end the file has the text of the namespace that is left; images are saved there meanwhile
 -- where that is asked for

@@ -15,7 +15,7 @@ use command_files::arguments::required;
 use command_files::{Failure, FileCause, Files};
 use command_images::device_file;
 use command_images::image_file::{self, IMAGE};
-use event_text::Lines;
+use event_text::{LineRoom, Lines};
 use live_lines::{LinesFault, serve_lines};
 use nvme_entry::MOST_TRANSFER;
 use runner::{Device, Stopped};
@@ -67,11 +67,12 @@ fn run<'a, F: Files, I: Read, O: Write>(
         (ServesFirstLines here device.old.namespace path.now drains (I.remaining input.old) (O.contents out.old) (O.contents out.new))
         (ServesLinesUnsaved here device.old.namespace drains (I.remaining input.old) (O.contents out.old) (O.contents out.new))
         (IsSilent (I.remaining input.old) (I.remaining input.new) (O.contents out.old) (O.contents out.new))
-        (IsUnmade here (I.remaining input.old) (I.remaining input.new))) }
+        (IsUnmade here (I.remaining input.old) (I.remaining input.new) (O.contents out.old) (O.contents out.new))) }
     ensures changes { ChangesOnly F.Files F.Writer.tells path.now files.old files.new }
 {
     let mut output = vec![in alloc; 0; MOST_TRANSFER]?;
-    let mut lines = Lines::new(alloc, out)?;
+    let room = LineRoom::new(alloc)?;
+    let mut lines = Lines::over(room, out);
     let done = serve_and_drain(
         alloc,
         device,

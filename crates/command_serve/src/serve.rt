@@ -25,7 +25,7 @@ use command_files::{Failure, FileCause, Files};
 use command_images::device_file;
 use command_images::image_file::{self, IMAGE};
 use command_words::{Argument, Takes, Words};
-use event_frames::{Frames, StreamFault};
+use event_frames::{FrameRoom, Frames, StreamFault};
 use image_store::Image;
 use live_serve::ServeFault;
 use nvme_entry::MOST_TRANSFER;
@@ -136,7 +136,8 @@ pub static WORDS: Words = Words {
 ///
 /// The image can't be read, is refused or can't be written; the input can't be read, or is refused; standard output fails; or
 /// memory is wanting. Where a line or a byte of the input is refused, it ends within a frame, or standard output fails, what was done
-/// before is saved. Where no device is loaded of the image file, nothing is read and nothing written.
+/// before is saved. Where no device is loaded of the image file, or by lines memory is wanting before the first is read, nothing is
+/// read and nothing written.
 pub fn serve<'a, F: Files, I: Read + Drop, O: Write>(
     alloc: Global,
     matches: &ArgMatches<'a>,
@@ -358,10 +359,11 @@ fn serve_and_drain<'a, F: Files, I: Read, O: Write>(
 /// Gives turns until no run is left, and writes the frame of the reply to each.
 fn end_runs<O: Write>(alloc: Global, device: &mut Device, out: &mut O) -> Result<(), ServeFault>
     ensures ended { OnOk result (EndsRuns device.old device.new (O.contents out.old) (O.contents out.new)) }
-    ensures stopped { IfErr result (StopsEnding device.old device.new) }
+    ensures stopped { IfErr result (StopsEnding device.old device.new (O.contents out.old) (O.contents out.new)) }
 {
     let mut output = vec![in alloc; 0; MOST_TRANSFER]?;
-    let mut frames = Frames::new(alloc, out)?;
+    let room = FrameRoom::new(alloc)?;
+    let mut frames = Frames::over(room, out);
     let ended = drain(device, output.as_mut_slice(), &mut frames);
     let out = frames.into_writer();
     // No effect at run time. The proof reads what was written from this use of `out`.

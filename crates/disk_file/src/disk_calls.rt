@@ -67,17 +67,6 @@ fn told<E: Into<FileFault>>(done: Result<(), E>) -> Result<(), FileError>
     }
 }
 
-impl<R: rt::Files<File = File> + AllocGlobal> DiskCalls<'_, R> {
-    /// Puts a new file in the place of the one that is held, and holds it.
-    fn put(&mut self, bytes: &[u8]) -> Result<(), FileFault>
-        ensures { self.new.notes ≡ self.old.notes }
-    {
-        self.disk.replace(bytes)?;
-        self.file = self.disk.handle()?;
-        Ok(())
-    }
-}
-
 impl<R: rt::Files<File = File> + AllocGlobal> FileCalls for DiskCalls<'_, R> {
     ghost notes = { λ calls. calls.notes.calls };
 
@@ -108,21 +97,19 @@ impl<R: rt::Files<File = File> + AllocGlobal> FileCalls for DiskCalls<'_, R> {
     }
 
     fn replace(&mut self, bytes: &[u8]) -> Result<(), FileError> {
-        match told(self.put(bytes)) {
-            Ok(()) => {
+        let placed = self.disk.replace(bytes).is_ok();
+        match self.disk.handle() {
+            Ok(file) if placed => {
+                self.file = file;
                 self.notes.replaced(bytes, true);
                 Ok(())
             }
-            // It was the new file for which there was none: the old one is held still.
-            Err(FileError::NoRoom) if self.disk.handle().is_ok() => {
+            // The new file didn't get the name, whatever it lacked: the old one is held still.
+            Ok(_) => {
                 self.notes.not_replaced();
                 Err(FileError::NoRoom)
             }
-            Err(FileError::Memory) => {
-                self.notes.replaced(bytes, false);
-                Err(FileError::Memory)
-            }
-            Err(FileError::NoRoom | FileError::Failed) => {
+            Err(_) => {
                 self.notes.replaced(bytes, false);
                 Err(FileError::Failed)
             }

@@ -6,6 +6,7 @@ use Rattle.durable_machine.specs.Applied.{HasApplied}
 use Rattle.durable_machine.specs.Batches.{HasServed as HasServedBytes, HaveServed as HaveServedBytes, LedTo}
 use Rattle.durable_machine.specs.Runs.{AreReplies, HasRun, state_again}
 use Rattle.durable_machine.specs.Runs as machine
+use Rattle.durable_machine.specs.Waiting.{HasAnswered as HasAnsweredMachine}
 use Rattle.device_events.specs.Replies.{ReplyWithData}
 use Rattle.device_events.specs.ToldEvents.{ToldEvent, told_of}
 use Rattle.device_events.specs.ToldEvents as told
@@ -18,7 +19,7 @@ use Rattle.device_meaning.specs.State.{State}
 use Rattle.durable_device.specs.Changing.{HasIdentifier, is_want_of_memory, may_change}
 use Rattle.durable_device.specs.FrameEvents.{frame_event}
 use Rattle.durable_device.specs.Machine.{HasDone, HasReplied, given_reply, next_state, reply_by, state_by}
-use Rattle.durable_device.specs.Serving.{AreTold, HasServed, HaveServed, Leads}
+use Rattle.durable_device.specs.Serving.{AreTold, HasAnswered, HasServed, HaveServed, Leads}
 use Rattle.durable_device.specs.declared.frame_device.Given.{Given}
 use Rattle.durable_device.proofs.Again.{comes_again}
 
@@ -51,6 +52,11 @@ nothing_done s frame none = record {
   idle = λ idle. refl;
   fed = λ fed. ap (state_by s false) (sym none);
 }
+
+-- what a frame came to
+pub has_answered : (frame : List ℕ) (old new : State) (given : Option Given) → HasAnsweredMachine next_state HasReplied frame old new given
+    → HasAnswered frame old new given
+has_answered frame old new given answered = record { starved = answered.2.refused; state = answered.2.state; replied = answered.2.replied }
 
 -- one that tells an event
 pub event_done : (s new : State) (frame : List ℕ) (e : ToldEvent) (r : ReplyWithData) (reply : Option Given) (changes starved : Bool) → frame_event frame ≡ Some e

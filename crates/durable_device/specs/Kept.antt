@@ -4,6 +4,7 @@ use Rattle.stored_file.specs.File.{FileState}
 use Rattle.durable_machine.specs.Files.{IsDurable, IsInBase, IsItsState, IsOldOrStands, IsState}
 use Rattle.durable_machine.specs.Refused.{IsRefused, Refuses}
 use Rattle.durable_machine.specs.Restart.{IsRestarted as IsRestartedMachine, KeepsRestarted as KeepsRestartedMachine, LeavesFound as LeavesFoundMachine, MayBeLeft as MayBeLeftOfMachine}
+use Rattle.durable_machine.specs.Waiting.{IsCommittedBut as IsCommittedButMachine, IsEither as IsEitherMachine}
 use Rattle.durable_machine.specs.declared.fault.Fault.{Fault}
 use Rattle.device_meaning.specs.State.{State}
 use Rattle.durable_device.specs.Machine.{IsDeviceBase, next_state}
@@ -42,7 +43,15 @@ IsOldOrStandsFor = IsOldOrStands IsDeviceBase next_state
 abbrev pub IsKept : State → ℕ → FileState → Type 0
 IsKept = IsDurable IsDeviceBase next_state
 
--- and the base alone stands for the device: the journal behind it is empty
+-- a device is kept in the file so, and the events that wait lead from it to this one, with memory given to each
+abbrev pub IsCommittedBut : List ℕ → State → ℕ → FileState → Type 0
+IsCommittedBut = IsCommittedButMachine IsDeviceBase next_state
+
+-- the file stands for one of two devices
+abbrev pub IsEither : State → State → List ℕ → Type 0
+IsEither = IsEitherMachine IsDeviceBase next_state
+
+-- the device is kept in the file, and the base alone stands for it: the journal after it is empty
 abbrev pub IsKeptInBase : State → ℕ → FileState → Type 0
 IsKeptInBase = IsInBase IsDeviceBase next_state
 

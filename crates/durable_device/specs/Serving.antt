@@ -1,5 +1,5 @@
 -- What frames lead to, in the device's words: by the events that they tell.
-use Rattle.std.specs.Prelude.{◌≡◌, ◌⊎◌, ◌≤◌, ℕ, List, [], ◌∷◌, length, map, take, is_some, Option, option_map}
+use Rattle.std.specs.Prelude.{◌≡◌, ◌⊎◌, ◌≤◌, ℕ, Bool, List, [], ◌∷◌, length, map, take, is_some, Option, option_map}
 use Rattle.std.specs.List.{filter_map}
 use Rattle.durable_machine.specs.Files.{joined}
 use Rattle.device_meaning.specs.Events.{Occurrence, replies_to, state_after}
@@ -7,7 +7,7 @@ use Rattle.device_meaning.specs.Judging.{interval_judge}
 use Rattle.device_meaning.specs.State.{State}
 use Rattle.durable_device.specs.FrameEvents.{frame_event}
 use Rattle.durable_device.specs.Kept.{StandsFor}
-use Rattle.durable_device.specs.Machine.{given_reply}
+use Rattle.durable_device.specs.Machine.{HasReplied, given_reply, next_state}
 use Rattle.durable_device.specs.declared.frame_device.Given.{Given}
 
 -- these are occurrences of the events that frames tell, in order; at which of them memory is refused is left open
@@ -19,7 +19,13 @@ abbrev pub Leads : List (List ℕ) → State → State → Type 0
 Leads frames old new =
     (occurrences : List Occurrence) × AreTold frames occurrences × (new ≡ state_after interval_judge occurrences old)
 
--- and they are what was replied: a reply to each frame that tells an event, in order
+-- a frame led from one state to the other, with this reply
+pub record HasAnswered (frame : List ℕ) (old new : State) (given : Option Given) : Type 0 where
+  pub starved : Bool
+  pub state : new ≡ next_state old starved frame
+  pub replied : HasReplied old starved frame given
+
+-- the events of frames led from one state to the other, and they are what was replied: a reply to each frame that tells an event, in order
 pub record HasServed (frames : List (List ℕ)) (old new : State) (given : List (Option Given)) : Type 0 where
   pub occurrences : List Occurrence
   pub told : AreTold frames occurrences

@@ -1,6 +1,6 @@
 //! A device, and the journal of what happened to it.
 
-ghost use Rattle.std.specs.Prelude.{◌≡◌, ◌<◌, IfOk, IfErr, IsErrOf, OnOk};
+ghost use Rattle.std.specs.Prelude.{◌≡◌, ◌<◌, [], IfOk, IfErr, OnErr, OnOk};
 ghost use Rattle.stored_file.specs.File.{LeavesOnly};
 ghost use Rattle.stored_file.specs.Cause.{HasCause};
 ghost use Rattle.stored_file.specs.declared.stored_file.FileError.TheVariants.{NoRoom, Failed};
@@ -8,10 +8,10 @@ ghost use Rattle.durable_machine.specs.Batches.{batches_of, bytes_of, lists_of};
 ghost use Rattle.durable_machine.specs.Files.{joined};
 ghost use Rattle.device_meaning.specs.Judging.{interval_judge};
 ghost use Rattle.device_meaning.specs.Reached.{IsReached};
-ghost use Rattle.device_meaning.specs.State.{new_state};
-ghost use Rattle.durable_device.specs.Kept.{IsKept, IsKeptInBase, IsOldOrStandsFor, IsRestarted, KeepsRestarted, RefusesFile, StandsFor, StandsForIt};
+ghost use Rattle.device_meaning.specs.State.{State, new_state};
+ghost use Rattle.durable_device.specs.Kept.{IsCommittedBut, IsEither, IsKept, IsKeptInBase, IsOldOrStandsFor, IsRestarted, KeepsRestarted, RefusesFile, StandsFor, StandsForIt};
 ghost use Rattle.durable_device.specs.Machine.{IsDeviceBase};
-ghost use Rattle.durable_device.specs.Serving.{HasServed, HaveServed, IsAfterSome, IsBeforeOrAfter, Leads};
+ghost use Rattle.durable_device.specs.Serving.{HasAnswered, HasServed, HaveServed, IsAfterSome, IsBeforeOrAfter, Leads};
 
 use crate::{FrameDevice, Given};
 use durable_machine::{Durable, Fault};
@@ -30,8 +30,21 @@ pub const MOST_JOURNAL: usize = 1 << 26;
 pub struct DurableDevice<F: StoredFile + Drop> {
     /// The device and its journal.
     pub store: Durable<FrameDevice, F>,
-    /// How many bytes of the file were taken when it was made, or was to be folded last; 0 where it was opened, and hasn't been folded since.
+    /// How many bytes of the file were taken when it was made, was opened, or was to be folded last.
     pub folded: usize,
+    /// What came of the last fold; [`Folding::Done`] where there was none yet.
+    pub last_fold: Folding,
+}
+
+/// What came of folding a journal.
+#[derive(Clone, Copy, Debug, PartialEq, Eq)]
+pub enum Folding {
+    /// The base alone stands for the device.
+    Done,
+    /// There was no room for the new file. The old one is used on.
+    NoRoom,
+    /// Memory was wanting for the new base. The old file is used on.
+    NoMemory,
 }
 
 impl<F: StoredFile + Drop> DurableDevice<F> {
@@ -51,6 +64,7 @@ impl<F: StoredFile + Drop> DurableDevice<F> {
         ensures reached { IfOk result (λ device. IsReached interval_judge device.store.machine) }
         ensures kept { IfOk result (λ device.
             IsKept device.store.machine device.store.journal.gate (F.told device.store.journal.file)) }
+        ensures counted { IfOk result (λ device. device.folded ≡ device.store.journal.gate) }
 
         // A crash at any moment leaves what an earlier program may have left; where all was on the disk, the same device.
         ensures any_moment { IfOk result (λ device. KeepsRestarted (F.told file) (F.told device.store.journal.file)) }
@@ -62,7 +76,12 @@ impl<F: StoredFile + Drop> DurableDevice<F> {
             Ok(store) => {
                 // Brings in that the device is in a state that events leave.
                 let _ = store.machine.image();
-                Ok(DurableDevice { store, folded: 0 })
+                let folded = store.journal.gate;
+                Ok(DurableDevice {
+                    store,
+                    folded,
+                    last_fold: Folding::Done,
+                })
             }
             Err(refusal) => Err(refusal),
         }
@@ -81,6 +100,7 @@ impl<F: StoredFile + Drop> DurableDevice<F> {
         ensures reached { IfOk result (λ device. IsReached interval_judge device.store.machine) }
         ensures kept { IfOk result (λ device.
             IsKept device.store.machine device.store.journal.gate (F.told device.store.journal.file)) }
+        ensures counted { IfOk result (λ device. device.folded ≡ device.store.journal.gate) }
         ensures any_moment { IfOk result (λ device. KeepsRestarted (F.told file) (F.told device.store.journal.file)) }
         ensures any_moment_err { IfErr result (λ refusal. KeepsRestarted (F.told file) (F.told refusal.1)) }
         ensures refused { IfErr result (λ refusal. RefusesFile (F.told file) (F.told refusal.1) refusal.0) }
@@ -89,7 +109,12 @@ impl<F: StoredFile + Drop> DurableDevice<F> {
             Ok(store) => {
                 // Brings in that the device is in a state that events leave.
                 let _ = store.machine.image();
-                Ok(DurableDevice { store, folded: 0 })
+                let folded = store.journal.gate;
+                Ok(DurableDevice {
+                    store,
+                    folded,
+                    last_fold: Folding::Done,
+                })
             }
             Err(refusal) => Err(refusal),
         }
@@ -107,6 +132,7 @@ impl<F: StoredFile + Drop> DurableDevice<F> {
             IsKept device.store.machine device.store.journal.gate (F.told device.store.journal.file)) }
         ensures in_base { IfOk result (λ device.
             IsKeptInBase device.store.machine device.store.journal.gate (F.told device.store.journal.file)) }
+        ensures counted { IfOk result (λ device. device.folded ≡ device.store.journal.gate) }
 
         // A crash at any moment leaves what it might have left before, or a file that stands for the device.
         ensures any_moment { IfOk result (λ device. LeavesOnly (F.told file) (F.told device.store.journal.file)
@@ -122,13 +148,67 @@ impl<F: StoredFile + Drop> DurableDevice<F> {
             Ok(made) => made,
             Err(AllocError) => return Err((FileError::Memory, file)),
         };
-        match Durable::<FrameDevice, F>::create(machine, base, file) {
+        match Durable::<FrameDevice, F>::create(alloc, machine, base, file) {
             Ok(store) => {
                 let folded = store.journal.gate;
-                Ok(DurableDevice { store, folded })
+                Ok(DurableDevice {
+                    store,
+                    folded,
+                    last_fold: Folding::Done,
+                })
             }
             Err(failure) => Err(failure),
         }
+    }
+
+    /// Does the event of a frame at once, and notes it if it may have changed the device. Gives its reply, or `None` for bytes that are
+    /// the frame of no event, which change nothing. The reply may go out once [`DurableDevice::commit`] has answered `Ok`, and not before.
+    ///
+    /// # Errors
+    ///
+    /// No memory. Then the device is as it was, and nothing is noted.
+    pub fn apply(&mut self, alloc: Global, frame: &[u8]) -> Result<Option<Given>, AllocError>
+        requires kept { IsCommittedBut self.old.store.waiting.items self.old.store.machine self.old.store.journal.gate
+            (F.told self.old.store.journal.file) }
+        ensures done { IfOk result (λ given.
+            HasAnswered frame.now self.old.store.machine self.new.store.machine given) }
+        ensures refused { OnErr result (self.new.store.machine ≡ self.old.store.machine) }
+        ensures not_noted { OnErr result (self.new.store.waiting.items ≡ self.old.store.waiting.items) }
+        ensures same { self.new.store.journal ≡ self.old.store.journal }
+        ensures kept { IsCommittedBut self.new.store.waiting.items self.new.store.machine self.new.store.journal.gate
+            (F.told self.new.store.journal.file) }
+        ensures counted { self.new.folded ≡ self.old.folded }
+    {
+        self.store.apply(alloc, frame)
+    }
+
+    /// Brings what was done to the disk: from then on each crash leaves a file that stands for the device as it is. Replies to it may go
+    /// out at `Ok`, and not before. Where nothing may have changed the device since the last commit, the disk isn't waited for.
+    ///
+    /// # Errors
+    ///
+    /// No memory, or the disk's. Then the file has to be opened again, and nothing may go out.
+    pub fn commit(&mut self, alloc: Global) -> Result<(), FileError>
+        requires kept { IsCommittedBut self.old.store.waiting.items self.old.store.machine self.old.store.journal.gate
+            (F.told self.old.store.journal.file) }
+        ensures same { self.new.store.machine ≡ self.old.store.machine }
+        ensures none { OnOk result (self.new.store.waiting.items ≡ []) }
+        ensures committed { OnOk result
+            (IsKept self.new.store.machine self.new.store.journal.gate (F.told self.new.store.journal.file)) }
+        ensures kept { OnOk result (IsCommittedBut self.new.store.waiting.items self.new.store.machine self.new.store.journal.gate
+            (F.told self.new.store.journal.file)) }
+
+        // A crash at any moment of it leaves the device that was committed before, or the one after all that was done since.
+        ensures any_moment { (before : State) → IsKept before self.old.store.journal.gate (F.told self.old.store.journal.file)
+            → LeavesOnly (F.told self.old.store.journal.file) (F.told self.new.store.journal.file)
+            (IsEither before self.old.store.machine) }
+
+        ensures counted { self.new.folded ≡ self.old.folded }
+
+        // It doesn't give up by itself.
+        ensures cause { HasCause (F.told self.old.store.journal.file) (F.told self.new.store.journal.file) result }
+    {
+        self.store.commit(alloc)
     }
 
     /// Does the events of frames, all or none, and gives the reply to each; `None` for bytes that are the frame of no event, which
@@ -155,6 +235,8 @@ impl<F: StoredFile + Drop> DurableDevice<F> {
         // A crash at any moment of the call leaves the device from before it, or that after all the events.
         ensures any_moment { LeavesOnly (F.told self.old.store.journal.file) (F.told self.new.store.journal.file)
             (IsBeforeOrAfter (bytes_of frames.now) self.old.store.machine) }
+
+        ensures counted { self.new.folded ≡ self.old.folded }
 
         // It doesn't give up by itself.
         ensures cause { HasCause (F.told self.old.store.journal.file) (F.told self.new.store.journal.file) result }
@@ -186,38 +268,58 @@ impl<F: StoredFile + Drop> DurableDevice<F> {
         ensures any_moment { LeavesOnly (F.told self.old.store.journal.file) (F.told self.new.store.journal.file)
             (IsAfterSome (batches_of batches.now) self.old.store.machine) }
 
+        ensures counted { self.new.folded ≡ self.old.folded }
+
         ensures cause { HasCause (F.told self.old.store.journal.file) (F.told self.new.store.journal.file) result }
     {
         self.store.serve_all(alloc, batches)
     }
 
     /// Puts a new file in the place of the old one, with a base that tells the device as it is, and an empty journal. A crash at any
-    /// moment leaves a file that stands for the same device. Where the disk has no room for the new file, nothing has changed; at another
-    /// `Err` the file has to be opened again.
+    /// moment leaves a file that stands for the same device. Without room for the new file, or memory for its base, the old file is
+    /// used on. At an `Err` the file has to be opened again.
     ///
     /// # Errors
     ///
-    /// No memory, no room, or the disk's.
-    pub fn fold(&mut self, alloc: Global) -> Result<(), FileError>
+    /// The disk's, or no memory to hand the file over.
+    pub fn fold(&mut self, alloc: Global) -> Result<Folding, FileError>
         requires { IsKept self.old.store.machine self.old.store.journal.gate (F.told self.old.store.journal.file) }
         ensures same { self.new.store.machine ≡ self.old.store.machine }
         ensures counted { OnOk result (self.new.folded ≡ self.new.store.journal.gate) }
         ensures kept { OnOk result
             (IsKept self.new.store.machine self.new.store.journal.gate (F.told self.new.store.journal.file)) }
-        ensures in_base { OnOk result
-            (IsKeptInBase self.new.store.machine self.new.store.journal.gate (F.told self.new.store.journal.file)) }
-        ensures no_room { IsErrOf result NoRoom →
-            IsKept self.new.store.machine self.new.store.journal.gate (F.told self.new.store.journal.file) }
+        ensures told { IfOk result (λ folding. self.new.last_fold ≡ folding) }
+        ensures in_base { IfOk result (λ folding. folding ≡ Folding.Done →
+            IsKeptInBase self.new.store.machine self.new.store.journal.gate (F.told self.new.store.journal.file)) }
         ensures any_moment { LeavesOnly (F.told self.old.store.journal.file) (F.told self.new.store.journal.file)
             (λ c. StandsFor c self.old.store.machine) }
 
         // It doesn't give up by itself.
         ensures cause { HasCause (F.told self.old.store.journal.file) (F.told self.new.store.journal.file) result }
+        ensures no_room { IfOk result (λ folding. folding ≡ Folding.NoRoom →
+            (F.told self.old.store.journal.file).faults < (F.told self.new.store.journal.file).faults) }
     {
-        let base = self.store.machine.base(alloc)?;
-        let done = self.store.fold(base);
+        let Ok(base) = self.store.machine.base(alloc) else {
+            return Ok(self.note_fold(Folding::NoMemory));
+        };
+        match self.store.fold(base) {
+            Ok(()) => Ok(self.note_fold(Folding::Done)),
+            Err(FileError::NoRoom) => Ok(self.note_fold(Folding::NoRoom)),
+            Err(FileError::Memory) => Err(FileError::Memory),
+            Err(FileError::Failed) => Err(FileError::Failed),
+        }
+    }
+
+    /// Notes what came of a fold, and gives it. Growth counts from here on.
+    fn note_fold(&mut self, folding: Folding) -> Folding
+        ensures told { result ≡ folding }
+        ensures noted { self.new.last_fold ≡ folding }
+        ensures counted { self.new.folded ≡ self.new.store.journal.gate }
+        ensures same { self.new.store ≡ self.old.store }
+    {
+        self.last_fold = folding;
         self.folded = self.store.journal.gate;
-        done
+        folding
     }
 
     /// The device.

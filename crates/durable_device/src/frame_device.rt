@@ -1,6 +1,6 @@
 //! The device as a machine whose events are frames.
 
-ghost use Rattle.std.specs.Prelude.{◌≡◌, ◌≤◌, length, take, IfOk};
+ghost use Rattle.std.specs.Prelude.{◌≡◌, ◌≤◌, length, take, IfOk, OnOk};
 ghost use Rattle.nvme_entry.specs.declared.command.TheConstants.{MOST_TRANSFER};
 ghost use Rattle.device_events.specs.Replies.{data_length};
 ghost use Rattle.device_meaning.specs.Judging.{interval_judge};
@@ -21,6 +21,7 @@ use nvme_entry::MOST_TRANSFER;
 use runner::Device;
 use std::alloc::{AllocError, Global};
 use std::marker::Model;
+use std::mem;
 
 /// A reply with its data.
 #[derive(Drop)]
@@ -36,19 +37,16 @@ pub struct Given {
 pub struct FrameDevice {
     /// On the heap, since it is moved from hand to hand while a file is opened.
     device: Box<Device>,
+    /// Made at the first event. A reply whose data couldn't be copied takes it along, and the next event makes it anew.
     output: Vec<u8>,
 }
 
 impl Model for FrameDevice {
-    ghost use Rattle.std.specs.Prelude.{◌≤◌, length};
-    ghost use Rattle.nvme_entry.specs.declared.command.TheConstants.{MOST_TRANSFER};
     ghost use Rattle.device_meaning.specs.State.{State};
 
     ghost Value = { State };
 
     ghost view = { λ d. d.device.value };
-
-    ghost invariant = { λ d. MOST_TRANSFER ≤ length d.output.items };
 }
 
 impl FrameDevice {
@@ -60,10 +58,9 @@ impl FrameDevice {
     pub fn new(alloc: Global, image: Image) -> Result<FrameDevice, AllocError>
         ensures { IfOk result (λ device. device ≡ new_state image) }
     {
-        let output = vec![in alloc; 0; MOST_TRANSFER]?;
         Ok(FrameDevice {
             device: Box::new(alloc, Device::new(alloc, image))?,
-            output,
+            output: Vec::new(alloc),
         })
     }
 
@@ -102,12 +99,23 @@ impl FrameDevice {
     }
 }
 
-/// A base that stands for a device.
+/// A base that stands for a device, in memory that has room for the sectors after it, so that these need no more.
 ///
 /// # Errors
 ///
 /// No memory.
 pub fn base_of(alloc: Global, device: &Device) -> Result<Vec<u8>, AllocError>
+    ensures { IfOk result (λ base. IsDeviceBase base.items device.now) }
+{
+    let mut base = tight_base_of(alloc, device)?;
+    let len = base.len();
+    base.resize(len + 2 * stored_file::SECTOR, 0)?;
+    base.truncate(len);
+    Ok(base)
+}
+
+/// A base that stands for a device.
+fn tight_base_of(alloc: Global, device: &Device) -> Result<Vec<u8>, AllocError>
     ensures { IfOk result (λ base. IsDeviceBase base.items device.now) }
 {
     let kept = device.kept(alloc)?;
@@ -140,7 +148,7 @@ impl Machine for FrameDevice {
         };
         let device = FrameDevice {
             device: Box::new(alloc, device)?,
-            output: vec![in alloc; 0; MOST_TRANSFER]?,
+            output: Vec::new(alloc),
         };
         Ok(Some((device, length)))
     }
@@ -153,8 +161,10 @@ impl Machine for FrameDevice {
                 starved: false,
             });
         };
+        // Room first: what is done can't be taken back.
+        make_room(&mut self.output)?;
         let reply = perform(&mut *self.device, &event, &mut self.output);
-        let data = self.output[..reply.data_length()].to_vec(alloc)?;
+        let data = front_of(alloc, &mut self.output, reply.data_length());
         let changes = may_change(&event, &reply);
         let starved = is_want_of_memory(&reply);
         Ok(Applied {
@@ -162,6 +172,35 @@ impl Machine for FrameDevice {
             changes,
             starved,
         })
+    }
+}
+
+/// Makes a buffer long enough for the data of any reply.
+///
+/// # Errors
+///
+/// No memory.
+fn make_room(output: &mut Vec<u8>) -> Result<(), AllocError>
+    ensures { OnOk result (MOST_TRANSFER ≤ length output.new.items) }
+{
+    if output.len() < MOST_TRANSFER {
+        output.resize(MOST_TRANSFER, 0)?;
+    }
+    Ok(())
+}
+
+/// The first bytes of a buffer. Where memory is wanting for a copy of them, the buffer itself is given away.
+fn front_of(alloc: Global, output: &mut Vec<u8>, size: usize) -> Vec<u8>
+    requires { size ≤ length output.old.items }
+    ensures { result.items ≡ take size output.old.items }
+{
+    match output[..size].to_vec(alloc) {
+        Ok(data) => data,
+        Err(AllocError) => {
+            let mut data = mem::replace(output, Vec::new(alloc));
+            data.truncate(size);
+            data
+        }
     }
 }
 

@@ -11,6 +11,6 @@ mod reading;
 mod sections;
 
 pub use changes::{asks_change, is_refusal};
-pub use durable_device::{DurableDevice, MOST_JOURNAL};
+pub use durable_device::{DurableDevice, Folding, MOST_JOURNAL};
 pub use frame_device::{FrameDevice, Given, base_of};
 pub use reading::device_in;

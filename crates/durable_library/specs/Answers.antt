@@ -5,7 +5,9 @@ use Rattle.handed_file.specs.Handed.{made_calls, waiting}
 use Rattle.handed_file.specs.Handing.{done_call}
 use Rattle.handed_file.specs.declared.handed_file.FileCall.{FileCall}
 use Rattle.handed_file.specs.declared.handed_file.FileCall.TheVariants.{Write, Renew, Shorten, Sync, Replace, Want}
-use Rattle.durable_library.specs.Sessions.{HasFolded, HasNoRoom, HasServed, IsOnTheDisk, file_of, state_of}
+use Rattle.durable_device.specs.declared.durable_device.Folding.{Folding}
+use Rattle.durable_device.specs.declared.durable_device.Folding.TheVariants.{Done, NoRoom, NoMemory}
+use Rattle.durable_library.specs.Sessions.{FoldsTo, HasServed, IsOnTheDisk, file_of, state_of}
 use Rattle.durable_library.specs.declared.kind.Kind.{Kind}
 use Rattle.durable_library.specs.declared.kind.Kind.TheVariants as kind
 use Rattle.durable_library.specs.declared.session.Session.{Session}
@@ -45,18 +47,20 @@ pub record HasDone (bytes : List ℕ) (old new : Session) (answer : ℕ) : Type 
 abbrev pub Serves : List ℕ → Session → Session → ℕ → Type 0
 Serves bytes old new answer = HasDone bytes old new answer ⊎ Fails old new answer
 
--- the journal is folded, once C has made the calls for it
-pub record IsFolded (old new : Session) (answer : ℕ) : Type 0 where
-  pub folded : HasFolded old new
-  pub told_is : answer ≡ 1
+-- what came of a fold, by number
+abbrev pub fold_number : Folding → ℕ
+fold_number Done = 1
+fold_number NoRoom = 2
+fold_number NoMemory = 3
 
--- it isn't, for want of room, once C has made the calls for it
-pub record IsUnfolded (old new : Session) (answer : ℕ) : Type 0 where
-  pub unfolded : HasNoRoom old new
-  pub told_is : answer ≡ 2
+-- this comes of a fold, once C has made the calls for it
+pub record IsFolded (old new : Session) (answer : ℕ) : Type 0 where
+  pub folding : Folding
+  pub folds : FoldsTo old new (Some folding)
+  pub told_is : answer ≡ fold_number folding
 
 abbrev pub Folds : Session → Session → ℕ → Type 0
-Folds old new answer = IsFolded old new answer ⊎ (IsUnfolded old new answer ⊎ Fails old new answer)
+Folds old new answer = IsFolded old new answer ⊎ Fails old new answer
 
 -- C's memory stays
 pub record Keeps (Does : Session → Session → ℕ → Type 0) (old new : Lent) (answer : ℕ) : Type 0 where
@@ -70,7 +74,7 @@ call_kind (Renew «at» bytes) = 1
 call_kind (Shorten len) = 2
 call_kind Sync = 3
 call_kind (Replace bytes) = 4
-call_kind (Want len) = 5
+call_kind (Want bytes) = 5
 
 abbrev pub call_place : FileCall → ℕ
 call_place (Write «at» bytes) = «at»
@@ -78,7 +82,7 @@ call_place (Renew «at» bytes) = «at»
 call_place (Shorten len) = len
 call_place Sync = 0
 call_place (Replace bytes) = 0
-call_place (Want len) = len
+call_place (Want bytes) = 0
 
 abbrev pub call_bytes : FileCall → List ℕ
 call_bytes (Write «at» bytes) = bytes.items
@@ -86,7 +90,7 @@ call_bytes (Renew «at» bytes) = bytes.items
 call_bytes (Shorten len) = []
 call_bytes Sync = []
 call_bytes (Replace bytes) = bytes.items
-call_bytes (Want len) = []
+call_bytes (Want bytes) = bytes.items
 
 -- the call that C is to make next: none where all are done, or the file has to be opened again
 abbrev pub next_of : Bool → List FileCall → Option FileCall
@@ -124,3 +128,4 @@ Answers kind.Done asked old new answer = Keeps TakesDone old new answer
 Answers kind.Failed asked old new answer = Keeps Fails old new answer
 Answers kind.Replies asked old new answer = Replies asked.number old new answer
 Answers kind.Fold asked old new answer = Keeps Folds old new answer
+Answers kind.Folded asked old new answer = Told (fold_number old.session.device.last_fold) old new answer

@@ -15,4 +15,5 @@ kind_of number =
     else if number == 7 then Some kind.Failed
     else if number == 8 then Some kind.Replies
     else if number == 9 then Some kind.Fold
+    else if number == 10 then Some kind.Folded
     else None

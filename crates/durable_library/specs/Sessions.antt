@@ -1,13 +1,13 @@
 -- A durable device that C serves.
-use Rattle.std.specs.Prelude.{ℕ, ◌≡◌, List, [], false, true, Some}
+use Rattle.std.specs.Prelude.{ℕ, ◌≡◌, List, [], false, true, Option, Some, None}
 use Rattle.stored_file.specs.File.{FileState, LeavesOnly}
 use Rattle.handed_file.specs.Handed.{made_calls, noted, told_of}
 use Rattle.handed_file.specs.declared.handed_file.HandedFile.{HandedFile}
 use Rattle.device_meaning.specs.State.{State}
 use Rattle.durable_device.specs.Kept.{IsKept, IsKeptInBase, StandsFor}
 use Rattle.durable_serve.specs.Served.{ServesStream, seen}
-use Rattle.durable_library.specs.declared.session.Folding.{Folding}
-use Rattle.durable_library.specs.declared.session.Folding.TheVariants.{Done, NoRoom, Failed}
+use Rattle.durable_device.specs.declared.durable_device.Folding.{Folding}
+use Rattle.durable_device.specs.declared.durable_device.Folding.TheVariants.{Done, NoRoom, NoMemory}
 use Rattle.durable_library.specs.declared.session.Session.{Session}
 
 -- the device's state
@@ -46,14 +46,15 @@ pub record HasFolded (old new : Session) : Type 0 where
   pub in_base : IsKeptInBase (state_of new) new.device.store.journal.gate (promised new)
   pub moments : LeavesOnly (promised old) (promised new) (λ c. StandsFor c (state_of old))
 
--- it isn't, since the new file would be longer than C has room for: the device is kept as it was
-pub record HasNoRoom (old new : Session) : Type 0 where
+-- it isn't, since the new file would be longer than C has room for, or memory is wanting: the device is kept as it was
+pub record IsUsedOn (old new : Session) : Type 0 where
   pub same : state_of new ≡ state_of old
   pub usable : new.failed ≡ false
   pub moments : LeavesOnly (promised old) (promised new) (λ c. StandsFor c (state_of old))
 
 -- what folding comes to
-abbrev pub FoldsTo : Session → Session → Folding → Type 0
-FoldsTo old new Done = HasFolded old new
-FoldsTo old new NoRoom = HasNoRoom old new
-FoldsTo old new Failed = new.failed ≡ true
+abbrev pub FoldsTo : Session → Session → Option Folding → Type 0
+FoldsTo old new (Some Done) = HasFolded old new
+FoldsTo old new (Some NoRoom) = IsUsedOn old new
+FoldsTo old new (Some NoMemory) = IsUsedOn old new
+FoldsTo old new None = new.failed ≡ true

@@ -1,12 +1,13 @@
 //! What a device does and answers.
 
 ghost use Rattle.std.specs.Prelude.{◌≡◌, ◌≤◌, ◌++◌, length, take, drop, min};
-ghost use Rattle.durable_library.specs.Answers.{Answers, Asked, Folds, Serves, call_kind, call_place, next_bytes, of_next};
+ghost use Rattle.durable_library.specs.Answers.{Answers, Asked, Folds, Serves, call_kind, call_place, fold_number, next_bytes, of_next};
 ghost use Rattle.durable_library.specs.Sessions.{WillBeKept, file_of};
 ghost use Rattle.handed_file.specs.Handed.{waiting};
 
 use crate::kind::Kind;
-use crate::session::{Folding, Session};
+use crate::session::Session;
+use durable_device::Folding;
 use handed_file::FileCall;
 use std::alloc::Global;
 
@@ -41,6 +42,7 @@ pub fn answer(
         }
         Kind::Replies => put(behind(session.replies(), number), out),
         Kind::Fold => fold(session, alloc, count),
+        Kind::Folded => number_of(session.device.last_fold),
     }
 }
 
@@ -57,7 +59,7 @@ fn serve(session: &mut Session, alloc: Global, frames: &[u8]) -> usize
 }
 
 /// Folds the journal into a new file of at most so many bytes: 1 where it is done, once C has made the calls for it, 2 where it would be
-/// longer.
+/// longer, 3 where memory is wanting for it.
 fn fold(session: &mut Session, alloc: Global, room: usize) -> usize
     requires { WillBeKept session.old }
     ensures folded { Folds session.old session.new result }
@@ -67,9 +69,19 @@ fn fold(session: &mut Session, alloc: Global, room: usize) -> usize
         return 0;
     }
     match session.fold(alloc, room) {
-        Folding::Failed => 0,
+        Some(folding) => number_of(folding),
+        None => 0,
+    }
+}
+
+/// What came of a fold, by number.
+fn number_of(folding: Folding) -> usize
+    ensures { result ≡ fold_number folding }
+{
+    match folding {
         Folding::Done => 1,
         Folding::NoRoom => 2,
+        Folding::NoMemory => 3,
     }
 }
 
@@ -87,18 +99,18 @@ fn kind_of_next(session: &Session) -> usize
     }
 }
 
-/// At which offset, to which length, or how many bytes a new file would have.
+/// At which offset, or to which length.
 fn place_of_next(session: &Session) -> usize
     ensures { result ≡ of_next call_place session.now.failed (waiting (file_of session.now)) }
 {
     match session.next() {
         Some(FileCall::Write { at, .. } | FileCall::Renew { at, .. }) => *at,
-        Some(FileCall::Shorten { len } | FileCall::Want { len }) => *len,
-        Some(FileCall::Sync | FileCall::Replace { .. }) | None => 0,
+        Some(FileCall::Shorten { len }) => *len,
+        Some(FileCall::Sync | FileCall::Replace { .. } | FileCall::Want { .. }) | None => 0,
     }
 }
 
-/// The bytes that are written by it.
+/// The bytes that are written by it, or are those of the new file that wants room.
 fn bytes_of_next(session: &Session) -> &[u8]
     ensures { result.now ≡ next_bytes session.now.failed (waiting (file_of session.now)) }
 {
@@ -106,9 +118,10 @@ fn bytes_of_next(session: &Session) -> &[u8]
         Some(
             FileCall::Write { bytes, .. }
             | FileCall::Renew { bytes, .. }
-            | FileCall::Replace { bytes },
+            | FileCall::Replace { bytes }
+            | FileCall::Want { bytes },
         ) => bytes.as_slice(),
-        Some(FileCall::Shorten { .. } | FileCall::Sync | FileCall::Want { .. }) | None => &[],
+        Some(FileCall::Shorten { .. } | FileCall::Sync) | None => &[],
     }
 }
 

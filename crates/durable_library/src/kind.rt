@@ -13,7 +13,7 @@ pub enum Kind {
     Serve,
     /// Which call for the file C is to make next.
     Next,
-    /// At which offset, to which length, or how many bytes a new file would have.
+    /// At which offset, or to which length.
     Place,
     /// Of how many bytes.
     Size,
@@ -27,6 +27,8 @@ pub enum Kind {
     Replies,
     /// To fold the journal into a new file of at most so many bytes.
     Fold,
+    /// What came of the last fold.
+    Folded,
 }
 
 impl Kind {
@@ -44,6 +46,7 @@ impl Kind {
             7 => Some(Kind::Failed),
             8 => Some(Kind::Replies),
             9 => Some(Kind::Fold),
+            10 => Some(Kind::Folded),
             _ => None,
         }
     }

@@ -14,4 +14,4 @@ pub use exports::{
 };
 pub use handle::Handle;
 pub use kind::{Kind, OPENED};
-pub use session::{Folding, Session};
+pub use session::Session;

@@ -4,11 +4,10 @@ ghost use Rattle.std.specs.Prelude.{◌≡◌, ◌⊎◌, false, true, [], None,
 ghost use Rattle.handed_file.specs.Handed.{noted, told_of, waiting};
 ghost use Rattle.durable_device.specs.Kept.{IsKept};
 
-use durable_device::DurableDevice;
+use durable_device::{DurableDevice, Folding};
 use durable_serve::serve;
 use handed_file::{FileCall, HandedFile};
 use std::alloc::Global;
-use stored_file::FileError;
 
 /// A device, and its journal in a file for which C makes the calls.
 #[derive(Drop)]
@@ -100,8 +99,9 @@ impl Session {
         self.failed = true;
     }
 
-    /// Folds the journal into a new file of at most so many bytes, for which C has room.
-    pub fn fold(&mut self, alloc: Global, room: usize) -> Folding
+    /// Folds the journal into a new file of at most so many bytes, for which C has room, and gives what came of that; `None` where the
+    /// file has to be opened again.
+    pub fn fold(&mut self, alloc: Global, room: usize) -> Option<Folding>
         requires usable { self.old.failed ≡ false }
         requires kept { WillBeKept self.old }
         ensures folds { FoldsTo self.old self.new result }
@@ -109,23 +109,11 @@ impl Session {
     {
         self.device.store.journal.file.grant(room);
         match self.device.fold(alloc) {
-            Ok(()) => Folding::Done,
-            Err(FileError::NoRoom) => Folding::NoRoom,
-            Err(FileError::Memory | FileError::Failed) => {
+            Ok(folding) => Some(folding),
+            Err(_) => {
                 self.failed = true;
-                Folding::Failed
+                None
             }
         }
     }
-}
-
-/// What came of folding a journal.
-#[derive(Clone, Copy)]
-pub enum Folding {
-    /// It is folded, once C has made the calls.
-    Done,
-    /// The new file would be longer than C has room for: it is handed how long that is, and the journal is used on.
-    NoRoom,
-    /// The file has to be opened again.
-    Failed,
 }

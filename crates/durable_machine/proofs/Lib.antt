@@ -6,3 +6,4 @@ pub mod Refusing
 pub mod Replaying
 pub mod Restarting
 pub mod Running
+pub mod Waiting

@@ -7,3 +7,4 @@ pub mod Refused
 pub mod Replay
 pub mod Restart
 pub mod Runs
+pub mod Waiting

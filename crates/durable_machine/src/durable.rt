@@ -1,14 +1,13 @@
 //! A machine and its journal.
 
-ghost use Rattle.std.specs.Prelude.{◌≡◌, ◌⊎◌, ◌<◌, ◌≤◌, ◌^◌, ◌+◌, ◌++◌, [], ◌∷◌, length, take, drop, true, if◌then◌else◌, IfOk, IfErr, IsErrOf, OnOk};
+ghost use Rattle.std.specs.Prelude.{◌≡◌, ◌↔◌, ◌⊎◌, ◌<◌, ◌≤◌, ◌+◌, [], length, take, drop, IfOk, IfErr, IsErrOf, IsTrue, OnErr, OnOk};
 ghost use Rattle.stored_file.specs.File.{LeavesOnly};
 ghost use Rattle.stored_file.specs.Cause.{HasCause};
 ghost use Rattle.stored_file.specs.declared.stored_file.FileError.TheVariants.{NoRoom, Failed};
-ghost use Rattle.event_journal.specs.Events.{spelled};
-ghost use Rattle.durable_machine.specs.Runs.{HasRun};
 ghost use Rattle.durable_machine.specs.Files.{IsState, IsItsState, IsDurable, IsInBase, IsOldOrStands, joined};
 ghost use Rattle.durable_machine.specs.Restart.{IsRestarted, KeepsRestarted};
 ghost use Rattle.durable_machine.specs.Refused.{Refuses};
+ghost use Rattle.durable_machine.specs.Waiting.{HasAnswered, IsCommittedBut, IsEither};
 ghost use Rattle.durable_machine.specs.Batches.{
   IsBeforeOrAfter,
   IsAfterSome,
@@ -21,19 +20,23 @@ ghost use Rattle.durable_machine.specs.Batches.{
 };
 
 use crate::base::put_base;
+use crate::committing::commit;
 use crate::replay::replay;
 use crate::{Fault, Machine};
 use event_journal::{Journal, add_event, repair};
 use std::alloc::{AllocError, Global};
 use stored_file::{FileError, SECTOR, StoredFile, read_whole};
 
-/// A machine, and the journal of its events.
+/// A machine, and the journal of its events. It has two verbs: [`Durable::apply`] does an event, and [`Durable::commit`] brings what was
+/// done to the disk.
 #[derive(Drop)]
 pub struct Durable<M: Drop, F: StoredFile + Drop> {
     /// The machine.
     pub machine: M,
-    /// The journal, behind the base from which the machine was led to its state.
+    /// The journal, which has what was committed: it is after the base from which the machine was led to its state.
     pub journal: Journal<F>,
+    /// The events that may have changed the machine since the last commit, as the journal spells them.
+    pub waiting: Vec<u8>,
 }
 
 impl<M: Machine + Drop, F: StoredFile + Drop> Durable<M, F> {
@@ -52,6 +55,7 @@ impl<M: Machine + Drop, F: StoredFile + Drop> Durable<M, F> {
         ensures state { IfOk result (λ store. IsItsState M.loads M.next (F.told file).seen store.machine) }
         ensures durable { IfOk result (λ store.
             IsDurable M.loads M.next store.machine store.journal.gate (F.told store.journal.file)) }
+        ensures none { IfOk result (λ store. store.waiting.items ≡ []) }
 
         // A crash at any moment leaves what an earlier program may have left; where all was on the disk, the same state.
         ensures any_moment { IfOk result (λ store. KeepsRestarted M.loads M.next (F.told file) (F.told store.journal.file)) }
@@ -77,6 +81,7 @@ impl<M: Machine + Drop, F: StoredFile + Drop> Durable<M, F> {
         ensures state { IfOk result (λ store. IsItsState M.loads M.next (F.told file).seen store.machine) }
         ensures durable { IfOk result (λ store.
             IsDurable M.loads M.next store.machine store.journal.gate (F.told store.journal.file)) }
+        ensures none { IfOk result (λ store. store.waiting.items ≡ []) }
         ensures any_moment { IfOk result (λ store. KeepsRestarted M.loads M.next (F.told file) (F.told store.journal.file)) }
         ensures any_moment_err { IfErr result (λ refusal. KeepsRestarted M.loads M.next (F.told file) (F.told refusal.1)) }
         ensures refused { IfErr result (λ refusal. Refuses M.loads M.next (F.told file) (F.told refusal.1) refusal.0) }
@@ -85,13 +90,89 @@ impl<M: Machine + Drop, F: StoredFile + Drop> Durable<M, F> {
             Ok((machine, gate)) => Ok(Durable {
                 machine,
                 journal: Journal { file, gate },
+                waiting: Vec::new(alloc),
             }),
             Err(fault) => Err((fault, file)),
         }
     }
 
-    /// Does events, all or none. At `Ok` they are acknowledged: from then on each crash leaves a file that stands for
-    /// the state behind them. At `Err`, the file has to be opened again.
+    /// Does an event at once, and notes it if it may have changed the machine. Its reply may go out once [`Durable::commit`] has answered
+    /// `Ok`, and not before.
+    ///
+    /// # Errors
+    ///
+    /// No memory. Then the machine is as it was, and nothing is noted.
+    pub fn apply(&mut self, alloc: Global, event: &[u8]) -> Result<M::Reply, AllocError>
+        requires kept { IsCommittedBut M.loads M.next self.old.waiting.items self.old.machine self.old.journal.gate
+            (F.told self.old.journal.file) }
+        ensures done { IfOk result (λ reply.
+            HasAnswered M.next M.replies event.now self.old.machine self.new.machine reply) }
+        ensures refused { OnErr result (self.new.machine ≡ self.old.machine) }
+        ensures not_noted { OnErr result (self.new.waiting.items ≡ self.old.waiting.items) }
+        ensures same { self.new.journal ≡ self.old.journal }
+        ensures kept { IsCommittedBut M.loads M.next self.new.waiting.items self.new.machine self.new.journal.gate
+            (F.told self.new.journal.file) }
+    {
+        // It is noted first, so that nothing can fail between the deed and its note.
+        let before = self.waiting.len();
+        add_event(&mut self.waiting, event)?;
+        let result = self.machine.apply(alloc, event);
+        match result {
+            Ok(done) => {
+                if done.changes {
+                    return Ok(done.reply);
+                }
+                self.waiting.truncate(before);
+                Ok(done.reply)
+            }
+            Err(error) => {
+                self.waiting.truncate(before);
+                Err(error)
+            }
+        }
+    }
+
+    /// Brings what was done to the disk: from then on each crash leaves a file that stands for the machine as it is. Replies to it may
+    /// go out at `Ok`, and not before. Where nothing may have changed the machine since the last commit, the disk isn't waited for.
+    ///
+    /// # Errors
+    ///
+    /// No memory, or the disk's. Then the file has to be opened again, and nothing may go out.
+    pub fn commit(&mut self, alloc: Global) -> Result<(), FileError>
+        requires kept { IsCommittedBut M.loads M.next self.old.waiting.items self.old.machine self.old.journal.gate
+            (F.told self.old.journal.file) }
+        ensures same { self.new.machine ≡ self.old.machine }
+        ensures none { OnOk result (self.new.waiting.items ≡ []) }
+        ensures committed { OnOk result
+            (IsDurable M.loads M.next self.new.machine self.new.journal.gate (F.told self.new.journal.file)) }
+        ensures kept { OnOk result (IsCommittedBut M.loads M.next self.new.waiting.items self.new.machine self.new.journal.gate
+            (F.told self.new.journal.file)) }
+
+        // A crash at any moment of it leaves the machine that was committed before, or the one after all that was done since.
+        ensures any_moment { (before : M) → IsDurable M.loads M.next before self.old.journal.gate (F.told self.old.journal.file)
+            → LeavesOnly (F.told self.old.journal.file) (F.told self.new.journal.file)
+            (IsEither M.loads M.next before self.old.machine) }
+
+        // It doesn't give up by itself.
+        ensures cause { HasCause (F.told self.old.journal.file) (F.told self.new.journal.file) result }
+    {
+        commit::<M, F>(alloc, &mut self.journal, &mut self.waiting)?;
+        Ok(())
+    }
+
+    /// Is all on the disk that was done?
+    pub fn is_committed(&self) -> bool
+        requires { IsCommittedBut M.loads M.next self.now.waiting.items self.now.machine self.now.journal.gate
+            (F.told self.now.journal.file) }
+        ensures none { IsTrue result ↔ self.now.waiting.items ≡ [] }
+        ensures committed { IsTrue result
+            → IsDurable M.loads M.next self.now.machine self.now.journal.gate (F.told self.now.journal.file) }
+    {
+        self.waiting.is_empty()
+    }
+
+    /// Does events, all or none: each at once, and then they are committed together. At `Ok` they are acknowledged: from then on each
+    /// crash leaves a file that stands for the state after them. At `Err`, the file has to be opened again.
     ///
     /// # Errors
     ///
@@ -101,6 +182,8 @@ impl<M: Machine + Drop, F: StoredFile + Drop> Durable<M, F> {
 
         ensures replies { IfOk result (λ replies.
             HasServed M.next M.replies (bytes_of events.now) self.old.machine self.new.machine replies.items) }
+
+        ensures none { OnOk result (self.new.waiting.items ≡ []) }
 
         ensures acknowledged { OnOk result
             (IsDurable M.loads M.next self.new.machine self.new.journal.gate (F.told self.new.journal.file)) }
@@ -112,11 +195,27 @@ impl<M: Machine + Drop, F: StoredFile + Drop> Durable<M, F> {
         // It doesn't give up by itself.
         ensures cause { HasCause (F.told self.old.journal.file) (F.told self.new.journal.file) result }
     {
-        let (replies, changes) = apply_all(alloc, &mut self.machine, events)?;
-        if changes.is_empty() {
-            return Ok(replies);
+        // The machine is on the disk as it is, so a note that is left from before isn't needed.
+        self.waiting.clear();
+        let replies = self.apply_all(alloc, events)?;
+        self.commit(alloc)?;
+        Ok(replies)
+    }
+
+    /// Does events, each at once.
+    fn apply_all(&mut self, alloc: Global, events: &[Vec<u8>]) -> Result<Vec<M::Reply>, AllocError>
+        requires kept { IsCommittedBut M.loads M.next self.old.waiting.items self.old.machine self.old.journal.gate
+            (F.told self.old.journal.file) }
+        ensures served { IfOk result (λ replies.
+            HasServed M.next M.replies (bytes_of events.now) self.old.machine self.new.machine replies.items) }
+        ensures same { self.new.journal ≡ self.old.journal }
+        ensures kept { OnOk result (IsCommittedBut M.loads M.next self.new.waiting.items self.new.machine self.new.journal.gate
+            (F.told self.new.journal.file)) }
+    {
+        let mut replies = Vec::new(alloc);
+        for event in events {
+            replies.push(self.apply(alloc, event)?)?;
         }
-        self.journal.append(changes)?;
         Ok(replies)
     }
 
@@ -159,12 +258,18 @@ impl<M: Machine + Drop, F: StoredFile + Drop> Durable<M, F> {
     /// # Errors
     ///
     /// No memory, no room, or the disk's.
-    pub fn create(machine: M, base: Vec<u8>, mut file: F) -> Result<Durable<M, F>, (FileError, F)>
+    pub fn create(
+        alloc: Global,
+        machine: M,
+        base: Vec<u8>,
+        mut file: F,
+    ) -> Result<Durable<M, F>, (FileError, F)>
         requires stands { M.loads base.items machine }
 
         ensures same { IfOk result (λ store. store.machine ≡ machine) }
         ensures durable { IfOk result (λ store.
             IsDurable M.loads M.next store.machine store.journal.gate (F.told store.journal.file)) }
+        ensures none { IfOk result (λ store. store.waiting.items ≡ []) }
         ensures in_base { IfOk result (λ store.
             IsInBase M.loads M.next store.machine store.journal.gate (F.told store.journal.file)) }
 
@@ -182,6 +287,7 @@ impl<M: Machine + Drop, F: StoredFile + Drop> Durable<M, F> {
             Ok(gate) => Ok(Durable {
                 machine,
                 journal: Journal { file, gate },
+                waiting: Vec::new(alloc),
             }),
             Err(error) => Err((error, file)),
         }
@@ -198,6 +304,7 @@ impl<M: Machine + Drop, F: StoredFile + Drop> Durable<M, F> {
         requires stands { M.loads base.items self.old.machine }
         requires durable { IsDurable M.loads M.next self.old.machine self.old.journal.gate (F.told self.old.journal.file) }
         ensures same { self.new.machine ≡ self.old.machine }
+        ensures waiting { self.new.waiting ≡ self.old.waiting }
         ensures acknowledged { OnOk result
             (IsDurable M.loads M.next self.new.machine self.new.journal.gate (F.told self.new.journal.file)) }
         ensures in_base { OnOk result
@@ -244,36 +351,4 @@ fn gate_in(bytes: &[u8], last: usize, end: usize) -> &[u8]
         return &[];
     }
     &bytes[last..last + SECTOR]
-}
-
-/// Does events. Gives the replies, and the events that may have changed the machine, as they are spelled.
-fn apply_all<M: Machine>(
-    alloc: Global,
-    machine: &mut M,
-    events: &[Vec<u8>],
-) -> Result<(Vec<M::Reply>, Vec<u8>), AllocError>
-    ensures { IfOk result (λ run.
-        HasRun M.next M.replies (bytes_of events.now) machine.old machine.new run.0.items run.1.items) }
-{
-    let mut replies = Vec::new(alloc);
-    let mut changes = Vec::new(alloc);
-    for event in events {
-        let done = machine.apply(alloc, event)?;
-        note(&mut changes, done.changes, event)?;
-        replies.push(done.reply)?;
-    }
-    Ok((replies, changes))
-}
-
-/// Puts an event behind the others, if it may have changed the machine.
-fn note(changes: &mut Vec<u8>, does: bool, event: &[u8]) -> Result<(), AllocError>
-    ensures noted { OnOk result (changes.new.items
-        ≡ (if does then changes.old.items ++ spelled (event.now ∷ []) else changes.old.items)) }
-    ensures sized { OnOk result (does ≡ true → length event.now < 2 ^ 64) }
-{
-    if does {
-        add_event(changes, event)
-    } else {
-        Ok(())
-    }
 }

@@ -7,6 +7,7 @@
 #![tactic(auto)]
 
 mod base;
+mod committing;
 mod durable;
 mod fault;
 pub mod laws;
@@ -16,6 +17,7 @@ mod replay;
 mod sectors;
 
 pub use base::put_base;
+pub use committing::commit;
 pub use durable::Durable;
 pub use fault::Fault;
 pub use machine::{Applied, Machine, Saves};

@@ -1,6 +1,6 @@
 //! The machine.
 
-ghost use Rattle.std.specs.Prelude.{◌≡◌, ℕ, Bool, List, ◌++◌, IfOk, MatchOption};
+ghost use Rattle.std.specs.Prelude.{◌≡◌, ℕ, Bool, List, ◌++◌, IfOk, OnErr, MatchOption};
 ghost use Rattle.durable_machine.specs.Applied.{HasApplied};
 ghost use Rattle.durable_machine.specs.Bases.{BeginsNoBase, BeginsBase, HasNoBase};
 
@@ -44,13 +44,14 @@ pub trait Machine {
         ensures { IfOk result (λ found. MatchOption found (BeginsNoBase loads file.now)
             (λ base. BeginsBase loads base.0 base.1 file.now)) };
 
-    /// Does one event.
+    /// Does one event, or leaves the machine as it was.
     ///
     /// # Errors
     ///
-    /// No memory for the reply.
+    /// No memory for the reply. Then the machine is as it was.
     fn apply(&mut self, alloc: Global, event: &[u8]) -> Result<Applied<Self::Reply>, AllocError>
-        ensures { IfOk result (λ done. HasApplied next replies event.now self.old done self.new) };
+        ensures refused { OnErr result (self.new ≡ self.old) }
+        ensures done { IfOk result (λ done. HasApplied next replies event.now self.old done self.new) };
 
     /// A file begins with one base, which stands for one machine.
     ghost one_base: { (a b x y : List ℕ) (s t : Self) → loads a s → loads b t → a ++ x ≡ b ++ y → (a ≡ b) × (s ≡ t) };

@@ -1,6 +1,6 @@
 //! Sessions that are cut off at each moment.
 
-ghost use Rattle.std.specs.Prelude.{IfOk};
+ghost use Rattle.std.specs.Prelude.{◌≡◌, [], IfOk};
 ghost use Rattle.stored_file.specs.Tearing.{told_of};
 ghost use Rattle.durable_machine_tests.specs.Number.{IsBaseOf, IsKept};
 
@@ -54,11 +54,12 @@ fn base_of(alloc: Global, number: Number) -> Result<Vec<u8>, FileError>
 
 /// A new store of the number 0, in the place of a file of no bytes.
 fn created(alloc: Global) -> Result<Durable<Number, TearingFile>, FileError>
-    ensures { IfOk result (λ store. IsKept store.machine store.journal.gate (told_of store.journal.file)) }
+    ensures kept { IfOk result (λ store. IsKept store.machine store.journal.gate (told_of store.journal.file)) }
+    ensures none { IfOk result (λ store. store.waiting.items ≡ []) }
 {
     let number = Number { value: 0 };
     let base = base_of(alloc, number)?;
-    match Durable::create(number, base, TearingFile::new(alloc, &[])?) {
+    match Durable::create(alloc, number, base, TearingFile::new(alloc, &[])?) {
         Ok(store) => Ok(store),
         Err((error, _file)) => Err(error),
     }
@@ -122,6 +123,31 @@ fn each_batch_is_cut_off_at_each_moment(rt: HostRuntime) -> Result<(), Fail> {
         assert!(rt; each_comes_back(alloc, &store.journal.file, from, (before, store.machine))?);
         bytes = store.journal.file.bytes().to_vec(alloc)?;
     }
+    Ok(())
+}
+
+#[test]
+fn what_was_done_waits_for_the_commit(rt: HostRuntime) -> Result<(), Fail> {
+    let alloc = rt.alloc();
+    let mut store = created(alloc)?;
+    let from = store.journal.file.moment();
+    let before = store.machine;
+    store.apply(alloc, &[5])?;
+    store.apply(alloc, &[1, 2])?;
+    store.apply(alloc, &[9])?;
+    let after = store.machine;
+    assert!(rt; after == before.after(&[5]).after(&[9]));
+    assert!(rt; !store.is_committed());
+    assert_eq!(rt; store.journal.file.moment(), from);
+    assert!(rt; each_comes_back(alloc, &store.journal.file, from, (before, before))?);
+    store.commit(alloc)?;
+    assert!(rt; store.is_committed());
+    assert!(rt; store.machine == after);
+    assert!(rt; each_comes_back(alloc, &store.journal.file, from, (before, after))?);
+    let committed = store.journal.file.moment();
+    store.apply(alloc, &[1, 2])?;
+    store.commit(alloc)?;
+    assert_eq!(rt; store.journal.file.moment(), committed);
     Ok(())
 }
 

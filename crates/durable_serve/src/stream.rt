@@ -92,7 +92,6 @@ fn serve_pieces<R: Read, W: Write, F: StoredFile + Drop>(
         (seen device.old.store.machine (W.contents out.old)) (seen device.new.store.machine (W.contents out.new))
         (F.told device.old.store.journal.file) (F.told device.new.store.journal.file)) }
 {
-    let mut folded = device.folded;
     for _ in 0..u64::MAX {
         let count = read(reader, buffer)?;
         if count == 0 {
@@ -100,7 +99,7 @@ fn serve_pieces<R: Read, W: Write, F: StoredFile + Drop>(
             return Ok(());
         }
         serve_piece(alloc, device, session, &buffer[..count], answer, out)?;
-        folded = fold_when_due(alloc, device, folded)?;
+        fold_when_due(alloc, device)?;
     }
     Err(ServeFault::Read)
 }

@@ -12,6 +12,6 @@ mod session;
 pub use fault::{Field, StreamFault};
 pub use header::HEADER_BYTES;
 pub use laws::{frames_read_back, streams_split_in_one_way};
-pub use replies::{Frames, push_drained, push_reply, push_saved};
+pub use replies::{FrameRoom, Frames, push_drained, push_reply, push_saved};
 pub use request::{Request, push_request};
 pub use session::{Session, Taken};

@@ -1,6 +1,6 @@
 //! What answers requests, as frames.
 
-ghost use Rattle.std.specs.Prelude.{◌≡◌, ◌+◌, ◌<◌, ◌^◌, ◌++◌, length, IfOk, OnOk};
+ghost use Rattle.std.specs.Prelude.{◌≡◌, ◌≤◌, ◌+◌, ◌<◌, ◌^◌, ◌++◌, length, vec_capacity, IfOk, OnOk};
 ghost use Rattle.std.proofs.Common.{◌∙◌, refl};
 ghost use Rattle.std.specs.Io.KnownBytes.{Appends};
 ghost use Rattle.common_definitions.specs.Failures.{CountsFailure};
@@ -18,6 +18,26 @@ use std::io::Write;
 /// The most bytes of a reply's frame: a header, a completion and data.
 const MOST_BYTES: usize = HEADER_BYTES + 16 + MOST_TRANSFER;
 
+/// Room for the longest frame.
+#[derive(Drop)]
+pub struct FrameRoom {
+    frame: Vec<u8>,
+}
+
+impl FrameRoom {
+    /// Room for the longest frame.
+    ///
+    /// # Errors
+    ///
+    /// No memory for that frame.
+    pub fn new(alloc: Global) -> Result<FrameRoom, AllocError>
+        ensures { IfOk result (λ room. MOST_BYTES ≤ vec_capacity room.frame) }
+    {
+        let frame = Vec::with_capacity(alloc, MOST_BYTES)?;
+        Ok(FrameRoom { frame })
+    }
+}
+
 /// Writes the frame of each reply, in one write.
 #[derive(Drop)]
 pub struct Frames<'a, W> {
@@ -27,21 +47,17 @@ pub struct Frames<'a, W> {
 }
 
 impl<'a, W: Write> Frames<'a, W> {
-    /// A writer of frames, with room for the longest one.
-    ///
-    /// # Errors
-    ///
-    /// No memory for that frame.
-    pub fn new(alloc: Global, out: &'a mut W) -> Result<Frames<'a, W>, AllocError>
-        ensures same_writer { IfOk result (λ frames. (frames.out.ghost_name ≡ out.entry.ghost_name) × (frames.out.now ≡ out.old)) }
-        ensures none_refused { IfOk result (λ frames. ⟦<Frames<'a, W> as Out>⟧.refusals frames ≡ 0) }
+    /// A writer of frames, which makes each frame in this room. Nothing is written yet.
+    pub fn over(room: FrameRoom, out: &'a mut W) -> Frames<'a, W>
+        ensures same_writer { (result.out.ghost_name ≡ out.entry.ghost_name) × (result.out.now ≡ out.old) }
+        ensures none_refused { ⟦<Frames<'a, W> as Out>⟧.refusals result ≡ 0 }
     {
-        let frame = Vec::with_capacity(alloc, MOST_BYTES)?;
-        Ok(Frames {
+        let FrameRoom { frame } = room;
+        Frames {
             out,
             frame,
             refusals: 0,
-        })
+        }
     }
 
     /// What it wrote to.

@@ -1,6 +1,6 @@
 //! The journal.
 
-ghost use Rattle.std.specs.Prelude.{◌≡◌, ◌⊎◌, ◌<◌, ◌≤◌, ◌^◌, ◌+◌, ◌++◌, [], ◌∷◌, List, ℕ, length, take, drop, OnOk, IsErrOf};
+ghost use Rattle.std.specs.Prelude.{◌≡◌, ◌⊎◌, ◌<◌, ◌≤◌, ◌^◌, ◌+◌, ◌++◌, [], ◌∷◌, List, ℕ, length, take, drop, OnOk, OnErr, IsErrOf};
 ghost use Rattle.stored_file.specs.File.{IsWhole, LeavesNow, LeavesOnly};
 ghost use Rattle.stored_file.specs.Cause.{HasCause};
 ghost use Rattle.event_journal.specs.Events.{spelled, AreSpelled, AreSized};
@@ -20,13 +20,32 @@ pub struct Journal<F: StoredFile> {
     pub gate: usize,
 }
 
-/// Puts an event behind those of a batch.
+/// Puts an event after those of a batch, whole or not at all.
+///
+/// # Errors
+///
+/// No memory. Then the batch is as it was.
+pub fn add_event(events: &mut Vec<u8>, event: &[u8]) -> Result<(), AllocError>
+    ensures added { OnOk result (events.new.items ≡ events.old.items ++ spelled (event.now ∷ [])) }
+    ensures refused { OnErr result (events.new.items ≡ events.old.items) }
+    ensures sized { length event.now < 2 ^ 64 }
+{
+    let before = events.len();
+    let result = put_event(events, event);
+    if result.is_err() {
+        events.truncate(before);
+    }
+    result
+}
+
+/// Puts an event after those of a batch, or its first bytes.
 ///
 /// # Errors
 ///
 /// No memory.
-pub fn add_event(events: &mut Vec<u8>, event: &[u8]) -> Result<(), AllocError>
+fn put_event(events: &mut Vec<u8>, event: &[u8]) -> Result<(), AllocError>
     ensures added { OnOk result (events.new.items ≡ events.old.items ++ spelled (event.now ∷ [])) }
+    ensures begins { take (length events.old.items) events.new.items ≡ events.old.items }
     ensures sized { length event.now < 2 ^ 64 }
 {
     events.push(1)?;

@@ -1,6 +1,6 @@
 //! Replies as lines of text.
 
-ghost use Rattle.std.specs.Prelude.{◌≡◌, ◌≤◌, ◌<◌, ◌+◌, ◌^◌, ◌++◌, length, IfOk, OnOk};
+ghost use Rattle.std.specs.Prelude.{◌≡◌, ◌≤◌, ◌<◌, ◌+◌, ◌^◌, ◌++◌, length, vec_capacity, IfOk, OnOk};
 ghost use Rattle.std.proofs.Common.{◌∙◌, refl};
 ghost use Rattle.std.specs.Io.KnownBytes.{Appends, Keeps};
 ghost use Rattle.hex.specs.Hex.{encode_lower};
@@ -20,6 +20,26 @@ const LINE_BYTES: usize = 10 + 32 + 1 + 2 * MOST_TRANSFER + 1;
 /// How many bytes are spelled at a time.
 const CHUNK: usize = 128;
 
+/// Room for the longest line.
+#[derive(Drop)]
+pub struct LineRoom {
+    line: Vec<u8>,
+}
+
+impl LineRoom {
+    /// Room for the longest line.
+    ///
+    /// # Errors
+    ///
+    /// No memory for that line.
+    pub fn new(alloc: Global) -> Result<LineRoom, AllocError>
+        ensures { IfOk result (λ room. LINE_BYTES ≤ vec_capacity room.line) }
+    {
+        let line = Vec::with_capacity(alloc, LINE_BYTES)?;
+        Ok(LineRoom { line })
+    }
+}
+
 /// Prints each reply on a line of its own, in one write.
 #[derive(Drop)]
 pub struct Lines<'a, W> {
@@ -29,21 +49,17 @@ pub struct Lines<'a, W> {
 }
 
 impl<'a, W: Write> Lines<'a, W> {
-    /// A printer of replies, with room for the longest line.
-    ///
-    /// # Errors
-    ///
-    /// No memory for that line.
-    pub fn new(alloc: Global, out: &'a mut W) -> Result<Lines<'a, W>, AllocError>
-        ensures same_writer { IfOk result (λ lines. (lines.out.ghost_name ≡ out.entry.ghost_name) × (lines.out.now ≡ out.old)) }
-        ensures none_refused { IfOk result (λ lines. ⟦<Lines<'a, W> as Out>⟧.refusals lines ≡ 0) }
+    /// A printer of replies, which makes each line in this room. Nothing is printed yet.
+    pub fn over(room: LineRoom, out: &'a mut W) -> Lines<'a, W>
+        ensures same_writer { (result.out.ghost_name ≡ out.entry.ghost_name) × (result.out.now ≡ out.old) }
+        ensures none_refused { ⟦<Lines<'a, W> as Out>⟧.refusals result ≡ 0 }
     {
-        let line = Vec::with_capacity(alloc, LINE_BYTES)?;
-        Ok(Lines {
+        let LineRoom { line } = room;
+        Lines {
             out,
             line,
             refusals: 0,
-        })
+        }
     }
 
     /// Hands on at once what it printed.

@@ -17,7 +17,7 @@ handed_done (Renew «at» bytes) notes = refl
 handed_done (Shorten len) notes = refl
 handed_done Sync notes = refl
 handed_done (Replace bytes) notes = refl
-handed_done (Want len) notes = refl
+handed_done (Want bytes) notes = refl
 
 pub refused_done : (next : FileCall) (notes : List Call) → has_refused (done_call next ∷ notes) ≡ has_refused notes
 refused_done (Write «at» bytes) notes = refl
@@ -25,7 +25,7 @@ refused_done (Renew «at» bytes) notes = refl
 refused_done (Shorten len) notes = refl
 refused_done Sync notes = refl
 refused_done (Replace bytes) notes = refl
-refused_done (Want len) notes = refl
+refused_done (Want bytes) notes = refl
 
 pub handed_more : (calls after : List FileCall) (next : FileCall) (notes made noted : List Call) → after ≡ calls ++ next ∷ []
     → noted ≡ done_call next ∷ notes → handed notes ≡ all_done calls ++ made → handed noted ≡ all_done after ++ made

@@ -12,7 +12,7 @@ done_call (Renew «at» bytes) = call.Renewed «at» bytes.items true
 done_call (Shorten len) = call.Shortened len true
 done_call Sync = call.Synced true
 done_call (Replace bytes) = call.Replaced bytes.items true
-done_call (Want len) = call.NotReplaced
+done_call (Want bytes) = call.NotReplaced
 
 -- calls that are done in order, of which the last stands first
 abbrev pub all_done : List FileCall → List Call

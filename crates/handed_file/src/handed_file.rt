@@ -1,13 +1,14 @@
 //! The file.
 
-ghost use Rattle.std.specs.Prelude.{◌≡◌, ◌∷◌, ◌++◌, ◌<◌, ◌^◌, ◌↔◌, List, [], length, IfSome, IsNone, IsTrue, OnOk, OnErr};
-ghost use Rattle.system_file.specs.Calls.{Opened, Refused, told_of};
+ghost use Rattle.std.specs.Prelude.{◌≡◌, ◌∷◌, ◌++◌, ◌<◌, ◌^◌, ◌↔◌, ◌⊎◌, List, [], length, IfSome, IsNone, IsTrue, OnOk, OnErr};
+ghost use Rattle.system_file.specs.Calls.{NotReplaced, Opened, Refused, told_of};
 ghost use Rattle.durable_device.specs.Kept.{IsRestarted, MayBeLeft};
 ghost use Rattle.handed_file.specs.Handing.{all_done, done_call, handed, has_refused};
 ghost use Rattle.handed_file.specs.declared.handed_file.FileCall.{FileCall};
 
 use std::alloc::Global;
 use std::collections::VecDeque;
+use std::mem;
 use stored_file::{FileError, StoredFile};
 use system_file::Record;
 
@@ -28,8 +29,9 @@ pub enum FileCall {
     /// A new file of these bytes, which is on the disk before it has the name, takes the place of this one, and its name is brought to
     /// the disk.
     Replace { bytes: Vec<u8> },
-    /// A new file of so many bytes was to take the place of this one, and the host hadn't said that there is room. Nothing changes.
-    Want { len: usize },
+    /// A new file of these bytes was to take the place of this one, and the host hadn't said that there is room. Nothing changes. There
+    /// are none where memory is wanting for them.
+    Want { bytes: Vec<u8> },
 }
 
 /// A file for which a host makes the calls, in order. Each is answered as done once it is handed over.
@@ -108,7 +110,7 @@ impl HandedFile {
             Some(FileCall::Shorten { len }) => self.made.shortened(len, true),
             Some(FileCall::Sync) => self.made.synced(true),
             Some(FileCall::Replace { bytes }) => self.made.replaced(&bytes, true),
-            Some(FileCall::Want { .. }) => self.made.not_replaced(),
+            Some(FileCall::Want { bytes: _bytes }) => self.made.not_replaced(),
             None => {}
         }
     }
@@ -129,6 +131,19 @@ impl HandedFile {
         }
         note(&mut self.notes, self.calls.back().unwrap());
         Ok(())
+    }
+
+    /// Hands over that a new file of these bytes wants room, for which nothing changes.
+    ///
+    /// # Errors
+    ///
+    /// No room; or no memory: it isn't handed over.
+    fn want(&mut self, bytes: Vec<u8>) -> Result<(), FileError>
+        ensures { ((result ≡ Err FileError.NoRoom) × (self.new.notes.calls ≡ NotReplaced ∷ self.old.notes.calls))
+            ⊎ ((result ≡ Err FileError.Memory) × (self.new.notes.calls ≡ Refused ∷ self.old.notes.calls)) }
+    {
+        self.hand(FileCall::Want { bytes })?;
+        Err(FileError::NoRoom)
     }
 
     /// Answers a call without handing it over.
@@ -201,15 +216,15 @@ impl StoredFile for HandedFile {
         if self.failed || bytes.len() > MOST_BYTES {
             return self.refuse(FileError::Failed);
         }
-        if bytes.len() > self.room {
-            self.hand(FileCall::Want { len: bytes.len() })?;
-            return Err(FileError::NoRoom);
+        let room = mem::replace(&mut self.room, 0);
+        let Ok(bytes) = Vec::from_slice(self.alloc, bytes) else {
+            // The old file is used on.
+            return self.want(Vec::new(self.alloc));
+        };
+        if bytes.len() > room {
+            return self.want(bytes);
         }
-        self.room = 0;
-        match Vec::from_slice(self.alloc, bytes) {
-            Ok(bytes) => self.hand(FileCall::Replace { bytes }),
-            Err(_) => self.refuse(FileError::Memory),
-        }
+        self.hand(FileCall::Replace { bytes })
     }
 
     fn sync(&mut self) -> Result<(), FileError> {

@@ -1,3 +1,4 @@
 mod Doing
+mod Ends
 mod ServedTexts
 mod Pieces

@@ -18,11 +18,12 @@ use Rattle.event_text.specs.CommandFile.{events_from}
 use Rattle.event_text.specs.Laws.{ended, told_by_both}
 use Rattle.event_text.specs.Lines.{reply_line}
 use Rattle.event_text.proofs.Proved.{events_joined, lines-behind}
-use Rattle.live_lines.specs.Served.{AllDone, BeginsFirst, FailsIn, FailsLines, HasBegun, HasPrinted, InLast, ServesFirst, ServesLines, counted}
+use Rattle.live_lines.specs.Served.{AllDone, BeginsFirst, FailsIn, FailsLines, HasBegun, HasPrinted, InLast, ServesFirst, ServesLines, StopsIn, counted, ends_in}
 use Rattle.live_lines.specs.steps.Texts.{IsEnded, ServesPiece, ServesText}
 use Rattle.live_lines.specs.declared.fault.LinesFault.{LinesFault}
 use Rattle.live_lines.specs.declared.fault.LinesFault.TheVariants as fault
 use Rattle.live_lines.proofs.Doing.{does_as, does_more, does_more_untold, does_none, does_untold}
+use Rattle.live_lines.proofs.Ends.{ends_before}
 use Rattle.live_lines.proofs.ServedTexts.{counted_more, told_more, told_refused}
 
 -- ---- texts that end at a line's end
@@ -85,7 +86,7 @@ module _ (drains : Bool) (text second : List ℕ) (before count : ℕ) (old betw
         ∙ ap (counted before) (let same : length (lines text) + (failed.count + 1) ≡ length (lines text) + failed.count + 1 = omega arith in same);
     first = first_join failed.count new after failed.first;
   }
-  text_fails fault.Read new after failed = (length (lines text) + failed.0, first_join failed.0 new after failed.1)
+  text_fails fault.Read new after failed = absurd failed
   text_fails fault.Memory new after failed = (length (lines text) + failed.0, first_join failed.0 new after failed.1)
   text_fails fault.Write new after failed = record {
     count = length (lines text) + failed.count;
@@ -144,7 +145,7 @@ module _ (drains : Bool) (text behind : List ℕ) (before : ℕ) (old new : Stat
     number_is = failed.number_is;
     first = first_longer failed.count failed.first;
   }
-  fails_longer fault.Read failed = (failed.0, first_longer failed.0 failed.1)
+  fails_longer fault.Read failed = absurd failed
   fails_longer fault.Memory failed = (failed.0, first_longer failed.0 failed.1)
   fails_longer fault.Write failed = record {
     count = failed.count;
@@ -217,6 +218,14 @@ piece_unheld drains come left before count old new written after piece =
 
 -- ---- all pieces
 
+-- all was read, and a line of it fails
+stops_in : (drains : Bool) (text : List ℕ) (why : LinesFault) (old new : State) (written after : Option (List ℕ))
+    → FailsIn drains text 0 why old new written after → StopsIn drains text why old new written after
+stops_in drains text (fault.Line number cause) old new written after failed = failed
+stops_in drains text fault.Read old new written after failed = absurd failed
+stops_in drains text fault.Write old new written after failed = failed
+stops_in drains text fault.Memory old new written after failed = failed
+
 -- what was read is a text that ends at a line's end and was served, and what is unended
 pub record ServedSoFar (drains : Bool) (unread left : Option (List ℕ)) (unended : List ℕ) (count : ℕ) (old new : State) (written after : Option (List ℕ)) : Type 0 where
   pub text : List ℕ
@@ -246,12 +255,13 @@ text_kept drains text before next old new written then after kept served = recor
 module _ (drains : Bool) (unread left : Option (List ℕ)) (unended : List ℕ) (count : ℕ) (old between : State) (written then : Option (List ℕ))
     (far : ServedSoFar drains unread left unended count old between written then) where
   -- it can't be read on
-  pub unreadable : (why : LinesFault) (less : Option (List ℕ)) → why ≡ fault.Read → Keeps left less → FailsLines drains why unread less old between written then
-  unreadable why less is kept = record {
+  pub unreadable : ends_in unended ≡ 0 → (why : LinesFault) (less : Option (List ℕ)) → why ≡ fault.Read → Keeps left less → FailsLines drains why unread less old between written then
+  unreadable none why less is kept = record {
     text = far.text ++ unended;
     read = Consumes-kept unread left less (far.text ++ unended) far.read kept;
-    failed = subst (λ (f : LinesFault). FailsIn drains (far.text ++ unended) 0 f old between written then) (sym is)
-        (length (lines far.text), first_served drains far.text unended 0 count old between written then far.served far.is_ended);
+    failed = subst (λ (f : LinesFault). StopsIn drains (far.text ++ unended) f old between written then) (sym is)
+        (subst (λ (n : ℕ). ServesFirst drains (far.text ++ unended) n old between written then) (ends_before far.text unended far.is_ended none)
+        (first_served drains far.text unended 0 count old between written then far.served far.is_ended));
   }
 
   -- a piece was read
@@ -266,7 +276,8 @@ module _ (drains : Bool) (unread left : Option (List ℕ)) (unended : List ℕ) 
     pieces_fail fault new after failed = record {
       text = far.text ++ (unended ++ piece);
       read = read_is;
-      failed = text_fails drains far.text (unended ++ piece) 0 count old between written then far.served far.is_ended fault new after failed;
+      failed = stops_in drains (far.text ++ (unended ++ piece)) fault old new written after
+          (text_fails drains far.text (unended ++ piece) 0 count old between written then far.served far.is_ended fault new after failed);
     }
 
     module _ (unended' : List ℕ) (next : ℕ) (new : State) (after : Option (List ℕ))
@@ -293,7 +304,7 @@ module _ (drains : Bool) (unread left : Option (List ℕ)) (unended : List ℕ) 
       piece_unflushed why flushed is = record {
         text = (far.text ++ served.text) ++ unended';
         read = subst (Consumes unread less) parts_are read_is;
-        failed = subst (λ (f : LinesFault). FailsIn drains ((far.text ++ served.text) ++ unended') 0 f old new written flushed) (sym is)
+        failed = subst (λ (f : LinesFault). StopsIn drains ((far.text ++ served.text) ++ unended') f old new written flushed) (sym is)
             (first_begun drains (far.text ++ served.text) unended' 0 next old new written after both both_ended);
       }
 
@@ -308,7 +319,8 @@ module _ (drains : Bool) (unread left : Option (List ℕ)) (unended : List ℕ) 
     last_fails fault new after failed = record {
       text = far.text ++ last;
       read = all_is;
-      failed = text_fails drains far.text last 0 count old between written then far.served far.is_ended fault new after failed;
+      failed = stops_in drains (far.text ++ last) fault old new written after
+          (text_fails drains far.text last 0 count old between written then far.served far.is_ended fault new after failed);
     }
 
     module _ (next : ℕ) (new : State) (after : Option (List ℕ)) (served : ServesText drains last count next between new then after) where
@@ -330,7 +342,7 @@ module _ (drains : Bool) (unread left : Option (List ℕ)) (unended : List ℕ) 
       last_unflushed why flushed is = record {
         text = far.text ++ last;
         read = all_is;
-        failed = subst (λ (f : LinesFault). FailsIn drains (far.text ++ last) 0 f old new written flushed) (sym is)
+        failed = subst (λ (f : LinesFault). StopsIn drains (far.text ++ last) f old new written flushed) (sym is)
             (record {
               count = length (lines (far.text ++ last));
               within = omega arith;

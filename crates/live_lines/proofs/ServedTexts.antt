@@ -113,7 +113,7 @@ module _ (drains : Bool) (all rest behind : List (List ℕ)) (line : List ℕ) (
     number_is = failed.0 ∙ numbered;
     first = in_front text are failed.2.0 failed.2.1;
   }
-  line_fails text fault.Read are failed = (length first.past, in_front text are failed.0 failed.1)
+  line_fails text fault.Read are failed = absurd failed
   line_fails text fault.Memory are failed = (length first.past, in_front text are failed.0 failed.1)
   line_fails text fault.Write are failed = record {
     count = length first.past + 1;

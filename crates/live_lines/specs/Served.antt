@@ -1,5 +1,5 @@
 -- What a device does that is served lines of a command file as they come, and what is printed (profile).
-use Rattle.std.specs.Prelude.{ℕ, Bool, true, false, ◌≡◌, ◌+◌, ◌-◌, ◌^◌, ◌≤◌, min, List, [], ◌∷◌, ◌++◌, flat_map, length, map, take, Option, IfSome, Ok, Err}
+use Rattle.std.specs.Prelude.{ℕ, Bool, true, false, ◌≡◌, ◌==◌, ◌+◌, ◌-◌, ◌^◌, ◌≤◌, min, List, [], ◌∷◌, ◌++◌, count_by, flat_map, length, map, take, Option, IfSome, Ok, Err}
 use Rattle.std.specs.Io.KnownBytes.{Appends, Consumes}
 use Rattle.std.specs.Str.Lines.{lines}
 use Rattle.device_meaning.specs.Judging.{interval_judge}
@@ -93,6 +93,10 @@ pub record BeginsFirst (drains : Bool) (text : List ℕ) (old new : State) : Typ
   pub told : events_from 1 (take count (lines text)) ≡ Ok (map told_of events)
   pub begun : HasBegun drains events old new
 
+-- how many lines of a text have their end
+abbrev pub ends_in : List ℕ → ℕ
+ends_in text = count_by (λ byte. byte == 10) text
+
 -- how many lines these are with those in front of them, where that is below the largest number of 64 bits
 abbrev pub counted : ℕ → ℕ → ℕ
 counted before count = min (before + count) (2 ^ 64 - 1)
@@ -105,16 +109,21 @@ pub record RefusesLine (drains : Bool) (text : List ℕ) (before number : ℕ) (
   pub number_is : number ≡ counted before (count + 1)
   pub first : ServesFirst drains text count old new written after
 
--- why the lines of a text were served no further, and which were served, where so many lines stand in front of it
+-- why the lines of a text were served no further, though it was read, and which were served, where so many lines stand in front of it
 abbrev pub FailsIn : Bool → List ℕ → ℕ → LinesFault → State → State → Option (List ℕ) → Option (List ℕ) → Type 0
 FailsIn drains text before (fault.Line number fault) old new written after = RefusesLine drains text before number old new written after
 FailsIn drains text before fault.Write old new written after = BeginsFirst drains text old new
-FailsIn drains text before fault.Read old new written after = (count : ℕ) × ServesFirst drains text count old new written after
+FailsIn drains text before fault.Read old new written after = ⊥
 FailsIn drains text before fault.Memory old new written after = (count : ℕ) × ServesFirst drains text count old new written after
+
+-- why the lines of all that was read were served no further, and which were served: where it can't be read on, each line that has its end
+abbrev pub StopsIn : Bool → List ℕ → LinesFault → State → State → Option (List ℕ) → Option (List ℕ) → Type 0
+StopsIn drains text fault.Read old new written after = ServesFirst drains text (ends_in text) old new written after
+StopsIn drains text why old new written after = FailsIn drains text 0 why old new written after
 
 -- what was read is a text, of which the first lines were served
 pub record FailsLines (drains : Bool) (fault : LinesFault) (unread left : Option (List ℕ)) (old new : State)
     (before after : Option (List ℕ)) : Type 0 where
   pub text : List ℕ
   pub read : Consumes unread left text
-  pub failed : FailsIn drains text 0 fault old new before after
+  pub failed : StopsIn drains text fault old new before after

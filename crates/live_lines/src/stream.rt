@@ -3,7 +3,7 @@
 ghost use Rattle.std.specs.Prelude.{◌≡◌, ◌≤◌, ◌<◌, ◌+◌, ◌++◌, ◌^◌, [], length, take, IfErr, IfOk, OnOk};
 ghost use Rattle.std.specs.Io.KnownBytes.{Consumes, IsAtEnd, Keeps};
 ghost use Rattle.nvme_entry.specs.declared.command.TheConstants.{MOST_TRANSFER};
-ghost use Rattle.live_lines.specs.Served.{FailsIn, FailsLines, ServesLines};
+ghost use Rattle.live_lines.specs.Served.{FailsIn, FailsLines, ServesLines, ends_in};
 ghost use Rattle.live_lines.specs.steps.Texts.{ServesPiece, ServesText};
 
 use crate::fault::LinesFault;
@@ -25,7 +25,8 @@ const PIECE: usize = 1 << 18;
 ///
 /// # Errors
 ///
-/// Why the lines are served no further. The events of the lines in front of one that is refused are done.
+/// Why the lines are served no further. The events of the lines in front of one that is refused are done; where the lines can't be read
+/// on, the events of all that came with their ends.
 pub fn serve_lines<R: Read, W: Write>(
     alloc: Global,
     device: &mut Device,
@@ -127,7 +128,8 @@ fn flush<W: Write>(lines: &mut Lines<'_, W>) -> Result<(), LinesFault>
     Ok(())
 }
 
-/// Does the events of the lines that end in a piece. What stands behind the last end is added to what is unended.
+/// Does the events of the lines that end in a piece. What stands behind the last end is added to what is unended, in which no line
+/// ends.
 fn serve_piece<W: Write>(
     alloc: Global,
     device: &mut Device,
@@ -138,10 +140,12 @@ fn serve_piece<W: Write>(
     output: &mut [u8],
     lines: &mut Lines<'_, W>,
 ) -> Result<usize, LinesFault>
+    requires unended { ends_in unended.old.items ≡ 0 }
     requires room { MOST_TRANSFER ≤ length output.old }
     requires counts { lines.old.refusals + 1 < 2 ^ 64 }
     ensures same_writer { lines.new.out.ghost_name ≡ lines.old.out.ghost_name }
     ensures same_count { OnOk result (lines.new.refusals ≡ lines.old.refusals) }
+    ensures unended { OnOk result (ends_in unended.new.items ≡ 0) }
     ensures served { IfOk result (λ after. ServesPiece drains (unended.old.items ++ piece.now) unended.new.items before after
         device.old device.new (W.contents lines.old.out.now) (W.contents lines.new.out.now)) }
     ensures failed { IfErr result (λ fault. FailsIn drains (unended.old.items ++ piece.now) before fault device.old device.new

@@ -232,7 +232,7 @@ module _ {D : Type 0} {domain : Ghosts D} (ns : ZonedNamespace) (slots : List (O
 
   -- ---- a turn after which it goes on
 
-  module _ (new : ZonedNamespace) (q : LoadedProgram D domain) (b : ActiveRun) (same : q ≡ p) (g : TurnGoesOn ns new code limit a b) (kept : Keeps a b) where
+  module _ (new : ZonedNamespace) (q : LoadedProgram D domain) (b : ActiveRun) (same : q ≡ record p { count = q.count }) (g : TurnGoesOn ns new code limit a b) (kept : Keeps a b) where
     abbrev later : List Turn
     later = turns_of new code limit (active_of b)
 
@@ -276,7 +276,7 @@ module _ {D : Type 0} {domain : Ghosts D} (ns : ZonedNamespace) (slots : List (O
 
   -- ---- a turn that ends it
 
-  module _ (new : ZonedNamespace) (q : LoadedProgram D domain) (b : ActiveRun) (answer : Answer) (same : q ≡ record p { result = b.scratch })
+  module _ (new : ZonedNamespace) (q : LoadedProgram D domain) (b : ActiveRun) (answer : Answer) (same : q ≡ record p { count = q.count; result = b.scratch })
       (e : HasEnded ns new code limit a b answer) (kept : Keeps a b) where
     abbrev last : Turn
     last = record {

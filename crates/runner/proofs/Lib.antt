@@ -1,6 +1,7 @@
 mod Admissions
 mod Appends
 mod CommandsLeave
+mod Counts
 mod DeviceTurns
 mod Drains
 mod Holding

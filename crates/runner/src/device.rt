@@ -28,7 +28,7 @@ use nvme_entry::MOST_TRANSFER;
 use program_interface::LARGEST_BLOCK;
 use std::alloc::{AllocError, Global};
 use std::marker::Model;
-use verified_run::{Stack, StepCount};
+use verified_run::Stack;
 use word_domain::Domain;
 use zns_commands::{Image, Namespace};
 use zone_resources::RUNS;
@@ -50,8 +50,6 @@ pub struct Device<D: Domain = Intervals> {
     stack: Stack,
     /// Where a turn's program emits to.
     group: [u8; LARGEST_BLOCK],
-    /// The steps of its turns.
-    count: StepCount,
 }
 
 impl<D: Domain> Model for Device<D> {
@@ -99,7 +97,6 @@ impl<D: Domain> Device<D> {
             state,
             stack: Stack::new(),
             group: [0; LARGEST_BLOCK],
-            count: StepCount::new(),
         }
     }
 
@@ -177,13 +174,7 @@ impl<D: Domain> Device<D> {
                 let submission = Submission::new(*queue, entry, input.as_slice());
                 submit(self.alloc, &mut self.state, &submission, output)
             }
-            Event::Turn { run } => turn(
-                &mut self.state,
-                &mut self.stack,
-                &mut self.group,
-                &mut self.count,
-                *run,
-            ),
+            Event::Turn { run } => turn(&mut self.state, &mut self.stack, &mut self.group, *run),
             Event::Fault { zone, state } => self.state.fault(*zone, *state),
         }
     }

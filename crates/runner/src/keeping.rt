@@ -18,7 +18,6 @@ use ebpf_decode::{DecodeFault, decode, encode};
 use kept_device::KeptProgram;
 use program_interface::{BlockSize, RunSizes};
 use std::alloc::{AllocError, Global};
-use verified_run::Prepared;
 use verifier::{Verified, VerifyFault, verify};
 use word_domain::Domain;
 
@@ -69,15 +68,12 @@ pub fn program_again<D: Domain>(
         return Ok(None);
     };
     match verified_again(alloc, bytes, sizes)? {
-        Some(prepared) => Ok(Some(LoadedProgram {
-            prepared,
-            result: scratch,
-        })),
+        Some(verified) => Ok(Some(LoadedProgram::new(alloc, verified, scratch)?)),
         None => Ok(None),
     }
 }
 
-/// The program that bytes spell, ready to run, where it is accepted for runs of these sizes.
+/// The program that bytes spell, where it is accepted for runs of these sizes.
 ///
 /// # Errors
 ///
@@ -86,7 +82,7 @@ fn verified_again<D: Domain>(
     alloc: Global,
     bytes: &[u8],
     sizes: RunSizes,
-) -> Result<Option<Prepared<Verified<D>>>, AllocError>
+) -> Result<Option<Verified<D>>, AllocError>
     ensures { IfOk result (λ found. MatchOption found
         (IsRefused (judge_by D.operations) bytes.now sizes) (λ v. IsAccepted D.operations bytes.now sizes (program_of v) (sizes_of v))) }
 {
@@ -95,10 +91,9 @@ fn verified_again<D: Domain>(
         Err(DecodeFault::Memory) => return Err(AllocError),
         Err(DecodeFault::Fault(_)) => return Ok(None),
     };
-    let verified = match verify::<D>(alloc, program, sizes) {
-        Ok(verified) => verified,
-        Err(VerifyFault::Memory) => return Err(AllocError),
-        Err(VerifyFault::Refused(_)) => return Ok(None),
-    };
-    Ok(Some(Prepared::new(alloc, verified)?))
+    match verify::<D>(alloc, program, sizes) {
+        Ok(verified) => Ok(Some(verified)),
+        Err(VerifyFault::Memory) => Err(AllocError),
+        Err(VerifyFault::Refused(_)) => Ok(None),
+    }
 }

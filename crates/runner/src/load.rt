@@ -3,6 +3,7 @@
 ghost use Rattle.std.specs.Prelude.{◌≡◌, ◌<◌, IfOk, IfErr};
 ghost use Rattle.std.specs.Result.{result_err};
 ghost use Rattle.common_definitions.specs.Checks.{first_failed};
+ghost use Rattle.device_meaning.specs.BlockRuns.{no_scratch};
 ghost use Rattle.device_meaning.specs.Judging.{judge_by};
 ghost use Rattle.device_meaning.specs.Happenings.{load_checks, sizes_for};
 ghost use Rattle.runner.specs.steps.Answered.{HasLoaded};
@@ -13,10 +14,9 @@ use crate::device_state::DeviceState;
 use crate::loaded_program::LoadedProgram;
 use ebpf_decode::{DecodeFault, decode};
 use nvme_entry::{LoadCommand, Status};
-use program_interface::{MOST_SLOTS, RunSizes};
+use program_interface::{MOST_SLOTS, RunSizes, SCRATCH_BYTES};
 use std::alloc::Global;
-use verified_run::Prepared;
-use verifier::{Verified, VerifyFault, verify};
+use verifier::{VerifyFault, verify};
 use word_domain::Domain;
 use zns_commands::{Answer, check_transfer};
 
@@ -31,22 +31,23 @@ pub fn load<D: Domain>(
     ensures no_data { result.length ≡ 0 }
 {
     match try_load(alloc, state, command, input) {
-        Ok(prepared) => {
-            state.slots[command.slot.index()] = Some(LoadedProgram::new(prepared));
+        Ok(loaded) => {
+            state.slots[command.slot.index()] = Some(loaded);
             Answer::success(0, 0)
         }
         Err(refusal) => refusal,
     }
 }
 
-/// The program of a Load, or the answer that refuses it.
+/// The program of a Load, without a result as yet, or the answer that refuses it.
 fn try_load<D: Domain>(
     alloc: Global,
     state: &DeviceState<D>,
     command: &LoadCommand,
     input: &[u8],
-) -> Result<Prepared<Verified<D>>, Answer>
-    ensures ok { IfOk result (λ v. IsLoadable D.operations command.now input.now state.now (program_of v) (sizes_of v)) }
+) -> Result<LoadedProgram<D>, Answer>
+    ensures ok { IfOk result (λ p. IsLoadable D.operations command.now input.now state.now (program_of p.prepared) (sizes_of p.prepared)) }
+    ensures blank { IfOk result (λ p. p.result ≡ no_scratch) }
     ensures err { IfErr result (HasLoaded (judge_by D.operations) command.now input.now state.now state.now) }
     ensures no_data { IfErr result (λ answer. answer.length ≡ 0) }
 {
@@ -76,14 +77,15 @@ fn check_load<D: Domain>(
     Ok(sizes)
 }
 
-/// The program that bytes spell, with its superinstructions, where it is accepted for runs of these sizes, or the
-/// answer that refuses it.
+/// The program that bytes spell, ready to run and without a result, where it is accepted for runs of these sizes, or
+/// the answer that refuses it.
 fn read_program<D: Domain>(
     alloc: Global,
     bytes: &[u8],
     sizes: RunSizes,
-) -> Result<Prepared<Verified<D>>, Answer>
-    ensures ok { IfOk result (λ v. IsAccepted D.operations bytes.now sizes (program_of v) (sizes_of v)) }
+) -> Result<LoadedProgram<D>, Answer>
+    ensures ok { IfOk result (λ p. IsAccepted D.operations bytes.now sizes (program_of p.prepared) (sizes_of p.prepared)) }
+    ensures blank { IfOk result (λ p. p.result ≡ no_scratch) }
     ensures err { IfErr result (IsNotAccepted D.operations bytes.now sizes) }
 {
     let program = match decode(alloc, bytes) {
@@ -98,8 +100,8 @@ fn read_program<D: Domain>(
             return Err(refuse(refusal.slot, refusal.reason.number()));
         }
     };
-    match Prepared::new(alloc, verified) {
-        Ok(prepared) => Ok(prepared),
+    match LoadedProgram::new(alloc, verified, [0; SCRATCH_BYTES]) {
+        Ok(loaded) => Ok(loaded),
         Err(_) => Err(Answer::refused(Status::WANT_OF_MEMORY)),
     }
 }

@@ -1,6 +1,6 @@
 //! Turns.
 
-ghost use Rattle.std.specs.Prelude.{◌≡◌, ◌<◌, ◌≤◌, ◌+◌, ◌^◌, [], ◌∷◌, get_or, length, None, IsNone};
+ghost use Rattle.std.specs.Prelude.{◌≡◌, ◌<◌, ◌≤◌, ◌+◌, ◌^◌, ℕ, [], ◌∷◌, get_or, length, None, IsNone};
 ghost use Rattle.device_meaning.specs.Judging.{judge_by};
 ghost use Rattle.program_interface.specs.declared.block_size.TheConstants.{LARGEST_BLOCK};
 ghost use Rattle.emit_append.specs.Packer.{after_put, given_by_finish, given_by_put, new_packer};
@@ -10,7 +10,7 @@ ghost use Rattle.device_meaning.specs.Happenings.{added, turned};
 ghost use Rattle.runner.specs.DeviceState.{active_of};
 ghost use Rattle.runner.specs.steps.Ready.{FitsNamespace};
 ghost use Rattle.device_meaning.specs.Reached.{IsReached};
-ghost use Rattle.runner.specs.steps.Turning.{FitsAt, FitsIn, FitsOn, HasRoom, HasRunNext, IsTaking, Keeps, PlaceTurned, SlotTurned, Turned, next_block, next_block_run, steps_by, steps_of_turn, with_packer};
+ghost use Rattle.runner.specs.steps.Turning.{FitsAt, FitsIn, FitsOn, HasRoom, HasRunNext, IsTaking, Keeps, PlaceTurned, SlotTurned, Turned, next_block, next_block_run, steps_by, steps_in, steps_of_turn, with_packer};
 
 use crate::active_run::ActiveRun;
 use crate::completion::complete;
@@ -160,16 +160,16 @@ fn advance_by_slot<D: Domain>(
     active: &mut ActiveRun,
     stack: &mut Stack,
     group: &mut [u8; LARGEST_BLOCK],
-    count: &mut StepCount,
 ) -> Option<Answer>
     requires { FitsIn namespace.old slot.old active.old }
     ensures turned { SlotTurned namespace.old namespace.new slot.old slot.new active.old active.new result }
-    ensures counts { count.new.steps ≡ count.old.steps + steps_by namespace.old slot.old active.old }
+    ensures counts { steps_in slot.new ≡ steps_in slot.old + steps_by namespace.old slot.old active.old }
 {
     let Some(loaded) = slot else {
         unreachable!();
     };
-    let answer = advance(namespace, &loaded.prepared, active, stack, group, count)?;
+    let (prepared, count) = (&loaded.prepared, &mut loaded.count);
+    let answer = advance(namespace, prepared, active, stack, group, count)?;
     loaded.result = active.scratch;
     Some(answer)
 }
@@ -181,20 +181,19 @@ fn turn_place<D: Domain>(
     place: &mut Option<ActiveRun>,
     stack: &mut Stack,
     group: &mut [u8; LARGEST_BLOCK],
-    count: &mut StepCount,
     run: u8,
 ) -> Reply
     requires { FitsAt namespace.old slots.old place.old }
     ensures turned { PlaceTurned namespace.old namespace.new slots.old slots.new run place.old place.new result }
-    ensures counts { count.new.steps ≡ count.old.steps + steps_of_turn namespace.old slots.old place.old }
+    ensures counts { (slot : ℕ) → steps_in (get_or slots.new slot None)
+        ≡ steps_in (get_or slots.old slot None) + steps_of_turn namespace.old slots.old place.old slot }
     ensures no_data { data_length result ≡ 0 }
 {
     let Some(active) = place else {
         return Reply::Idle;
     };
     let slot = active.command.slot.index();
-    let Some(answer) = advance_by_slot(namespace, &mut slots[slot], active, stack, group, count)
-    else {
+    let Some(answer) = advance_by_slot(namespace, &mut slots[slot], active, stack, group) else {
         return Reply::Pending { run };
     };
     let reply = complete(active.queue, active.cid, answer);
@@ -207,7 +206,6 @@ pub fn turn<D: Domain>(
     state: &mut DeviceState<D>,
     stack: &mut Stack,
     group: &mut [u8; LARGEST_BLOCK],
-    count: &mut StepCount,
     run: u8,
 ) -> Reply
     requires reached { IsReached (judge_by D.operations) state.old }
@@ -227,7 +225,6 @@ pub fn turn<D: Domain>(
         place,
         stack,
         group,
-        count,
         run,
     )
 }

@@ -1,6 +1,5 @@
 -- Events of the device that wait, as the journal has them.
-use Rattle.std.proofs.Common.{◌≡◌, ◌<◌, ◌≤◌, ◌^◌, ◌&&◌, ◌⊎◌, inl, inr, ℕ, Bool, true, false, not, List, [], ◌∷◌, ◌++◌, length, take, refl, sym, ap, subst, ◌∙◌, arith, length-append}
-use Rattle.std.proofs.lemmas.List.{take_at}
+use Rattle.std.proofs.Common.{◌≡◌, ◌<◌, ◌≤◌, ◌^◌, ◌&&◌, ◌⊎◌, inl, inr, ℕ, Bool, true, false, not, List, [], ◌∷◌, ◌++◌, length, refl, ap, subst, ◌∙◌, arith, length-append}
 use Rattle.stored_file.specs.File.{FileState}
 use Rattle.nvme_entry.specs.Entry.{decoded, identifier_of}
 use Rattle.event_frames.specs.Frames.{header, request_frame}
@@ -14,13 +13,10 @@ use Rattle.device_meaning.specs.State.{State}
 use Rattle.durable_device.specs.Again.{ChangesComeAgain, IsDoneAgain}
 use Rattle.durable_device.specs.Changing.{asks_change, is_idle, is_refusal, may_change}
 use Rattle.durable_device.specs.FrameEvents.{IsFrameOf}
-use Rattle.tcp_durable.specs.Waiting.{IsCommittedBut}
+use Rattle.durable_device.specs.Machine.{IsDeviceBase, next_state}
+use Rattle.durable_device.specs.Kept.{IsCommittedBut}
 use Rattle.tcp_durable.proofs.Deeds.{WasSubmitted, WasTurned}
-use Rattle.tcp_durable.proofs.Waiting.{as_before, one_more}
-
--- what was put behind others is taken back
-pub taken_back : (all waiting more : List ℕ) (n : ℕ) → all ≡ waiting ++ more → n ≡ length waiting → take n all ≡ waiting
-taken_back all waiting more n is count = ap (take n) is ∙ take_at waiting more n (sym count)
+use Rattle.durable_machine.proofs.Waiting.{as_before, one_more}
 
 both_hold : (a b : Bool) → a ≡ true → b ≡ false → (a && not b) ≡ true
 both_hold true false first second = refl
@@ -47,11 +43,11 @@ module _ (again : ChangesComeAgain) (waiting : List ℕ) (old new : State) (gate
 
     -- what only reads changes nothing,
     pub reads : asks_change (decoded entry) ≡ false → IsCommittedBut waiting new gate file
-    reads is = as_before waiting old new gate file but (submitted_again.idle (first_lacks (asks_change (decoded entry)) (is_refusal reply) is))
+    reads is = as_before IsDeviceBase next_state waiting old new gate file but (submitted_again.idle (first_lacks (asks_change (decoded entry)) (is_refusal reply) is))
 
     -- and what is refused,
     pub refused : is_refusal reply ≡ true → IsCommittedBut waiting new gate file
-    refused is = as_before waiting old new gate file but (submitted_again.idle (second_lacks (asks_change (decoded entry)) (is_refusal reply) is))
+    refused is = as_before IsDeviceBase next_state waiting old new gate file but (submitted_again.idle (second_lacks (asks_change (decoded entry)) (is_refusal reply) is))
 
     -- and what else was submitted waits
     pub changed : asks_change (decoded entry) ≡ true → is_refusal reply ≡ false → queue < 2 ^ 16 → length entry ≡ 64 → length input ≤ 131072
@@ -61,7 +57,7 @@ module _ (again : ChangesComeAgain) (waiting : List ℕ) (old new : State) (gate
         let is : IsFrameOf (told.Submitted queue entry input) frame = record { fits = (numbered, entry_size, input_size); spelled = refl } in
         let sized : length frame < 2 ^ 64 =
         omega (arith, length-append (header 1 0 queue 0 (length input)) (entry ++ input), length-append entry input, entry_size, input_size) in
-        one_more waiting frame old new gate file but sized
+        one_more IsDeviceBase next_state waiting frame old new gate file but sized
         (submitted_again.again (both_hold (asks_change (decoded entry)) (is_refusal reply) asks taken_is) frame is)
 
   module _ (run : ℕ) (numbered : run < 2 ^ 8) (was : WasTurned run old new reply) where
@@ -72,19 +68,19 @@ module _ (again : ChangesComeAgain) (waiting : List ℕ) (old new : State) (gate
 
     -- where there is no run a turn changes nothing,
     pub idled : is_idle reply ≡ true → IsCommittedBut waiting new gate file
-    idled is = as_before waiting old new gate file but (turned_again.idle (ap not is))
+    idled is = as_before IsDeviceBase next_state waiting old new gate file but (turned_again.idle (ap not is))
 
     -- and else it waits
     pub turned : is_idle reply ≡ false → IsCommittedBut (waiting ++ spelled (request_frame (request.Turned run) ∷ [])) new gate file
     turned is =
         let frame = request_frame (request.Turned run) in
-        one_more waiting frame old new gate file but (omega arith) (turned_again.again (ap not is) frame (record { fits = numbered; spelled = refl }))
+        one_more IsDeviceBase next_state waiting frame old new gate file but (omega arith) (turned_again.again (ap not is) frame (record { fits = numbered; spelled = refl }))
 
   -- a run was to go on of whose command no connection waits
   module _ (run : ℕ) (numbered : run < 2 ^ 8) where
     -- where there is none nothing has changed,
     pub resumed_idle : ((new ≡ old) × (Idle ≡ reply)) ⊎ WasTurned run old new reply → is_idle reply ≡ true → IsCommittedBut waiting new gate file
-    resumed_idle (inl (same, idle)) is = as_before waiting old new gate file but same
+    resumed_idle (inl (same, idle)) is = as_before IsDeviceBase next_state waiting old new gate file but same
     resumed_idle (inr was) is = idled run numbered was is
 
     -- and else a turn waits

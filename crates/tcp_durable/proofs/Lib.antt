@@ -1,4 +1,3 @@
 mod Spelled
-mod Waiting
 mod Deeds
 mod Events

@@ -1,6 +1,6 @@
 //! What keeps the device of a target in a file.
 
-ghost use Rattle.std.specs.Prelude.{◌≡◌, ◌↔◌, ◌⊎◌, ◌<◌, ◌≤◌, ◌-◌, [], true, Some, IfOk, IsErrOf, IsTrue, OnErr, OnOk, is_some, slice_index_or, None};
+ghost use Rattle.std.specs.Prelude.{◌≡◌, ◌↔◌, ◌<◌, ◌≤◌, ◌-◌, [], true, Ok, Some, IfOk, IsSome, IsTrue, OnErr, OnOk, is_some, slice_index_or, None};
 ghost use Rattle.std.specs.Option.{option_map};
 ghost use Rattle.stored_file.specs.File.{LeavesOnly};
 ghost use Rattle.stored_file.specs.Cause.{HasCause};
@@ -8,8 +8,7 @@ ghost use Rattle.image_store.specs.Namespace.{shape};
 ghost use Rattle.device_meaning.specs.State.{State};
 ghost use Rattle.nvme_entry.specs.Entry.{decoded};
 ghost use Rattle.durable_device.specs.Changing.{asks_change, is_idle};
-ghost use Rattle.durable_device.specs.Kept.{IsKept, IsKeptInBase, StandsFor};
-ghost use Rattle.stored_file.specs.declared.stored_file.FileError.TheVariants.{NoRoom};
+ghost use Rattle.durable_device.specs.Kept.{IsCommittedBut, IsEither, IsKept, IsKeptInBase, StandsFor};
 ghost use Rattle.tcp_queues.specs.Commands.{given_to_device};
 ghost use Rattle.tcp_target.specs.Ready.{is_ready};
 ghost use Rattle.tcp_device.specs.Deeds.{Does, Served, Turned};
@@ -17,17 +16,17 @@ ghost use Rattle.tcp_device.specs.Format.{IsFormatOf};
 ghost use Rattle.tcp_device.specs.Served.{can_go, next_run};
 ghost use Rattle.tcp_device.specs.State.{begun_on};
 ghost use Rattle.tcp_durable.specs.Resuming.{Resumes};
-ghost use Rattle.tcp_durable.specs.Waiting.{IsCommittedBut};
 
 use crate::frames::{add_submission, add_turn};
 use durable_device::laws::changes_come_again;
-use durable_device::{DurableDevice, FrameDevice, MOST_JOURNAL, asks_change, base_of, is_refusal};
-use durable_machine::{Durable, put_base};
+use durable_device::{
+    DurableDevice, Folding, FrameDevice, MOST_JOURNAL, asks_change, base_of, is_refusal,
+};
+use durable_machine::{Durable, commit, put_base};
 use event_journal::Journal;
 use nvme_entry::Entry;
 use runner::Reply;
 use std::alloc::{AllocError, Global};
-use std::mem;
 use stored_file::{FileError, StoredFile};
 use tcp_admin::{NamespaceFormat, Subsystem};
 use tcp_associations::MOST_CONNECTIONS;
@@ -43,7 +42,7 @@ pub struct Keeper<F: StoredFile + Drop> {
     pub journal: Journal<F>,
     /// The events that may have changed the device since then, as the journal spells them.
     pub waiting: Vec<u8>,
-    /// How many bytes of the file were taken when it was made, or was to be folded last; 0 where it was opened, and hasn't been since.
+    /// How many bytes of the file were taken when it was made, was opened, or was to be folded last.
     pub folded: usize,
 }
 
@@ -65,14 +64,19 @@ pub fn target_of<F: StoredFile + Drop>(
     ensures kept { IfOk result (λ made.
         IsCommittedBut made.1.waiting.items made.0.device made.1.journal.gate (F.told made.1.journal.file)) }
 {
-    let DurableDevice { store, folded } = device;
-    let Durable { machine, journal } = store;
+    let DurableDevice { store, folded, .. } = device;
+    let Durable {
+        machine,
+        journal,
+        waiting: _waiting,
+    } = store;
     let served = ServedTarget::on(
         alloc,
         Box::into_inner(machine.into_device()),
         subsystem,
         format,
     )?;
+    // The device is on the disk as it is, so nothing waits.
     let waiting = Vec::new(alloc);
     Ok((
         served,
@@ -89,7 +93,7 @@ impl<F: StoredFile + Drop> Keeper<F> {
     ///
     /// # Errors
     ///
-    /// No memory for the journal. Then the target is as it was.
+    /// No memory for the journal. Then the target is as it was, and nothing is noted.
     pub fn serve(&mut self, served: &mut ServedTarget, number: usize) -> Result<bool, AllocError>
         requires number { number < MOST_CONNECTIONS }
         requires kept { IsCommittedBut self.old.waiting.items served.old.device self.old.journal.gate (F.told self.old.journal.file) }
@@ -97,8 +101,7 @@ impl<F: StoredFile + Drop> Keeper<F> {
         ensures done { OnOk result (Does (Served number) served.old served.new) }
         ensures refused { OnErr result (served.new ≡ served.old) }
         ensures same { self.new.journal ≡ self.old.journal }
-        ensures kept { OnOk result
-            (IsCommittedBut self.new.waiting.items served.new.device self.new.journal.gate (F.told self.new.journal.file)) }
+        ensures kept { IsCommittedBut self.new.waiting.items served.new.device self.new.journal.gate (F.told self.new.journal.file) }
     {
         let is_ready = served.is_ready(number);
         match served.given_to_device(number) {
@@ -123,8 +126,7 @@ impl<F: StoredFile + Drop> Keeper<F> {
         ensures done { OnOk result (Does (Served number) served.old served.new) }
         ensures refused { OnErr result (served.new ≡ served.old) }
         ensures same { self.new.journal ≡ self.old.journal }
-        ensures kept { OnOk result
-            (IsCommittedBut self.new.waiting.items served.new.device self.new.journal.gate (F.told self.new.journal.file)) }
+        ensures kept { IsCommittedBut self.new.waiting.items served.new.device self.new.journal.gate (F.told self.new.journal.file) }
     {
         changes_come_again();
         let _identifier = Entry::cid(entry);
@@ -149,8 +151,7 @@ impl<F: StoredFile + Drop> Keeper<F> {
         ensures done { OnOk result (Does (Served number) served.old served.new) }
         ensures refused { OnErr result (served.new ≡ served.old) }
         ensures same { self.new.journal ≡ self.old.journal }
-        ensures kept { OnOk result
-            (IsCommittedBut self.new.waiting.items served.new.device self.new.journal.gate (F.told self.new.journal.file)) }
+        ensures kept { IsCommittedBut self.new.waiting.items served.new.device self.new.journal.gate (F.told self.new.journal.file) }
     {
         changes_come_again();
         let _identifier = Entry::cid(entry);
@@ -168,15 +169,14 @@ impl<F: StoredFile + Drop> Keeper<F> {
     ///
     /// # Errors
     ///
-    /// No memory for the journal. Then the target is as it was.
+    /// No memory for the journal. Then the target is as it was, and nothing is noted.
     pub fn turn(&mut self, served: &mut ServedTarget) -> Result<bool, AllocError>
         requires kept { IsCommittedBut self.old.waiting.items served.old.device self.old.journal.gate (F.told self.old.journal.file) }
         ensures given { IfOk result (λ given. given ≡ is_some (next_run served.old)) }
         ensures done { OnOk result (Does Turned served.old served.new) }
         ensures refused { OnErr result (served.new ≡ served.old) }
         ensures same { self.new.journal ≡ self.old.journal }
-        ensures kept { OnOk result
-            (IsCommittedBut self.new.waiting.items served.new.device self.new.journal.gate (F.told self.new.journal.file)) }
+        ensures kept { IsCommittedBut self.new.waiting.items served.new.device self.new.journal.gate (F.told self.new.journal.file) }
     {
         match served.next_run() {
             Some(run) => {
@@ -196,8 +196,7 @@ impl<F: StoredFile + Drop> Keeper<F> {
         ensures done { OnOk result (Does Turned served.old served.new) }
         ensures refused { OnErr result (served.new ≡ served.old) }
         ensures same { self.new.journal ≡ self.old.journal }
-        ensures kept { OnOk result
-            (IsCommittedBut self.new.waiting.items served.new.device self.new.journal.gate (F.told self.new.journal.file)) }
+        ensures kept { IsCommittedBut self.new.waiting.items served.new.device self.new.journal.gate (F.told self.new.journal.file) }
     {
         changes_come_again();
         let before = self.waiting.len();
@@ -214,15 +213,14 @@ impl<F: StoredFile + Drop> Keeper<F> {
     ///
     /// # Errors
     ///
-    /// No memory for the journal. Then the target is as it was.
+    /// No memory for the journal. Then the target is as it was, and nothing is noted.
     pub fn resume(&mut self, served: &mut ServedTarget, run: usize) -> Result<bool, AllocError>
         requires within { run < RUNS }
         requires kept { IsCommittedBut self.old.waiting.items served.old.device self.old.journal.gate (F.told self.old.journal.file) }
         ensures done { IfOk result (Resumes run served.old served.new) }
         ensures refused { OnErr result (served.new ≡ served.old) }
         ensures same { self.new.journal ≡ self.old.journal }
-        ensures kept { OnOk result
-            (IsCommittedBut self.new.waiting.items served.new.device self.new.journal.gate (F.told self.new.journal.file)) }
+        ensures kept { IsCommittedBut self.new.waiting.items served.new.device self.new.journal.gate (F.told self.new.journal.file) }
     {
         changes_come_again();
         let before = self.waiting.len();
@@ -244,69 +242,94 @@ impl<F: StoredFile + Drop> Keeper<F> {
     pub fn commit(&mut self, alloc: Global, served: &ServedTarget) -> Result<(), FileError>
         requires kept { IsCommittedBut self.old.waiting.items served.now.device self.old.journal.gate (F.told self.old.journal.file) }
         ensures none { OnOk result (self.new.waiting.items ≡ []) }
+        ensures counted { self.new.folded ≡ self.old.folded }
         ensures committed { OnOk result (IsKept served.now.device self.new.journal.gate (F.told self.new.journal.file)) }
 
         // A crash at any moment of it leaves the device that was committed before, or the one behind all that was done since.
         ensures any_moment { (before : State) → IsKept before self.old.journal.gate (F.told self.old.journal.file)
-            → LeavesOnly (F.told self.old.journal.file) (F.told self.new.journal.file)
-            (λ c. StandsFor c before ⊎ StandsFor c served.now.device) }
+            → LeavesOnly (F.told self.old.journal.file) (F.told self.new.journal.file) (IsEither before served.now.device) }
 
         // It doesn't give up by itself.
         ensures cause { HasCause (F.told self.old.journal.file) (F.told self.new.journal.file) result }
     {
-        if self.waiting.is_empty() {
-            return Ok(());
-        }
-        let events = mem::replace(&mut self.waiting, Vec::new(alloc));
-        self.journal.append(events)?;
+        commit::<FrameDevice, F>(alloc, &mut self.journal, &mut self.waiting)?;
         Ok(())
     }
 
-    /// Folds the journal where the file has grown by more than [`MOST_JOURNAL`] since it was made, opened or to be folded last; else
-    /// nothing happens. Where there is no room for the new file, the old one is used on.
+    /// Folds the journal where the file has grown by more than [`MOST_JOURNAL`] since it was made, opened or to be folded last, and gives
+    /// what came of that; else nothing happens, and there is `None`. Without room or memory for the new file, the old one is used on, and
+    /// its growth counts from now on.
     ///
     /// # Errors
     ///
-    /// No memory, or the disk's: then the file has to be opened again.
-    pub fn fold_when_due(&mut self, alloc: Global, served: &ServedTarget) -> Result<(), FileError>
+    /// The disk's, or no memory to hand the file over: then the file has to be opened again.
+    pub fn fold_when_due(
+        &mut self,
+        alloc: Global,
+        served: &ServedTarget,
+    ) -> Result<Option<Folding>, FileError>
         requires kept { IsKept served.now.device self.old.journal.gate (F.told self.old.journal.file) }
         ensures same { self.new.waiting ≡ self.old.waiting }
-        ensures idle { self.old.journal.gate - self.old.folded ≤ MOST_JOURNAL → (self.new ≡ self.old) × OnOk result (Unit {0}) }
+        ensures idle { self.old.journal.gate - self.old.folded ≤ MOST_JOURNAL → (self.new ≡ self.old) × (result ≡ Ok None) }
+        ensures due { MOST_JOURNAL < self.old.journal.gate - self.old.folded
+            → IfOk result (λ folding. IsSome folding) }
+        ensures short { OnOk result (self.new.journal.gate - self.new.folded ≤ MOST_JOURNAL) }
+        ensures untried { IfOk result (λ folding. folding ≡ None → self.new ≡ self.old) }
+        ensures tried { IfOk result (λ folding. IsSome folding → self.new.folded ≡ self.new.journal.gate) }
+        ensures in_base { IfOk result (λ folding. folding ≡ Some Folding.Done
+            → IsKeptInBase served.now.device self.new.journal.gate (F.told self.new.journal.file)) }
+        ensures no_room { IfOk result (λ folding. folding ≡ Some Folding.NoRoom
+            → (F.told self.old.journal.file).faults < (F.told self.new.journal.file).faults) }
         ensures kept { OnOk result (IsKept served.now.device self.new.journal.gate (F.told self.new.journal.file)) }
         ensures any_moment { LeavesOnly (F.told self.old.journal.file) (F.told self.new.journal.file) (λ c. StandsFor c served.now.device) }
+
+        // It doesn't give up by itself.
+        ensures cause { HasCause (F.told self.old.journal.file) (F.told self.new.journal.file) result }
     {
         if self.journal.gate.saturating_sub(self.folded) <= MOST_JOURNAL {
-            return Ok(());
+            return Ok(None);
         }
         match self.fold(alloc, served) {
-            Ok(()) | Err(FileError::NoRoom) => Ok(()),
+            Ok(folding) => Ok(Some(folding)),
             Err(error) => Err(error),
         }
     }
 
     /// Puts a new file in the place of the old one, with a base that tells the device as it is, where all that was done is committed, and
-    /// an empty journal. A crash at any moment leaves a file that stands for the same device. Where there is no room for the new file,
-    /// nothing has changed; at another `Err` the file has to be opened again.
+    /// an empty journal. A crash at any moment leaves a file that stands for the same device. Without room for the new file, or memory for
+    /// its base, the old file is used on. At an `Err` the file has to be opened again.
     ///
     /// # Errors
     ///
-    /// No memory, no room, or the disk's.
-    pub fn fold(&mut self, alloc: Global, served: &ServedTarget) -> Result<(), FileError>
+    /// The disk's, or no memory to hand the file over.
+    pub fn fold(&mut self, alloc: Global, served: &ServedTarget) -> Result<Folding, FileError>
         requires kept { IsKept served.now.device self.old.journal.gate (F.told self.old.journal.file) }
         ensures same { self.new.waiting ≡ self.old.waiting }
+        ensures counted { OnOk result (self.new.folded ≡ self.new.journal.gate) }
         ensures kept { OnOk result (IsKept served.now.device self.new.journal.gate (F.told self.new.journal.file)) }
-        ensures in_base { OnOk result (IsKeptInBase served.now.device self.new.journal.gate (F.told self.new.journal.file)) }
-        ensures no_room { IsErrOf result NoRoom → IsKept served.now.device self.new.journal.gate (F.told self.new.journal.file) }
+        ensures in_base { IfOk result (λ folding. folding ≡ Folding.Done
+            → IsKeptInBase served.now.device self.new.journal.gate (F.told self.new.journal.file)) }
         ensures any_moment { LeavesOnly (F.told self.old.journal.file) (F.told self.new.journal.file) (λ c. StandsFor c served.now.device) }
 
         // It doesn't give up by itself.
         ensures cause { HasCause (F.told self.old.journal.file) (F.told self.new.journal.file) result }
+        ensures no_room { IfOk result (λ folding. folding ≡ Folding.NoRoom
+            → (F.told self.old.journal.file).faults < (F.told self.new.journal.file).faults) }
     {
-        let base = base_of(alloc, served.device())?;
         self.folded = self.journal.gate;
-        self.journal.gate = put_base::<FrameDevice, F>(base, &mut self.journal.file)?;
-        self.folded = self.journal.gate;
-        Ok(())
+        let Ok(base) = base_of(alloc, served.device()) else {
+            return Ok(Folding::NoMemory);
+        };
+        match put_base::<FrameDevice, F>(base, &mut self.journal.file) {
+            Ok(gate) => {
+                self.journal.gate = gate;
+                self.folded = gate;
+                Ok(Folding::Done)
+            }
+            Err(FileError::NoRoom) => Ok(Folding::NoRoom),
+            Err(FileError::Memory) => Err(FileError::Memory),
+            Err(FileError::Failed) => Err(FileError::Failed),
+        }
     }
 
     /// Is all committed that was done with the target?

@@ -17,7 +17,7 @@ use Rattle.tcp_library.specs.declared.kind.Kind.TheVariants as kind
 use Rattle.tcp_library.specs.Sessions.{Commits, FoldsTo, GoesOn, IsNamed, MaySend, TakesDone, TakesFailed, waiting_calls}
 use Rattle.tcp_library.specs.Sessions as session
 use Rattle.tcp_library.specs.declared.session.Folding.{Folding}
-use Rattle.tcp_library.specs.declared.session.Folding.TheVariants.{NotDone, Done, NoRoom, Failed}
+use Rattle.tcp_library.specs.declared.session.Folding.TheVariants.{NotDone, Done, NoRoom, NoMemory, Failed}
 use Rattle.tcp_library.specs.declared.session.Session.{Session}
 
 -- what goes with a kind: the number of a connection; of bytes, or of milliseconds; and bytes that came. What it doesn't speak of is 0, or
@@ -123,6 +123,7 @@ abbrev pub folding_number : Folding → ℕ
 folding_number NotDone = 0
 folding_number Done = 1
 folding_number NoRoom = 2
+folding_number NoMemory = 3
 folding_number Failed = 0
 
 -- the journal is folded, or not
@@ -145,7 +146,7 @@ call_kind (Renew «at» bytes) = 1
 call_kind (Shorten len) = 2
 call_kind Sync = 3
 call_kind (Replace bytes) = 4
-call_kind (Want len) = 5
+call_kind (Want bytes) = 5
 
 abbrev pub call_place : FileCall → ℕ
 call_place (Write «at» bytes) = «at»
@@ -153,7 +154,7 @@ call_place (Renew «at» bytes) = «at»
 call_place (Shorten len) = len
 call_place Sync = 0
 call_place (Replace bytes) = 0
-call_place (Want len) = len
+call_place (Want bytes) = 0
 
 abbrev pub call_bytes : FileCall → List ℕ
 call_bytes (Write «at» bytes) = bytes.items
@@ -161,7 +162,7 @@ call_bytes (Renew «at» bytes) = bytes.items
 call_bytes (Shorten len) = []
 call_bytes Sync = []
 call_bytes (Replace bytes) = bytes.items
-call_bytes (Want len) = []
+call_bytes (Want bytes) = bytes.items
 
 -- the call that C is to make next: none where all are done, or the file has to be opened again
 abbrev pub next_of : Bool → List FileCall → Option FileCall

@@ -1,22 +1,24 @@
 -- A target that C serves, whose device is kept in a file or is in memory alone.
-use Rattle.std.specs.Prelude.{ℕ, ◌≡◌, ◌⊎◌, Bool, true, false, List, [], ◌∷◌, is_some, Option, Some, None}
+use Rattle.std.specs.Prelude.{ℕ, ◌≡◌, ◌⊎◌, ◌<◌, ◌≤◌, ◌-◌, Bool, true, false, List, [], ◌∷◌, is_some, Option, Some, None}
 use Rattle.stored_file.specs.File.{FileState, LeavesOnly}
 use Rattle.handed_file.specs.Handed.{made_calls, noted, told_of, waiting}
 use Rattle.handed_file.specs.Handing.{done_call}
 use Rattle.handed_file.specs.declared.handed_file.FileCall.{FileCall}
 use Rattle.handed_file.specs.declared.handed_file.HandedFile.{HandedFile}
 use Rattle.device_meaning.specs.State.{State}
-use Rattle.durable_device.specs.Kept.{IsKept, IsKeptInBase, StandsFor}
+use Rattle.durable_device.specs.Kept.{IsCommittedBut, IsKept, IsKeptInBase, StandsFor}
+use Rattle.durable_device.specs.declared.durable_device.Folding as fold
+use Rattle.durable_device.specs.declared.durable_device.Folding.TheVariants as came
+use Rattle.durable_device.specs.declared.durable_device.TheConstants.{MOST_JOURNAL}
 use Rattle.tcp_device.specs.Deeds.{Deed}
 use Rattle.tcp_device.specs.Deeds as deed
 use Rattle.tcp_device.specs.State.{with_target}
 use Rattle.tcp_admin.specs.Identity.{IsNamedBy}
 use Rattle.tcp_admin.specs.declared.subsystem.Subsystem.{Subsystem}
 use Rattle.tcp_durable.specs.Resuming.{Resumes}
-use Rattle.tcp_durable.specs.Waiting.{IsCommittedBut}
 use Rattle.tcp_durable.specs.declared.keeper.Keeper.{Keeper}
 use Rattle.tcp_library.specs.declared.session.Folding.{Folding}
-use Rattle.tcp_library.specs.declared.session.Folding.TheVariants.{NotDone, Done, NoRoom, Failed}
+use Rattle.tcp_library.specs.declared.session.Folding.TheVariants.{NotDone, Done, NoRoom, NoMemory, Failed}
 use Rattle.tcp_library.specs.declared.session.Session.{Session}
 
 -- ---- the file
@@ -121,10 +123,23 @@ pub record HasNone (old new : Session) (answer : Bool) : Type 0 where
 abbrev pub GoesOn : ℕ → Session → Session → Bool → Type 0
 GoesOn run old new answer = HasResumed run old new answer ⊎ HasNone old new answer ⊎ GivesUp old new answer
 
+-- this came of a fold: the base alone stands for the device, C is told that the new file has no room, or memory was wanting
+abbrev pub CameOf : fold.Folding → Keeper HandedFile → Keeper HandedFile → State → Type 0
+CameOf came.Done old new device = IsKeptInBase device new.journal.gate (promised new)
+CameOf came.NoRoom old new device = (promised old).faults < (promised new).faults
+CameOf came.NoMemory old new device = Unit {0}
+
+-- the journal isn't to be folded: it has grown by no more than that since its growth counts, which is as before, or from a fold on that
+-- was tried now
+pub record IsNotDue (old new : Keeper HandedFile) (device : State) : Type 0 where
+  pub short : new.journal.gate - new.folded ≤ MOST_JOURNAL
+  pub counts : (new.folded ≡ old.folded) ⊎ ((new.folded ≡ new.journal.gate) × ((folding : fold.Folding) × CameOf folding old new device))
+
 -- While C makes the calls for a commit, a crash leaves the device that was committed before or the one that there is now. Once it has
--- made them, this one is kept
+-- made them, this one is kept, and its journal isn't to be folded
 pub record IsCommitted (old new : Keeper HandedFile) (device : State) : Type 0 where
   pub kept : IsKept device new.journal.gate (promised new)
+  pub not_due : IsNotDue old new device
   pub moments : (before : State) → IsKept before old.journal.gate (promised old)
       → LeavesOnly (promised old) (promised new) (λ c. StandsFor c before ⊎ StandsFor c device)
 
@@ -155,7 +170,7 @@ FoldsBy (Some old) (Some new) device = IsFoldedTo old new device
 FoldsBy None (Some new) device = ⊥
 FoldsBy (Some old) None device = ⊥
 
--- it is folded, or kept as it was for want of room, and nothing else happens
+-- it is folded, or kept as it was for want of room or memory, and nothing else happens
 pub record HasFolded (old new : Session) : Type 0 where
   pub folds : FoldsBy old.keeper new.keeper old.served.device
   pub usable : old.failed ≡ false
@@ -176,6 +191,7 @@ abbrev pub FoldsTo : Session → Session → Folding → Type 0
 FoldsTo old new NotDone = new ≡ old
 FoldsTo old new Done = HasFolded old new × IsInBase new.keeper new.served.device
 FoldsTo old new NoRoom = HasFolded old new
+FoldsTo old new NoMemory = HasFolded old new
 FoldsTo old new Failed = FailsToFold old new
 
 -- the next call is noted as done, and it was answered so before

@@ -182,7 +182,7 @@ fn resume(session: &mut Session, number: usize) -> bool
 }
 
 /// Folds the journal into a new file of at most so many bytes: 1 where it is done, once C has made the calls for it, 2 where it would be
-/// longer; 0 where there is none, or the file has to be opened again.
+/// longer, 3 where memory is wanting for it; 0 where there is none, or the file has to be opened again.
 fn fold(session: &mut Session, alloc: Global, room: usize) -> usize
     requires { WillBeKept session.old }
     ensures folds { Folds session.old session.new result }
@@ -192,6 +192,7 @@ fn fold(session: &mut Session, alloc: Global, room: usize) -> usize
         Folding::NotDone | Folding::Failed => 0,
         Folding::Done => 1,
         Folding::NoRoom => 2,
+        Folding::NoMemory => 3,
     }
 }
 
@@ -209,18 +210,18 @@ fn kind_of_next(session: &Session) -> usize
     }
 }
 
-/// At which offset, to which length, or how many bytes a new file would have.
+/// At which offset, or to which length.
 fn place_of_next(session: &Session) -> usize
     ensures { result ≡ of_next call_place session.now.failed (waiting_calls session.now) }
 {
     match session.next() {
         Some(FileCall::Write { at, .. } | FileCall::Renew { at, .. }) => *at,
-        Some(FileCall::Shorten { len } | FileCall::Want { len }) => *len,
-        Some(FileCall::Sync | FileCall::Replace { .. }) | None => 0,
+        Some(FileCall::Shorten { len }) => *len,
+        Some(FileCall::Sync | FileCall::Replace { .. } | FileCall::Want { .. }) | None => 0,
     }
 }
 
-/// The bytes that are written by it.
+/// The bytes that are written by it, or are those of the new file that wants room.
 fn bytes_of_next(session: &Session) -> &[u8]
     ensures { result.now ≡ next_bytes session.now.failed (waiting_calls session.now) }
 {
@@ -228,9 +229,10 @@ fn bytes_of_next(session: &Session) -> &[u8]
         Some(
             FileCall::Write { bytes, .. }
             | FileCall::Renew { bytes, .. }
-            | FileCall::Replace { bytes },
+            | FileCall::Replace { bytes }
+            | FileCall::Want { bytes },
         ) => bytes.as_slice(),
-        Some(FileCall::Shorten { .. } | FileCall::Sync | FileCall::Want { .. }) | None => &[],
+        Some(FileCall::Shorten { .. } | FileCall::Sync) | None => &[],
     }
 }
 

@@ -35,7 +35,7 @@ pub enum Kind {
     Resume,
     /// Which call for the file C is to make next.
     Next,
-    /// At which offset, to which length, or how many bytes a new file would have.
+    /// At which offset, or to which length.
     Place,
     /// Of how many bytes.
     Size,

@@ -1,9 +1,8 @@
 //! A target that C serves.
 
-ghost use Rattle.std.specs.Prelude.{◌≡◌, ◌⊎◌, ◌<◌, [], false, true, None, Some, IfSome, IsErrOf, IsNone, IsTrue, OnOk, is_some};
-ghost use Rattle.stored_file.specs.declared.stored_file.FileError.TheVariants.{NoRoom};
-ghost use Rattle.durable_device.specs.Kept.{IsKept, IsKeptInBase};
-ghost use Rattle.tcp_durable.specs.Waiting.{IsCommittedBut};
+ghost use Rattle.std.specs.Prelude.{◌≡◌, ◌⊎◌, ◌<◌, [], false, true, None, Some, IfOk, IfSome, IsNone, IsTrue, OnOk, is_some};
+ghost use Rattle.durable_device.specs.declared.durable_device.Folding.TheVariants.{Done};
+ghost use Rattle.durable_device.specs.Kept.{IsCommittedBut, IsKept, IsKeptInBase};
 ghost use Rattle.tcp_library.specs.Sessions.{IsCommitted, IsFoldedTo, promised};
 ghost use Rattle.tcp_device.specs.Deeds.{Served, Turned};
 ghost use Rattle.tcp_device.specs.Served.{next_run};
@@ -148,9 +147,10 @@ impl Session {
         match &mut self.keeper {
             Some(keeper) if !self.failed && keeper.is_committed(&self.served) => {
                 match fold(keeper, alloc, &self.served, room) {
-                    Ok(()) => Folding::Done,
-                    Err(FileError::NoRoom) => Folding::NoRoom,
-                    Err(FileError::Memory | FileError::Failed) => {
+                    Ok(durable_device::Folding::Done) => Folding::Done,
+                    Ok(durable_device::Folding::NoRoom) => Folding::NoRoom,
+                    Ok(durable_device::Folding::NoMemory) => Folding::NoMemory,
+                    Err(_) => {
                         self.failed = true;
                         Folding::Failed
                     }
@@ -224,8 +224,10 @@ pub enum Folding {
     NotDone,
     /// It is folded, once C has made the calls.
     Done,
-    /// The new file would be longer than C has room for: it is handed how long that is, and the journal is used on.
+    /// The new file would be longer than C has room for: C is handed its bytes, and the journal is used on.
     NoRoom,
+    /// Memory is wanting for the new file: the journal is used on.
+    NoMemory,
     /// The file has to be opened again.
     Failed,
 }
@@ -241,7 +243,8 @@ fn commit(
     ensures waiting { OnOk result (keeper.new.waiting.items ≡ []) }
 {
     keeper.commit(alloc, served)?;
-    keeper.fold_when_due(alloc, served)
+    keeper.fold_when_due(alloc, served)?;
+    Ok(())
 }
 
 /// Folds the journal into a new file of at most so many bytes.
@@ -250,11 +253,11 @@ fn fold(
     alloc: Global,
     served: &ServedTarget,
     room: usize,
-) -> Result<(), FileError>
+) -> Result<durable_device::Folding, FileError>
     requires { IsKept served.now.device keeper.old.journal.gate (promised keeper.old) }
     ensures folded { OnOk result (IsFoldedTo keeper.old keeper.new served.now.device) }
-    ensures in_base { OnOk result (IsKeptInBase served.now.device keeper.new.journal.gate (promised keeper.new)) }
-    ensures no_room { IsErrOf result NoRoom → IsFoldedTo keeper.old keeper.new served.now.device }
+    ensures in_base { IfOk result (λ folding. folding ≡ Done
+        → IsKeptInBase served.now.device keeper.new.journal.gate (promised keeper.new)) }
     ensures waiting { keeper.new.waiting ≡ keeper.old.waiting }
 {
     keeper.journal.file.grant(room);

@@ -1,9 +1,11 @@
 -- What the user is told of a file that isn't opened, and of a server that stops.
-use Rattle.std.specs.Prelude.{◌≡◌, List, ℕ}
+use Rattle.std.specs.Prelude.{◌≡◌, List, ℕ, Result, Ok, Err}
 use Rattle.stored_file.specs.declared.stored_file.FileError.{FileError}
 use Rattle.stored_file.specs.declared.stored_file.FileError.TheVariants.{Memory, NoRoom, Failed}
 use Rattle.durable_machine.specs.declared.fault.Fault.{Fault}
 use Rattle.durable_machine.specs.declared.fault.Fault.TheVariants.{Unreadable, Damaged, Undone, OfFile}
+use Rattle.durable_device.specs.declared.durable_device.Folding.{Folding}
+use Rattle.durable_device.specs.declared.durable_device.Folding.TheVariants as folding
 use Rattle.command_files.specs.declared.file_cause.FileCause.TheVariants as cause
 use Rattle.command_files.specs.declared.failure.Failure.{Failure}
 use Rattle.command_files.specs.declared.journal_fault.JournalFault.{JournalFault}
@@ -16,6 +18,13 @@ TellsError Memory path NoMemory = Unit {0}
 TellsError NoRoom path (CannotWrite name why) = (name.now ≡ path) × (why ≡ cause.NoRoom)
 TellsError Failed path (CannotWrite name cause) = name.now ≡ path
 TellsError error path _ = ⊥
+
+-- a journal that isn't folded
+abbrev pub TellsUnfolded : Result Folding FileError → List ℕ → Failure → Type 0
+TellsUnfolded (Ok folding.NoRoom) path (CannotWrite name why) = (name.now ≡ path) × (why ≡ cause.NoNewFile)
+TellsUnfolded (Ok folding.NoMemory) path NoMemory = Unit {0}
+TellsUnfolded (Ok came) path _ = ⊥
+TellsUnfolded (Err error) path failure = TellsError error path failure
 
 -- a file that can't be read, or is no image
 abbrev pub TellsUnread : List ℕ → Failure → Type 0

@@ -30,7 +30,7 @@ abbrev pub FailsAt : Bool → List ℕ → ℕ → LinesFault → State → Stat
 FailsAt drains line number (fault.Line told fault) old new before after =
     (told ≡ number) × (line_told line ≡ None) × DoesNothing old new before after
 FailsAt drains line number fault.Write old new before after = BeginsLine drains line old new
-FailsAt drains line number fault.Read old new before after = DoesNothing old new before after
+FailsAt drains line number fault.Read old new before after = ⊥
 FailsAt drains line number fault.Memory old new before after = DoesNothing old new before after
 
 -- the events of a text were done, in front of which so many lines stand, and in front of what follows it so many

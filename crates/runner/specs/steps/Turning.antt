@@ -1,5 +1,5 @@
 -- What a turn does to a run as a device keeps it.
-use Rattle.std.specs.Prelude.{ℕ, ◌≡◌, ◌+◌, ◌≤◌, true, List, [], ◌∷◌, length, get_or, set, Option, Some, None, IfSome, IsSomeAnd}
+use Rattle.std.specs.Prelude.{ℕ, ◌≡◌, ◌==◌, ◌+◌, ◌≤◌, true, cond, List, [], ◌∷◌, length, get_or, set, Option, Some, None, IfSome, IsSomeAnd}
 use Rattle.zone_state.specs.State.{is_open}
 use Rattle.instruction_set.specs.declared.instruction.Instruction.{Instruction}
 use Rattle.program_meaning.specs.BlockRun.{BlockRun}
@@ -98,21 +98,28 @@ module _ {D : Type 0} {domain : Ghosts D} where
   steps_by ns None a = 0
   steps_by ns (Some p) a = (next_block_run ns (program_of p.prepared) (sizes_of p.prepared).limit (active_of a)).steps
 
-  -- the steps of a turn of the run at a place, if one is there
-  abbrev pub steps_of_turn : ZonedNamespace → List (Option (LoadedProgram D domain)) → Option ActiveRun → ℕ
-  steps_of_turn ns slots None = 0
-  steps_of_turn ns slots (Some a) = steps_by ns (get_or slots a.command.slot None) a
+  -- by how many steps a turn of the run at a place raises the count of a slot's program: by those of its block run where that is
+  -- the run's program, and else by none
+  abbrev pub steps_of_turn : ZonedNamespace → List (Option (LoadedProgram D domain)) → Option ActiveRun → ℕ → ℕ
+  steps_of_turn ns slots None slot = 0
+  steps_of_turn ns slots (Some a) slot = cond (a.command.slot == slot) (steps_by ns (get_or slots slot None) a) 0
+
+  -- the steps that the program in a slot has taken, if one is there
+  abbrev pub steps_in : Option (LoadedProgram D domain) → ℕ
+  steps_in None = 0
+  steps_in (Some p) = p.count.steps
 
   -- a run that fits, with the program of its slot
   abbrev pub FitsIn : ZonedNamespace → Option (LoadedProgram D domain) → ActiveRun → Type 0
   FitsIn ns slot a = IsSomeAnd slot (λ p. IsForBlocks ns p × FitsOn ns (program_of p.prepared) (sizes_of p.prepared).limit a)
 
-  -- a turn of a run, by the program of a slot, which has the scratch bytes as its result once the run has ended
+  -- a turn of a run, by the program of a slot, which has the scratch bytes as its result once the run has ended; of that program
+  -- nothing else changes but the count of its steps
   abbrev pub SlotTurned : ZonedNamespace → ZonedNamespace → Option (LoadedProgram D domain) → Option (LoadedProgram D domain) → ActiveRun → ActiveRun → Option Answer → Type 0
   SlotTurned old new (Some p) (Some q) a b None =
-      (q ≡ p) × TurnGoesOn old new (program_of p.prepared) (sizes_of p.prepared).limit a b × Keeps a b × FitsNamespace new b
+      (q ≡ record p { count = q.count }) × TurnGoesOn old new (program_of p.prepared) (sizes_of p.prepared).limit a b × Keeps a b × FitsNamespace new b
   SlotTurned old new (Some p) (Some q) a b (Some answer) =
-      (q ≡ record p { result = b.scratch }) × HasEnded old new (program_of p.prepared) (sizes_of p.prepared).limit a b answer × Keeps a b
+      (q ≡ record p { count = q.count; result = b.scratch }) × HasEnded old new (program_of p.prepared) (sizes_of p.prepared).limit a b answer × Keeps a b
   SlotTurned old new _ _ a b answer = ⊥
 
   -- a place at which no run is, or one that fits

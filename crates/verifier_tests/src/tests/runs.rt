@@ -39,6 +39,7 @@ fn context_of(size: BlockSize, index: u32, count: u32) -> [u8; CONTEXT_BYTES] {
 fn compare_on(
     rt: &impl Abort,
     prepared: &Prepared<Verified<Intervals>>,
+    count: &mut StepCount,
     block: &[u8],
     context: &[u8; CONTEXT_BYTES],
     scratch: &mut [u8; SCRATCH_BYTES],
@@ -61,7 +62,7 @@ fn compare_on(
         other_scratch,
         other_stack,
         &mut other_group,
-        &mut StepCount::new(),
+        count,
     );
     assert_eq!(rt; end, End::Exit { r0: exit.r0 });
     assert_eq!(rt; machine.steps(), exit.steps);
@@ -77,17 +78,18 @@ fn with_every_check_and_over_superinstructions(rt: HostRuntime) -> Result<(), Fa
     let sizes = sizes(512, 10)?;
     for (text, firsts) in SCENES {
         let verified = verify::<Intervals>(alloc, program(alloc, text)?, sizes)?;
-        let prepared = Prepared::new(alloc, verified)?;
+        let (prepared, mut count) = Prepared::new(alloc, verified)?;
         let (mut scratch, mut other_scratch) = ([0; SCRATCH_BYTES], [0; SCRATCH_BYTES]);
         let mut stack = Stack::new();
-        let count = u32::try_from(firsts.len())?;
-        for (index, first) in (0..count).zip(*firsts) {
+        let blocks = u32::try_from(firsts.len())?;
+        for (index, first) in (0..blocks).zip(*firsts) {
             let mut block = [0; 512];
             block[0] = *first;
-            let context = context_of(sizes.block(), index, count);
+            let context = context_of(sizes.block(), index, blocks);
             compare_on(
                 &rt,
                 &prepared,
+                &mut count,
                 &block,
                 &context,
                 &mut scratch,
@@ -102,7 +104,7 @@ fn with_every_check_and_over_superinstructions(rt: HostRuntime) -> Result<(), Fa
 #[test]
 fn a_record_as_long_as_the_block_says(rt: HostRuntime) -> Result<(), Fail> {
     let verified = verify::<Intervals>(rt.alloc(), program(rt.alloc(), GROWING)?, sizes(512, 10)?)?;
-    let prepared = Prepared::new(rt.alloc(), verified)?;
+    let (prepared, mut count) = Prepared::new(rt.alloc(), verified)?;
     let mut block = [0; 512];
     block[0] = 3;
     let (context, mut scratch) = ([0; CONTEXT_BYTES], [0; SCRATCH_BYTES]);
@@ -111,7 +113,7 @@ fn a_record_as_long_as_the_block_says(rt: HostRuntime) -> Result<(), Fail> {
     let exit = prepared.run(
         &mut Machine::new(&block, &context, &mut scratch, &mut stack),
         &mut group,
-        &mut StepCount::new(),
+        &mut count,
     );
     assert_eq!(rt;
         (exit.r0, exit.steps, exit.group_length, exit.frames),

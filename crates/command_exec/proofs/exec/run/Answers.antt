@@ -15,12 +15,12 @@ pub returns-in-Ok-clause-saved : goal.returns-in-Ok-clause-saved
 returns-in-Ok-clause-saved g c =
     let contents = g.O.Write.contents in
     let writer = c.into_writer-out.ensures.same_writer ∙ ap (λ (lines : Lines _). lines.out.ghost_name) c.into_out-lines.ensures
-    ∙ c.serve_and_drain-done.ensures.same_writer ∙ ap (λ (lines : Lines _). lines.out.ghost_name) c.new-watched.ensures.out ∙ c.in_ok-lines.ensures.same_writer.0 in
+    ∙ c.serve_and_drain-done.ensures.same_writer ∙ ap (λ (lines : Lines _). lines.out.ghost_name) c.new-watched.ensures.out ∙ c.over.ensures.same_writer.0 in
     saves_all (judge_by g.D.Domain.operations) (around g.F.Files g.F.Reader.Source.tells g.F.Writer.Sink.tells c.args.files.now c.save_changes.new.files) c.args.events.now c.args.device.now.namespace c.image.result.now c.args.path.now
     c.serve_and_drain-done.new.device c.in_ok-save_changes.ensures.saved c.image.ensures.value _ _
     (prints_all (judge_by g.D.Domain.operations) c.args.events.now c.args.device.now.namespace c.args.device.now c.serve_and_drain-done.new.device
     (contents c.new-watched.result.out.out.now) _ (contents c.serve_and_drain-done.new.lines.out.out.now) _ c.requires.new
-    (ap (λ (lines : Lines _). contents lines.out.now) c.new-watched.ensures.out ∙ ap contents c.in_ok-lines.ensures.same_writer.1)
+    (ap (λ (lines : Lines _). contents lines.out.now) c.new-watched.ensures.out ∙ ap contents c.over.ensures.same_writer.1)
     (ap (λ (lines : Lines _). contents lines.out.now) (sym c.into_out-lines.ensures) ∙ ap contents (sym c.into_writer-out.ensures.value ∙ search rules)) c.in-Ok.ensures.done)
 
 pub returns-clause-stopped : goal.returns-clause-stopped
@@ -72,10 +72,10 @@ returns-in_err-save_changes-clause-unsaved g c =
     let contents = g.O.Write.contents in
     let p = err_from_is_err_and c.from_residual-in_err-save_changes.result c.from_residual-in_err-save_changes.ensures.1 in
     let writer = c.into_writer-out.ensures.same_writer ∙ ap (λ (lines : Lines _). lines.out.ghost_name) c.into_out-lines.ensures
-    ∙ c.serve_and_drain-done.ensures.same_writer ∙ ap (λ (lines : Lines _). lines.out.ghost_name) c.new-watched.ensures.out ∙ c.in_ok-lines.ensures.same_writer.0 in
+    ∙ c.serve_and_drain-done.ensures.same_writer ∙ ap (λ (lines : Lines _). lines.out.ghost_name) c.new-watched.ensures.out ∙ c.over.ensures.same_writer.0 in
     rw (p.1, p.2) (leaves_of_saving _ c.in_err-save_changes.field-0.0
     (done_unsaved (judge_by g.D.Domain.operations) c.serve_and_drain-done.result c.args.events.now c.args.device.now.namespace c.args.device.now c.serve_and_drain-done.new.device
     (contents c.new-watched.result.out.out.now) _ (contents c.serve_and_drain-done.new.lines.out.out.now) _ c.requires.new
-    (ap (λ (lines : Lines _). contents lines.out.now) c.new-watched.ensures.out ∙ ap contents c.in_ok-lines.ensures.same_writer.1)
+    (ap (λ (lines : Lines _). contents lines.out.now) c.new-watched.ensures.out ∙ ap contents c.over.ensures.same_writer.1)
     (ap (λ (lines : Lines _). contents lines.out.now) (sym c.into_out-lines.ensures) ∙ ap contents (sym c.into_writer-out.ensures.value ∙ search rules))
     c.serve_and_drain-done.ensures.done c.serve_and_drain-done.ensures.stopped))

@@ -15,15 +15,15 @@ returns-in_err-save_changes-clause-stopped g c =
     let unread = g.I.Read.remaining c.args.input.now in
     let left = g.I.Read.remaining c.serve_and_drain-done.new.input in
     let before = contents c.args.out.now in
-    let writer = c.into_writer-out.ensures.same_writer ∙ c.serve_and_drain-done.ensures.same_writer ∙ c.in_ok-lines.ensures.same_writer.0 in
-    let same : c.into_writer-out.result.now ≡ c.out-2-1.given.0 = search rules in
-    let after = contents c.out-2-1.given.0 in
+    let writer = c.into_writer-out.ensures.same_writer ∙ c.serve_and_drain-done.ensures.same_writer ∙ c.over-lines.ensures.same_writer.0 in
+    let same : c.into_writer-out.result.now ≡ c.out-1.given.0 = sym (c.out-1.given.1 (sym writer)) in
+    let after = contents c.out-1.given.0 in
     rw (p.1, p.2) (unheld_by_line (λ failure. ⊥) (ServesFirstLines here c.args.device.now.namespace c.args.path.now c.args.drains unread before after)
-    (ServesLinesUnsaved here c.args.device.now.namespace c.args.drains unread before after) (IsSilent unread left before after) (IsUnmade here unread left)
+    (ServesLinesUnsaved here c.args.device.now.namespace c.args.drains unread before after) (IsSilent unread left before after) (IsUnmade here unread left before after)
     c.args.path c.in_err-save_changes.field-0.0 c.in_err-save_changes.ensures.failed
     (lines_unsaved here c.args.device.now.namespace c.args.drains unread
-    (contents c.in_ok-lines.lines.out.now) before (contents c.serve_and_drain-done.new.lines.out.now) after
-    c.args.device.now c.serve_and_drain-done.new.device c.requires.new (ap contents c.in_ok-lines.ensures.same_writer.1)
+    (contents c.over-lines.result.out.now) before (contents c.serve_and_drain-done.new.lines.out.now) after
+    c.args.device.now c.serve_and_drain-done.new.device c.requires.new (ap contents c.over-lines.ensures.same_writer.1)
     (ap contents (sym c.into_writer-out.ensures.value ∙ same)) c.in_err-save_changes.ensures.kept
     c.serve_and_drain-done.result c.serve_and_drain-done.ensures.done c.serve_and_drain-done.ensures.stopped))
 
@@ -35,11 +35,11 @@ returns-in_err-save_changes-clause-changes g c =
 pub returns-in-Ok-clause-served : goal.returns-in-Ok-clause-served
 returns-in-Ok-clause-served g c =
     let contents = g.O.Write.contents in
-    let writer = c.into_writer-out.ensures.same_writer ∙ c.serve_and_drain-done.ensures.same_writer ∙ c.in_ok-lines.ensures.same_writer.0 in
+    let writer = c.into_writer-out.ensures.same_writer ∙ c.serve_and_drain-done.ensures.same_writer ∙ c.over-lines.ensures.same_writer.0 in
     saves_lines (around g.F.Files g.F.Reader.Source.tells g.F.Writer.Sink.tells c.args.files.now c.save_changes.new.files) c.args.device.now.namespace c.image.result.now
     c.args.path.now c.args.drains (g.I.Read.remaining c.args.input.now)
-    (contents c.in_ok-lines.lines.out.now) (contents c.args.out.now) (contents c.serve_and_drain-done.new.lines.out.now) _
-    c.args.device.now c.serve_and_drain-done.new.device c.requires.new c.image.ensures.value (ap contents c.in_ok-lines.ensures.same_writer.1)
+    (contents c.over-lines.result.out.now) (contents c.args.out.now) (contents c.serve_and_drain-done.new.lines.out.now) _
+    c.args.device.now c.serve_and_drain-done.new.device c.requires.new c.image.ensures.value (ap contents c.over-lines.ensures.same_writer.1)
     c.in_ok-save_changes.ensures.saved (ap contents (sym c.into_writer-out.ensures.value ∙ search rules)) c.in-Ok.ensures.done
 
 pub returns-in-Ok-clause-changes : goal.returns-in-Ok-clause-changes
@@ -54,15 +54,15 @@ returns-clause-stopped g c =
     let unread = g.I.Read.remaining c.args.input.now in
     let left = g.I.Read.remaining c.serve_and_drain-done.new.input in
     let before = contents c.args.out.now in
-    let writer = c.into_writer-out.ensures.same_writer ∙ c.serve_and_drain-done.ensures.same_writer ∙ c.in_ok-lines.ensures.same_writer.0 in
-    let same : c.into_writer-out.result.now ≡ c.out-2-1.given.0 = search rules in
-    let after = contents c.out-2-1.given.0 in
+    let writer = c.into_writer-out.ensures.same_writer ∙ c.serve_and_drain-done.ensures.same_writer ∙ c.over-lines.ensures.same_writer.0 in
+    let same : c.into_writer-out.result.now ≡ c.out-1.given.0 = sym (c.out-1.given.1 (sym writer)) in
+    let after = contents c.out-1.given.0 in
     lines_stopped_by (λ failure. ⊥) (ServesFirstLines here c.args.device.now.namespace c.args.path.now c.args.drains unread before after)
-    (ServesLinesUnsaved here c.args.device.now.namespace c.args.drains unread before after) (IsSilent unread left before after) (IsUnmade here unread left)
+    (ServesLinesUnsaved here c.args.device.now.namespace c.args.drains unread before after) (IsSilent unread left before after) (IsUnmade here unread left before after)
     c.args.path.now c.in-Err.fault c.failure_of.result c.failure_of.ensures
     (saves_first_lines here c.args.device.now.namespace c.image.result.now c.args.path.now c.args.drains unread
-    (contents c.in_ok-lines.lines.out.now) before (contents c.serve_and_drain-done.new.lines.out.now) after
-    c.args.device.now c.serve_and_drain-done.new.device c.requires.new c.image.ensures.value (ap contents c.in_ok-lines.ensures.same_writer.1)
+    (contents c.over-lines.result.out.now) before (contents c.serve_and_drain-done.new.lines.out.now) after
+    c.args.device.now c.serve_and_drain-done.new.device c.requires.new c.image.ensures.value (ap contents c.over-lines.ensures.same_writer.1)
     c.in_ok-save_changes.ensures.saved c.in-Err.fault (ap contents (sym c.into_writer-out.ensures.value ∙ same)) c.in-Err.ensures.stopped)
 
 pub returns-clause-changes : goal.returns-clause-changes

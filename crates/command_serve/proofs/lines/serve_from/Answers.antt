@@ -18,13 +18,13 @@ returns-in_err-device-clause-stopped g c =
     let written = g.O.Write.contents c.args.out.now in
     let here = around g.F.Files g.F.Reader.Source.tells g.F.Writer.Sink.tells c.args.files.now c.load_to_replace.new.files in
     let silent : IsSilent unread unread written written = (refl, refl) in
-    let unmade : IsUnmade here unread unread = (refl, c.load_to_replace.ensures.made) in
+    let unmade : IsUnmade here unread unread written written = (silent, c.load_to_replace.ensures.made) in
     let stops = StopsByLine here c.args.matches.now c.args.drains unread written written in
     let isnt = IsntSavedByLine here c.args.matches.now c.args.drains unread written written in
     rw (p.1, p.2) (lines_at_image g.F.Reader.Source.tells (g.F.Files.contents c.args.files.now) stops isnt (IsSilent unread unread written written)
-    (IsUnmade here unread unread) c.required-path.result.now (image_of c.args.matches.now)
+    (IsUnmade here unread unread written written) c.required-path.result.now (image_of c.args.matches.now)
     c.in_err-device.field-0.0 c.required-path.ensures
-    (unloaded_by_line stops isnt (IsSilent unread unread written written) (IsUnmade here unread unread) g.F.Reader.Source.tells (g.F.Files.contents c.args.files.now c.required-path.result.now) c.required-path.result.now
+    (unloaded_by_line stops isnt (IsSilent unread unread written written) (IsUnmade here unread unread written written) g.F.Reader.Source.tells (g.F.Files.contents c.args.files.now c.required-path.result.now) c.required-path.result.now
     c.in_err-device.field-0.0 c.in_err-device.ensures.failed silent unmade))
 
 pub returns-in_err-device-clause-changes : goal.returns-in_err-device-clause-changes

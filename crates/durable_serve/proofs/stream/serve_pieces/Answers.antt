@@ -29,7 +29,7 @@ loop-preserved g c = record {
       c.fold_when_due.ensures.same c.fold_when_due.ensures.any_moment;
   still = c.in_ok-serve_piece.ensures.still;
   partial = c.in_ok-serve_piece.ensures.partial;
-  kept = c.in_ok-folded.ensures.kept;
+  kept = c.in_ok-fold_when_due.ensures.kept;
   faults = omega (arith, c.loop.invariant.faults, c.serve_piece.ensures.cause.later, c.fold_when_due.ensures.cause.later);
 }
 
@@ -74,9 +74,9 @@ returns-in_err-serve_piece-clause-stopped g c =
     (g.F.StoredFile.told c.serve_piece.new.device.store.journal.file) c.in_err-serve_piece.field-0.0 c.in_ok-count.ensures.bytes
     (c.in_err-serve_piece.ensures.stopped (g.R.Read.remaining c.read.new.reader)))
 
-pub returns-in_err-folded-clause-stopped : goal.returns-in_err-folded-clause-stopped
-returns-in_err-folded-clause-stopped g c =
-    let p = err_from_is_err_and c.from_residual-in_err-folded.result c.from_residual-in_err-folded.ensures.1 in
+pub returns-in_err-fold_when_due-clause-stopped : goal.returns-in_err-fold_when_due-clause-stopped
+returns-in_err-fold_when_due-clause-stopped g c =
+    let p = err_from_is_err_and c.from_residual-in_err-fold_when_due.result c.from_residual-in_err-fold_when_due.ensures.1 in
     rw (p.1, p.2) (fold_stops (g.R.Read.remaining c.args.reader.now) (g.R.Read.remaining c.read.new.reader) c.serve_piece.new.session.pending c.serve_piece.new.session.place
     (seen c.args.device.now.store.machine (g.W.Write.contents c.args.out.now)) c.serve_piece.new.device.store.machine
     c.fold_when_due.new.device.store.machine (g.W.Write.contents c.serve_piece.new.out)
@@ -89,7 +89,7 @@ returns-in_err-folded-clause-stopped g c =
     c.serve_piece.new.session.pending c.serve_piece.new.session.place
     (seen c.serve_piece.new.device.store.machine (g.W.Write.contents c.serve_piece.new.out)) (g.F.StoredFile.told c.serve_piece.new.device.store.journal.file)
     c.in_ok-count.ensures.bytes c.in_ok-serve_piece.ensures.served)
-    c.fold_when_due.ensures.same c.fold_when_due.ensures.any_moment c.in_err-folded.field-0.0 c.in_err-folded.ensures.unfolded)
+    c.fold_when_due.ensures.same c.fold_when_due.ensures.any_moment c.in_err-fold_when_due.field-0.0 c.in_err-fold_when_due.ensures.unfolded)
 
 pub returns-clause-stopped : goal.returns-clause-stopped
 returns-clause-stopped g c =

@@ -1,11 +1,14 @@
-use Rattle.std.proofs.Common.{◌≡◌, ◌+◌, ◌++◌, ◌∷◌, length, take, refl, arith}
+use Rattle.std.proofs.Common.{◌≡◌, ◌+◌, ◌++◌, ◌∷◌, length, take, refl, ap, arith, rules}
 use Rattle.std.proofs.lemmas.Result.{err_from_is_err_and}
+use Rattle.live_lines.specs.Served.{ends_in}
+use Rattle.live_lines.proofs.Ends.{none_added}
 use Rattle.live_lines.proofs.Pieces.{cut_at_end, line_cut_off, none_ended, piece_fails, piece_goes_on, piece_unheld}
 use Rattle.live_lines.proofs.stream.serve_piece.Goals as goal
 
 pub loop-front-init : goal.loop-front-init
 loop-front-init g c = record {
   served = none_ended c.args.drains (c.args.unended.now.items ++ c.args.piece.now) c.args.before c.args.device.now (g.W.Write.contents c.args.lines.now.out.now) (omega arith);
+  unended = c.requires.unended;
   same_writer = refl;
   same_count = refl;
 }
@@ -37,6 +40,7 @@ loop-front-preserved g c =
           (g.W.Write.contents c.args.lines.now.out.now) (g.W.Write.contents c.loop-front.lines.out.now)
           c.loop-front.invariant.served cut (line_cut_off front behind rest cut) c.serve_ended.new.unended.items c.in_ok-count.count c.serve_ended.new.device
           (g.W.Write.contents c.serve_ended.new.lines.out.now) c.in_ok-count.ensures.none c.in_ok-count.ensures.served;
+      unended = ap ends_in c.in_ok-count.ensures.none;
       same_writer = cc (c.in_ok-count.ensures.same_writer, c.loop-front.invariant.same_writer);
       same_count = cc (c.in_ok-count.ensures.same_count, c.loop-front.invariant.same_count);
     }
@@ -47,3 +51,8 @@ returns-in_err-extend_from_slice-clause-failed g c =
     rw (p.1, p.2)
     (piece_unheld c.args.drains (c.args.unended.now.items ++ c.args.piece.now) (c.loop-front.unended.items ++ c.loop-front.rest.now) c.args.before c.loop-front.count
     c.args.device.now c.loop-front.device (g.W.Write.contents c.args.lines.now.out.now) (g.W.Write.contents c.loop-front.lines.out.now) c.loop-front.invariant.served)
+
+pub returns-clause-unended : goal.returns-clause-unended
+returns-clause-unended g c =
+    none_added c.loop-front.unended.items c.loop-front.rest.now c.extend_from_slice.new.self.items c.in_ok-extend_from_slice.ensures.items
+    c.loop-front.invariant.unended (search rules)

@@ -14,7 +14,7 @@ returns-in_err-size-clause-failed g c =
     let p = err_from_is_err_and c.from_residual.result c.from_residual.ensures.1 in
     rw (p.1, p.2)
     (unreadable c.args.drains (left c.args.reader.now) (left c.loop.reader) c.loop.unended.items c.loop.before c.args.device.now c.loop.device
-    (printed c.args.lines.now.out.now) (printed c.loop.lines.out.now) c.loop.invariant.served
+    (printed c.args.lines.now.out.now) (printed c.loop.lines.out.now) c.loop.invariant.served c.loop.invariant.unended
     c.in_err-size.field-0.0 (left c.read.new.reader) c.in_err-size.ensures.failed.0 c.in_err-size.ensures.failed.1)
 
 pub returns-in_err-serve_text-clause-failed : goal.returns-in_err-serve_text-clause-failed
@@ -86,6 +86,7 @@ loop-preserved g c =
           (take c.in_ok-size.size c.read.new.buffer) c.read.new.buffer (left c.read.new.reader) c.in_ok-size.size c.in_ok-size.ensures.bytes refl
           c.serve_piece.new.unended.items c.in_ok-before.before c.serve_piece.new.device (printed c.serve_piece.new.lines.out.now) c.in_ok-before.ensures.served
           (printed c.flush-in-loop.new.lines.out.now) c.flush-in-loop.ensures.kept;
+      unended = c.in_ok-before.ensures.unended;
       same_writer = cc (c.flush-in-loop.ensures.same_writer, c.in_ok-before.ensures.same_writer, c.loop.invariant.same_writer);
       same_count = cc (c.flush-in-loop.ensures.same_count, c.in_ok-before.ensures.same_count, c.loop.invariant.same_count);
     }
@@ -95,4 +96,4 @@ returns-clause-failed g c =
     let left = g.R.Read.remaining in
     let printed = g.W.Write.contents in
     unreadable c.args.drains (left c.args.reader.now) (left c.loop.reader) c.loop.unended.items c.loop.before c.args.device.now c.loop.device
-    (printed c.args.lines.now.out.now) (printed c.loop.lines.out.now) c.loop.invariant.served fault.Read (left c.loop.reader) refl (Keeps-refl (left c.loop.reader))
+    (printed c.args.lines.now.out.now) (printed c.loop.lines.out.now) c.loop.invariant.served c.loop.invariant.unended fault.Read (left c.loop.reader) refl (Keeps-refl (left c.loop.reader))

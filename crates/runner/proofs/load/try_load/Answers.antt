@@ -10,15 +10,15 @@ use Rattle.runner.proofs.load.try_load.Goals as goal
 pub returns-in-Ok-clause-ok : goal.returns-in-Ok-clause-ok
 returns-in-Ok-clause-ok g c =
     IfOk-weaker c.read_program.result _ _
-    (λ v accepted. record {
+    (λ p accepted. record {
       checks = sym c.in-Ok.ensures.why;
-      accepted = subst (λ (sizes : Sizes). IsAccepted g.D.Domain.operations c.args.input.now sizes (program_of v) (sizes_of v)) c.in-Ok.ensures.sizes accepted;
+      accepted = subst (λ (sizes : Sizes). IsAccepted g.D.Domain.operations c.args.input.now sizes (program_of p.prepared) (sizes_of p.prepared)) c.in-Ok.ensures.sizes accepted;
     })
     c.read_program.ensures.ok
 
 pub returns-in-Ok-clause-err : goal.returns-in-Ok-clause-err
 returns-in-Ok-clause-err g c =
-    MatchResult-weaker c.read_program.result c.read_program.ensures.err (λ v none. none)
+    MatchResult-weaker c.read_program.result c.read_program.ensures.err (λ p none. none)
     (λ answer refused. refuses_read g.D.Domain.operations c.args.command.now c.args.input.now c.args.state.now c.in-Ok.sizes answer c.in-Ok.ensures.why c.in-Ok.ensures.sizes refused)
 
 pub returns-in-Err-clause-err : goal.returns-in-Err-clause-err

@@ -1,6 +1,11 @@
-use Rattle.tcp_library.proofs.Committing.{committed}
+use Rattle.tcp_library.proofs.Committing.{committed, not_due}
 use Rattle.tcp_library.proofs.session.commit.Goals as goal
 
 pub returns-clause-committed : goal.returns-clause-committed
 returns-clause-committed c =
-    committed c.fold_when_due.result c.args.keeper.now c.commit.new.self c.fold_when_due.new.self c.args.served.now.device c.commit.ensures.any_moment c.fold_when_due.ensures.any_moment c.fold_when_due.ensures.kept
+    let old = c.args.keeper.now in
+    let mid = c.commit.new.self in
+    let new = c.fold_when_due.new.self in
+    let kept = c.in_ok-fold_when_due.ensures in
+    committed old mid new c.args.served.now.device c.commit.ensures.any_moment c.fold_when_due.ensures.any_moment kept.kept
+    (not_due old mid new c.args.served.now.device c.in_ok-fold_when_due.field-0 c.commit.ensures.counted c.commit.ensures.cause.later kept.short kept.untried kept.tried kept.in_base kept.no_room)

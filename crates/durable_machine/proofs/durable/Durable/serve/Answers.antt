@@ -1,34 +1,44 @@
-use Rattle.std.proofs.Common.{rules, ◌≡◌, inl, length}
+use Rattle.std.proofs.Common.{inl, sym, subst}
+use Rattle.stored_file.specs.File.{LeavesOnly}
 use Rattle.stored_file.proofs.Moments.{weaken}
-use Rattle.durable_machine.specs.Batches.{bytes_of}
-use Rattle.durable_machine.proofs.Files.{nothing_done, is_either, stays_durable, idle}
+use Rattle.durable_machine.specs.Files.{IsDurable}
+use Rattle.durable_machine.specs.Batches.{IsBeforeOrAfter, bytes_of}
+use Rattle.durable_machine.proofs.Files.{nothing_done}
+use Rattle.durable_machine.proofs.Waiting.{before_or_after}
 use Rattle.durable_machine.proofs.durable.Durable.serve.Goals as goal
 
-pub returns-in_err-append-clause-any_moment : goal.returns-in_err-append-clause-any_moment
-returns-in_err-append-clause-any_moment g c =
-    let run = c.in_ok-replies.ensures in
-    weaken _ _ _ _ (c.append.ensures.any_moment c.requires.front c.requires.batches run.changes c.requires.rests run.sized run.are_spelled)
-    (is_either g.M.Machine.loads g.M.Machine.next c.args.self.now.machine c.args.self.now.journal.gate _ c.requires g.M.Machine.replies (bytes_of c.args.events.now) c.apply_all.new.machine c.in_ok-replies.replies.items c.in_ok-replies.changes.items run)
+pub returns-in_err-replies-clause-any_moment : goal.returns-in_err-replies-clause-any_moment
+returns-in_err-replies-clause-any_moment g c =
+    let loads = g.M.Machine.loads in
+    let next = g.M.Machine.next in
+    let old = c.args.self.now.machine in
+    let file = g.F.StoredFile.told c.args.self.now.journal.file in
+    let P = IsBeforeOrAfter loads next (bytes_of c.args.events.now) old in
+    subst (λ j. LeavesOnly file (g.F.StoredFile.told j.file) P) (sym c.apply_all.ensures.same)
+    (nothing_done loads next old c.args.self.now.journal.gate file c.requires P (λ left is. inl is))
+
+pub returns-in_err-commit-clause-any_moment : goal.returns-in_err-commit-clause-any_moment
+returns-in_err-commit-clause-any_moment g c =
+    let loads = g.M.Machine.loads in
+    let next = g.M.Machine.next in
+    let old = c.args.self.now.machine in
+    let new = c.apply_all.new.self.machine in
+    let events = bytes_of c.args.events.now in
+    let same = c.apply_all.ensures.same in
+    let durable = subst (λ j. IsDurable loads next old j.gate (g.F.StoredFile.told j.file)) (sym same) c.requires in
+    subst (λ j. LeavesOnly (g.F.StoredFile.told j.file) (g.F.StoredFile.told c.commit.new.self.journal.file) (IsBeforeOrAfter loads next events old)) same
+    (weaken _ _ _ (IsBeforeOrAfter loads next events old) (c.commit.ensures.any_moment old durable)
+    (before_or_after loads next g.M.Machine.replies events old new c.in_ok-replies.replies.items c.in_ok-replies.ensures.served))
 
 pub returns-clause-any_moment : goal.returns-clause-any_moment
 returns-clause-any_moment g c =
-    let run = c.in_ok-replies.ensures in
-    weaken _ _ _ _ (c.append.ensures.any_moment c.requires.front c.requires.batches run.changes c.requires.rests run.sized run.are_spelled)
-    (is_either g.M.Machine.loads g.M.Machine.next c.args.self.now.machine c.args.self.now.journal.gate _ c.requires g.M.Machine.replies (bytes_of c.args.events.now) c.apply_all.new.machine c.in_ok-replies.replies.items c.in_ok-replies.changes.items run)
-
-pub returns-clause-acknowledged : goal.returns-clause-acknowledged
-returns-clause-acknowledged g c =
-    let run = c.in_ok-replies.ensures in
-    stays_durable g.M.Machine.loads g.M.Machine.next c.args.self.now.machine c.args.self.now.journal.gate _ c.requires g.M.Machine.replies (bytes_of c.args.events.now) c.apply_all.new.machine c.in_ok-replies.replies.items c.in_ok-replies.changes.items run
-    c.append.new.self.gate _ (c.in_ok-append.ensures.acknowledged c.requires.front c.requires.batches run.changes c.requires.rests run.sized run.are_spelled)
-
-pub returns-in_err-replies-clause-any_moment : goal.returns-in_err-replies-clause-any_moment
-returns-in_err-replies-clause-any_moment g c = nothing_done g.M.Machine.loads g.M.Machine.next c.args.self.now.machine c.args.self.now.journal.gate _ c.requires _ (λ file is. inl is)
-
-pub returns-then-is_empty-clause-any_moment : goal.returns-then-is_empty-clause-any_moment
-returns-then-is_empty-clause-any_moment g c = nothing_done g.M.Machine.loads g.M.Machine.next c.args.self.now.machine c.args.self.now.journal.gate _ c.requires _ (λ file is. inl is)
-
-pub returns-then-is_empty-clause-acknowledged : goal.returns-then-is_empty-clause-acknowledged
-returns-then-is_empty-clause-acknowledged g c =
-    let none : length c.in_ok-replies.changes.items ≡ 0 = search rules in
-    idle g.M.Machine.loads g.M.Machine.next c.args.self.now.machine c.args.self.now.journal.gate _ c.requires g.M.Machine.replies (bytes_of c.args.events.now) c.apply_all.new.machine c.in_ok-replies.replies.items c.in_ok-replies.changes.items c.in_ok-replies.ensures none
+    let loads = g.M.Machine.loads in
+    let next = g.M.Machine.next in
+    let old = c.args.self.now.machine in
+    let new = c.apply_all.new.self.machine in
+    let events = bytes_of c.args.events.now in
+    let same = c.apply_all.ensures.same in
+    let durable = subst (λ j. IsDurable loads next old j.gate (g.F.StoredFile.told j.file)) (sym same) c.requires in
+    subst (λ j. LeavesOnly (g.F.StoredFile.told j.file) (g.F.StoredFile.told c.commit.new.self.journal.file) (IsBeforeOrAfter loads next events old)) same
+    (weaken _ _ _ (IsBeforeOrAfter loads next events old) (c.commit.ensures.any_moment old durable)
+    (before_or_after loads next g.M.Machine.replies events old new c.in_ok-replies.replies.items c.in_ok-replies.ensures.served))

@@ -1,7 +1,8 @@
 use Rattle.std.proofs.Common.{rules, ℕ, List, ◌≡◌, ◌<◌, ◌^◌, length, arith, subst, sym, ◌∙◌}
-use Rattle.tcp_durable.specs.Waiting.{IsCommittedBut}
+use Rattle.durable_machine.proofs.Waiting.{taken_back}
+use Rattle.durable_device.specs.Kept.{IsCommittedBut}
 use Rattle.tcp_durable.proofs.Deeds.{was_turned}
-use Rattle.tcp_durable.proofs.Events.{idled, taken_back, turned}
+use Rattle.tcp_durable.proofs.Events.{idled, turned}
 use Rattle.tcp_durable.proofs.keeper.Keeper.give_turn.Goals as goal
 
 pub returns-then-is_idle-clause-kept : goal.returns-then-is_idle-clause-kept
@@ -12,7 +13,7 @@ returns-then-is_idle-clause-kept g c =
     was_turned c.args.run c.args.served.now c.give_turn-reply.new.self c.give_turn-reply.result c.requires.next c.give_turn-reply.ensures in
     let count : c.len-before.result ≡ length waiting = search rules in
     let back : c.truncate.new.self.items ≡ waiting =
-    c.truncate.ensures.items ∙ taken_back c.add_turn.new.events.items waiting _ c.len-before.result c.in_ok-add_turn.ensures count in
+    c.truncate.ensures.items ∙ taken_back c.add_turn.new.events.items waiting _ c.len-before.result c.in_ok-add_turn.ensures.added count in
     subst (λ (w : List ℕ). IsCommittedBut w c.give_turn-reply.new.self.device c.args.self.now.journal.gate (g.F.StoredFile.told c.args.self.now.journal.file)) (sym back)
     (idled c.changes_come_again.ensures _ _ _ _ _ c.give_turn-reply.result c.requires.kept c.args.run numbered was
     (sym c.is_idle.ensures ∙ c.if-is_idle.true))
@@ -23,6 +24,6 @@ returns-else-is_idle-clause-kept g c =
     let was =
     was_turned c.args.run c.args.served.now c.give_turn-reply.new.self c.give_turn-reply.result c.requires.next c.give_turn-reply.ensures in
     subst (λ (w : List ℕ). IsCommittedBut w c.give_turn-reply.new.self.device c.args.self.now.journal.gate (g.F.StoredFile.told c.args.self.now.journal.file))
-    (sym c.in_ok-add_turn.ensures)
+    (sym c.in_ok-add_turn.ensures.added)
     (turned c.changes_come_again.ensures _ _ _ _ _ c.give_turn-reply.result c.requires.kept c.args.run numbered was
     (sym c.is_idle.ensures ∙ c.if-is_idle.false))

@@ -1,7 +1,8 @@
 use Rattle.std.proofs.Common.{rules, ℕ, List, ◌≡◌, ◌<◌, ◌^◌, length, arith, subst, sym, ◌∙◌}
-use Rattle.tcp_durable.specs.Waiting.{IsCommittedBut}
+use Rattle.durable_machine.proofs.Waiting.{taken_back}
+use Rattle.durable_device.specs.Kept.{IsCommittedBut}
 use Rattle.tcp_durable.proofs.Deeds.{was_resumed}
-use Rattle.tcp_durable.proofs.Events.{resumed, resumed_idle, taken_back}
+use Rattle.tcp_durable.proofs.Events.{resumed, resumed_idle}
 use Rattle.tcp_durable.proofs.keeper.Keeper.resume.Goals as goal
 
 pub returns-then-is_idle-clause-kept : goal.returns-then-is_idle-clause-kept
@@ -11,7 +12,7 @@ returns-then-is_idle-clause-kept g c =
     let was = was_resumed c.args.run c.args.served.now c.resume-reply.new.self c.resume-reply.result c.resume-reply.ensures in
     let count : c.len-before.result ≡ length waiting = search rules in
     let back : c.truncate.new.self.items ≡ waiting =
-    c.truncate.ensures.items ∙ taken_back c.add_turn.new.events.items waiting _ c.len-before.result c.in_ok-add_turn.ensures count in
+    c.truncate.ensures.items ∙ taken_back c.add_turn.new.events.items waiting _ c.len-before.result c.in_ok-add_turn.ensures.added count in
     subst (λ (w : List ℕ). IsCommittedBut w c.resume-reply.new.self.device c.args.self.now.journal.gate (g.F.StoredFile.told c.args.self.now.journal.file)) (sym back)
     (resumed_idle c.changes_come_again.ensures _ _ _ _ _ c.resume-reply.result c.requires.kept c.args.run numbered was
     (sym c.is_idle.ensures ∙ c.if-is_idle.true))
@@ -21,6 +22,6 @@ returns-clause-kept g c =
     let numbered : c.args.run < 2 ^ 8 = omega (arith, c.requires.within) in
     let was = was_resumed c.args.run c.args.served.now c.resume-reply.new.self c.resume-reply.result c.resume-reply.ensures in
     subst (λ (w : List ℕ). IsCommittedBut w c.resume-reply.new.self.device c.args.self.now.journal.gate (g.F.StoredFile.told c.args.self.now.journal.file))
-    (sym c.in_ok-add_turn.ensures)
+    (sym c.in_ok-add_turn.ensures.added)
     (resumed c.changes_come_again.ensures _ _ _ _ _ c.resume-reply.result c.requires.kept c.args.run numbered was
     (sym c.is_idle.ensures ∙ c.if-is_idle.false))

@@ -1,7 +1,8 @@
 use Rattle.std.proofs.Common.{rules, ℕ, List, ◌≡◌, ◌<◌, ◌^◌, length, arith, subst, sym, ◌∙◌}
-use Rattle.tcp_durable.specs.Waiting.{IsCommittedBut}
+use Rattle.durable_machine.proofs.Waiting.{taken_back}
+use Rattle.durable_device.specs.Kept.{IsCommittedBut}
 use Rattle.tcp_durable.proofs.Deeds.{was_submitted}
-use Rattle.tcp_durable.proofs.Events.{changed, refused, taken_back}
+use Rattle.tcp_durable.proofs.Events.{changed, refused}
 use Rattle.tcp_durable.proofs.keeper.Keeper.submit_change.Goals as goal
 
 pub returns-then-is_refusal-clause-kept : goal.returns-then-is_refusal-clause-kept
