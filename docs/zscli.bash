@@ -2,9 +2,10 @@
 _zscli() {
     local word=${COMP_WORDS[COMP_CWORD]} before=${COMP_WORDS[COMP_CWORD-1]} words=zscli commands="" options=""
     case "$before" in
+        --color) COMPREPLY=($(compgen -W "auto always never" -- "$word")); return ;;
         --state) COMPREPLY=($(compgen -W "all empty implicit explicit closed full readonly offline" -- "$word")); return ;;
         --commands | --data | --image | --into | --output | --program) COMPREPLY=($(compgen -f -- "$word")); return ;;
-        --active | --argument | --block | --blocks | --capacity | --cid | --dwords | --emit | --from | --fuel | --function | --lba | --open | --profile | --queue | --size | --slot | --to | --zones) return ;;
+        --active | --argument | --block | --blocks | --capacity | --cid | --dwords | --emit | --from | --fuel | --function | --guard-at | --lba | --open | --profile | --queue | --size | --slot | --to | --zones) return ;;
     esac
     [ "$COMP_CWORD" -gt 1 ] && words+=" ${COMP_WORDS[1]}"
     case "${COMP_WORDS[1]}" in
@@ -14,14 +15,14 @@ _zscli() {
         "zscli") commands="format zones report upgrade exec serve fold asm disasm link trace verify unpack entry entries explain demo" options="--help --version" ;;
         "zscli format") commands="" options="--block --zones --size --capacity --open --active --force --help" ;;
         "zscli zones") commands="" options="--help" ;;
-        "zscli report") commands="" options="--json --help" ;;
+        "zscli report") commands="" options="--json --map --color --help" ;;
         "zscli upgrade") commands="" options="--help" ;;
-        "zscli exec") commands="" options="--profile --fail --help" ;;
+        "zscli exec") commands="" options="--profile --fail --stop --words --help" ;;
         "zscli serve") commands="" options="--frames --drain --durable --help" ;;
         "zscli fold") commands="" options="--help" ;;
         "zscli asm") commands="" options="--help" ;;
         "zscli disasm") commands="" options="--slots --help" ;;
-        "zscli link") commands="" options="--block --output --function --cut-loops --strict --verbose --help" ;;
+        "zscli link") commands="" options="--block --emit --profile --output --function --cut-loops --strict --guard-at --silent-guards --verbose --help" ;;
         "zscli trace") commands="" options="--emit --argument --fuel --registers --help" ;;
         "zscli verify") commands="" options="--block --emit --profile --explain --facts --json --help" ;;
         "zscli unpack") commands="" options="--block --json --help" ;;
@@ -39,7 +40,7 @@ _zscli() {
         "zscli entry run") commands="" options="--slot --from --blocks --to --argument --queue --cid --into --help" ;;
         "zscli entry result") commands="" options="--slot --queue --cid --into --help" ;;
         "zscli entries") commands="" options="--image --block --help" ;;
-        "zscli explain") commands="" options="--commands --json --help" ;;
+        "zscli explain") commands="" options="--commands --program --json --help" ;;
         "zscli demo") commands="" options="--hex --help" ;;
     esac
     case "$word" in

@@ -19,7 +19,7 @@ end
 complete -c zscli -f
 complete -c zscli -n '__zscli_has_only' -a format -d 'Writes an image of empty zones'
 complete -c zscli -n '__zscli_has_only' -a zones -d 'Prints the states of an image'\''s zones'
-complete -c zscli -n '__zscli_has_only' -a report -d 'Prints an image'\''s geometry, limits and zones, as `blkzone report` has them'
+complete -c zscli -n '__zscli_has_only' -a report -d 'Prints an image'\''s geometry, limits and zones, or draws them'
 complete -c zscli -n '__zscli_has_only' -a upgrade -d 'Saves an image in the last version'
 complete -c zscli -n '__zscli_has_only' -a exec -d 'Runs the events of a command file on an image'
 complete -c zscli -n '__zscli_has_only' -a serve -d 'Does what standard input asks of an image, as it comes'
@@ -49,12 +49,16 @@ complete -c zscli -n '__zscli_begins zones' -F
 complete -c zscli -n '__zscli_begins zones' -l help -d 'Print help'
 complete -c zscli -n '__zscli_begins report' -F
 complete -c zscli -n '__zscli_begins report' -l json -d 'Print one JSON object'
+complete -c zscli -n '__zscli_begins report' -l map -d 'Draw the zones'
+complete -c zscli -n '__zscli_begins report' -l color -x -a 'auto always never' -d 'When a map has colors'
 complete -c zscli -n '__zscli_begins report' -l help -d 'Print help'
 complete -c zscli -n '__zscli_begins upgrade' -F
 complete -c zscli -n '__zscli_begins upgrade' -l help -d 'Print help'
 complete -c zscli -n '__zscli_begins exec' -F
 complete -c zscli -n '__zscli_begins exec' -l profile -x -d 'The profile by which Load judges'
 complete -c zscli -n '__zscli_begins exec' -l fail -d 'End with status 4 where a command was refused, and tell how many were and the line of the first'
+complete -c zscli -n '__zscli_begins exec' -l stop -d 'End at the first refused command with status 4, and tell its line'
+complete -c zscli -n '__zscli_begins exec' -l words -d 'Print in words what each line tells, as `explain --commands` does'
 complete -c zscli -n '__zscli_begins exec' -l help -d 'Print help'
 complete -c zscli -n '__zscli_begins serve' -F
 complete -c zscli -n '__zscli_begins serve' -l frames -d 'Takes requests and gives answers as frames of bytes, not as lines'
@@ -70,10 +74,14 @@ complete -c zscli -n '__zscli_begins disasm' -l slots -d 'Print each instruction
 complete -c zscli -n '__zscli_begins disasm' -l help -d 'Print help'
 complete -c zscli -n '__zscli_begins link' -F
 complete -c zscli -n '__zscli_begins link' -l block -x -d 'Bytes of a block'
+complete -c zscli -n '__zscli_begins link' -l emit -x -d 'The most bytes that are emitted for a block, two for each record counted [default'
+complete -c zscli -n '__zscli_begins link' -l profile -x -d 'The profile that accepts the program'
 complete -c zscli -n '__zscli_begins link' -s o -l output -r -F -d 'The program that is written'
 complete -c zscli -n '__zscli_begins link' -l function -x -d 'The function to start with'
 complete -c zscli -n '__zscli_begins link' -l cut-loops -d 'Give loops as many rounds as there are slots for, and list those that have more'
 complete -c zscli -n '__zscli_begins link' -l strict -d 'Refuse a program with a guard that may end a run'
+complete -c zscli -n '__zscli_begins link' -l guard-at -x -d 'The byte of scratch from which on guards write, a multiple of 8 up to 1008'
+complete -c zscli -n '__zscli_begins link' -l silent-guards -d 'Let guards write nothing to scratch'
 complete -c zscli -n '__zscli_begins link' -l verbose -d 'Print how many slots the program has, and how many compares were put in'
 complete -c zscli -n '__zscli_begins link' -l help -d 'Print help'
 complete -c zscli -n '__zscli_begins trace' -F
@@ -192,6 +200,7 @@ complete -c zscli -n '__zscli_begins entries' -l block -x -d 'Bytes of a block'
 complete -c zscli -n '__zscli_begins entries' -l help -d 'Print help'
 complete -c zscli -n '__zscli_begins explain' -F
 complete -c zscli -n '__zscli_begins explain' -l commands -r -F -d 'The command file that `exec` was given'
+complete -c zscli -n '__zscli_begins explain' -l program -r -F -d 'The program whose results are explained by PROGRAM.linked'
 complete -c zscli -n '__zscli_begins explain' -l json -d 'Print each as a JSON object'
 complete -c zscli -n '__zscli_begins explain' -l help -d 'Print help'
 complete -c zscli -n '__zscli_begins demo' -l hex -d 'Print the bytes of each entry and of each completion too'

@@ -14,7 +14,7 @@ _zscli() {
         local -a commands=(
             'format:Writes an image of empty zones'
             'zones:Prints the states of an image'\''s zones'
-            'report:Prints an image'\''s geometry, limits and zones, as `blkzone report` has them'
+            'report:Prints an image'\''s geometry, limits and zones, or draws them'
             'upgrade:Saves an image in the last version'
             'exec:Runs the events of a command file on an image'
             'serve:Does what standard input asks of an image, as it comes'
@@ -79,6 +79,8 @@ _zscli_report() {
     _arguments \
         ':IMAGE:_files' \
         '--json[Print one JSON object]' \
+        '--map[Draw the zones]' \
+        '--color[When a map has colors]:WHEN:(auto always never)' \
         '(- *)--help[Print help]'
 }
 
@@ -94,6 +96,8 @@ _zscli_exec() {
         ':COMMANDS:_files' \
         '--profile[The profile by which Load judges]:P: ' \
         '--fail[End with status 4 where a command was refused, and tell how many were and the line of the first]' \
+        '--stop[End at the first refused command with status 4, and tell its line]' \
+        '--words[Print in words what each line tells, as `explain --commands` does]' \
         '(- *)--help[Print help]'
 }
 
@@ -130,10 +134,14 @@ _zscli_link() {
     _arguments \
         ':OBJECT:_files' \
         '--block[Bytes of a block]:B: ' \
+        '--emit[The most bytes that are emitted for a block, two for each record counted \[default]:E: ' \
+        '--profile[The profile that accepts the program]:P: ' \
         '-o[The program that is written]:PROGRAM:_files' '--output[The program that is written]:PROGRAM:_files' \
         '--function[The function to start with]:NAME: ' \
         '--cut-loops[Give loops as many rounds as there are slots for, and list those that have more]' \
         '--strict[Refuse a program with a guard that may end a run]' \
+        '--guard-at[The byte of scratch from which on guards write, a multiple of 8 up to 1008]:OFFSET: ' \
+        '--silent-guards[Let guards write nothing to scratch]' \
         '--verbose[Print how many slots the program has, and how many compares were put in]' \
         '(- *)--help[Print help]'
 }
@@ -352,6 +360,7 @@ _zscli_explain() {
     _arguments \
         ':FILE:_files' \
         '--commands[The command file that `exec` was given]:COMMANDS:_files' \
+        '--program[The program whose results are explained by PROGRAM.linked]:PROGRAM:_files' \
         '--json[Print each as a JSON object]' \
         '(- *)--help[Print help]'
 }

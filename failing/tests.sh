@@ -30,7 +30,7 @@ series() {
     done
 }
 
-for crate in ${*:-ebpf_decode_tests ebpf_asm_tests image_store_tests emit_append_tests verifier_tests runner_tests}; do
+for crate in ${*:-zone_tests ebpf_tests program_tests runner_tests}; do
     (cd "crates/$crate" && rt test) > "$work/log"
     tests=$PWD/crates/$crate/out/${crate}_tests
     : > "$work/ends"

@@ -37,6 +37,7 @@ runs. The program is the one that the variable `PIFNJARL_ZSCLI` names, or `zscli
 from __future__ import annotations
 
 import os
+import re
 import select
 import shutil
 import signal
@@ -51,6 +52,8 @@ from enum import Enum, IntEnum
 from pathlib import Path
 from typing import Callable, ClassVar, Deque, Dict, Generic, Iterator, List, NamedTuple, Optional, Tuple, Type, TypeVar, Union
 
+FilePath = Union[str, "os.PathLike[str]"]
+
 # ---- statuses: an exception for each, called as the status is
 
 
@@ -60,6 +63,23 @@ class DeviceError(Exception):
 
 class FaultRefused(DeviceError):
     """A fault was refused: there is no such zone, a run uses it, or it is Offline."""
+
+
+class LinkedOtherwise(DeviceError):
+    """A program was linked for another block size than the device's, or for another limit than it is loaded with."""
+
+
+class GuardEnded(DeviceError):
+    """A guard that `zscli link` put into a program ended one of a run's blocks, since what it tests did not hold.
+
+    `place` is the file of the C source and the line, or `?`; `text` says what did not hold; `block` is the block's index in the run,
+    from 0 on; `result` is what the run came to with its other blocks.
+    """
+
+    def __init__(self, place: str, text: str, block: int, slot: int, result: Result) -> None:
+        where = f"slot {slot}: {text}" if place == _UNKNOWN_PLACE else f"{place} {text}"
+        super().__init__(f"block {block} ended at the guard of {where}")
+        self.place, self.text, self.block, self.result = place, text, block, result
 
 
 # the exception of each status, by its type and its code
@@ -385,6 +405,70 @@ def records(blocks: bytes, block: int) -> List[bytes]:
     return found
 
 
+# ---- notes: what `zscli link` writes beside a program, as docs/programs.md describes it
+
+_UNKNOWN_PLACE = "?"
+
+_SCRATCH_BYTES = 1024
+
+# the guard's number, its slot, and the block's index in the run
+_ENDED = struct.Struct("<IIQ")
+
+_NOTES = re.compile(
+    r"linked 1\nblock (\d+)\n(?:emit (\d+)\n)?profile \d+\n(?:guard-at (\d+)\n)?((?:guard \d+ slot \d+ \S+ [^\n]*\n)*)", re.ASCII
+)
+
+_GUARD = re.compile(r"guard (\d+) slot (\d+) (\S+) ([^\n]*)\n", re.ASCII)
+
+
+class _Guard(NamedTuple):
+    """A guard that may end a run: its slot, its line in the source, and what does not hold where it ends one."""
+
+    slot: int
+    place: str
+    text: str
+
+
+class _Notes(NamedTuple):
+    """What a program was linked for, the byte of scratch from which on guards write, and its guards by their numbers."""
+
+    block: int
+    emit: Optional[int]
+    guard_at: Optional[int]
+    guards: Dict[int, _Guard]
+
+
+def _notes(text: str) -> Optional[_Notes]:
+    """The notes of a text; `None` where it is damaged.
+
+    >>> _notes("linked 1\\nblock 512\\nprofile 2\\nguard-at 1008\\nguard 1 slot 5 filter.c:12 in top: a record has no byte\\n")
+    _Notes(block=512, emit=None, guard_at=1008, guards={1: _Guard(slot=5, place='filter.c:12', text='in top: a record has no byte')})
+    >>> _notes("linked 2\\n")
+    """
+    found = _NOTES.fullmatch(text)
+    if found is None:
+        return None
+    block, emit, guard_at, lines = found.groups()
+    at = None if guard_at is None else int(guard_at)
+    if at is not None and at + _ENDED.size > _SCRATCH_BYTES:
+        return None
+    guards = {int(number): _Guard(int(slot), place, words) for number, slot, place, words in _GUARD.findall(lines)}
+    return _Notes(int(block), None if emit is None else int(emit), at, guards)
+
+
+def _notes_beside(program: FilePath) -> Optional[_Notes]:
+    """The notes beside a program's file, if there are any. Damaged ones are a warning."""
+    path = f"{os.fspath(program)}.linked"
+    try:
+        text = Path(path).read_text(encoding="ascii", errors="replace")
+    except OSError:
+        return None
+    notes = _notes(text)
+    if notes is None:
+        warnings.warn(f"{path} is damaged, and not used")
+    return notes
+
+
 # ---- frames: the two streams between a host and `zscli serve`, as docs/device.md describes them
 
 # kind, part, queue, number, bytes of data, zeros
@@ -571,8 +655,6 @@ class _Stream:
 
 # ---- images, and the program, which makes and serves them
 
-FilePath = Union[str, "os.PathLike[str]"]
-
 
 class Geometry(NamedTuple):
     """The numbers of a namespace: the bytes of a block, how many zones there are, the blocks of a zone, how many of these can be
@@ -722,11 +804,12 @@ class Submitted(Generic[Given]):
 class Run:
     """A run of a program, which the device goes on with by one block at a turn."""
 
-    def __init__(self, device: Device, number: int, blocks: int) -> None:
+    def __init__(self, device: Device, number: int, blocks: int, slot: int, notes: Optional[_Notes]) -> None:
         self.number = number
-        self._device = device
+        self._device, self._slot, self._notes = device, slot, notes
         self._at_once = min(blocks, _MOST_TURNS)
         self._result: Optional[Result] = None
+        self._guard: Optional[GuardEnded] = None
 
     @property
     def ended(self) -> bool:
@@ -760,6 +843,9 @@ class Run:
     def wait(self) -> Result:
         """Gives the run its turns to the end, and tells what it came to.
 
+        Where the program was loaded from a file with the notes of `zscli link` beside it, and the scratch that the run left has a
+        guard that ended one of its blocks, it raises `GuardEnded`. A later run of the slot overwrites what this one left.
+
         >>> with example() as device:
         ...     first = device.append(0, bytes(1024))
         ...     device.open(16)
@@ -770,6 +856,11 @@ class Run:
         while self._result is None:
             # a turn more than the run has left is answered, and does nothing
             self._device._give_turns(self.number, self._at_once)
+        if self._notes is not None and self._notes.guard_at is not None:
+            self._guard = self._device._guard_of(self, self._notes, self._notes.guard_at, self._result)
+            self._notes = None
+        if self._guard is not None:
+            raise self._guard
         return self._result
 
 
@@ -812,6 +903,9 @@ class Device:
         self.queue = queue
         self._identifier = 0
         self._runs: Dict[Tuple[int, int], Run] = {}
+        # of each slot the notes of its program, if there are any, and the run that ended last
+        self._loaded: Dict[int, Optional[_Notes]] = {}
+        self._ended: Dict[int, Run] = {}
         # the requests that aren't answered yet, and the refused commands that nobody has waited for
         self._under_way: Deque[_Asked] = deque()
         self._unseen: List[_Asked] = []
@@ -1012,8 +1106,12 @@ class Device:
 
     # ---- programs
 
-    def load(self, slot: int, program: bytes, emit: int) -> None:
-        """Load: puts a program into a slot. For a block it may emit so many bytes, each record with two bytes of its length.
+    def load(self, slot: int, program: Union[bytes, FilePath], emit: int) -> None:
+        """Load: puts a program into a slot, given as its bytes or as the name of its file. For a block it may emit so many bytes, each
+        record with two bytes of its length.
+
+        Where `zscli link` wrote notes beside the file, `NAME.linked`, they say for which block size and which limit the program was
+        linked. Other ones are `LinkedOtherwise`, and nothing is loaded.
 
         >>> with example() as device:
         ...     device.load(0, EMITS_NOTHING[:8], emit=0)  # doctest: +ELLIPSIS
@@ -1022,7 +1120,12 @@ class Device:
         """
         if not 0 <= slot < 1 << 32:
             raise ValueError(f"there is no slot {slot}")
+        notes: Optional[_Notes] = None
+        if isinstance(program, (str, os.PathLike)):
+            notes = self._fitting_notes(program, emit)
+            program = Path(program).read_bytes()
         self._do(_Opcode.LOAD, slot | emit << 32, len(program), data=program)
+        self._loaded[slot] = notes
 
     def run(self, slot: int, lba: int, blocks: int, to: int, argument: int = 0) -> Run:
         """Run: starts the program of a slot over written blocks from an LBA on, into an open zone. A run that isn't waited for
@@ -1039,7 +1142,7 @@ class Device:
             raise ValueError(f"a run is over 1 to 65536 blocks, and not over {blocks}")
         queue, asked = self.queue, self._submit(_Opcode.RUN, lba, blocks - 1 | slot << 16, argument, to)
         identifier = self._identifier
-        run = Run(self, self._answer_of(asked).run, blocks)
+        run = Run(self, self._answer_of(asked).run, blocks, slot, self._loaded.get(slot))
         self._runs[queue, identifier] = run
         return run
 
@@ -1198,6 +1301,28 @@ class Device:
             # (of a run that was left there, nobody waits for it)
             if run is not None:
                 run._result = Result(completion.dword0, completion.dword1)
+                self._ended[run._slot] = run
+
+    # ---- programs that were linked
+
+    def _fitting_notes(self, program: FilePath, emit: int) -> Optional[_Notes]:
+        """The notes beside a program's file, which have to be for this device's blocks and this limit."""
+        notes, name = _notes_beside(program), os.fspath(program)
+        if notes is not None and notes.block != self.geometry.block:
+            raise LinkedOtherwise(f"{name} was linked for blocks of {notes.block} bytes, and the device has {self.geometry.block}")
+        if notes is not None and notes.emit not in (None, emit):
+            raise LinkedOtherwise(f"{name} was linked to emit at most {notes.emit} bytes for a block, and not {emit}")
+        return notes
+
+    def _guard_of(self, run: Run, notes: _Notes, guard_at: int, result: Result) -> Optional[GuardEnded]:
+        """The guard that ended one of a run's blocks, as the scratch says that the run left, if it is still there."""
+        if self._ended.get(run._slot) is not run:
+            return None
+        number, slot, block = _ENDED.unpack_from(self.result(run._slot), guard_at)
+        guard = notes.guards.get(number)
+        if guard is None or guard.slot != slot:
+            return None
+        return GuardEnded(guard.place, guard.text, block, slot, result)
 
 
 # ---- examples

@@ -364,6 +364,102 @@ class Words(Over):
         self.assertEqual(ran.returncode, 0, ran.stdout)
 
 
+class Linked(Over):
+    """Programs from files, with the notes of `zscli link` beside them. Here these are written by hand."""
+
+    # a block whose first byte is over 9 ends at the guard, which is slot 2
+    GUARDED = """
+            mov r6, r1
+            ldxb r7, [r2]
+            jle r7, 9, end
+            stw [r3+1008], 1
+            stw [r3+1012], 2
+            ldxw r6, [r6+8]
+            stxdw [r3+1016], r6
+    end:    mov r0, 0
+            exit
+    """
+    NOTES = "linked 1\nblock 512\nemit 8\nprofile 2\nguard-at 1008\nguard 1 slot 2 filter.c:12 in top: the byte is over 9\n"
+
+    def setUp(self) -> None:
+        super().setUp()
+        self.program = self.folder / "guarded.bin"
+        self.program.write_bytes(scan.assembled(self.GUARDED, self.folder))
+        self.note(self.NOTES)
+
+    def note(self, text: str) -> None:
+        """Writes notes beside the program."""
+        Path(f"{self.program}.linked").write_text(text)
+
+    def over(self, first_bytes: bytes) -> Tuple[pifnjarl.Device, pifnjarl.Run]:
+        """A device, and a run of the program over blocks with these first bytes."""
+        device = self.device()
+        device.append(0, b"".join(bytes([byte]).ljust(512, b"\0") for byte in first_bytes))
+        device.open(64)
+        device.load(1, self.program, emit=8)
+        return device, device.run(1, 0, len(first_bytes), to=64)
+
+    def test_a_guard_that_ended_a_block_is_raised(self) -> None:
+        """Each time that the run is waited for."""
+        device, run = self.over(bytes([0, 10, 3]))
+        for _ in range(2):
+            with self.assertRaises(pifnjarl.GuardEnded) as ended:
+                run.wait()
+        error = ended.exception
+        self.assertEqual(str(error), "block 1 ended at the guard of filter.c:12 in top: the byte is over 9")
+        self.assertEqual((error.place, error.text, error.block), ("filter.c:12", "in top: the byte is over 9", 1))
+        self.assertEqual(error.result, pifnjarl.Result(records=0, blocks=0))
+        # the run before it doesn't hide what a later one comes to
+        self.assertEqual(device.run(1, 0, 1, to=64).wait(), pifnjarl.Result(records=0, blocks=0))
+
+    def test_no_guard_is_raised_where_none_ended_a_block(self) -> None:
+        """Nor where the notes are of another program, or where another run of the slot has ended since."""
+        _, run = self.over(bytes([0, 9, 3]))
+        self.assertEqual(run.wait(), pifnjarl.Result(records=0, blocks=0))
+        self.note(self.NOTES.replace("slot 2", "slot 3"))
+        _, run = self.other(bytes([10]))
+        self.assertEqual(run.wait(), pifnjarl.Result(records=0, blocks=0))
+
+    def test_a_later_run_of_the_slot_hides_the_guard(self) -> None:
+        """The scratch is that of the run which ended last."""
+        device, run = self.over(bytes([10]))
+        device.open(128)
+        later = device.run(1, 0, 1, to=128)
+        device.drain()
+        self.assertEqual(run.wait(), pifnjarl.Result(records=0, blocks=0))
+        with self.assertRaises(pifnjarl.GuardEnded):
+            later.wait()
+
+    def other(self, first_bytes: bytes) -> Tuple[pifnjarl.Device, pifnjarl.Run]:
+        """The same over another image."""
+        self.image = self.folder / "other.img"
+        pifnjarl.format_image(self.image)
+        return self.over(first_bytes)
+
+    def test_a_program_for_other_numbers_is_not_loaded(self) -> None:
+        """Those of the notes have to be the device's block size and the limit."""
+        device = self.device()
+        with self.assertRaisesRegex(pifnjarl.LinkedOtherwise, "was linked to emit at most 8 bytes for a block, and not 9$"):
+            device.load(0, self.program, emit=9)
+        self.note(self.NOTES.replace("block 512", "block 4096"))
+        with self.assertRaisesRegex(pifnjarl.LinkedOtherwise, "was linked for blocks of 4096 bytes, and the device has 512$"):
+            device.load(0, str(self.program), emit=8)
+        with self.assertRaises(pifnjarl.NoSuchProgram):
+            device.result(0)
+        # the program's bytes have no notes
+        device.load(0, self.program.read_bytes(), emit=9)
+
+    def test_notes_are_never_needed(self) -> None:
+        """Without them, and with damaged ones, a program is loaded and run."""
+        self.note("linked 1\nblock 512\n")
+        with self.assertWarnsRegex(UserWarning, "guarded.bin.linked is damaged, and not used"):
+            _, run = self.over(bytes([10]))
+        self.assertEqual(run.wait(), pifnjarl.Result(records=0, blocks=0))
+        Path(f"{self.program}.linked").unlink()
+        _, run = self.other(bytes([10]))
+        self.assertEqual(run.wait(), pifnjarl.Result(records=0, blocks=0))
+
+
 class UnderWay(Over):
     """Several commands at a time."""
 

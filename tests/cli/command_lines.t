@@ -24,7 +24,7 @@ Help is printed to standard output.
   out: Commands:
   out:   format   Writes an image of empty zones
   out:   zones    Prints the states of an image's zones
-  out:   report   Prints an image's geometry, limits and zones, as `blkzone report` has them
+  out:   report   Prints an image's geometry, limits and zones, or draws them
   out:   upgrade  Saves an image in the last version
   out:   exec     Runs the events of a command file on an image
   out:   serve    Does what standard input asks of an image, as it comes
@@ -60,13 +60,20 @@ Help of a command: `exec -h` is short, and `help exec` and `exec --help` are lon
   out:   <COMMANDS>  The command file
   out: 
   out: Options:
-  out:       --profile <P>  The profile by which Load judges: 2, or 3, which knows more of addresses and sums [default: 2]
-  out:       --fail         End with status 4 where a command was refused, and tell how many were and the line of the first
+  out:       --profile <P>  The profile by which Load judges: 2, or 3, which knows more
+  out:                      of addresses and sums [default: 2]
+  out:       --fail         End with status 4 where a command was refused, and tell how
+  out:                      many were and the line of the first
+  out:       --stop         End at the first refused command with status 4, and tell
+  out:                      its line
+  out:       --words        Print in words what each line tells, as `explain
+  out:                      --commands` does
   out:   -h, --help         Print help (see more with '--help')
   out: 
   out: Example, in the folder of the sources:
   out: 
-  out:   zscli format zoned.img --block 512 --zones 4 --size 64 --capacity 64 --open 3 --active 3
+  out:   zscli format zoned.img --block 512 --zones 4 --size 64 --capacity 64 --open \
+  out:       3 --active 3
   out:   zscli exec zoned.img examples/pushdown.cmd
   $ zscli exec --help > long
   $ zscli help exec | diff - long
@@ -121,8 +128,10 @@ A command that there isn't, too few words, too many, and an option that there is
 Standard output that takes nothing.
 
   $ command zscli --help > /dev/full
+  -: no room is left
   cannot write -
   [1]
   $ command zscli exec image events > /dev/full
+  -: no room is left
   cannot write -
   [1]

@@ -56,6 +56,7 @@ Where standard output takes no answer, the batch is done and kept.
   $ fresh
   $ frames make < append > asked
   $ zscli serve image --durable --frames < asked > /dev/full
+  -: no room is left
   cannot write -
   [1]
   $ cmp image journal

@@ -162,5 +162,6 @@ The most that a command moves goes out as one line, where standard output takes 
   $ zscli entry append --lba 8 --data most --block 4096 | dwords | cut -d , -f 1
   submit 1: 0=0001007d 1=00000001 10=00000008 12=0000001f
   $ zscli entry append --lba 8 --data most > /dev/full
+  -: no room is left
   cannot write -
   [1]

@@ -80,7 +80,7 @@ append name the same zone; those of a write and a read go on where the one befor
 
 The size of a block is the line's own, or else that of an image, or that of `--block`, or 512 bytes.
 
-  $ zscli format large --block 4096 --zones 4 --size 8 --capacity 6 --open 2 --active 3
+  $ zscli format large --block 4096 --zones 2 --size 64 --capacity 64 --open 2 --active 2
   $ head -c 4096 long > data
   $ printf 'append --lba 8 --data data\nread --lba 8 --blocks 33\n' > words
   $ zscli entry append --lba 8 --data data --block 4096 > made
@@ -118,3 +118,36 @@ Each kind of entry has the words that `zscli entry` has for it.
   $ zscli entries words | cmp - made
   $ wc -l < made
   12
+
+With an image, blocks that aren't within the capacity of one zone are refused by their line. What the device refuses otherwise is left to it.
+
+  $ zscli format small --block 512 --zones 4 --size 8 --capacity 6 --open 2 --active 3
+  $ head -c 3072 /dev/zero > six
+  $ head -c 3584 /dev/zero > seven
+  $ fits() { printf '%s\n' "$1" > line; zscli entries line --image small > /dev/null; }
+  $ fits 'append --lba 8 --data six'
+  $ fits 'append --lba 8 --data seven'
+  line, line 1: 7 blocks from LBA 8 on: not within the capacity of zone 1, 6 blocks
+  line 1 refused
+  [2]
+  $ fits 'write --lba 8 --data six'
+  $ fits 'write --lba 9 --data six'
+  line, line 1: 6 blocks from LBA 9 on: not within the capacity of zone 1, 6 blocks
+  line 1 refused
+  [2]
+  $ fits 'read --lba 8 --blocks 6'
+  $ fits 'read --lba 8 --blocks 7'
+  line, line 1: 7 blocks from LBA 8 on: not within the capacity of zone 1, 6 blocks
+  line 1 refused
+  [2]
+  $ fits 'read --lba 13 --blocks 1'
+  $ fits 'read --lba 14 --blocks 1'
+  line, line 1: 1 block from LBA 14 on: not within the capacity of zone 1, 6 blocks
+  line 1 refused
+  [2]
+  $ fits 'read --lba 64 --blocks 1'
+  $ fits 'append --lba 8 --data seven ; comment'
+  line, line 1: 7 blocks from LBA 8 on: not within the capacity of zone 1, 6 blocks
+  line 1 refused
+  [2]
+  $ zscli entries line > /dev/null

@@ -18,7 +18,7 @@ A number out of its range, and an option that is missing.
 
   $ echo 'read --lba 0 --blocks 0' > words
   $ zscli entries words >> out
-  words, line 1: '0' for --blocks is not a number from 1 to 65536
+  words, line 1: --blocks: '0' is not a number from 1 to 65536
   line 1 refused
   [2]
   $ echo 'read --lba 0' > words
@@ -94,5 +94,6 @@ A size that no block has, and files that can't be read.
 Standard output that takes nothing.
 
   $ zscli entries words > /dev/full
+  -: no room is left
   cannot write -
   [1]

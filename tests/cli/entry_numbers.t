@@ -65,8 +65,8 @@ The slots of programs, the most bytes that may be emitted, and a run's argument,
   $ zscli entry result --slot 7 --queue 0 --cid 0 | dwords
   submit 0: 0=000000c2 1=00000001 10=00000007
   $ zscli entry run --slot 0 --from 0 --blocks 1 --to 0 --argument 4294967296
-  error: '4294967296' for --argument is not a number from 0 to 4294967295
+  --argument: '4294967296' is not a number from 0 to 4294967295
   [2]
   $ zscli entry load --slot 0 --program program --emit 4294967296
-  error: '4294967296' for --emit is not a number from 0 to 4294967295
+  --emit: '4294967296' is not a number from 0 to 4294967295
   [2]

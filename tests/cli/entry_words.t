@@ -4,40 +4,40 @@ is 2. Where it is one word, no usage follows.
 Numbers have a range.
 
   $ zscli entry read --lba 0 --blocks 0 > out
-  error: '0' for --blocks is not a number from 1 to 65536
+  --blocks: '0' is not a number from 1 to 65536
   [2]
   $ zscli entry read --lba 0 --blocks 65537 >> out
-  error: '65537' for --blocks is not a number from 1 to 65536
+  --blocks: '65537' is not a number from 1 to 65536
   [2]
   $ zscli entry reset --lba 18446744073709551616 >> out
-  error: '18446744073709551616' for --lba is not a number from 0 to 18446744073709551615
+  --lba: '18446744073709551616' is not a number from 0 to 18446744073709551615
   [2]
   $ zscli entry reset --all --queue 65536 >> out
-  error: '65536' for --queue is not a number from 0 to 65535
+  --queue: '65536' is not a number from 0 to 65535
   [2]
   $ zscli entry result --slot 8 >> out
-  error: '8' for --slot is not a number from 0 to 7
+  --slot: '8' is not a number from 0 to 7
   [2]
   $ zscli entry report --lba 0 --dwords 32769 >> out
-  error: '32769' for --dwords is not a number from 1 to 32768
+  --dwords: '32769' is not a number from 1 to 32768
   [2]
   $ zscli entry load --slot 0 --program exit --emit 4294967296 >> out
-  error: '4294967296' for --emit is not a number from 0 to 4294967295
+  --emit: '4294967296' is not a number from 0 to 4294967295
   [2]
 
 They have no sign, and only a small `0x` begins hexadecimal digits.
 
   $ zscli entry read --lba +1 --blocks 1 >> out
-  error: '+1' for --lba is not a number from 0 to 18446744073709551615
+  --lba: '+1' is not a number from 0 to 18446744073709551615
   [2]
   $ zscli entry read --lba 0x --blocks 1 >> out
-  error: '0x' for --lba is not a number from 0 to 18446744073709551615
+  --lba: '0x' is not a number from 0 to 18446744073709551615
   [2]
   $ zscli entry read --lba 0x+1 --blocks 1 >> out
-  error: '0x+1' for --lba is not a number from 0 to 18446744073709551615
+  --lba: '0x+1' is not a number from 0 to 18446744073709551615
   [2]
   $ zscli entry read --lba 0X1 --blocks 1 >> out
-  error: '0X1' for --lba is not a number from 0 to 18446744073709551615
+  --lba: '0X1' is not a number from 0 to 18446744073709551615
   [2]
 
 A command that isn't there, an option that is missing, and two that exclude each other: the usage follows.

@@ -58,6 +58,7 @@ Where a file fails, the status is 1.
   cannot read gone
   [1]
   $ zscli exec image events --fail > /dev/full
+  -: no room is left
   cannot write -
   [1]
 

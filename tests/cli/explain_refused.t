@@ -66,5 +66,6 @@ A success may have data; with the phase tag it is another device's.
 Standard output that takes nothing.
 
   $ zscli explain replies > /dev/full
+  -: no room is left
   cannot write -
   [1]

@@ -104,6 +104,7 @@ Standard output takes no answer: the request is done, and saved.
   $ fresh
   $ { cat append; echo save; } | frames make > asked
   $ zscli serve image --frames < asked > /dev/full
+  -: no room is left
   cannot write -
   [1]
   $ cmp image one_block
@@ -113,6 +114,7 @@ An image that can't be saved ends it: here no file may have a byte, and the answ
   $ fresh
   $ { cat append; echo save; } | frames make > asked
   $ (trap '' XFSZ; ulimit -f 0; zscli serve image --frames < asked; echo "status $?" >&2) | frames show
+  image: too large for the file system, or for a limit of the user
   cannot write image
   status 1
   cpl 1 00000000000000000000010001000000

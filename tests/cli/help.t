@@ -3,31 +3,31 @@ The numbers and the words of help are those that commands give.
 A number is refused with the range that help names.
 
   $ zscli entry read --lba 0 --blocks 0
-  error: '0' for --blocks is not a number from 1 to 65536
+  --blocks: '0' is not a number from 1 to 65536
   [2]
   $ zscli entry read --help | grep -e '--blocks <N>  '
         --blocks <N>       The number of blocks, from 1 to 65536
   $ zscli entry run --help | grep -e '--blocks <N>  '
         --blocks <N>       The number of these blocks, from 1 to 65536
   $ zscli entry report --lba 0 --dwords 0
-  error: '0' for --dwords is not a number from 1 to 32768
+  --dwords: '0' is not a number from 1 to 32768
   [2]
   $ zscli entry report --help | grep -e '--dwords <D>  '
-        --dwords <D>       The dwords of the report, from 1 to 32768: 16 for its header, and 16 for each zone [default: 1024]
+        --dwords <D>       The dwords of the report, from 1 to 32768: 16 for its
   $ zscli entry result --slot 8
-  error: '8' for --slot is not a number from 0 to 7
+  --slot: '8' is not a number from 0 to 7
   [2]
   $ zscli entry load --help | grep -e '--slot <S>  '
         --slot <S>         The slot of the program, from 0 to 7
   $ zscli entry result --slot 0 --cid 65536
-  error: '65536' for --cid is not a number from 0 to 65535
+  --cid: '65536' is not a number from 0 to 65535
   [2]
   $ zscli entry result --slot 0 --queue 65536
-  error: '65536' for --queue is not a number from 0 to 65535
+  --queue: '65536' is not a number from 0 to 65535
   [2]
   $ zscli entry result --help | grep -e '--queue <Q>  ' -e '--cid <C>  '
         --queue <Q>        The submission queue, from 0 to 65535 [default: 1]
-        --cid <C>          The command identifier, from 0 to 65535, which the completion repeats; by default 1, and with --into one more than the highest of the queue in the file
+        --cid <C>          The command identifier, from 0 to 65535, which the
 
 A file is refused with the size that help names.
 
@@ -46,7 +46,7 @@ A file is refused with the size that help names.
   long, 131080 bytes: there are more than 4096 slots
   program refused 0 22
   [3]
-  $ zscli disasm --help | grep -o 'from 1 to 4096 slots'
+  $ zscli disasm --help | tr '\n' ' ' | grep -o 'from 1 to 4096 slots'
   from 1 to 4096 slots
 
 Numbers that are no geometry are refused with the bounds that help names. No file is made.
@@ -57,7 +57,7 @@ Numbers that are no geometry are refused with the bounds that help names. No fil
   [3]
   $ zscli format --help | grep 'Bytes of a block'
             Bytes of a block: a power of 2 from 512 to 16384
-  $ zscli trace --help | grep -o "Its size is the file's length: .* bytes[.]"
+  $ zscli trace --help | tr '\n' ' ' | grep -o "Its size is the file's length: .* 16384 bytes[.]"
   Its size is the file's length: a power of 2 from 512 to 16384 bytes.
   $ zscli format new --block 512 --zones 0 --size 8 --capacity 6 --open 2 --active 3
   0 zones: the number of zones is not from 1 to 4096
@@ -71,7 +71,7 @@ Numbers that are no geometry are refused with the bounds that help names. No fil
   16 zones of 8192 writable blocks of 4096 bytes: the zones' capacity is more than 268435456 bytes in all
   geometry refused 6
   [3]
-  $ zscli format --help | grep 'geometry refused REASON' | tr ',' '\n'
+  $ zscli format --help | tr '\n' ' ' | grep -o 'Of numbers that .* is written then[.]' | tr ',' '\n'
   Of numbers that are no geometry
    `geometry refused REASON` tells what is wrong first: 1 the block size
    2 the number of zones (1 to 4096)
@@ -131,12 +131,17 @@ A trap is explained with the same words.
 
 The help of `verify` lists each reason of a refusal.
 
-  $ zscli verify --help | grep '^  [1-5] a'
-    1 a jump backward               6 a store outside, or into the context or the block
-    2 a jump to no instruction      7 a helper other than 1
-    3 a program that falls off      8 an emit from an unknown address
-    4 a write to R10                9 an emit of an unknown length
-    5 a load outside               10 an emit over the limit
+  $ zscli verify --help | grep -E '^ +[0-9]+ an? '
+     1 a jump backward
+     2 a jump to no instruction
+     3 a program that falls off
+     4 a write to R10
+     5 a load outside
+     6 a store outside, or into the context or the block
+     7 a helper other than 1
+     8 an emit from an unknown address
+     9 an emit of an unknown length
+    10 an emit over the limit
 
 A refusal is explained with the same words.
 
@@ -184,3 +189,19 @@ Help is printed to standard output, and a usage that is wrong to standard error.
   Usage: zscli <COMMAND>
   $ zscli 2> /dev/null
   [2]
+
+No line of a help has more than 80 columns, and no word is lost.
+
+  $ for it in demo format zones report upgrade exec serve fold explain entry entries asm disasm link verify trace unpack; do
+  >   zscli $it --help
+  > done | awk 'length > 80'
+  $ zscli --help | awk 'length > 80'
+  $ for it in append write read open close finish reset offline report load run result; do zscli entry $it --help; done | awk 'length > 80'
+  $ zscli report --help | sed -n '/--color/,/-h/p'
+        --color <WHEN>
+            When a map has colors; auto: on a terminal, unless NO_COLOR is set
+            
+            [default: auto]
+            [possible values: auto, always, never]
+  
+    -h, --help

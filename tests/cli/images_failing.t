@@ -11,6 +11,7 @@ Where standard output takes no line, `exec` stops at the first event, and saves 
   $ format image
   $ printf 'fault 0 offline\nfault 1 offline\nfault 2 offline' > events
   $ zscli exec image events > /dev/full
+  -: no room is left
   cannot write -
   [1]
   $ zscli zones image
@@ -30,6 +31,7 @@ output goes to a file that can grow by N bytes.
   > }
   $ format image
   $ with_room 5 zscli exec image events
+  -: too large for the file system, or for a limit of the user
   cannot write -
   [1]
   $ tail -c +508 out
@@ -41,6 +43,7 @@ output goes to a file that can grow by N bytes.
   3 empty 0
   $ format image
   $ with_room 10 zscli exec image events
+  -: too large for the file system, or for a limit of the user
   cannot write -
   [1]
   $ tail -c +503 out
@@ -59,6 +62,7 @@ Where the new image can't be written, what was done is printed, and the image is
   $ printf 'fault 0 offline' > events
   $ no_room zscli exec image events
   done
+  image: too large for the file system, or for a limit of the user
   cannot write image
   [1]
   $ cmp image new
@@ -70,6 +74,7 @@ Where the new image can't be written, what was done is printed, and the image is
 Where standard output takes no line either, the last line on standard error says that the image can't be written.
 
   $ no_room zscli exec image events > /dev/full
+  image: too large for the file system, or for a limit of the user
   cannot write image
   [1]
   $ cmp image new
@@ -81,9 +86,11 @@ Where the events leave the image as it was, no file is written, and none is want
   refused
   idle
   $ no_room zscli exec image same > /dev/full
+  -: no room is left
   cannot write -
   [1]
   $ with_room 8 zscli exec image same
+  -: too large for the file system, or for a limit of the user
   cannot write -
   [1]
   $ tail -c +505 out
@@ -98,9 +105,11 @@ An image of version 1 is written all the same, as version 2.
   $ cp old first
   $ printf '' > none
   $ no_room zscli exec old none
+  old: too large for the file system, or for a limit of the user
   cannot write old
   [1]
   $ no_room zscli upgrade old
+  old: too large for the file system, or for a limit of the user
   cannot write old
   [1]
   $ cmp old first
@@ -108,9 +117,11 @@ An image of version 1 is written all the same, as version 2.
 No image is made where it can't be written, and one of the same name stays.
 
   $ no_room format made
+  made: too large for the file system, or for a limit of the user
   cannot write made
   [1]
   $ no_room format image
+  image: too large for the file system, or for a limit of the user
   cannot write image
   [1]
   $ cmp image new
@@ -182,3 +193,15 @@ A new image has the permissions of the old one. Through a link the file is chang
   $ stat -c '%a %F' image link
   640 regular file
   777 symbolic link
+
+Before the first event `exec` sees whether a new image can be begun beside the old one: else nothing is done or printed. The name of this
+one is so long that there is none for the new one.
+
+  $ name=$(head -c 250 /dev/zero | tr '\0' i)
+  $ cp new "$name"
+  $ printf 'fault 0 offline' > events
+  $ zscli exec "$name" events > said 2>&1
+  [1]
+  $ tr -s i < said
+  cannot write i
+  $ cmp "$name" new

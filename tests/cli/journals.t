@@ -164,3 +164,38 @@ A file that begins as a journal, and has no base, has its fault at the front.
   journal refused 0
   [3]
   $ cmp image no_base
+
+So has one that is cut within its first bytes; a file that is cut and begins otherwise is an image.
+
+  $ head -c 40 journal > image
+  $ refused zones image
+  image, byte 0: no whole base of a device
+  journal refused 0
+  [3]
+  $ refused exec image events
+  image, byte 0: no whole base of a device
+  journal refused 0
+  [3]
+  $ refused upgrade image
+  image, byte 0: no whole base of a device
+  journal refused 0
+  [3]
+  $ head -c 8 journal > image
+  $ refused report image
+  image, byte 0: no whole base of a device
+  journal refused 0
+  [3]
+  $ head -c 7 journal > image
+  $ refused zones image
+  image: the file is no whole image: its header, a zone row or a block is cut
+  image refused 10
+  [3]
+  $ head -c 100 one_block > image
+  $ refused zones image
+  image: the file is no whole image: its header, a zone row or a block is cut
+  image refused 10
+  [3]
+  $ refused exec image events
+  image: the file is no whole image: its header, a zone row or a block is cut
+  image refused 10
+  [3]

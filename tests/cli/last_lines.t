@@ -23,6 +23,7 @@ A file that isn't there, a file that can't be made, and standard output that tak
   cannot read text/image
   [1]
   $ command zscli disasm program > /dev/full
+  -: no room is left
   cannot write -
   [1]
 
@@ -111,25 +112,38 @@ Of PROGRAM, BLOCK, a block's size and `--emit` the first that is wrong is named;
 Numbers of options are decimal digits alone.
 
   $ zscli format new --block 0x200 --zones 4 --size 8 --capacity 6 --open 2 --active 3
-  error: '0x200' for --block is not a number from 0 to 4294967295
+  --block: '0x200' is not a block size (512, 1024, 2048, 4096, 8192 or 16384)
   [2]
   $ zscli verify gone --block 512 --emit 0x0
-  error: '0x0' for --emit is not a number from 0 to 4294967295
+  --emit: '0x0' is not a number from 0 to 4294967295
   [2]
   $ zscli verify gone --block +512 --emit 0
-  error: '+512' for --block is not a number from 0 to 4294967295
+  --block: '+512' is not a block size (512, 1024, 2048, 4096, 8192 or 16384)
   [2]
   $ zscli trace gone gone --emit 4294967296
-  error: '4294967296' for --emit is not a number from 0 to 4294967295
+  --emit: '4294967296' is not a number from 0 to 4294967295
   [2]
   $ zscli trace gone gone --argument 0x1
-  error: '0x1' for --argument is not a number from 0 to 4294967295
+  --argument: '0x1' is not a number from 0 to 4294967295
   [2]
   $ zscli trace gone gone --fuel 0x1
-  error: '0x1' for --fuel is not a number from 0 to 4294967295
+  --fuel: '0x1' is not a number from 0 to 4294967295
   [2]
   $ zscli unpack gone --block 0x200
-  error: '0x200' for --block is not a number from 0 to 4294967295
+  --block: '0x200' is not a block size (512, 1024, 2048, 4096, 8192 or 16384)
+  [2]
+
+A word that is no block size is told the sizes; a number that is none is told as the geometry's first fault.
+
+  $ zscli format new --block 4k --zones 4 --size 8 --capacity 6 --open 2 --active 3
+  --block: '4k' is not a block size (512, 1024, 2048, 4096, 8192 or 16384)
+  [2]
+  $ zscli verify program --block 513 --emit 0
+  a block of 513 bytes: the block size is no power of 2 from 512 to 16384
+  geometry refused 1
+  [3]
+  $ zscli entries gone --block 4k
+  --block: '4k' is not a block size (512, 1024, 2048, 4096, 8192 or 16384)
   [2]
 
 What a terminal obeys is shown escaped in names and words, and nothing else. The first is compared byte for byte, since cram would
@@ -143,7 +157,7 @@ escape what isn't ASCII.
   >     "$(printf '\\x1b[2J\\x09\\x7f\\xc2\\x80\\xc2\\x9f\302\240\303\251"\\.img')"
   $ cmp said wanted
   $ zscli unpack gone --block "$(printf '5\a')"
-  error: '5\x07' for --block is not a number from 0 to 4294967295
+  --block: '5\x07' is not a block size (512, 1024, 2048, 4096, 8192 or 16384)
   [2]
   $ name=$(printf 'a\nb')
   $ printf sum > "$name"

@@ -56,6 +56,7 @@ Standard output takes no line: the event is done, and saved, and no later one is
   $ fresh
   $ printf 'fault 3 readonly\nfault 2 readonly\n' > lines
   $ zscli serve image < lines > /dev/full
+  -: no room is left
   cannot write -
   [1]
   $ cmp image one_fault
@@ -72,6 +73,7 @@ An image that can't be saved: here no file may have a byte, and what is printed 
   $ fresh
   $ printf 'fault 3 offline\n' > lines
   $ (trap '' XFSZ; ulimit -f 0; zscli serve image < lines; echo "status $?" >&2) | cat > printed
+  image: too large for the file system, or for a limit of the user
   cannot write image
   status 1
   $ cat printed

@@ -39,9 +39,11 @@ Where there is no such byte, the block's run ends there with 7001h, which is 286
   $ run() { block "$1"; zscli trace program block --emit 512 | tail -n 1; }
   $ link field --verbose
   guard: guarded.c, line 14, in field: a guard ends the run where 1 byte isn't within the 512 of the block; see to it just before, as by `if (offset > 511) return 0;`
-  12 slots; compares put in: 1 of accesses, 0 of emits, 0 of the block's size
+  27 slots; compares put in: 1 of accesses, 0 of emits, 0 of the block's size
   $ zscli disasm program
   stxdw [r10-8], r2
+  stxdw [r10-16], r3
+  stxdw [r10-32], r1
   ldxh r1, [r2+0]
   add r2, r1
   ldxdw r0, [r10-8]
@@ -51,43 +53,56 @@ Where there is no such byte, the block's run ends there with 7001h, which is 286
   ldxb r0, [r2+0]
   and r0, 15
   exit
-  mov r0, 28673
+  mov r0, 268894209
+  ldxdw r1, [r10-32]
+  ldxw r1, [r1+8]
+  ldxdw r2, [r10-16]
+  stxdw [r2+1016], r1
+  mov r1, r0
+  and r1, 65535
+  stxw [r2+1008], r1
+  rsh r0, 16
+  mov r1, r0
+  and r1, 4095
+  stxw [r2+1012], r1
+  rsh r0, 12
+  add r0, 28672
   exit
   $ run '\2\0\5'
-  exit 5 10 -
+  exit 5 12 -
   $ run '\377\1'
-  exit 0 10 -
+  exit 0 12 -
   $ run '\0\2'
-  exit 28673 8 -
+  exit 28673 23 -
 
 So is an emit whose length isn't known: 7002h, where it would be of no byte, or end after the block.
 
   $ link record --verbose
   guard: guarded.c, line 20, in record: a guard ends the run where a record has no byte; see to it just before, as by `if (length == 0) return 0;`
   guard: guarded.c, line 20, in record: a guard ends the run where a record has more than the 510 bytes of its area from its address on; see to it just before, as by `if (length > 510) return 0;`
-  10 slots; compares put in: 0 of accesses, 2 of emits, 0 of the block's size
+  27 slots; compares put in: 0 of accesses, 2 of emits, 0 of the block's size
   $ run '\3\0abc'
-  exit 0 8 0300616263
+  exit 0 10 0300616263
   $ run '\0\0'
-  exit 28674 6 -
+  exit 28674 22 -
   $ run '\377\1'
-  exit 28674 7 -
+  exit 28674 22 -
 
 A program that asks for the block's size ends with 7003h on blocks of another size than that of `--block`.
 
   $ link last --verbose
-  11 slots; compares put in: 0 of accesses, 0 of emits, 1 of the block's size
+  26 slots; compares put in: 0 of accesses, 0 of emits, 1 of the block's size
   $ run ''
-  exit 0 9 010000
+  exit 0 11 010000
   $ head -c 1024 /dev/zero > block
   $ zscli trace program block --emit 512 | tail -n 1
-  exit 28675 4 -
+  exit 28675 19 -
 
 A loop that can be left early, and has more rounds than there are slots for, is refused, with the line of the jump back.
 
   $ rm program
   $ link entries
-  link refused: guarded.c, line 36, in entries: a loop of 512 rounds, which take 8178 of 8181 slots, and a program has 4096 at most; give it a constant bound, fewer rounds, or less in each, or link with --cut-loops
+  link refused: guarded.c, line 36, in entries: a loop of 512 rounds, which take 8174 of 8177 slots, and a program has 4096 at most; give it a constant bound, fewer rounds, or less in each, or link with --cut-loops
   [3]
   $ ls program
   ls: cannot access 'program': No such file or directory
@@ -96,14 +111,14 @@ A loop that can be left early, and has more rounds than there are slots for, is 
 With `--cut-loops` it has as many rounds as there are slots for. A block that needs more ends with 7004h.
 
   $ link entries --verbose --cut-loops
-  cut: guarded.c, line 36, in entries: there is room for 256 rounds of a loop: a block that needs more ends its run with R0 = 7004h
-  4095 slots; compares put in: 0 of accesses, 0 of emits, 0 of the block's size
+  cut: guarded.c, line 36, in entries: there is room for 248 rounds of a loop: a block that needs more ends its run with R0 = 7004h
+  3979 slots; compares put in: 0 of accesses, 0 of emits, 0 of the block's size
   $ zscli verify program --block 512 --emit 0
-  accepted 4095
+  accepted 3979
   $ run '\4t..\3a.\2t'
-  exit 2 46 -
+  exit 2 45 -
   $ run "$(head -c 512 /dev/zero | tr '\0' '\1')"
-  exit 28676 4094 -
+  exit 28676 3978 -
 
 A constant text that a called function chooses.
 
@@ -224,7 +239,7 @@ A store into the block: no program is made, since `verify` would refuse it. The 
   $ grep -n 'block.0' "$ROOT/tests/cli/data/store.c"
   4:    block[0] = 1;
   $ zscli link store.o --block 512 -o store.bin
-  link refused: store.c, line 4, in filter: verify refuses slot 5 of the program, a store outside, or into the context or the block; store to the stack or to scratch, at an offset that is compared with a constant or masked just before
+  link refused: store.c, line 4, in filter: verify refuses slot 7 of the program, a store outside, or into the context or the block; store to the stack or to scratch, at an offset that is compared with a constant or masked just before
   [3]
   $ ls store.bin
   ls: cannot access 'store.bin': No such file or directory
@@ -247,6 +262,7 @@ Files that fail, standard output that takes nothing, a block size that there isn
   cannot write none/program
   [1]
   $ zscli link lines.o --block 512 -o unprinted --verbose > /dev/full
+  -: no room is left
   cannot write -
   [1]
   $ ls unprinted

@@ -9,33 +9,33 @@ table has: no block is ended by it.
 
   $ link name --verbose
   guard: areas.c, line 25, in name: a guard ends the run where 3 bytes aren't all within the 512 of the stack; see to it just before, as by `if (offset > 509) return 0;`
-  37 slots; compares put in: 0 of accesses, 1 of emits, 0 of the block's size
+  52 slots; compares put in: 0 of accesses, 1 of emits, 0 of the block's size
   $ run '\0'
-  exit 0 35 0300726564
+  exit 0 37 0300726564
   $ run '\1'
-  exit 0 35 0300677265
+  exit 0 37 0300677265
   $ run '\5'
-  exit 0 35 0300626c75
+  exit 0 37 0300626c75
 
 An OR of an address whose low bits are zeros and an offset is a sum: no guard is needed.
 
   $ link bits --verbose
-  51 slots; compares put in: 0 of accesses, 0 of emits, 0 of the block's size
+  50 slots; compares put in: 0 of accesses, 0 of emits, 0 of the block's size
   $ zscli disasm program | grep -c '^or '
   0
   [1]
   $ run '\1\2\3\1\17\1'
-  exit 0 51 08000003010100000001
+  exit 0 50 08000003010100000001
 
 An emit from the block or from scratch is tried for one area after the other. The guard is that of the last. `--strict` wants no guard.
 
   $ link either --verbose
   guard: areas.c, line 47, in either: a guard ends the run where 2 bytes aren't all within the 1024 of scratch; see to it just before, as by `if (offset > 1022) return 0;`
-  26 slots; compares put in: 0 of accesses, 1 of emits, 0 of the block's size
+  40 slots; compares put in: 0 of accesses, 1 of emits, 0 of the block's size
   $ run '\0ab'
-  exit 0 16 02006162
+  exit 0 17 02006162
   $ run '\10'
-  exit 0 21 02006162
+  exit 0 22 02006162
   $ rm program
   $ link either --strict
   link refused: areas.c, line 47, in either: a guard ends the run where 2 bytes aren't all within the 1024 of scratch; see to it just before, as by `if (offset > 1022) return 0;`

@@ -177,14 +177,14 @@ The output block has the record after its length.
 There are no other profiles. The number is refused before any file is read.
 
   $ zscli verify gone --block 512 --emit 0 --profile 1
-  error: '1' for --profile is not a number from 2 to 3
+  --profile: '1' is not a number from 2 to 3
   [2]
   $ zscli verify gone --block 512 --emit 0 --profile 4
-  error: '4' for --profile is not a number from 2 to 3
+  --profile: '4' is not a number from 2 to 3
   [2]
   $ zscli verify gone --block 512 --emit 0 --profile 0x3
-  error: '0x3' for --profile is not a number from 2 to 3
+  --profile: '0x3' is not a number from 2 to 3
   [2]
   $ zscli exec gone events --profile 1
-  error: '1' for --profile is not a number from 2 to 3
+  --profile: '1' is not a number from 2 to 3
   [2]

@@ -38,6 +38,7 @@ Where it can't write the program, it says so: here no file may have a byte.
 
   $ echo exit > text
   $ (trap '' XFSZ; ulimit -f 0; zscli asm text unwritten 2>&1; echo "status $?") | cat
+  unwritten: too large for the file system, or for a limit of the user
   cannot write unwritten
   status 1
   $ wc -c < unwritten

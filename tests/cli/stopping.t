@@ -23,6 +23,7 @@ The first line isn't taken: the Load is done, and no run is.
 
   $ cp three_blocks image
   $ zscli exec image events > /dev/full
+  -: no room is left
   cannot write -
   [1]
   $ zscli zones image

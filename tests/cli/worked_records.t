@@ -87,5 +87,6 @@ A block of the largest size that one record fills, and sizes that no block has; 
 Standard output that takes nothing.
 
   $ zscli unpack large --block 16384 > /dev/full
+  -: no room is left
   cannot write -
   [1]

@@ -8,7 +8,7 @@ is of one of these kinds:
     same        both leave the same: the frames of each block, R0, and scratch
     refused     `link` makes no program, and says why
     unaccepted  it makes one that the device refuses
-    guard       a guard that `link` told of ended the run, and up to there both are the same, but for 16 bytes of scratch
+    guard       a guard that `link` told of ended the run, and up to there both are the same, but for the 16 bytes that it wrote
     untold      a guard that it did not tell of ended the run
     differs     they differ in another way
     traps       the object itself does what can't be done, or doesn't end
@@ -28,6 +28,7 @@ import argparse
 import re
 import resource
 import signal
+import struct
 import subprocess
 import sys
 import tempfile
@@ -74,10 +75,29 @@ class Result(NamedTuple):
 
 
 class Linked(NamedTuple):
-    """What `zscli link` printed, and the program, where it made one."""
+    """What `zscli link` printed, and the program, where it made one, with the byte of scratch from which on its guards write, if they
+    do, and their slots, by their numbers."""
 
     program: Optional[bytes]
     told: str
+    mark: Optional[int] = None
+    guards: Dict[int, int] = {}
+
+
+def linked(program: bytes, told: str, notes: str) -> Linked:
+    """What `zscli link` made, with the notes that it wrote beside the program.
+
+    >>> linked(b"", "", "linked 1\\nblock 512\\nprofile 2\\nguard-at 1008\\nguard 1 slot 37 filter.c:12 in filter: no byte\\n")[2:]
+    (1008, {1: 37})
+    """
+    mark, guards = None, {}
+    for line in notes.splitlines():
+        words = line.split()
+        if words[0] == "guard-at":
+            mark = int(words[1])
+        elif words[0] == "guard":
+            guards[int(words[1])] = int(words[3])
+    return Linked(program, told, mark, guards)
 
 
 class Comparer:
@@ -104,7 +124,9 @@ class Comparer:
         told = done.stdout + done.stderr
         if done.returncode not in (0, 3):
             raise RuntimeError(f"zscli link: status {done.returncode}: {told}")
-        return Linked(made.read_bytes() if made.exists() else None, told)
+        if not made.exists():
+            return Linked(None, told)
+        return linked(made.read_bytes(), told, (self._folder / "filter.bin.linked").read_text())
 
     def result(self, source: str, flags: Flags, parameters: Parameters) -> Result:
         """What comes of a file of C."""
@@ -132,8 +154,11 @@ class Comparer:
         if seen != device.expected(filters.Left([it.frames for it in other.blocks], other.scratch)):
             return Result("device", "the device and the interpreter differ")
         result = compared(left, other, linked.told)
-        if result.kind in ("guard", "untold") and not was_on_the_way(code, parameters, other):
-            result = Result("differs", f"scratch, before {result.told}")
+        if result.kind in ("guard", "untold"):
+            if not is_marked(linked, other):
+                result = Result("differs", f"what a guard wrote, {result.told}")
+            elif not was_on_the_way(code, parameters, other, linked.mark):
+                result = Result("differs", f"scratch, before {result.told}")
         if result.kind in BAD and code.words:
             result = result._replace(told=f"{result.told}, where data has addresses")
         if result.kind != "same" and not rests_on_nothing(code, parameters, left):
@@ -201,29 +226,32 @@ def where(comparer: Comparer, made: Drawn, count: int = 8) -> str:
     return "\n".join(by_slot[slot] for slot in slots[-count:])
 
 
-def was_on_the_way(code: Code, parameters: Parameters, other: Left) -> bool:
-    """Did an object have the scratch of a program, which a guard ended, at some step of the block in which it ended? Of 16 bytes
-    that follow one another it isn't asked, since there a guard may put its place."""
+MARK = struct.Struct("<IIQ")
+"""What a guard writes: its number, its slot, and the block's index in the run."""
+
+
+def is_marked(made: Linked, other: Left) -> bool:
+    """Did the guard that ended a run write which one it was, if it is to?"""
+    if made.mark is None:
+        return True
+    number, slot, block = MARK.unpack_from(other.scratch, made.mark)
+    return made.guards.get(number) == slot and block == len(other.blocks) - 1
+
+
+def was_on_the_way(code: Code, parameters: Parameters, other: Left, mark: Optional[int]) -> bool:
+    """Did an object have the scratch of a program, which a guard ended, at some step of the block in which it ended? What the guard
+    wrote stands where nothing else is stored."""
     machine, last, found = Machine(code), len(other.blocks) - 1, False
+    scratch = bytearray(other.scratch)
+    if mark is not None:
+        scratch[mark : mark + MARK.size] = bytes(MARK.size)
 
     def watch(_: int, registers: List[int]) -> None:
         nonlocal found
-        found = found or (machine.block == last and is_nearly(machine.scratch, other.scratch))
+        found = found or (machine.block == last and machine.scratch == scratch)
 
     machine.run(Parameters(parameters.blocks[: last + 1], parameters.argument, parameters.first), watch)
     return found
-
-
-def is_nearly(left: bytes, right: bytes, spare: int = 16) -> bool:
-    """Are bytes the same but for a few that follow one another?
-
-    >>> is_nearly(b"abcdef", b"abXXef", 2), is_nearly(b"abcdef", b"XbcdXf", 2)
-    (True, False)
-    """
-    if left == right:
-        return True
-    places = [at for at, (one, other) in enumerate(zip(left, right)) if one != other]
-    return places[-1] - places[0] < spare
 
 
 # ---- many programs

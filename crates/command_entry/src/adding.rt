@@ -11,7 +11,7 @@ use crate::printing::line_of;
 use crate::wrong_line::wrong_words;
 use clap::Command;
 use clap::error::ErrorKind;
-use command_files::{Failure, FileCause, FileFault, Files, cannot_read, write};
+use command_files::{Failure, FileCause, FileFault, Files, MOST_OF_EVENTS, cannot_read, write};
 use device_events::Event;
 use event_text::parse;
 use nvme_entry::MOST_TRANSFER;
@@ -62,7 +62,7 @@ fn bytes_before<'a, F: Files>(
     ensures contents { F.contents files.new ≡ F.contents files.old }
     ensures bytes { IfOk result (λ bytes. AreOf (F.contents files.old) path.entry.now bytes.items) }
 {
-    match files.read(path) {
+    match files.read(path, MOST_OF_EVENTS) {
         Ok(bytes) => Ok(bytes),
         Err(FileFault::Failed(FileCause::NotFound)) => Ok(Vec::new(alloc)),
         Err(fault) => Err(cannot_read(path, fault)),

@@ -11,6 +11,7 @@ use crate::wrong_line::wrong_words;
 use clap::Command;
 use clap::error::ErrorKind;
 use command_files::Failure;
+use image_store::Geometry;
 use std::alloc::{AllocError, Global};
 
 /// Why words that leave the command identifier out are wrong.
@@ -22,14 +23,17 @@ const NONE_LEFT: &str =
 pub(crate) struct CommandText {
     text: Vec<u8>,
     numbering: Numbering,
+    /// That of the namespace whose blocks the lines speak of, where it is known.
+    pub(crate) geometry: Option<Geometry>,
 }
 
 impl CommandText {
-    /// No lines.
-    pub(crate) fn new(alloc: Global) -> CommandText {
+    /// No lines, of blocks of a namespace with this geometry.
+    pub(crate) fn new(alloc: Global, geometry: Option<Geometry>) -> CommandText {
         CommandText {
             text: Vec::new(alloc),
             numbering: Numbering::new(alloc),
+            geometry,
         }
     }
 

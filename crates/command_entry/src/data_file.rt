@@ -4,7 +4,7 @@ ghost use Rattle.std.specs.Prelude.{◌≡◌, ◌≤◌, OnOk, length};
 
 use crate::kinds::Kind;
 use crate::words::EntryWords;
-use command_files::{DataFault, Failure, Files, object_refusal, read};
+use command_files::{DataFault, Failure, Files, MOST_OF_BLOCKS, object_refusal, read};
 use std::alloc::Global;
 
 /// All bytes of the file that words name, of any number; none where their kind has no file.
@@ -17,7 +17,7 @@ pub(crate) fn read_data<'a, F: Files>(
     ensures contents { F.contents files.new ≡ F.contents files.old }
 {
     if words.kind.has_file() {
-        read(words.path, files)
+        read(words.path, MOST_OF_BLOCKS, files)
     } else {
         Ok(Vec::new(alloc))
     }

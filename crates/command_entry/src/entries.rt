@@ -14,8 +14,9 @@ use crate::wrong_line::{wrong_line, wrong_words};
 use clap::error::ErrorKind;
 use clap::{ArgMatches, Command};
 use command_files::arguments::{no_command, required};
-use command_files::{Failure, Files, printed, read};
+use command_files::{Failure, Files, MOST_OF_TEXT, printed, read};
 use command_words::{Argument, Takes, Words, command_over};
+use image_store::Geometry;
 use program_interface::BlockSize;
 use std::alloc::Global;
 use std::io::Write;
@@ -38,6 +39,7 @@ entry has one more than the highest that an entry before it in FILE has in its q
 lowest that none before it has.
 
 A block has the bytes that a line's own --block says, or else those of the image that --image names, or those of --block. \
+With --image a line whose blocks are not within the capacity of one zone is wrong. \
 A file of blocks of any length can be appended or written. Where these, or the blocks of a read, are more than one \
 command moves, 131072 bytes, they become several lines of whole blocks. Those of an append name the same zone, those of \
 a write and a read go on where the one before them ended. --cid is then the identifier of the first.
@@ -82,7 +84,8 @@ pub static WORDS: Words = Words {
 };
 
 /// Prints the command file that the lines of a file ask for, with blocks of this size where a line says nothing of it, and makes no
-/// file: each has the bytes that it had. Where another thing than standard output fails, nothing is printed.
+/// file: each has the bytes that it had. Where a geometry is given, a line whose blocks cross the capacity of a zone is wrong. Where another
+/// thing than standard output fails, nothing is printed.
 ///
 /// # Errors
 ///
@@ -92,6 +95,7 @@ pub fn entries<'a, F: Files, O: Write>(
     alloc: Global,
     matches: &ArgMatches<'a>,
     block: BlockSize,
+    geometry: Option<Geometry>,
     files: &mut F,
     out: &mut O,
 ) -> Result<(), Failure<'a>>
@@ -100,8 +104,8 @@ pub fn entries<'a, F: Files, O: Write>(
     ensures silent { IfErr result (λ failure. failure ≢ Failure.CannotPrint → O.contents out.new ≡ O.contents out.old) }
 {
     let path = required(matches, FILE);
-    let file = read(path, files)?;
-    let text = text_of_file(alloc, path, file.as_slice(), block, files)?;
+    let file = read(path, MOST_OF_TEXT, files)?;
+    let text = text_of_file(alloc, path, file.as_slice(), block, geometry, files)?;
     printed(out.write_all(text.as_slice()))
 }
 
@@ -111,13 +115,14 @@ fn text_of_file<'a, F: Files>(
     path: &'a str,
     file: &[u8],
     block: BlockSize,
+    geometry: Option<Geometry>,
     files: &mut F,
 ) -> Result<Vec<u8>, Failure<'a>>
     ensures made { F.made files.new ≡ F.made files.old }
     ensures contents { F.contents files.new ≡ F.contents files.old }
 {
     let lines = worded_lines(alloc, file)?;
-    text_of_lines(alloc, path, lines.as_slice(), block, files)
+    text_of_lines(alloc, path, lines.as_slice(), block, geometry, files)
 }
 
 /// The command file that lines of words ask for.
@@ -126,13 +131,14 @@ fn text_of_lines<'a, F: Files>(
     path: &'a str,
     lines: &[WordedLine<'_>],
     block: BlockSize,
+    geometry: Option<Geometry>,
     files: &mut F,
 ) -> Result<Vec<u8>, Failure<'a>>
     ensures made { F.made files.new ≡ F.made files.old }
     ensures contents { F.contents files.new ≡ F.contents files.old }
 {
     let mut command_line = command_over(alloc, &entry::WORDS, &entry::KINDS)?;
-    let mut text = CommandText::new(alloc);
+    let mut text = CommandText::new(alloc, geometry);
     for line in lines {
         match add_line(alloc, &mut command_line, line, block, files, &mut text) {
             Ok(()) => {}

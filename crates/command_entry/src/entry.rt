@@ -10,14 +10,20 @@ use crate::asked::Asked;
 use crate::data_file::read_data;
 use crate::kinds::INTO;
 pub use crate::kinds::KINDS;
+use crate::linked::{linked_of, note};
 use crate::printing::print;
 use crate::words::EntryWords;
+use crate::wrong_line::wrong_words;
+use clap::error::ErrorKind;
 use clap::{ArgMatches, Command};
 use command_files::arguments::no_command;
-use command_files::{Failure, Files};
+use command_files::{Failure, Files, STANDARD_INPUT};
 use command_words::Words;
 use std::alloc::Global;
 use std::io::Write;
+
+/// Why a command line with `--into -` is wrong.
+const INTO_INPUT: &str = "--into adds to a file, and '-' is standard input";
 
 /// The command's name.
 pub const NAME: &str = "entry";
@@ -32,7 +38,8 @@ identifiers are counted up: without `--cid` an entry has one more than the highe
 has in the file, or behind 65535 the lowest that none has. \
 Numbers are in decimal, or behind `0x` in hexadecimal, as `explain` prints the addresses of a report. A file with data is whole \
 blocks, of 512 bytes where `--block` says nothing else, and has at most 131072 bytes. So has a program's file here; \
-a program that a Load accepts has at most 32768.";
+a program that a Load accepts has at most 32768. Where `link` wrote FILE.linked beside a program for another limit than --emit, or for \
+profile 3, standard error says for which.";
 
 const EXAMPLE: &str = "\
 Example: a command file that appends a block to the zone of block 8, and reads it back.
@@ -53,18 +60,20 @@ pub static WORDS: Words = Words {
 
 /// Prints one line, which is read back as the submission of an entry that is decoded to a command, and makes no file;
 /// or prints nothing, and makes one file, a command file with such a line behind what it had. Every other file has the
-/// bytes that it had, and where this fails, each has.
+/// bytes that it had, and where this fails, each has. Where the program of a Load was linked for other numbers, `err` gets a line that
+/// says so.
 ///
 /// # Errors
 ///
 /// The words ask for no entry, a file can't be read or isn't what a command can move, the command file can't be read, has a line that
 /// is refused, has no command identifier left or can't be written, standard output fails, or memory is wanting.
-pub fn entry<'a, F: Files, O: Write>(
+pub fn entry<'a, F: Files, O: Write, E: Write>(
     alloc: Global,
     command_line: &mut Command<'a>,
     matches: &ArgMatches<'a>,
     files: &mut F,
     out: &mut O,
+    err: &mut E,
 ) -> Result<(), Failure<'a>>
     ensures done { OnOk result (IsDoneSomewhere (O.contents out.old) (O.contents out.new)
         (F.made files.old) (F.made files.new) (F.contents files.old) (F.contents files.new)) }
@@ -72,19 +81,46 @@ pub fn entry<'a, F: Files, O: Write>(
     ensures kept { OnErr result (F.made files.new ≡ F.made files.old) }
     ensures contents { OnErr result (F.contents files.new ≡ F.contents files.old) }
     ensures silent { IfErr result (λ failure. failure ≢ Failure.CannotPrint → O.contents out.new ≡ O.contents out.old) }
+    ensures unnoted { OnErr result (E.contents err.new ≡ E.contents err.old) }
 {
     match matches.subcommand() {
-        Some((name, matches)) => submit(alloc, command_line, name, matches, files, out),
+        Some((name, matches)) => {
+            let linked = submit(alloc, command_line, name, matches, files, out)?;
+            note(linked.as_str(), err);
+            Ok(())
+        }
         None => Err(no_command(command_line)),
     }
 }
 
-/// Prints the line of the kind of entry that has this name, or adds it to the command file that the words name.
+/// Prints the line of the kind of entry that has this name, or adds it to the command file that the words name. What it gives is to be
+/// noted of the program of a Load.
 fn submit<'a, F: Files, O: Write>(
     alloc: Global,
     command_line: &mut Command<'a>,
     name: &str,
     matches: &ArgMatches<'a>,
+    files: &mut F,
+    out: &mut O,
+) -> Result<String, Failure<'a>>
+    ensures done { OnOk result (IsDone (first_value (found_of matches.now) INTO.now) (O.contents out.old) (O.contents out.new)
+        (F.made files.old) (F.made files.new) (F.contents files.old) (F.contents files.new)) }
+    ensures kept { OnErr result (F.made files.new ≡ F.made files.old) }
+    ensures contents { OnErr result (F.contents files.new ≡ F.contents files.old) }
+    ensures silent { IfErr result (λ failure. failure ≢ Failure.CannotPrint → O.contents out.new ≡ O.contents out.old) }
+{
+    let words = EntryWords::of(command_line, name, matches, None)?;
+    let linked = linked_of(alloc, &words, files)?;
+    give(alloc, command_line, matches, &words, files, out)?;
+    Ok(linked)
+}
+
+/// Prints the line of the entry that words ask for, or adds it to the command file that they name.
+fn give<'a, F: Files, O: Write>(
+    alloc: Global,
+    command_line: &mut Command<'a>,
+    matches: &ArgMatches<'a>,
+    words: &EntryWords<'a>,
     files: &mut F,
     out: &mut O,
 ) -> Result<(), Failure<'a>>
@@ -94,11 +130,15 @@ fn submit<'a, F: Files, O: Write>(
     ensures contents { OnErr result (F.contents files.new ≡ F.contents files.old) }
     ensures silent { IfErr result (λ failure. failure ≢ Failure.CannotPrint → O.contents out.new ≡ O.contents out.old) }
 {
-    let words = EntryWords::of(command_line, name, matches, None)?;
-    let data = read_data(alloc, &words, files)?;
-    let Asked { command, input } = Asked::of(command_line, &words, data)?;
+    let data = read_data(alloc, words, files)?;
+    let Asked { command, input } = Asked::of(command_line, words, data)?;
     let identifiers = words.numbers.identifiers;
     match matches.get_str(INTO) {
+        Some(STANDARD_INPUT) => Err(wrong_words(
+            command_line,
+            ErrorKind::ValueValidation,
+            INTO_INPUT,
+        )),
         Some(path) => add(
             alloc,
             command_line,

@@ -8,6 +8,7 @@ use crate::command_text::CommandText;
 use crate::data_file::check_data;
 use crate::kinds::Kind;
 use crate::words::EntryWords;
+use crate::zone_room::check_zone_room;
 use clap::Command;
 use command_files::Failure;
 use command_files::arguments::no_command;
@@ -52,6 +53,7 @@ fn add_pieces<'a>(
         Some(blocks) => blocks.get() as usize,
         None => data.len() / size as usize,
     };
+    check_zone_room(alloc, command_line, words, left, text.geometry)?;
     let mut rest = data;
     let mut lba = words.numbers.lba;
     let mut identifiers = words.numbers.identifiers;

@@ -1,2 +1,4 @@
 mod Failing
 mod Saving
+mod Stopping
+mod Tallies

@@ -1,22 +1,17 @@
 -- What was done, and what was done where a reply is refused.
-use Rattle.std.proofs.Common.{◌≡◌, ℕ, List, map, Option, Result, Ok, Err, OnOk, OnErr, IfErr, IfSome, inl, inr, ap, ◌∙◌, subst}
+use Rattle.std.proofs.Common.{◌≡◌, ◌<◌, ◌^◌, ℕ, Bool, List, length, map, Option, None, Result, Ok, Err, OnOk, OnErr, IfOk, IfSome, inl, inr, ap, ◌∙◌, subst}
 use Rattle.clap.specs.declared.parser.matches.ArgMatches.{ArgMatches}
 use Rattle.image_store.specs.Namespace.{ZonedNamespace}
 use Rattle.image_text.specs.Text.{text}
 use Rattle.device_meaning.specs.Judging.{Judge}
-use Rattle.device_events.specs.Printed.{Printed}
 use Rattle.common_definitions.specs.Failures.{CountsFailure}
-use Rattle.device_events.specs.Replies.{Joins, ReplyWithData}
-use Rattle.device_events.proofs.Proved.{prints_in_parts}
-use Rattle.device_meaning.specs.Draining.{HasDrained, HasStoppedDraining}
-use Rattle.device_meaning.specs.Events.{HasServed, HasStopped}
+use Rattle.device_events.specs.Replies.{ReplyWithData}
 use Rattle.device_meaning.specs.State.{State, new_state}
 use Rattle.device_events.specs.declared.event.Event.{Event}
-use Rattle.device_meaning.proofs.Proved.{served_and_drained}
-use Rattle.runner.specs.declared.device.Stopped.{Stopped}
 use Rattle.device_events.specs.ToldEvents.{told_of}
-use Rattle.event_text.specs.CommandFile.{events_in}
-use Rattle.event_text.specs.Lines.{Took, reply_line}
+use Rattle.event_text.specs.CommandFile.{events_in, worded_lines}
+use Rattle.event_text.specs.Lines.{Took, printed_by}
+use Rattle.event_text.specs.declared.lines.Lines.{Lines}
 use Rattle.placed_file.specs.Placing.{Attempt}
 use Rattle.command_files.specs.Crash.{AreWritten, LeavesOldOrNew}
 use Rattle.command_files.specs.Made.{Made}
@@ -24,83 +19,64 @@ use Rattle.command_files.specs.Surroundings.{Surroundings}
 use Rattle.command_files.proofs.Proved.{leaves_behind, leaves_weaker, read_holds}
 use Rattle.command_images.specs.Devices.{TellNamespace}
 use Rattle.command_images.specs.Images.{HasText, image_of}
-use Rattle.command_exec.specs.Executed.{AreExecutedBy, AreInFiles, AreLeft, DoesAll, ExecutesBy, ExecutesFirstBy, HasBegun, HasDone, InEvents, InTurns, IsDoneUnsaved, IsntSavedBy, SavesAll, SavesFirst, commands_of}
+use Rattle.command_exec.specs.declared.fail.Refused.{Refused}
+use Rattle.command_exec.specs.declared.watched.Tally.{Tally}
+use Rattle.command_exec.specs.declared.watched.Watched.{Watched}
+use Rattle.command_exec.specs.Executed.{AreExecutedBy, AreInFiles, AreLeft, ExecutesBy, ExecutesFirstBy, HasBegun, HasDone, HasPrinted, HasServedAsked, HasTold, IsDoneUnsaved, IsntSavedBy, SavesAll, SavesFirst, Untold, asks_words, commands_of, told_unless}
+use Rattle.command_exec.specs.Refused.{asks_stop}
+use Rattle.command_exec.specs.steps.Tallied.{Watches, none_tallied, tallied, told_of_tally}
+use Rattle.command_exec.proofs.Stopping.{asked_weaker, drained_weaker, first_begun}
+use Rattle.command_exec.proofs.Tallies.{told_is}
 
-pub on_err : {T E fact : Type 0} (result : Result T E) → fact → OnErr result fact
-on_err (Ok value) holds = tt
-on_err (Err error) holds = holds
+-- what is told of the refused commands of replies that were counted, and what was printed of them
+pub tells : {T : Type 0} (took : T → T → List ReplyWithData → Type 0) (numbers : List ℕ) (old new : Watched T) (refused : Option Refused) (before after : Option (List ℕ))
+    → length numbers < 2 ^ 64 → old.tally ≡ none_tallied → refused ≡ told_of_tally numbers new.tally
+    → ((replies : List ReplyWithData) → took old.out new.out replies → HasPrinted before after replies)
+    → (replies : List ReplyWithData) → Watches took old new replies → HasTold numbers refused before after replies
+tells took numbers old new refused before after few begins is prints replies did = (
+  prints replies did.0,
+  is ∙ ap (told_of_tally numbers) (did.1 ∙ ap (λ (tally : Tally). tallied tally replies) begins) ∙ told_is numbers replies few,
+)
 
--- what `Lines` takes in two parts it takes in order
-took_joins : Joins Took
-took_joins a b c first later early late = (late.0 ∙ early.0, prints_in_parts reply_line a.1 b.1 c.1 first later early.1 late.1)
+-- lines were printed of all replies, since none was refused; the writer held so much before them, and so much then
+module _ {W : Type 0} (contents : W → Option (List ℕ)) (old new : Watched (Lines W)) (before after : Option (List ℕ))
+    (first : contents old.out.out.now ≡ before) (last : contents new.out.out.now ≡ after) where
+  pub lines_printed : new.out.refusals ≡ old.out.refusals → (replies : List ReplyWithData)
+      → Took (printed_by contents old.out) (printed_by contents new.out) replies → HasPrinted before after replies
+  lines_printed count replies took =
+      subst (λ (held : Option (List ℕ)). HasPrinted held after replies) first
+      (subst (λ (held : Option (List ℕ)). HasPrinted (contents old.out.out.now) held replies) last (took.1.texts count))
 
--- events, of which the reply to the last was refused
-pub stops_in_events : (judge : Judge) (events : List Event) (old new : State) (took : List ReplyWithData → Type 0) (done : ℕ)
-    → HasStopped judge events old new took done → HasBegun judge events old new
-stops_in_events judge events old new took done stopped = InEvents done (record {
-  some = stopped.some;
-  within = stopped.within;
-  occurrences = stopped.occurrences;
-  are = stopped.are;
-  state = stopped.state;
-  replies = tt;
-})
+  pub prints_lines : {E : Type 0} (judge : Judge) (stops : Bool) (events : List Event) (s left : State) (result : Result (Unit {0}) E)
+      → CountsFailure old.out.refusals new.out.refusals result
+      → OnOk result (HasServedAsked judge stops events s left (Watches (λ then now. Took (printed_by contents then) (printed_by contents now)) old new))
+      → OnOk result (HasServedAsked judge stops events s left (HasPrinted before after))
+  prints_lines judge stops events s left (Err error) count did = tt
+  prints_lines judge stops events s left (Ok done) count did =
+      asked_weaker judge stops events s left (Watches (λ then now. Took (printed_by contents then) (printed_by contents now)) old new) (HasPrinted before after)
+      (λ replies took. lines_printed count replies took.0) did
 
-module _ (judge : Judge) (events : List Event) (old between new : State) (before then after : ℕ × Printed) (served : HasServed judge events old between (Took before then)) where
-  -- a drain, behind events that were all done
-  pub serves_and_drains : (result : Result (Unit {0}) Stopped) → then.1.refusals ≡ before.1.refusals → CountsFailure then.1.refusals after.1.refusals result
-      → OnOk result (HasDrained between new (Took then after)) → OnOk result (DoesAll judge events old new before.1.bytes after.1.bytes)
-  serves_and_drains (Err error) none count drained = tt
-  serves_and_drains (Ok done) none count drained =
-      let did = served_and_drained judge Took took_joins events old between new before then after served drained in
-      record {
-        occurrences = did.occurrences;
-        are = did.are;
-        runs = did.runs;
-        drains = did.drains;
-        state = did.state;
-        replies = did.replies.1.texts (count ∙ none);
-        none_left = did.none_left;
-      }
+-- something is printed of which nothing is said
+pub prints_something : {E : Type 0} (judge : Judge) (stops : Bool) (events : List Event) (s left : State) (took : List ReplyWithData → Type 0) (result : Result (Unit {0}) E)
+    → OnOk result (HasServedAsked judge stops events s left took) → OnOk result (HasServedAsked judge stops events s left (HasPrinted None None))
+prints_something judge stops events s left took (Err error) did = tt
+prints_something judge stops events s left took (Ok done) did = asked_weaker judge stops events s left took (HasPrinted None None) (λ replies took. tt) did
 
-  -- one that stops
-  pub stops_in_turns : (result : Result (Unit {0}) Stopped) → IfErr result (λ stopped. HasStoppedDraining between new (Took then after) stopped.done)
-      → OnErr result (HasBegun judge events old new)
-  stops_in_turns (Ok done) stopped = tt
-  stops_in_turns (Err error) stopped = InTurns between error.done
-      (record { occurrences = served.occurrences; are = served.are; state = served.state; replies = tt })
-      (record {
-        runs = stopped.runs;
-        lowest = stopped.lowest;
-        some = stopped.some;
-        given = stopped.given;
-        few = stopped.few;
-        state = stopped.state;
-        replies = tt;
-      })
-
-  -- it goes on printing to the same writer
-  pub same_writer : (result : Result (Unit {0}) Stopped) → OnOk result (HasDrained between new (Took then after))
-      → IfErr result (λ stopped. HasStoppedDraining between new (Took then after) stopped.done) → after.0 ≡ before.0
-  same_writer (Ok done) drained stopped = drained.replies.0 ∙ served.replies.0
-  same_writer (Err error) drained stopped = stopped.replies.0 ∙ served.replies.0
-
--- a device began with a namespace; its writer held so much before the lines were printed, and so much it holds now
-pub prints_all : (judge : Judge) (events : List Event) (namespace : ZonedNamespace) (old left : State) (held before holds after : Option (List ℕ))
-    → old ≡ new_state namespace → held ≡ before → holds ≡ after → DoesAll judge events old left held holds → DoesAll judge events (new_state namespace) left before after
-prints_all judge events namespace old left held before holds after begins first last did =
-    subst (λ (s : State). DoesAll judge events s left before after) begins
-    (subst (λ (bytes : Option (List ℕ)). DoesAll judge events old left bytes after) first
-    (subst (λ (bytes : Option (List ℕ)). DoesAll judge events old left held bytes) last did))
+-- a device began with a namespace
+pub begins_new : (judge : Judge) (stops : Bool) (events : List Event) (namespace : ZonedNamespace) (old left : State) (took tooks : List ReplyWithData → Type 0)
+    → old ≡ new_state namespace → ((replies : List ReplyWithData) → took replies → tooks replies)
+    → HasServedAsked judge stops events old left took → HasServedAsked judge stops events (new_state namespace) left tooks
+begins_new judge stops events namespace old left took tooks begins so did =
+    subst (λ (s : State). HasServedAsked judge stops events s left tooks) begins (asked_weaker judge stops events old left took tooks so did)
 
 -- what it has done then isn't saved
-pub done_unsaved : {T E : Type 0} (judge : Judge) (result : Result T E) (events : List Event) (namespace : ZonedNamespace) (old left : State)
-    (held before holds after : Option (List ℕ)) → old ≡ new_state namespace → held ≡ before → holds ≡ after
-    → OnOk result (DoesAll judge events old left held holds) → OnErr result (HasBegun judge events old left)
-    → IsDoneUnsaved judge events namespace before after
-done_unsaved judge (Ok done) events namespace old left held before holds after begins first last did begun =
-    record { left = left; done = inl (prints_all judge events namespace old left held before holds after begins first last did) }
-done_unsaved judge (Err error) events namespace old left held before holds after begins first last did begun =
+pub done_unsaved : {T E : Type 0} (judge : Judge) (stops : Bool) (result : Result T E) (events : List Event) (namespace : ZonedNamespace) (old left : State)
+    (before after : Option (List ℕ)) → old ≡ new_state namespace
+    → OnOk result (HasServedAsked judge stops events old left (HasPrinted before after)) → OnErr result (HasBegun judge events old left)
+    → IsDoneUnsaved judge stops events namespace before after
+done_unsaved judge stops (Ok done) events namespace old left before after begins did begun =
+    record { left = left; done = inl (begins_new judge stops events namespace old left (HasPrinted before after) (HasPrinted before after) begins (λ replies printed. printed) did) }
+done_unsaved judge stops (Err error) events namespace old left before after begins did begun =
     record { left = left; done = inr (subst (λ (s : State). HasBegun judge events s left) begins begun) }
 
 -- the namespace is saved that a device shows
@@ -109,9 +85,9 @@ module _ (judge : Judge) (here : Surroundings) (events : List Event) (namespace 
   meant : HasText here path (text left.namespace)
   meant = subst (λ (ns : ZonedNamespace). HasText here path (text ns)) shows saved
 
-  pub saves_all : (printed printed_after : Option (List ℕ)) → DoesAll judge events (new_state namespace) left printed printed_after
-      → SavesAll judge here events namespace path printed printed_after
-  saves_all printed printed_after did = record { left = left; served_and_drained = did; saved = meant }
+  pub saves_all : (stops : Bool) (told : List ReplyWithData → Type 0) → HasServedAsked judge stops events (new_state namespace) left told
+      → SavesAll judge stops here events namespace path told
+  saves_all stops told did = record { left = left; done = did; saved = meant }
 
   pub saves_first : (old : State) → old ≡ new_state namespace → HasBegun judge events old left → SavesFirst judge here events namespace path
   saves_first old begins begun = record {
@@ -120,28 +96,21 @@ module _ (judge : Judge) (here : Surroundings) (events : List Event) (namespace 
     saved = meant;
   }
 
--- what was done, whether or not its lines were printed
-done_somehow : {T E : Type 0} (judge : Judge) (result : Result T E) (events : List Event) (old new : State) (printed printed_after : Option (List ℕ))
-    → OnOk result (DoesAll judge events old new printed printed_after) → OnErr result (HasBegun judge events old new) → HasDone judge events old new
-done_somehow judge (Ok done) events old new printed printed_after did begun = inl (record {
-  occurrences = did.occurrences;
-  are = did.are;
-  runs = did.runs;
-  drains = did.drains;
-  state = did.state;
-  replies = tt;
-  none_left = did.none_left;
-})
-done_somehow judge (Err error) events old new printed printed_after did begun = inr begun
+-- what was done, whatever was printed
+done_somehow : {T E : Type 0} (judge : Judge) (stops : Bool) (result : Result T E) (events : List Event) (old new : State) (took : List ReplyWithData → Type 0)
+    → OnOk result (HasServedAsked judge stops events old new took) → OnErr result (HasBegun judge events old new) → HasDone judge events old new
+done_somehow judge stops (Ok done) events old new took (inl did) begun = inl (drained_weaker judge events old new _ Untold (λ replies told. tt) did)
+done_somehow judge stops (Ok done) events old new took (inr did) begun = inr (first_begun judge events old new took did.1)
+done_somehow judge stops (Err error) events old new took did begun = inr begun
 
 -- an image that a device shows behind them
-pub shown_is_left : {T E : Type 0} (judge : Judge) (result : Result T E) (writes : Type 0) (events : List Event) (namespace shown : ZonedNamespace) (old left : State)
-    (printed printed_after : Option (List ℕ)) → old ≡ new_state namespace → shown ≡ left.namespace
-    → OnOk result (DoesAll judge events old left printed printed_after) → OnErr result (HasBegun judge events old left)
+pub shown_is_left : {T E : Type 0} (judge : Judge) (stops : Bool) (result : Result T E) (writes : Type 0) (events : List Event) (namespace shown : ZonedNamespace) (old left : State)
+    (took : List ReplyWithData → Type 0) → old ≡ new_state namespace → shown ≡ left.namespace
+    → OnOk result (HasServedAsked judge stops events old left took) → OnErr result (HasBegun judge events old left)
     → (bytes : List ℕ) → AreWritten writes (text shown) bytes → AreLeft judge writes events namespace bytes
-shown_is_left judge result writes events namespace shown old left printed printed_after begins shows did begun bytes written = record {
+shown_is_left judge stops result writes events namespace shown old left took begins shows did begun bytes written = record {
   left = left;
-  done = subst (λ (s : State). HasDone judge events s left) begins (done_somehow judge result events old left printed printed_after did begun);
+  done = subst (λ (s : State). HasDone judge events s left) begins (done_somehow judge stops result events old left took did begun);
   written = λ writes. written writes ∙ ap (λ (ns : ZonedNamespace). text ns) shows;
 }
 
@@ -163,20 +132,29 @@ module _ (judge : Judge) (reads writes : Type 0) (contents then : List ℕ → O
   }
 
   -- what `run` does of them is what the command does of the files
-  pub executes : {T E : Type 0} (held : List ℕ → Option (List ℕ)) (given : List Event) (printed printed_after : Option (List ℕ)) (result : Result T E)
-      → (reads → TellNamespace (contents path) namespace) → held ≡ contents
-      → OnOk result (SavesAll judge (from_there held loaded) given namespace path printed printed_after) → given ≡ events
-      → OnOk result (ExecutesBy judge (from_there contents before) matches printed printed_after)
-  executes held given printed printed_after (Err error) namespace_is held_is saves are = tt
-  executes held given printed printed_after (Ok done) namespace_is held_is saves are = record {
-    namespace = namespace;
-    events = events;
-    in_files = in_both namespace_is;
-    saves = subst (λ (p : List ℕ). SavesAll judge (from_there contents before) events namespace p printed printed_after) is_named
-        (subst (λ (c : List ℕ → Option (List ℕ)). SavesAll judge (from_there c before) events namespace path printed printed_after) held_is
-        (subst (λ (made : Option (List Made)). SavesAll judge (from_there held made) events namespace path printed printed_after) kept
-        (subst (λ (list : List Event). SavesAll judge (from_there held loaded) list namespace path printed printed_after) are saves)));
-  }
+  pub executes : {E : Type 0} (held : List ℕ → Option (List ℕ)) (given : List Event) (numbers numbered : List ℕ) (stops words : Bool) (printed printed_after : Option (List ℕ))
+      (result : Result (Option Refused) E) → stops ≡ asks_stop matches → words ≡ asks_words matches → (reads → TellNamespace (contents path) namespace) → held ≡ contents
+      → numbered ≡ file → numbers ≡ worded_lines numbered
+      → IfOk result (λ refused. SavesAll judge stops (from_there held loaded) given namespace path (HasTold numbers refused (told_unless words printed) (told_unless words printed_after)))
+      → given ≡ events → IfOk result (ExecutesBy judge (from_there contents before) matches printed printed_after)
+  executes held given numbers numbered stops words printed printed_after (Err error) stops_is words_is namespace_is held_is numbered_is numbers_are saves are = tt
+  executes held given numbers numbered stops words printed printed_after (Ok refused) stops_is words_is namespace_is held_is numbered_is numbers_are saves are =
+      let P : (List ℕ → Option (List ℕ)) → Option (List Made) → List Event → List ℕ → Bool → Bool → Type 0 = λ c made list p s w.
+      SavesAll judge s (from_there c made) list namespace p (HasTold numbers refused (told_unless w printed) (told_unless w printed_after)) in
+      record {
+        namespace = namespace;
+        events = events;
+        in_files = in_both namespace_is;
+        numbers = numbers;
+        their_lines = read_holds contents commands (commands_of matches) file numbered (λ bytes. numbers ≡ worded_lines bytes) are_named numbered_is
+            (subst (λ (c : List ℕ → Option (List ℕ)). IfSome (c commands) (λ bytes. file ≡ bytes)) same file_is) numbers_are;
+        saves = subst (λ (w : Bool). P contents before events (image_of matches) (asks_stop matches) w) words_is
+            (subst (λ (s : Bool). P contents before events (image_of matches) s words) stops_is
+            (subst (λ (p : List ℕ). P contents before events p stops words) is_named
+            (subst (λ (c : List ℕ → Option (List ℕ)). P c before events path stops words) held_is
+            (subst (λ (made : Option (List Made)). P held made events path stops words) kept
+            (subst (λ (list : List Event). P held loaded list path stops words) are saves)))));
+      }
 
   pub executes_first : (held : List ℕ → Option (List ℕ)) (given : List Event) → (reads → TellNamespace (contents path) namespace) → held ≡ contents
       → SavesFirst judge (from_there held loaded) given namespace path → given ≡ events → ExecutesFirstBy judge (from_there contents before) matches
@@ -190,13 +168,17 @@ module _ (judge : Judge) (reads writes : Type 0) (contents then : List ℕ → O
         (subst (λ (list : List Event). SavesFirst judge (from_there held loaded) list namespace path) are saves)));
   }
 
-  pub executes_unsaved : (given : List Event) (printed printed_after : Option (List ℕ)) → (reads → TellNamespace (contents path) namespace) → given ≡ events
-      → IsDoneUnsaved judge given namespace printed printed_after → IsntSavedBy judge (from_there contents before) matches printed printed_after
-  executes_unsaved given printed printed_after namespace_is are left = record {
+  pub executes_unsaved : (given : List Event) (stops words : Bool) (printed printed_after : Option (List ℕ)) → stops ≡ asks_stop matches → words ≡ asks_words matches
+      → (reads → TellNamespace (contents path) namespace) → given ≡ events
+      → IsDoneUnsaved judge stops given namespace (told_unless words printed) (told_unless words printed_after)
+      → IsntSavedBy judge (from_there contents before) matches printed printed_after
+  executes_unsaved given stops words printed printed_after stops_is words_is namespace_is are left = record {
     namespace = namespace;
     events = events;
     in_files = in_both namespace_is;
-    unsaved = subst (λ (list : List Event). IsDoneUnsaved judge list namespace printed printed_after) are left;
+    unsaved = subst (λ (w : Bool). IsDoneUnsaved judge (asks_stop matches) events namespace (told_unless w printed) (told_unless w printed_after)) words_is
+        (subst (λ (s : Bool). IsDoneUnsaved judge s events namespace (told_unless words printed) (told_unless words printed_after)) stops_is
+        (subst (λ (list : List Event). IsDoneUnsaved judge stops list namespace (told_unless words printed) (told_unless words printed_after)) are left));
   }
 
   -- what `run` may leave in the file is what the command may

@@ -1,53 +1,60 @@
--- The commands of a command file that the device refused, of which `exec --fail` tells (profile).
-use Rattle.std.specs.Prelude.{◌≡◌, ◌≢◌, ◌+◌, ◌-◌, ◌^◌, ℕ, min, Bool, bytes_eq, codes, List, length, slice_get, Option, Some, None, option_map}
-use Rattle.zone_state.specs.declared.status.TheConstants.Status.{SUCCESS}
+-- The commands of a command file that the device refused, of which `exec` tells (profile).
+use Rattle.std.specs.Prelude.{◌≡◌, ◌==◌, ◌-◌, ◌/◌, ◌%◌, ◌^◌, ℕ, min, Bool, true, false, not, bytes_eq, codes, count_by, List, [], ◌∷◌, ◌++◌, get_or, length, position, Option, Some, option_map}
+use Rattle.nvme_entry.specs.Dwords.{dword}
+use Rattle.device_events.specs.Replies.{ReplyWithData}
 use Rattle.device_events.specs.declared.reply.Reply.{Reply}
 use Rattle.device_events.specs.declared.reply.Reply.TheVariants.{Complete}
-use Rattle.nvme_entry.specs.Completion.{completion_bytes}
-use Rattle.nvme_entry.specs.CompletionFields.{AreCompletionFields}
-use Rattle.nvme_entry.specs.declared.completion.Completion.{Completion}
 use Rattle.clap.specs.declared.parser.matches.ArgMatches.{ArgMatches}
 use Rattle.command_files.specs.Arguments.{value_of}
 use Rattle.command_files.specs.declared.failure.Failure.{Failure}
 use Rattle.command_files.specs.declared.failure.Failure.TheVariants.{CommandsRefused}
 use Rattle.command_exec.specs.declared.fail.Refused.{Refused}
-use Rattle.command_exec.specs.declared.fail.TheConstants.{FAIL}
-use Rattle.command_exec.specs.declared.watched.Refusals.{Refusals}
+use Rattle.command_exec.specs.declared.fail.TheConstants.{FAIL, STOP}
 
 -- refused commands are to be a failure
 abbrev pub asks_fail : ArgMatches → Bool
 asks_fail matches = bytes_eq (value_of matches FAIL.now) (codes "true")
 
--- these 16 bytes are the completion of a command that was refused
-pub record IsRefused (entry : List ℕ) : Type 0 where
-  pub completion : Completion
-  pub fields : AreCompletionFields completion
-  pub spelled : entry ≡ completion_bytes completion
-  pub not_done : completion.status ≢ SUCCESS
+-- the first refused command is to end the work, which is a failure
+abbrev pub asks_stop : ArgMatches → Bool
+asks_stop matches = bytes_eq (value_of matches STOP.now) (codes "true")
 
--- a reply is
-abbrev pub IsRefusal : Reply → Type 0
-IsRefusal (Complete queue entry length) = IsRefused entry
-IsRefusal _ = ⊥
+-- the command was refused of which these 16 bytes are the completion: its status code and status code type, in bits 24:17 and 27:25 of
+-- Dword 3, aren't both 0 (NVMe Base 2.0, 3.3.3.2)
+abbrev pub is_refused : List ℕ → Bool
+is_refused entry = not (dword entry 3 / 2 ^ 17 % 2 ^ 11 == 0)
 
--- one more, up to the largest number of 64 bits
-abbrev pub one_more : ℕ → ℕ
-one_more n = min (n + 1) (2 ^ 64 - 1)
+-- a reply is the completion of a command that was refused
+abbrev pub tells_refusal : Reply → Bool
+tells_refusal (Complete queue entry length) = is_refused entry
+tells_refusal _ = false
 
--- how many replies there were before the first that was a refusal, where one more is, behind so many
-abbrev pub first_of : Option ℕ → ℕ → Option ℕ
-first_of None before = Some before
-first_of (Some first) before = Some first
+-- the same of one with its data
+abbrev pub is_refusal : ReplyWithData → Bool
+is_refusal given = tells_refusal given.reply
+
+-- none of these replies is
+abbrev pub NoneRefused : List ReplyWithData → Type 0
+NoneRefused replies = count_by is_refusal replies ≡ 0
+
+-- the last of them is, and none before it
+pub record EndsRefused (replies : List ReplyWithData) : Type 0 where
+  pub before : List ReplyWithData
+  pub last : ReplyWithData
+  pub are : replies ≡ before ++ last ∷ []
+  pub none_before : NoneRefused before
+  pub refused : is_refusal last ≡ true
 
 -- the line of the event of which the reply has so many in front of it; of a turn behind all events, the last line
-abbrev pub line_at : List ℕ → ℕ → Option ℕ
-line_at numbers before = slice_get numbers (min before (length numbers - 1))
+abbrev pub line_at : List ℕ → ℕ → ℕ
+line_at numbers before = get_or numbers (min before (length numbers - 1)) 0
 
--- what is told of refused commands, where their events have these lines
-abbrev pub told_of_refusals : List ℕ → Option Refusals → Option Refused
-told_of_refusals numbers None = None
-told_of_refusals numbers (Some refusals) =
-    option_map (λ line. record { commands = refusals.commands; line = line }) (line_at numbers refusals.first)
+-- what is told of the refused commands of these replies, where their events have these lines: how many they are, and the line of the
+-- first; nothing, where none was refused
+abbrev pub refused_among : List ℕ → List ReplyWithData → Option Refused
+refused_among numbers replies = option_map
+    (λ before. record { commands = min (count_by is_refusal replies) (2 ^ 64 - 1); line = line_at numbers before })
+    (position is_refusal replies)
 
 -- the failure tells these commands, and the command file by its name
 abbrev pub TellsRefused : List ℕ → Option Refused → Failure → Type 0

@@ -19,11 +19,11 @@ ExecFails matches reads contents path commands (LineRefused told number fault) =
     (told.now ≡ commands) × IfSome (contents commands) (λ bytes. events_in bytes ≡ Err number)
 ExecFails matches reads contents path commands failure = ReplacingFails reads (contents path) path failure
 
--- what is printed where `exec` ends before its work is done: nothing; or, where the image can't be read again or written, the lines of what
--- was done and isn't saved (`unsaved`). Where standard output fails, or memory is wanting, it isn't said: events may have been done by then
+-- what is printed where `exec` ends before its work is done: nothing; or, where the image can't be read again or written, or memory is
+-- wanting for that, the lines of what was done and isn't saved (`unsaved`). Where standard output fails, it isn't said
 abbrev pub PrintsNothing : List ℕ → Type 0 → Option (List ℕ) → Option (List ℕ) → Failure → Type 0
 PrintsNothing path unsaved before after CannotPrint = Unit {0}
 PrintsNothing path unsaved before after (CannotWrite told cause) = (after ≡ before) ⊎ unsaved
 PrintsNothing path unsaved before after (CannotRead told cause) = (after ≡ before) ⊎ ((told.now ≡ path) × unsaved)
-PrintsNothing path unsaved before after NoMemory = Unit {0}
+PrintsNothing path unsaved before after NoMemory = (after ≡ before) ⊎ unsaved
 PrintsNothing path unsaved before after _ = after ≡ before

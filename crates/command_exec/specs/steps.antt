@@ -1,2 +1,4 @@
 -- What private functions hand on to each other; no public contract speaks of it.
 pub mod Told
+pub mod Serving
+pub mod Tallied

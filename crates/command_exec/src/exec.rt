@@ -1,40 +1,37 @@
 //! The command `exec`: the events of a command file, run on an image.
 
-ghost use Rattle.std.specs.Prelude.{◌≡◌, ◌≢◌, ◌≤◌, ◌<◌, ◌+◌, ◌^◌, length, OnOk, OnErr, IfErr, Some};
+ghost use Rattle.std.specs.Prelude.{◌≡◌, ◌≢◌, IfOk, OnOk, IfErr};
 ghost use Rattle.device_meaning.specs.Judging.{judge_by};
-ghost use Rattle.device_meaning.specs.State.{new_state};
 ghost use Rattle.command_files.specs.Crash.{LeavesOldOrNew};
 ghost use Rattle.command_files.specs.Made.{KeepsModes, KeepsOthers, MakesAtMost};
 ghost use Rattle.command_files.specs.Surroundings.{around};
 ghost use Rattle.command_images.specs.Images.{image_of};
-ghost use Rattle.command_exec.specs.Executed.{AreExecuted, AreExecutedBy, AreLeft, DoesAll, Executes, ExecutesBy, ExecutesFirst, ExecutesFirstBy, HasBegun};
-ghost use Rattle.command_exec.specs.Executed.{IsDoneUnsaved, IsntSaved, IsntSavedBy, SavesAll, SavesFirst, commands_of};
-ghost use Rattle.command_exec.specs.Refused.{line_at, told_of_refusals};
+ghost use Rattle.command_exec.specs.Executed.{AreExecuted, AreExecutedBy, Executes, ExecutesBy, ExecutesFirst, ExecutesFirstBy};
+ghost use Rattle.command_exec.specs.Executed.{IsntSaved, IsntSavedBy, asks_words, commands_of};
 ghost use Rattle.command_exec.specs.UserTold.{ExecFails, PrintsNothing};
-ghost use Rattle.command_exec.specs.steps.Told.{SavingFails, SavingLeaves};
 
-use crate::fail::{FAIL, Refused};
-use crate::watched::{Refusals, Watched};
+use crate::fail::{FAIL, Refused, STOP, asks_stop};
+use crate::running::{Work, run};
 use address_domain::Addresses;
 use clap::ArgMatches;
 use command_files::arguments::required;
-use command_files::{Failure, Files, read};
+use command_files::{Failure, Files, MOST_OF_EVENTS, read};
 use command_images::device_file;
 use command_images::image_file::{self, IMAGE};
 use command_profile::{PROFILE, Profile, profile_asked};
 use command_words::{Argument, Takes, Words};
-use event_text::{LineRoom, Lines, event_lines};
+use event_text::event_lines;
 use interval_domain::Intervals;
-use runner::{Device, Event, Stopped};
 use std::alloc::Global;
 use std::io::Write;
 use word_domain::Domain;
-use zns_commands::MOST_TRANSFER;
 
 /// The command's name.
 pub const NAME: &str = "exec";
 
 pub(crate) const COMMANDS: &str = "COMMANDS";
+
+const WORDS_OPTION: &str = "words";
 
 const LONG_ABOUT: &str = "\
 Runs the events of a command file on an image, one after another. Then it gives turns to the runs that \
@@ -54,13 +51,19 @@ spaces or tabs, and `;` begins a comment.
 QUEUE is from 0 to 65535, RUN from 0 to 255 and ZONE from 0 to 4294967295, in decimal. ENTRY is 64 bytes and DATA any number \
 of bytes, in hexadecimal. Where a line is not of this form, no event happens.
 
-What is printed, which `explain` says in words:
+The command file `-` is standard input. Once it and the image are read, no event happens where no new image can be begun beside the old \
+one (`cannot write IMAGE`).
+
+What is printed, which `explain` says in words, and --words in its place:
 
   cpl QUEUE ENTRY [DATA]      a completion queue entry, and the data that it gives
   pending RUN                 the run was admitted, or has turns left
   idle                        there is no such run
   done                        a fault was taken
   refused                     a fault was refused
+
+With --stop the first refused command ends all: no later event happens and no turn is given, what was done is saved, and the last line on \
+standard error is `commands refused 1`.
 
 Load judges programs by profile 2. With --profile 3 it takes those that `verify --profile 3` accepts.
 
@@ -114,6 +117,20 @@ pub static WORDS: Words = Words {
             takes: Takes::Nothing,
             help: "End with status 4 where a command was refused, and tell how many were and the line of the first",
         },
+        Argument {
+            id: STOP,
+            long: STOP,
+            short: None,
+            takes: Takes::Nothing,
+            help: "End at the first refused command with status 4, and tell its line",
+        },
+        Argument {
+            id: WORDS_OPTION,
+            long: WORDS_OPTION,
+            short: None,
+            takes: Takes::Nothing,
+            help: "Print in words what each line tells, as `explain --commands` does",
+        },
     ],
     one_of: &[],
 };
@@ -124,9 +141,12 @@ pub static WORDS: Words = Words {
 /// them leave. On each other failure no file is made, but for what [`Files::finish`] says, and what is told is the
 /// first fault of the image, the lowest line that is refused, or by its name which file can't be read or written; nothing was
 /// printed where a line or the image is refused, or a file can't be read; but where the image can't be read again or written at the
-/// end, the lines of what was done were. Every other file has the bytes that it had.
+/// end, or memory is wanting for that, the lines of what was done were. Every other file has the bytes that it had.
 /// A crash at any moment leaves the image file as it might have been left before, or all of the one that this makes.
-/// What it gives are the commands that were refused, where some were.
+/// Where the words ask it to stop, it does the events up to the first refused command, and no turn after them. Where they ask for words,
+/// what is printed isn't said. Before the first event it sees whether a new image can be begun.
+/// What it gives are the commands that were refused, where some were: as many as the replies whose status isn't that of success, and the
+/// line of the first.
 ///
 /// # Errors
 ///
@@ -138,7 +158,7 @@ pub fn exec<'a, F: Files, O: Write>(
     out: &mut O,
 ) -> Result<Option<Refused>, Failure<'a>>
     ensures executed { let here = around F.Files F.Reader.tells F.Writer.tells files.old files.new in
-        OnOk result (Executes here matches.now (O.contents out.old) (O.contents out.new)) }
+        IfOk result (Executes here matches.now (O.contents out.old) (O.contents out.new)) }
     ensures stopped { let here = around F.Files F.Reader.tells F.Writer.tells files.old files.new in
         result ≡ Err Failure.CannotPrint → ExecutesFirst here matches.now }
     ensures quiet { let here = around F.Files F.Reader.tells F.Writer.tells files.old files.new in
@@ -172,7 +192,7 @@ fn exec_by<'a, D: Domain, F: Files, O: Write>(
     out: &mut O,
 ) -> Result<Option<Refused>, Failure<'a>>
     ensures executed { let here = around F.Files F.Reader.tells F.Writer.tells files.old files.new in
-        OnOk result (ExecutesBy (judge_by D.operations) here matches.now (O.contents out.old) (O.contents out.new)) }
+        IfOk result (ExecutesBy (judge_by D.operations) here matches.now (O.contents out.old) (O.contents out.new)) }
     ensures stopped { let here = around F.Files F.Reader.tells F.Writer.tells files.old files.new in
         result ≡ Err Failure.CannotPrint → ExecutesFirstBy (judge_by D.operations) here matches.now }
     ensures quiet { let here = around F.Files F.Reader.tells F.Writer.tells files.old files.new in
@@ -196,103 +216,26 @@ fn exec_by<'a, D: Domain, F: Files, O: Write>(
     let path = required(matches, IMAGE);
     let mut device = device_file::load_to_replace::<D, F>(alloc, path, files)?;
     let commands = required(matches, COMMANDS);
-    let file = read(commands, files)?;
+    let file = read(commands, MOST_OF_EVENTS, files)?;
     match event_text::parse(alloc, file.as_slice()) {
         Ok(events) => {
             let numbers = event_lines(alloc, file.as_slice())?;
-            run(
-                alloc,
-                &mut *device,
-                events.as_slice(),
-                numbers.as_slice(),
-                path,
-                files,
-                out,
-            )
+            image_file::check_place(path, files)?;
+            let work = Work {
+                events: events.as_slice(),
+                numbers: numbers.as_slice(),
+                stops: asks_stop(matches),
+                words: asks_words(matches),
+            };
+            run(alloc, &mut *device, &work, path, files, out)
         }
         Err(fault) => Err(Failure::of_commands(commands, fault)),
     }
 }
 
-/// Runs the events on a device and then the turns that are left, prints a line for each, and saves the image as they left it:
-/// all of them, or where standard output fails, those that were done by then. Of the events the numbers are their lines.
-fn run<'a, D: Domain, F: Files, O: Write>(
-    alloc: Global,
-    device: &mut Device<D>,
-    events: &[Event],
-    numbers: &[usize],
-    path: &'a str,
-    files: &mut F,
-    out: &mut O,
-) -> Result<Option<Refused>, Failure<'a>>
-    requires held { F.held files.old ≡ Some path.now }
-    requires new { device.old ≡ new_state device.old.namespace }
-    ensures saved { let here = around F.Files F.Reader.tells F.Writer.tells files.old files.new in
-        OnOk result (SavesAll (judge_by D.operations) here
-        events.now device.old.namespace path.now (O.contents out.old) (O.contents out.new)) }
-    ensures stopped { let here = around F.Files F.Reader.tells F.Writer.tells files.old files.new in
-        result ≡ Err Failure.CannotPrint → SavesFirst (judge_by D.operations) here events.now device.old.namespace path.now }
-    ensures failed { IfErr result (SavingFails path.entry) }
-    ensures unsaved { IfErr result (SavingLeaves
-        (IsDoneUnsaved (judge_by D.operations) events.now device.old.namespace (O.contents out.old) (O.contents out.new))) }
-    ensures made { OnOk result (MakesAtMost path.now (F.made files.old) (F.made files.new)) }
-    ensures one { result ≡ Err Failure.CannotPrint → MakesAtMost path.now (F.made files.old) (F.made files.new) }
-    ensures others { OnOk result (KeepsOthers path.now (F.contents files.old) (F.contents files.new)) }
-    ensures others_stopped { result ≡ Err Failure.CannotPrint → KeepsOthers path.now (F.contents files.old) (F.contents files.new) }
-    ensures kept { IfErr result (λ failure. failure ≢ Failure.CannotPrint → F.made files.new ≡ F.made files.old) }
-    ensures contents { IfErr result (λ failure. failure ≢ Failure.CannotPrint → F.contents files.new ≡ F.contents files.old) }
-    ensures crash { LeavesOldOrNew path.now
-        (AreLeft (judge_by D.operations) F.Writer.tells events.now device.old.namespace) (F.tried files.old) (F.tried files.new) }
-    ensures modes { OnOk result (KeepsModes (F.modes files.old) (F.modes files.new)) }
+/// Is what replies say to be printed in words?
+fn asks_words<'a>(matches: &ArgMatches<'a>) -> bool
+    ensures { result ≡ asks_words matches.now }
 {
-    let mut output = vec![in alloc; 0; MOST_TRANSFER]?;
-    let room = LineRoom::new(alloc)?;
-    let mut watched = Watched::new(Lines::over(room, out));
-    let done = serve_and_drain(device, events, output.as_mut_slice(), &mut watched);
-    let refusals = watched.refusals();
-    let lines = watched.into_out();
-    let out = lines.into_writer();
-    // No effect at run time. The proof reads what was printed from this use of `out`.
-    let _ = &*out;
-    image_file::save_changes(device.image(), path, files)?;
-    match done {
-        Ok(()) => Ok(refused(refusals, numbers)),
-        Err(Stopped { .. }) => Err(Failure::CannotPrint),
-    }
-}
-
-/// Refused commands with the line of the first: the replies to events come first, in order, so as many events are in front of it as
-/// replies; of a turn behind the last event, the last line is told.
-fn refused(refusals: Option<Refusals>, numbers: &[usize]) -> Option<Refused>
-    ensures { result ≡ told_of_refusals numbers.now refusals }
-{
-    let Refusals { commands, first } = refusals?;
-    let line = line_at(numbers, first)?;
-    Some(Refused { commands, line })
-}
-
-/// The line of the event of which the reply has so many in front of it, or the last.
-fn line_at(numbers: &[usize], before: usize) -> Option<usize>
-    ensures { result ≡ line_at numbers.now before }
-{
-    let last = numbers.len().checked_sub(1)?;
-    Some(numbers[before.min(last)])
-}
-
-/// Does the events, and then gives turns until no run is left.
-fn serve_and_drain<D: Domain, O: Write>(
-    device: &mut Device<D>,
-    events: &[Event],
-    output: &mut [u8],
-    lines: &mut Watched<Lines<'_, O>>,
-) -> Result<(), Stopped>
-    requires room { MOST_TRANSFER ≤ length output.old }
-    requires counts { lines.old.out.refusals + 1 < 2 ^ 64 }
-    ensures same_writer { lines.new.out.out.ghost_name ≡ lines.old.out.out.ghost_name }
-    ensures done { OnOk result (DoesAll (judge_by D.operations)
-        events.now device.old device.new (O.contents lines.old.out.out.now) (O.contents lines.new.out.out.now)) }
-    ensures stopped { OnErr result (HasBegun (judge_by D.operations) events.now device.old device.new) }
-{
-    device.serve(events, output, lines)?;
-    device.drain(output, lines)
+    required(matches, WORDS_OPTION) == "true"
 }

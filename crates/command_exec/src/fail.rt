@@ -1,8 +1,8 @@
-//! Where `exec` fails for refused commands.
+//! Where `exec` fails for refused commands, or ends at the first.
 
 ghost use Rattle.std.specs.Prelude.{◌≡◌, IfSome, IsSome, None, true, false};
 ghost use Rattle.command_exec.specs.Executed.{commands_of};
-ghost use Rattle.command_exec.specs.Refused.{TellsRefused, asks_fail};
+ghost use Rattle.command_exec.specs.Refused.{TellsRefused, asks_fail, asks_stop};
 
 use crate::exec;
 use clap::ArgMatches;
@@ -10,6 +10,8 @@ use command_files::Failure;
 use command_files::arguments::required;
 
 pub(crate) const FAIL: &str = "fail";
+
+pub(crate) const STOP: &str = "stop";
 
 /// Commands of a command file that the device refused: one at least.
 #[derive(Clone, Copy, Debug, PartialEq, Eq)]
@@ -25,10 +27,11 @@ pub struct Refused {
 pub fn failure_of<'a>(matches: &ArgMatches<'a>, refused: Option<Refused>) -> Option<Failure<'a>>
     ensures told { IfSome result (TellsRefused (commands_of matches.now) refused) }
     ensures asked { asks_fail matches.now ≡ true → IsSome refused → IsSome result }
-    ensures unasked { asks_fail matches.now ≡ false → result ≡ None }
+    ensures stopped { asks_stop matches.now ≡ true → IsSome refused → IsSome result }
+    ensures unasked { asks_fail matches.now ≡ false → asks_stop matches.now ≡ false → result ≡ None }
 {
     let Refused { commands, line } = refused?;
-    if !asks_fail(matches) {
+    if !asks_fail(matches) && !asks_stop(matches) {
         return None;
     }
     Some(Failure::CommandsRefused {
@@ -43,4 +46,11 @@ fn asks_fail<'a>(matches: &ArgMatches<'a>) -> bool
     ensures { result ≡ asks_fail matches.now }
 {
     required(matches, FAIL) == "true"
+}
+
+/// Is the first refused command to end the work?
+pub(crate) fn asks_stop<'a>(matches: &ArgMatches<'a>) -> bool
+    ensures { result ≡ asks_stop matches.now }
+{
+    required(matches, STOP) == "true"
 }

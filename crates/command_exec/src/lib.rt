@@ -3,4 +3,7 @@
 
 pub mod exec;
 pub mod fail;
+mod running;
+mod serving;
 mod watched;
+mod worded;

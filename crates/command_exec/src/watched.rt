@@ -1,40 +1,70 @@
 //! Replies that are handed on, and which of them are refusals.
 
-ghost use Rattle.std.specs.Prelude.{◌≡◌, option_map, true, false};
-ghost use Rattle.command_exec.specs.Refused.{IsRefusal, first_of, one_more};
+ghost use Rattle.std.specs.Prelude.{◌≡◌};
+ghost use Rattle.std.proofs.Common.{◌∙◌, ap, refl, sym};
+ghost use Rattle.std.proofs.lemmas.List.Sums.{fold-append};
+ghost use Rattle.command_exec.specs.Refused.{is_refusal, is_refused, tells_refusal};
+ghost use Rattle.command_exec.specs.steps.Tallied.{Watches, none_tallied, noted, tallied};
 
+use byteorder::{ByteOrder, LittleEndian};
 use device_events::{NotTaken, Out, Reply};
-use nvme_entry::{Completion, Status};
+
+/// Replies that were taken, counted, and the refusals among them.
+#[derive(Clone, Copy, Debug, PartialEq, Eq)]
+pub(crate) struct Tally {
+    /// How many replies there were.
+    pub(crate) taken: usize,
+    /// How many of them are refusals.
+    pub(crate) refused: u64,
+    /// How many were taken before the first refusal.
+    pub(crate) first: Option<usize>,
+}
+
+impl Tally {
+    /// No reply was taken yet.
+    const NONE: Tally = Tally {
+        taken: 0,
+        refused: 0,
+        first: None,
+    };
+
+    /// With one reply more, which is a refusal or isn't.
+    fn with(self, refused: bool) -> Tally
+        ensures { result ≡ noted refused self }
+    {
+        let taken = self.taken.saturating_add(1);
+        if refused {
+            Tally {
+                taken,
+                refused: self.refused.saturating_add(1),
+                first: self.first.or(Some(self.taken)),
+            }
+        } else {
+            Tally {
+                taken,
+                refused: self.refused,
+                first: self.first,
+            }
+        }
+    }
+}
 
 /// Hands replies on, and counts the completions of refused commands among them.
 #[derive(Drop)]
 pub(crate) struct Watched<T> {
     out: T,
-    taken: usize,
-    refused: u64,
-    first: Option<usize>,
-}
-
-/// Refused commands: one at least.
-#[derive(Clone, Copy, Debug, PartialEq, Eq)]
-pub(crate) struct Refusals {
-    /// How many they are.
-    pub(crate) commands: u64,
-    /// How many replies were taken before the first of them.
-    pub(crate) first: usize,
+    tally: Tally,
 }
 
 impl<T: Out> Watched<T> {
     /// What hands replies on to this, of which there were none yet.
     pub(crate) fn new(out: T) -> Watched<T>
         ensures out { result.out ≡ out }
-        ensures none { (result.taken ≡ 0) × (result.refused ≡ 0) × (result.first ≡ None) }
+        ensures none { result.tally ≡ none_tallied }
     {
         Watched {
             out,
-            taken: 0,
-            refused: 0,
-            first: None,
+            tally: Tally::NONE,
         }
     }
 
@@ -46,45 +76,30 @@ impl<T: Out> Watched<T> {
         out
     }
 
-    /// The commands that were refused, where some were.
-    pub(crate) fn refusals(&self) -> Option<Refusals>
-        ensures { result ≡ option_map (λ first. record { commands = self.now.refused; first = first }) self.now.first }
+    /// The replies that were handed on, counted.
+    pub(crate) fn tally(&self) -> Tally
+        ensures { result ≡ self.now.tally }
     {
-        let first = self.first?;
-        Some(Refusals {
-            commands: self.refused,
-            first,
-        })
-    }
-
-    /// Notes that a reply was taken.
-    fn note(&mut self, reply: &Reply)
-        ensures out { self.new.out ≡ self.old.out }
-        ensures counted { self.new.taken ≡ one_more self.old.taken }
-        ensures refused { IsRefusal reply.now
-            → (self.new.refused ≡ one_more self.old.refused) × (self.new.first ≡ first_of self.old.first self.old.taken) }
-        ensures passed { ¬ IsRefusal reply.now → (self.new.refused ≡ self.old.refused) × (self.new.first ≡ self.old.first) }
-    {
-        if is_refusal(reply) {
-            self.refused = self.refused.saturating_add(1);
-            self.first = self.first.or(Some(self.taken));
-        }
-        self.taken = self.taken.saturating_add(1);
+        self.tally
     }
 }
 
 impl<T: Out> Out for Watched<T> {
-    ghost took = { λ old new replies. T.took old.out new.out replies };
+    ghost took = { λ old new replies. Watches T.took old new replies };
 
     ghost refusals = { λ watched. T.refusals watched.out };
 
-    ghost takes_none = { λ watched. T.takes_none watched.out };
+    ghost takes_none = { λ watched. (T.takes_none watched.out, refl) };
 
-    ghost joins = { λ a b c. T.joins a.out b.out c.out };
+    ghost joins = { λ a b c first later early late. (
+      T.joins a.out b.out c.out first later early.0 late.0,
+      late.1 ∙ ap (λ tally. tallied tally later) early.1
+          ∙ sym (fold-append (λ counted given. noted (is_refusal given) counted) a.tally first later),
+    ) };
 
     fn take(&mut self, reply: Reply, bytes: &[u8]) -> Result<(), NotTaken> {
         self.out.take(reply, bytes)?;
-        self.note(&reply);
+        self.tally = self.tally.with(is_refusal(&reply));
         Ok(())
     }
 
@@ -95,14 +110,18 @@ impl<T: Out> Out for Watched<T> {
 
 /// Is a reply the completion of a refused command?
 fn is_refusal(reply: &Reply) -> bool
-    ensures refused { result ≡ true → IsRefusal reply.now }
-    ensures passed { result ≡ false → ¬ IsRefusal reply.now }
+    ensures { result ≡ tells_refusal reply.now }
 {
     match reply {
-        Reply::Complete { entry, .. } => match Completion::decode(entry) {
-            Some(completion) => completion.status != Status::SUCCESS,
-            None => false,
-        },
+        Reply::Complete { entry, .. } => is_refused(entry),
         Reply::Pending { .. } | Reply::Idle | Reply::FaultTaken | Reply::FaultRefused => false,
     }
+}
+
+/// Was the command refused of which this is the completion? Its status code or status code type isn't 0 then (NVMe Base 2.0, 3.3.3.2).
+fn is_refused(entry: &[u8; 16]) -> bool
+    ensures { result ≡ is_refused entry.now }
+{
+    let dword = LittleEndian::read_u32(&entry[12..]);
+    (dword >> 17) % 0x800 != 0
 }

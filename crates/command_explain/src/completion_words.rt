@@ -121,7 +121,11 @@ fn push_doubt(
 }
 
 /// Adds what is certain whatever the command is.
-fn push_unnamed(completion: &Completion, data: &[u8], out: &mut String) -> Result<(), AllocError> {
+pub(crate) fn push_unnamed(
+    completion: &Completion,
+    data: &[u8],
+    out: &mut String,
+) -> Result<(), AllocError> {
     if completion.status != Status::SUCCESS {
         return push_refusal(completion, out);
     }

@@ -4,15 +4,19 @@ ghost use Rattle.std.specs.Prelude.{◌≡◌, ◌≢◌, IfErr};
 ghost use Rattle.command_explain.specs.steps.Told.{told_of_replies};
 
 use crate::completion_words::{Answered, Taken, push_completion};
+use crate::ended::{ended_guard, push_ended};
 use crate::json::push_completion_json;
 use crate::pairing::Pairing;
 use crate::submissions::{Submission, submissions};
 use clap::ArgMatches;
 use command_files::arguments::required;
-use command_files::{Failure, Files, printed, read};
+use command_files::{
+    Failure, Files, MOST_OF_EVENTS, notes_path, printed, push_damage, read, read_notes,
+};
 use command_words::{Argument, Takes, Words};
 use device_events::Reply;
 use event_text::{RepliesFault, ToldReply, event_lines, parse, replies};
+use link_notes::{LinkNotes, NotesFault};
 use nvme_entry::Completion;
 use std::alloc::{AllocError, Global};
 use std::io::Write;
@@ -24,15 +28,24 @@ const FILE: &str = "FILE";
 
 const COMMANDS: &str = "commands";
 
+const PROGRAM: &str = "program";
+
 const JSON: &str = "json";
 
 /// How replies are told.
 #[derive(Clone, Copy)]
-enum Form {
+pub(crate) enum Form {
     /// In words, for people.
     Words,
     /// Each as a JSON object.
     Json,
+}
+
+/// The notes of a program, in their file.
+#[derive(Drop)]
+struct NotesFile {
+    path: String,
+    bytes: Vec<u8>,
 }
 
 const LONG_ABOUT: &str = "\
@@ -51,12 +64,16 @@ this queue and identifier as the command file has submissions, and none but the 
 comes later; lines may have been cut out, but not moved. So give each command of a queue an identifier of its own, as \
 `zscli entry` does with --into.
 
+With --program, the file of a program that `link` made, a line after a result says at which guard a block's run ended, where the \
+result has it and PROGRAM.linked is there: the line of the C source, and what did not hold.
+
 With --json each line tells one as a JSON object. `reply` is `completion`, `pending` with its `run`, `idle`, `done`, \
 `refused`, or `unknown`, of 16 bytes that are no completion, with their `queue`. A completion has `queue`, \
 `identifier`, `refused` (true or false), `status_type`, `status_code` and `status`, its words; `dword0`, `dword1` \
 and `data_bytes`. With --commands it has `line`, that of the submission, or null where none is left; and where one \
 is, `guess` (true or false) and `command`, its word for `zscli entry`, or null where the entry is no command; of an \
-append that succeeded `lba`, and of such a run `records` and `blocks`. More fields may come.
+append that succeeded `lba`, and of such a run `records` and `blocks`. With --program a result with a block that ended at a guard \
+has `ended_block`, `guard`, its number, `guard_slot`, `place` and `text`. More fields may come.
 
 Of a file with a line that `exec` does not print nothing is explained, and `line LINE refused` tells the lowest.";
 
@@ -88,6 +105,13 @@ pub static WORDS: Words = Words {
             help: "The command file that `exec` was given",
         },
         Argument {
+            id: PROGRAM,
+            long: PROGRAM,
+            short: None,
+            takes: Takes::Optional("PROGRAM"),
+            help: "The program whose results are explained by PROGRAM.linked",
+        },
+        Argument {
             id: JSON,
             long: JSON,
             short: None,
@@ -115,7 +139,7 @@ pub fn explain<'a, F: Files, O: Write>(
     ensures silent { IfErr result (λ failure. failure ≢ Failure.CannotPrint → O.contents out.new ≡ O.contents out.old) }
 {
     let path = required(matches, FILE);
-    let file = read(path, files)?;
+    let file = read(path, MOST_OF_EVENTS, files)?;
     let told = replies(alloc, file.as_slice()).map_err(|fault| no_replies(path, fault))?;
     let mut pairing = match matches.get_str(COMMANDS) {
         Some(path) => {
@@ -129,7 +153,10 @@ pub fn explain<'a, F: Files, O: Write>(
     } else {
         Form::Words
     };
-    let text = text_of(alloc, told.as_slice(), &mut pairing, form)?;
+    let file = notes_file(alloc, matches, files)?;
+    let mut text = String::new(alloc);
+    let notes = notes_in(alloc, &file, form, &mut text)?;
+    push_replies(told.as_slice(), &mut pairing, &notes, form, &mut text)?;
     printed(out.write_all(text.as_bytes()))
 }
 
@@ -142,7 +169,7 @@ fn read_submissions<'a, F: Files>(
     ensures made { F.made files.new ≡ F.made files.old }
     ensures contents { F.contents files.new ≡ F.contents files.old }
 {
-    let file = read(path, files)?;
+    let file = read(path, MOST_OF_EVENTS, files)?;
     let events = parse(alloc, file.as_slice()).map_err(|fault| Failure::of_commands(path, fault))?;
     let lines = event_lines(alloc, file.as_slice())?;
     Ok(submissions(alloc, events.as_slice(), lines.as_slice())?)
@@ -159,18 +186,70 @@ fn no_replies<'a>(path: &'a str, fault: RepliesFault) -> Failure<'a>
     }
 }
 
-/// What all replies tell.
-fn text_of(
+/// The file with the notes of the program that the words name, where it can be read.
+fn notes_file<'a, F: Files>(
     alloc: Global,
+    matches: &ArgMatches<'a>,
+    files: &mut F,
+) -> Result<Option<NotesFile>, Failure<'a>>
+    ensures made { F.made files.new ≡ F.made files.old }
+    ensures contents { F.contents files.new ≡ F.contents files.old }
+{
+    let Some(program) = matches.get_str(PROGRAM) else {
+        return Ok(None);
+    };
+    let path = notes_path(alloc, program)?;
+    match read_notes(path.as_str(), files)? {
+        Some(bytes) => Ok(Some(NotesFile { path, bytes })),
+        None => Ok(None),
+    }
+}
+
+/// The notes in a file, if there is one; where they are damaged, a line of words says so.
+fn notes_in<'n>(
+    alloc: Global,
+    file: &'n Option<NotesFile>,
+    form: Form,
+    out: &mut String,
+) -> Result<Option<LinkNotes<'n>>, AllocError> {
+    let Some(file) = file else {
+        return Ok(None);
+    };
+    match link_notes::parse(alloc, file.bytes.as_slice()) {
+        Ok(notes) => Ok(Some(notes)),
+        Err(fault) => {
+            push_fault(file.path.as_str(), fault, form, out)?;
+            Ok(None)
+        }
+    }
+}
+
+/// Adds a line of words on what is wrong with the notes in a file with this name.
+fn push_fault(
+    path: &str,
+    fault: NotesFault,
+    form: Form,
+    out: &mut String,
+) -> Result<(), AllocError> {
+    match (fault, form) {
+        (NotesFault::Memory, _) => Err(AllocError),
+        (NotesFault::Line { .. }, Form::Words) => push_damage(path, fault, out),
+        (NotesFault::Line { .. }, Form::Json) => Ok(()),
+    }
+}
+
+/// Adds what all replies tell.
+fn push_replies(
     replies: &[ToldReply],
     pairing: &mut Option<Pairing<'_>>,
+    notes: &Option<LinkNotes<'_>>,
     form: Form,
-) -> Result<String, AllocError> {
-    let mut text = String::new(alloc);
+    out: &mut String,
+) -> Result<(), AllocError> {
     for told in replies {
-        push_reply(told.reply, told.bytes.as_slice(), pairing, form, &mut text)?;
+        push_reply(told.reply, told.bytes.as_slice(), pairing, notes, form, out)?;
     }
-    Ok(text)
+    Ok(())
 }
 
 /// Adds what a reply tells.
@@ -178,6 +257,7 @@ fn push_reply(
     reply: Reply,
     data: &[u8],
     pairing: &mut Option<Pairing<'_>>,
+    notes: &Option<LinkNotes<'_>>,
     form: Form,
     out: &mut String,
 ) -> Result<(), AllocError> {
@@ -194,14 +274,21 @@ fn push_reply(
             None => Answered::NotThere(pairing.path()),
         },
     };
+    let ended = match notes {
+        Some(notes) => ended_guard(notes, &answered, data),
+        None => None,
+    };
     match form {
-        Form::Words => push_completion(&completion, data, &answered, out),
-        Form::Json => push_completion_json(&completion, data.len(), &answered, out),
+        Form::Words => {
+            push_completion(&completion, data, &answered, out)?;
+            push_ended(&ended, out)
+        }
+        Form::Json => push_completion_json(&completion, data.len(), &answered, &ended, out),
     }
 }
 
 /// Adds that 16 bytes from this queue are no completion.
-fn push_unknown(queue: u16, form: Form, out: &mut String) -> Result<(), AllocError> {
+pub(crate) fn push_unknown(queue: u16, form: Form, out: &mut String) -> Result<(), AllocError> {
     match form {
         Form::Words => writeln!(
             out,
@@ -212,7 +299,7 @@ fn push_unknown(queue: u16, form: Form, out: &mut String) -> Result<(), AllocErr
 }
 
 /// Adds a reply that is no completion.
-fn push_other(reply: Reply, form: Form, out: &mut String) -> Result<(), AllocError> {
+pub(crate) fn push_other(reply: Reply, form: Form, out: &mut String) -> Result<(), AllocError> {
     let (words, json) = match reply {
         Reply::Pending { run } => return push_pending(run, form, out),
         Reply::Idle => ("idle: a turn for a run that is not active", "idle"),
@@ -241,7 +328,7 @@ fn push_pending(run: u8, form: Form, out: &mut String) -> Result<(), AllocError>
 }
 
 /// The completion that an entry of this queue is, if it is one.
-fn completion_from(queue: u16, entry: &[u8; 16]) -> Option<Completion> {
+pub(crate) fn completion_from(queue: u16, entry: &[u8; 16]) -> Option<Completion> {
     let completion = Completion::decode(entry)?;
     if completion.queue == queue {
         Some(completion)

@@ -1,15 +1,17 @@
 //! Completions as JSON objects. Their values are numbers, `true`, `false`, `null`, and words of this program in which no character
-//! has to be escaped.
+//! has to be escaped; beside these the place and the text of a guard.
 
 use crate::completion_words::{Answered, Taken, appended_lba};
+use crate::ended::{EndedAt, push_ended_fields};
 use nvme_entry::{Command, Completion, StandardCommand, Status};
 use std::alloc::AllocError;
 
-/// Adds a completion with so many bytes of data as one JSON object on a line.
+/// Adds a completion with so many bytes of data as one JSON object on a line, with the guard that has ended a block's run.
 pub(crate) fn push_completion_json(
     completion: &Completion,
     bytes: usize,
     answered: &Answered<'_>,
+    ended: &Option<EndedAt<'_>>,
     out: &mut String,
 ) -> Result<(), AllocError> {
     push_fields(completion, bytes, out)?;
@@ -18,6 +20,7 @@ pub(crate) fn push_completion_json(
         Answered::NotThere(_) => out.push_str(",\"line\":null")?,
         Answered::Taken(taken) => push_taken(completion, taken, out)?,
     }
+    push_ended_fields(ended, out)?;
     out.push_str("}\n")
 }
 

@@ -2,9 +2,11 @@
 #![tactic(auto)]
 
 mod completion_words;
+mod ended;
 pub mod explain;
 mod fitting;
 mod json;
+mod live;
 mod pairing;
 mod refusal_words;
 mod report_words;
@@ -14,4 +16,5 @@ mod waiting;
 mod worded_command;
 
 pub use completion_words::push_answer;
+pub use live::push_reply_words;
 pub use worded_command::push_command;

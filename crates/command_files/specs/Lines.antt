@@ -1,5 +1,5 @@
 -- What a failure is printed as (profile).
-use Rattle.std.specs.Prelude.{◌≡◌, ℕ, List, [], ◌∷◌, ◌++◌, codes, Option}
+use Rattle.std.specs.Prelude.{◌≡◌, ℕ, List, [], ◌∷◌, ◌++◌, codes, bytes_eq, if◌then◌else◌, Option}
 use Rattle.std.specs.Fmt.{decimal}
 use Rattle.std.specs.String.{string_bytes}
 use Rattle.std.specs.Io.KnownBytes.{Appends}
@@ -22,7 +22,7 @@ use Rattle.command_files.specs.Shown.{shown}
 use Rattle.command_files.specs.declared.data_fault.DataFault.{DataFault}
 use Rattle.command_files.specs.declared.failure.Failure.{Failure}
 use Rattle.command_files.specs.declared.file_cause.FileCause.{FileCause}
-use Rattle.command_files.specs.declared.file_cause.FileCause.TheVariants.{Other}
+use Rattle.command_files.specs.declared.file_cause.FileCause.TheVariants.{LargerThan, Other}
 use Rattle.command_files.specs.declared.failure.Failure.TheVariants.{CommandLine, NotText, NotInRange, CannotRead, CannotWrite, NotAnImage, CannotPrint, NoMemory, LineRefused, ReplyRefused, WordsRefused, CommandsRefused, GeometryRefused, NotABlock, EmitExceedsBlock, ImageRefused, JournalRefused, DeviceRefused, AssemblyRefused, ProgramRefused, FrameRefused, DataRefused, StreamRefused, StreamCutOff, NotAccepted}
 
 -- a text: one that is said here, one around words that another crate has, one that another crate has, or none
@@ -40,15 +40,26 @@ line text = Said (text ++ 10 ∷ [])
 abbrev pub sentence : List ℕ → List ℕ → Text
 sentence front behind = Around front (10 ∷ behind ++ 10 ∷ [])
 
+-- the word of an option that is no block size
+abbrev pub no_block_size : List ℕ → List ℕ → List ℕ
+no_block_size option word =
+    codes "--" ++ option ++ codes ": '" ++ word ++ codes "' is not a block size (512, 1024, 2048, 4096, 8192 or 16384)" ++ 10 ∷ []
+
 -- the word of an option that is no number from the least to the most
-abbrev pub range_text : List ℕ → List ℕ → ℕ → ℕ → Text
-range_text option word least most =
-    line (codes "error: '" ++ word ++ codes "' for --" ++ option
-    ++ codes " is not a number from " ++ decimal least ++ codes " to " ++ decimal most)
+abbrev pub no_number : List ℕ → List ℕ → ℕ → ℕ → List ℕ
+no_number option word least most =
+    codes "--" ++ option ++ codes ": '" ++ word ++ codes "' is not a number from " ++ decimal least ++ codes " to " ++ decimal most ++ 10 ∷ []
+
+-- the word of an option that is not what is wanted there
+abbrev pub range_line : List ℕ → List ℕ → ℕ → ℕ → List ℕ
+range_line option word least most =
+    if bytes_eq option (codes "block") then no_block_size option word else no_number option word least most
 
 -- why a file fails, in a sentence: nothing where the cause isn't known
 abbrev pub cause_sentence : List ℕ → FileCause → List ℕ
 cause_sentence path Other = []
+cause_sentence path (LargerThan mebibytes) =
+    path ++ codes ": larger than " ++ decimal mebibytes ++ codes " MiB, the most that is read of it" ++ 10 ∷ []
 cause_sentence path cause = path ++ codes ": " ++ cause_words cause ++ 10 ∷ []
 
 -- a file that can't be read: why, and the line for scripts
@@ -168,7 +179,7 @@ cut_off_text place = at_byte place (codes "the end of the input; the rest of a f
 abbrev pub failure_text : Failure → Text
 failure_text (CommandLine error) = Elsewhere
 failure_text NotText = line (codes "error: a word of the command line is not text")
-failure_text (NotInRange option word least most) = range_text option.now (shown word.now) least most
+failure_text (NotInRange option word least most) = Said (range_line option.now (shown word.now) least most)
 failure_text (CannotRead path cause) = unread_text (shown path.now) cause
 failure_text (CannotWrite path cause) = unwritten_text (shown path.now) cause
 failure_text (NotAnImage path) = not_an_image_text (shown path.now)

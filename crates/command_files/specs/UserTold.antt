@@ -47,6 +47,7 @@ told_of_file system.IsADirectory = file.Failed file_cause.IsADirectory
 told_of_file system.ReadOnlyFilesystem = file.Failed file_cause.ReadOnlyFilesystem
 told_of_file system.StorageFull = file.Failed file_cause.NoRoom
 told_of_file system.QuotaExceeded = file.Failed file_cause.NoRoom
+told_of_file system.FileTooLarge = file.Failed file_cause.TooLarge
 told_of_file _ = file.Failed file_cause.Other
 
 -- a file with this name that can't be read

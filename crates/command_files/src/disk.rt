@@ -6,7 +6,7 @@ ghost use Rattle.command_files.specs.Crash.{LeavesOldOrNew};
 ghost use Rattle.command_files.specs.Made.{told_made};
 
 use crate::file_cause::FileCause;
-use crate::files::{FileFault, Files};
+use crate::files::{FileFault, Files, MEBIBYTE};
 use crate::held_file::{HeldFile, behind_links};
 use crate::unfinished::{
     FileWriter, HeldName, begin_beside, hold_finished, place_under, settle_name,
@@ -18,6 +18,9 @@ use std::fs::File;
 use std::io::{BufReader, Read};
 use std::{fs, io, mem, rt};
 
+/// The name by which a command line names standard input.
+pub const STANDARD_INPUT: &str = "-";
+
 /// The files of the system. They tell which were to be given names, with what was written to them and what was done for them; not
 /// what bytes a name leads to. No clause says that what is noted is what the system does: this is to be read.
 #[derive(Drop)]
@@ -25,6 +28,8 @@ pub struct Disk<'a, R> {
     rt: &'a R,
     held: Option<HeldName>,
     tried: Attempts,
+    /// Was standard input read?
+    input_read: bool,
 }
 
 impl<'a, R> Disk<'a, R> {
@@ -36,6 +41,7 @@ impl<'a, R> Disk<'a, R> {
             rt,
             held: None,
             tried: Attempts::new(),
+            input_read: false,
         }
     }
 
@@ -49,6 +55,7 @@ impl<'a, R> Disk<'a, R> {
             rt: self.rt,
             held: mem::replace(&mut self.held, None),
             tried: Attempts::new(),
+            input_read: self.input_read,
         }
     }
 }
@@ -100,6 +107,25 @@ impl<R: rt::Files<File = File> + AllocGlobal> Disk<'_, R> {
             return Err(fault);
         }
         self.place(file)
+    }
+
+    /// The file with this name, from its first byte on; standard input where the name is `-`.
+    ///
+    /// # Errors
+    ///
+    /// Standard input was read already, or those of the system.
+    fn opened(&mut self, path: &str) -> Result<File, FileFault>
+        ensures held { self.new.held ≡ self.old.held }
+        ensures tried { self.new.tried ≡ self.old.tried }
+    {
+        if path != STANDARD_INPUT {
+            return Ok(fs::open(self.rt, path)?);
+        }
+        if self.input_read {
+            return Err(FileFault::Failed(FileCause::ReadBefore));
+        }
+        self.input_read = true;
+        Ok(fs::open(self.rt, "/dev/stdin")?)
     }
 
     /// Gives a file that is written the name that is held, and holds it then. Where that fails, it is forgotten, and no name is held.
@@ -164,8 +190,16 @@ impl<R: rt::Files<File = File> + AllocGlobal> Files for Disk<'_, R> {
 
     ghost held = { λ disk. option_map (λ held. string_bytes held.name) disk.held };
 
-    fn read(&mut self, path: &str) -> Result<Vec<u8>, FileFault> {
-        Ok(fs::read(self.rt, path)?)
+    fn read(&mut self, path: &str, mebibytes: u32) -> Result<Vec<u8>, FileFault> {
+        let most = mebibytes as usize * MEBIBYTE;
+        let mut bytes = Vec::new(self.rt.alloc());
+        self.opened(path)?
+            .take(most as u64 + 1)
+            .read_to_end(&mut bytes)?;
+        if bytes.len() > most {
+            return Err(FileFault::Failed(FileCause::LargerThan(mebibytes)));
+        }
+        Ok(bytes)
     }
 
     fn write(&mut self, path: &str, bytes: &[u8]) -> Result<(), FileFault> {
@@ -220,9 +254,10 @@ impl<R: rt::Files<File = File> + AllocGlobal> Files for Disk<'_, R> {
         self.place(file)
     }
 
-    fn discard(&mut self, file: FileWriter) {
+    fn discard(&mut self, file: FileWriter) -> FileCause {
         // The failure that led here is told; one more would hide it.
         let _ = fs::remove_file(self.rt, file.name.as_str());
+        file.cause
     }
 }
 

@@ -20,6 +20,12 @@ pub enum FileCause {
     NoRoom,
     /// A new file that was to take its place can't be written beside it, for want of room or another cause.
     NoNewFile,
+    /// The file would be larger than the file system takes, or than the user may have one.
+    TooLarge,
+    /// It has more bytes than so many times 2^20, the most that is read of such a file.
+    LargerThan(u32),
+    /// Standard input was read already.
+    ReadBefore,
     /// Another command works on the file.
     InUse,
     /// The name is that of a device, a pipe or a socket, or of another thing that holds no bytes.
@@ -29,7 +35,7 @@ pub enum FileCause {
 }
 
 impl FileCause {
-    /// What the user is told of the file: nothing of another cause.
+    /// What the user is told of the file: nothing of another cause, and of [`FileCause::LargerThan`], which has a number.
     pub fn words(self) -> &'static str
         ensures { result.now ≡ cause_words self }
     {
@@ -42,9 +48,11 @@ impl FileCause {
             FileCause::NoRoom => "no room is left",
             FileCause::NoNewFile =>
                 "no new file can be written beside it, as where no room is left",
+            FileCause::TooLarge => "too large for the file system, or for a limit of the user",
+            FileCause::ReadBefore => "standard input was read already",
             FileCause::InUse => "in use by another command",
             FileCause::NotOrdinary => "not an ordinary file",
-            FileCause::Other => "",
+            FileCause::LargerThan(_) | FileCause::Other => "",
         }
     }
 }

@@ -1,6 +1,6 @@
 //! Where names lead to bytes.
 
-ghost use Rattle.std.specs.Prelude.{◌≡◌, ℕ, List, [], IfOk, IfSome, OnOk, OnErr, Option, None, Some, take};
+ghost use Rattle.std.specs.Prelude.{◌≡◌, ◌≤◌, ◌*◌, ◌^◌, ℕ, List, [], IfOk, IfSome, OnOk, OnErr, Option, None, Some, length, take};
 ghost use Rattle.std.specs.IoError.{error_kind};
 ghost use Rattle.placed_file.specs.Placing.{Attempt};
 ghost use Rattle.command_files.specs.Crash.{AreWritten, LeavesOldOrNew, LeavesOthers};
@@ -25,6 +25,9 @@ pub enum FileFault {
     Memory,
 }
 
+/// How many bytes a mebibyte has.
+pub(crate) const MEBIBYTE: usize = 1_048_576;
+
 /// Where names lead to bytes.
 pub trait Files {
     /// A file that is read in pieces.
@@ -48,18 +51,20 @@ pub trait Files {
     /// The name that is held, if one is.
     ghost held: { Self → Option (List ℕ) };
 
-    /// All bytes of a file.
+    /// All bytes of a file, of which it has at most so many times 2^20. The name `-` is that of standard input, which is read once.
     ///
     /// # Errors
     ///
-    /// It can't be read, or there is no memory for its bytes.
-    fn read(&mut self, path: &str) -> Result<Vec<u8>, FileFault>
+    /// It can't be read, it has more bytes ([`FileCause::LargerThan`]), standard input was read already ([`FileCause::ReadBefore`]), or
+    /// there is no memory for its bytes.
+    fn read(&mut self, path: &str, mebibytes: u32) -> Result<Vec<u8>, FileFault>
         ensures made { made self.new ≡ made self.old }
         ensures tried { tried self.new ≡ tried self.old }
         ensures contents { contents self.new ≡ contents self.old }
         ensures modes { modes self.new ≡ modes self.old }
         ensures held { held self.new ≡ held self.old }
-        ensures bytes { IfOk result (λ file. AreAsTold (contents self.old path.now) file.items) };
+        ensures bytes { IfOk result (λ file. AreAsTold (contents self.old path.now) file.items) }
+        ensures within { IfOk result (λ file. length file.items ≤ mebibytes * 2 ^ 20) };
 
     /// Makes a file of these bytes, in place of the one with this name, whose permissions it keeps, or makes none.
     /// Where files tell their bytes, it has just these then, and each other what it had; where this fails, each has.
@@ -171,8 +176,8 @@ pub trait Files {
         ensures held { OnOk result (held self.new ≡ held self.old) }
         ensures released { OnErr result (held self.new ≡ None) };
 
-    /// Forgets a file that was begun.
-    fn discard(&mut self, file: Self::Writer)
+    /// Forgets a file that was begun. Gives why a write to it failed, as far as that is known.
+    fn discard(&mut self, file: Self::Writer) -> FileCause
         ensures made { made self.new ≡ made self.old }
         ensures tried { tried self.new ≡ tried self.old }
         ensures contents { contents self.new ≡ contents self.old }
@@ -196,6 +201,7 @@ impl From<io::Error> for FileFault {
             ErrorKind::StorageFull | ErrorKind::QuotaExceeded => {
                 FileFault::Failed(FileCause::NoRoom)
             }
+            ErrorKind::FileTooLarge => FileFault::Failed(FileCause::TooLarge),
             _ => FileFault::Failed(FileCause::Other),
         }
     }

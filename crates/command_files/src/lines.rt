@@ -3,10 +3,11 @@
 ghost use Rattle.std.specs.Prelude.{◌≡◌, ◌∷◌, ◌++◌, [], codes, Some, OnOk};
 ghost use Rattle.std.specs.Fmt.{decimal};
 ghost use Rattle.std.specs.Io.KnownBytes.{Appends};
-ghost use Rattle.command_files.specs.Lines.{IsTold, at_byte, at_line, cause_sentence, commands_text, device_text, emit_text, failure_text, journal_text, not_a_block_text, not_an_image_text, range_text, sentence};
+ghost use Rattle.command_files.specs.Lines.{IsTold, at_byte, at_line, cause_sentence, commands_text, device_text, emit_text, failure_text, journal_text, not_a_block_text, no_block_size, no_number, not_an_image_text, range_line, sentence};
 ghost use Rattle.command_files.specs.Pieces.{piece_text, pieces_text, text_with};
 ghost use Rattle.command_files.specs.Shown.{shown};
 
+use crate::arguments::BLOCK_OPTION;
 use crate::failure::Failure;
 use crate::file_cause::FileCause;
 use crate::object_file::ProgramWords;
@@ -40,7 +41,7 @@ impl Failure<'_> {
                 word,
                 least,
                 most,
-            } => print_pieces(out, &of_range(option, word, *least, *most)),
+            } => print_range(out, option, word, *least, *most),
             Failure::CannotRead(path, cause) => print_file(out, path, *cause, "cannot read "),
             Failure::CannotWrite(path, cause) => print_file(out, path, *cause, "cannot write "),
             Failure::NotAnImage(path) => print_pieces(out, &of_no_image(path)),
@@ -159,16 +160,46 @@ fn alone(text: &str) -> [Piece<'_>; 1]
     [Plain(text)]
 }
 
-/// The word of an option that is no number from the least to the most.
-fn of_range<'p>(option: &'p str, word: &'p str, least: u64, most: u64) -> [Piece<'p>; 9]
-    ensures { Some (pieces_text result) ≡ text_with [] (range_text option.now (shown word.now) least most) }
+/// Prints that the word of an option is not what is wanted there.
+fn print_range<W: Write>(
+    out: &mut W,
+    option: &str,
+    word: &str,
+    least: u64,
+    most: u64,
+) -> io::Result<()>
+    ensures { OnOk result (Appends (W.contents out.old) (W.contents out.new) (range_line option.now (shown word.now) least most)) }
+{
+    if option == BLOCK_OPTION {
+        print_pieces(out, &of_block(option, word))
+    } else {
+        print_pieces(out, &of_range(option, word, least, most))
+    }
+}
+
+/// The word of an option that is no block size.
+fn of_block<'p>(option: &'p str, word: &'p str) -> [Piece<'p>; 5]
+    ensures { pieces_text result ≡ no_block_size option.now (shown word.now) }
 {
     [
-        Plain("error: '"),
-        Named(word),
-        Plain("' for --"),
+        Plain("--"),
         Plain(option),
-        Plain(" is not a number from "),
+        Plain(": '"),
+        Named(word),
+        Plain("' is not a block size (512, 1024, 2048, 4096, 8192 or 16384)\n"),
+    ]
+}
+
+/// The word of an option that is no number from the least to the most.
+fn of_range<'p>(option: &'p str, word: &'p str, least: u64, most: u64) -> [Piece<'p>; 9]
+    ensures { pieces_text result ≡ no_number option.now (shown word.now) least most }
+{
+    [
+        Plain("--"),
+        Plain(option),
+        Plain(": '"),
+        Named(word),
+        Plain("' is not a number from "),
         Number(least),
         Plain(" to "),
         Number(most),
@@ -188,6 +219,7 @@ fn print_file<'p, W: Write>(
 {
     match cause {
         FileCause::Other => print_pieces(out, &of_file(Nothing, "", "", "", script, path)),
+        FileCause::LargerThan(mebibytes) => print_pieces(out, &of_large(path, mebibytes, script)),
         _ => {
             let words = cause.words();
             print_pieces(out, &of_file(Named(path), ": ", words, "\n", script, path))
@@ -212,6 +244,22 @@ fn of_file<'p>(
         Plain(mark),
         Plain(words),
         Plain(end),
+        Plain(script),
+        Named(path),
+        Plain("\n"),
+    ]
+}
+
+/// A file that has more bytes than are read of it.
+fn of_large<'p>(path: &'p str, mebibytes: u32, script: &'p str) -> [Piece<'p>; 7]
+    ensures { pieces_text result
+        ≡ cause_sentence (shown path.now) (FileCause.LargerThan mebibytes) ++ (script.now ++ shown path.now ++ 10 ∷ []) }
+{
+    [
+        Named(path),
+        Plain(": larger than "),
+        Number(mebibytes as u64),
+        Plain(" MiB, the most that is read of it\n"),
         Plain(script),
         Named(path),
         Plain("\n"),

@@ -5,7 +5,7 @@ ghost use Rattle.command_files.specs.Made.{KeepsModes};
 ghost use Rattle.command_files.specs.MemoryFiles.{HasAdded, HasPut, HasReplacedIn, bytes_named, last_named, made_of, mode_named, tried_of};
 
 use crate::file_cause::FileCause;
-use crate::files::{FileFault, Files};
+use crate::files::{FileFault, Files, MEBIBYTE};
 use image_text::{Sink, Source, StreamFault};
 use std::alloc::{AllocError, Global};
 
@@ -138,10 +138,13 @@ impl Files for MemoryFiles {
 
     ghost held = { λ memory. option_map string_bytes memory.held };
 
-    fn read(&mut self, path: &str) -> Result<Vec<u8>, FileFault> {
+    fn read(&mut self, path: &str, mebibytes: u32) -> Result<Vec<u8>, FileFault> {
         let bytes = self
             .bytes(path)
             .ok_or(FileFault::Failed(FileCause::NotFound))?;
+        if bytes.len() > mebibytes as usize * MEBIBYTE {
+            return Err(FileFault::Failed(FileCause::LargerThan(mebibytes)));
+        }
         Ok(Vec::from_slice(self.alloc, bytes)?)
     }
 
@@ -154,7 +157,7 @@ impl Files for MemoryFiles {
 
     fn open(&mut self, path: &str) -> Result<MemoryReader, FileFault> {
         Ok(MemoryReader {
-            bytes: self.read(path)?,
+            bytes: self.read(path, u32::MAX)?,
             fails: self.fails,
             at: 0,
             failures: 0,
@@ -192,7 +195,13 @@ impl Files for MemoryFiles {
         Ok(())
     }
 
-    fn discard(&mut self, _file: MemoryWriter) {}
+    fn discard(&mut self, file: MemoryWriter) -> FileCause {
+        if file.failures > 0 {
+            FileCause::NoRoom
+        } else {
+            FileCause::Other
+        }
+    }
 }
 
 /// A file in memory that is read in pieces.

@@ -11,7 +11,7 @@ use placed_file::{Placing, Progress, Written, put_in_place};
 use std::alloc::{AllocError, Global};
 use std::fs::File;
 use std::io::{BufWriter, ErrorKind, Write};
-use std::{fs, mem, rt};
+use std::{fs, io, mem, rt};
 
 /// How many names for a file that isn't finished are tried: others are then in use.
 const MOST_NAMES: u32 = 1000;
@@ -47,6 +47,7 @@ pub(crate) fn begin_beside<R: rt::Files<File = File> + AllocGlobal>(
             created,
             name,
             failures: 0,
+            cause: FileCause::Other,
             written: Written::new(),
         }),
         Err(fault) => {
@@ -208,6 +209,8 @@ pub struct FileWriter {
     /// Its name until it is finished.
     pub(crate) name: String,
     pub(crate) failures: u64,
+    /// Why the last write that failed did.
+    pub(crate) cause: FileCause,
     /// What was written.
     pub(crate) written: Written,
 }
@@ -235,7 +238,7 @@ impl FileWriter {
         ensures { self.new.written ≡ self.old.written }
     {
         if self.failures > 0 {
-            return Err(FileFault::Failed(FileCause::Other));
+            return Err(FileFault::Failed(self.cause));
         }
         Ok(self.file.flush()?)
     }
@@ -254,8 +257,9 @@ impl Sink for FileWriter {
                 self.written.add(from);
                 Ok(from.len())
             }
-            Err(_) => {
+            Err(error) => {
                 self.failures += 1;
+                self.cause = cause_of(error);
                 Err(StreamFault)
             }
         }
@@ -263,5 +267,13 @@ impl Sink for FileWriter {
 
     fn failures(&self) -> u64 {
         self.failures
+    }
+}
+
+/// Why a call of the system failed.
+fn cause_of(error: io::Error) -> FileCause {
+    match FileFault::from(error) {
+        FileFault::Failed(cause) => cause,
+        FileFault::Memory => FileCause::Other,
     }
 }

@@ -1,6 +1,6 @@
 //! Whole files, and what the user is told of a file that fails.
 
-ghost use Rattle.std.specs.Prelude.{◌≡◌, ◌≢◌, ◌≤◌, IfErr, IfOk, None, OnOk, OnErr};
+ghost use Rattle.std.specs.Prelude.{◌≡◌, ◌≢◌, ◌≤◌, ◌*◌, ◌^◌, IfErr, IfOk, None, OnOk, OnErr, length};
 ghost use Rattle.program_interface.specs.BlockSize.{block_size as size_of_bytes};
 ghost use Rattle.command_files.specs.Crash.{LeavesOthers};
 ghost use Rattle.command_files.specs.Made.{AreAsTold, HasReplaced, then_made};
@@ -10,22 +10,28 @@ use crate::failure::Failure;
 use crate::files::{FileFault, Files};
 use program_interface::{BlockSize, LARGEST_BLOCK};
 
-/// All bytes of a file. Where it can't be read, its name is told. No file changes.
+/// All bytes of a file, of which it has at most so many times 2^20; of standard input where the name is `-`. Where it can't be read, its
+/// name is told. No file changes.
 ///
 /// # Errors
 ///
 /// [`Failure::CannotRead`] with its name, or [`Failure::NoMemory`].
-pub fn read<'a, F: Files>(path: &'a str, files: &mut F) -> Result<Vec<u8>, Failure<'a>>
+pub fn read<'a, F: Files>(
+    path: &'a str,
+    mebibytes: u32,
+    files: &mut F,
+) -> Result<Vec<u8>, Failure<'a>>
     ensures made { F.made files.new ≡ F.made files.old }
     ensures tried { F.tried files.new ≡ F.tried files.old }
     ensures contents { F.contents files.new ≡ F.contents files.old }
     ensures modes { F.modes files.new ≡ F.modes files.old }
     ensures held { F.held files.new ≡ F.held files.old }
     ensures bytes { IfOk result (λ file. AreAsTold (F.contents files.old path.now) file.items) }
+    ensures within { IfOk result (λ file. length file.items ≤ mebibytes * 2 ^ 20) }
     ensures unread { IfErr result (IsUnread path.entry) }
     ensures not_printing { result ≢ Err Failure.CannotPrint }
 {
-    match files.read(path) {
+    match files.read(path, mebibytes) {
         Ok(bytes) => Ok(bytes),
         Err(fault) => Err(cannot_read(path, fault)),
     }

@@ -5,7 +5,7 @@ use Rattle.image_store.specs.Namespace.{ZonedNamespace}
 use Rattle.image_text.specs.Loading.{LoadFails}
 use Rattle.image_text.specs.Reading.{namespace_in}
 use Rattle.image_text.specs.declared.fault.LoadFault.{LoadFault}
-use Rattle.image_text.specs.declared.fault.LoadFault.TheVariants.{Magic, Memory, Stream}
+use Rattle.image_text.specs.declared.fault.LoadFault.TheVariants.{Magic, Memory, Stream, Truncated}
 use Rattle.device_meaning.specs.State.{State, new_state}
 use Rattle.durable_machine.specs.Refused.{IsDamaged, IsUndone}
 use Rattle.durable_machine.specs.declared.fault.Fault.{Fault}
@@ -14,13 +14,12 @@ use Rattle.durable_device.specs.Kept.{RefusesBytes, StandsFor, StandsForIt}
 use Rattle.durable_device.specs.Machine.{IsDeviceBase, next_state}
 use Rattle.command_files.specs.Made.{AreAsTold}
 use Rattle.command_files.specs.declared.failure.Failure.{Failure}
-use Rattle.command_files.specs.declared.failure.Failure.TheVariants.{ImageRefused, JournalRefused, NoMemory}
 use Rattle.command_files.specs.declared.journal_fault.JournalFault.{JournalFault}
 use Rattle.command_files.specs.declared.journal_fault.JournalFault.TheVariants.{NoBase, OpenGate}
 use Rattle.command_files.specs.declared.journal_fault.JournalFault.TheVariants as journal
-use Rattle.command_images.specs.Devices.{AreFaulty, IsNoImage, StandForNone, TellDevice, TellNamespace}
+use Rattle.command_images.specs.Devices.{AreFaulty, IsCut, IsNoImage, StandForNone, TellDevice, TellNamespace}
 use Rattle.command_images.specs.UserTold.{LoadingDeviceFails}
-use Rattle.command_images.specs.steps.Told.{RefusesJournal, TellsJournal, told_of_image}
+use Rattle.command_images.specs.steps.Told.{RefusesJournal, TellsCut, TellsJournal, told_of_image}
 
 -- ---- what stands for a device
 
@@ -62,6 +61,13 @@ stand_for_none bytes fault is none s (inl image) = absurd (differ (sym is ∙ im
     differ same = cc
 stand_for_none bytes fault is none s (inr journal) = none (magic_only fault bytes is journal.no_image) s journal.stand.is
 
+-- no file that is cut
+none_of_cut : (bytes : List ℕ) → namespace_in bytes ≡ Err Truncated → StandForNone bytes
+none_of_cut bytes is = stand_for_none bytes Truncated is (λ magic. absurd (differ magic))
+  where
+    differ : Truncated ≡ Magic → ⊥
+    differ same = cc
+
 -- ---- what is told
 
 -- of a fault that no journal has
@@ -78,6 +84,22 @@ fails_as_image reads contents read path fault told other fails = (refl, λ known
     at (Some bytes) same is =
         let failed : namespace_in bytes ≡ Err fault = ap namespace_in (sym same) ∙ is in
         (failed, stand_for_none bytes fault failed (λ magic. absurd (other magic)))
+
+-- of a file that is cut
+pub fails_cut : (reads : Type 0) (contents : Option (List ℕ)) (path : Bor (List ℕ)) (failure : Failure)
+    → (reads → IsCut contents) → TellsCut path failure → LoadingDeviceFails reads contents path.now failure
+fails_cut reads contents path failure cut (inl is) =
+    subst (LoadingDeviceFails reads contents path.now) (sym is) (refl, λ known. at contents (cut known))
+  where
+    at : (held : Option (List ℕ)) → IsCut held → IfSome held (λ bytes. (namespace_in bytes ≡ Err Truncated) × StandForNone bytes)
+    at None is = tt
+    at (Some bytes) is = (is, none_of_cut bytes is)
+fails_cut reads contents path failure cut (inr is) =
+    subst (LoadingDeviceFails reads contents path.now) (sym is) (refl, λ known. at contents (cut known))
+  where
+    at : (held : Option (List ℕ)) → IsCut held → IfSome held (AreFaulty NoBase 0)
+    at None is = tt
+    at (Some bytes) is = (refl, none_of_cut bytes is)
 
 -- of a journal that is refused
 module _ (reads : Type 0) (contents : Option (List ℕ)) (read : List ℕ) (path : Bor (List ℕ)) (told : AreAsTold contents read) (none : reads → IsNoImage contents) where

@@ -2,7 +2,7 @@
 use Rattle.std.specs.Prelude.{◌≡◌, ◌≢◌, ◌⊎◌, ℕ, List, Option, IfSome, Ok, Err}
 use Rattle.image_store.specs.Namespace.{ZonedNamespace}
 use Rattle.image_text.specs.Reading.{namespace_in}
-use Rattle.image_text.specs.declared.fault.LoadFault.TheVariants.{Magic}
+use Rattle.image_text.specs.declared.fault.LoadFault.TheVariants.{Magic, Truncated}
 use Rattle.device_meaning.specs.State.{State, new_state}
 use Rattle.durable_machine.specs.Refused.{IsDamaged, IsUndone}
 use Rattle.durable_device.specs.Kept.{StandsForIt}
@@ -23,6 +23,10 @@ pub record AreJournal (bytes : List ℕ) (s : State) : Type 0 where
 -- the bytes of a file, where they are told, begin as no image does
 abbrev pub IsNoImage : Option (List ℕ) → Type 0
 IsNoImage bytes = IfSome bytes (λ bytes. namespace_in bytes ≡ Err Magic)
+
+-- they end where an image goes on
+abbrev pub IsCut : Option (List ℕ) → Type 0
+IsCut bytes = IfSome bytes (λ bytes. namespace_in bytes ≡ Err Truncated)
 
 -- they stand for a device in this state
 abbrev pub AreOf : List ℕ → State → Type 0

@@ -5,12 +5,12 @@ ghost use Rattle.device_meaning.specs.State.{new_state};
 ghost use Rattle.durable_device.specs.Kept.{StandsForIt};
 ghost use Rattle.command_files.specs.Made.{AreAsTold};
 ghost use Rattle.command_files.specs.UserTold.{IsUnread};
-ghost use Rattle.command_images.specs.Devices.{IsNoImage, TellDevice, TellNamespace};
+ghost use Rattle.command_images.specs.Devices.{IsCut, IsNoImage, TellDevice, TellNamespace};
 ghost use Rattle.command_images.specs.UserTold.{LoadingDeviceFails, ReplacingFails};
-ghost use Rattle.command_images.specs.steps.Told.{RefusesJournal, RefusesMore, TellsJournal};
+ghost use Rattle.command_images.specs.steps.Told.{RefusesJournal, RefusesMore, TellsCut, TellsJournal};
 
 use crate::image_file;
-use command_files::{Failure, Files, JournalFault, cannot_read, read};
+use command_files::{Failure, FileCause, Files, JournalFault, MOST_OF_EVENTS, cannot_read, read};
 use durable_device::device_in;
 use durable_machine::Fault;
 use image_base::MAGIC;
@@ -46,6 +46,7 @@ pub fn load<'a, F: Files>(
         Ok(mut file) => match Image::load(alloc, &mut file) {
             Ok(image) => Ok(boxed(alloc, image)?),
             Err(LoadFault::Magic) => load_journal(alloc, path, files),
+            Err(LoadFault::Truncated) => Err(cut(path, files)),
             Err(fault) => Err(image_file::refused(path, fault)),
         },
         Err(fault) => Err(cannot_read(path, fault)),
@@ -106,6 +107,7 @@ fn load_held<'a, D: Domain, F: Files>(
                 let device = load_held_journal(alloc, path, files)?;
                 renewed(alloc, path, device)
             }
+            Err(LoadFault::Truncated) => Err(cut_held(path, files)),
             Err(fault) => Err(image_file::refused(path, fault)),
         },
         Err(fault) => Err(cannot_read(path, fault)),
@@ -145,7 +147,7 @@ fn load_journal<'a, F: Files>(
     ensures failed { IfErr result (LoadingDeviceFails F.Reader.tells (F.contents files.old path.now) path.now) }
     ensures not_printing { result ≢ Err Failure.CannotPrint }
 {
-    let bytes = read(path, files)?;
+    let bytes = read(path, MOST_OF_EVENTS, files)?;
     journal_device(alloc, path, &bytes)
 }
 
@@ -171,6 +173,9 @@ fn load_held_journal<'a, F: Files>(
     journal_device(alloc, path, &bytes)
 }
 
+/// The most bytes of a journal.
+const MOST_OF_JOURNAL: usize = MOST_OF_EVENTS as usize * 1_048_576;
+
 /// All bytes of the file whose name is held.
 fn read_held<'a, F: Files>(path: &'a str, files: &mut F) -> Result<Vec<u8>, Failure<'a>>
     requires { F.held files.old ≡ Some path.now }
@@ -183,8 +188,9 @@ fn read_held<'a, F: Files>(path: &'a str, files: &mut F) -> Result<Vec<u8>, Fail
     ensures unread { IfErr result (IsUnread path.entry) }
     ensures not_printing { result ≢ Err Failure.CannotPrint }
 {
-    match files.first_bytes(path, usize::MAX) {
-        Ok(bytes) => Ok(bytes),
+    match files.first_bytes(path, MOST_OF_JOURNAL + 1) {
+        Ok(bytes) if bytes.len() <= MOST_OF_JOURNAL => Ok(bytes),
+        Ok(_) => Err(Failure::CannotRead(path, FileCause::LargerThan(MOST_OF_EVENTS))),
         Err(fault) => Err(cannot_read(path, fault)),
     }
 }
@@ -217,6 +223,56 @@ fn journal_refused<'a>(path: &'a str, bytes: &[u8], fault: Fault) -> Failure<'a>
         Fault::Unreadable if bytes.starts_with(&MAGIC) => refused_at(path, 0, JournalFault::NoBase),
         Fault::Unreadable => image_file::refused(path, LoadFault::Magic),
         Fault::OfFile(_) => Failure::NoMemory,
+    }
+}
+
+/// What the user is told of a file that ends where an image goes on.
+#[tactic(auto, using(crate::proofs::Devices::fails_cut))]
+fn cut<'a, F: Files>(path: &'a str, files: &mut F) -> Failure<'a>
+    requires { F.Reader.tells → IsCut (F.contents files.old path.now) }
+    ensures made { F.made files.new ≡ F.made files.old }
+    ensures contents { F.contents files.new ≡ F.contents files.old }
+    ensures modes { F.modes files.new ≡ F.modes files.old }
+    ensures tried { F.tried files.new ≡ F.tried files.old }
+    ensures held { F.held files.new ≡ F.held files.old }
+    ensures failed { LoadingDeviceFails F.Reader.tells (F.contents files.old path.now) path.now result }
+    ensures not_printing { result ≢ Failure.CannotPrint }
+{
+    match read(path, MOST_OF_EVENTS, files) {
+        Ok(bytes) => cut_after(path, &bytes),
+        Err(failure) => failure,
+    }
+}
+
+/// The same of a file whose name is held.
+#[tactic(auto, using(crate::proofs::Devices::fails_cut))]
+fn cut_held<'a, F: Files>(path: &'a str, files: &mut F) -> Failure<'a>
+    requires held { F.held files.old ≡ Some path.now }
+    requires cut { F.Reader.tells → IsCut (F.contents files.old path.now) }
+    ensures made { F.made files.new ≡ F.made files.old }
+    ensures contents { F.contents files.new ≡ F.contents files.old }
+    ensures modes { F.modes files.new ≡ F.modes files.old }
+    ensures tried { F.tried files.new ≡ F.tried files.old }
+    ensures held { F.held files.new ≡ F.held files.old }
+    ensures failed { LoadingDeviceFails F.Reader.tells (F.contents files.old path.now) path.now result }
+    ensures not_printing { result ≢ Failure.CannotPrint }
+{
+    match read_held(path, files) {
+        Ok(bytes) => cut_after(path, &bytes),
+        Err(failure) => failure,
+    }
+}
+
+/// What the user is told of a file that has only these bytes, and ends where an image goes on. Where it begins as a journal it is one, and
+/// has its fault at the front.
+fn cut_after<'a>(path: &'a str, bytes: &[u8]) -> Failure<'a>
+    ensures told { TellsCut path.entry result }
+    ensures not_printing { result ≢ Failure.CannotPrint }
+{
+    if bytes.starts_with(&MAGIC) {
+        refused_at(path, 0, JournalFault::NoBase)
+    } else {
+        image_file::refused(path, LoadFault::Truncated)
     }
 }
 

@@ -130,6 +130,32 @@ pub(crate) fn refused<'a>(path: &'a str, fault: LoadFault) -> Failure<'a>
     }
 }
 
+/// Can the file whose name is held be replaced, as far as that is known before it is? A new file is begun in its place, and forgotten:
+/// nothing changes.
+///
+/// # Errors
+///
+/// No file can be begun there, or memory is wanting.
+pub fn check_place<'a, F: Files>(path: &'a str, files: &mut F) -> Result<(), Failure<'a>>
+    requires { F.held files.old ≡ Some path.now }
+    ensures made { F.made files.new ≡ F.made files.old }
+    ensures contents { F.contents files.new ≡ F.contents files.old }
+    ensures modes { F.modes files.new ≡ F.modes files.old }
+    ensures tried { F.tried files.new ≡ F.tried files.old }
+    ensures held { F.held files.new ≡ F.held files.old }
+    ensures unwritten { IfErr result (IsUnwritten path.entry) }
+    ensures not_printing { result ≢ Err Failure.CannotPrint }
+{
+    match files.begin(path) {
+        Ok(file) => {
+            // No write to it failed.
+            let _cause = files.discard(file);
+            Ok(())
+        }
+        Err(fault) => Err(cannot_write(path, fault)),
+    }
+}
+
 /// Makes a file of an image, which is the image's text, in place of the one whose name is held, whose permissions it
 /// has then. Every other file has the bytes that it had, and where this fails, each has. A crash at any moment leaves under the name
 /// what it might have left before, or all of the new file.
@@ -156,8 +182,7 @@ pub fn save<'a, F: Files>(image: &Image, path: &'a str, files: &mut F) -> Result
         Err(fault) => return Err(cannot_write(path, fault)),
     };
     if image.save(&mut file).is_err() {
-        files.discard(file);
-        return Err(Failure::CannotWrite(path, FileCause::Other));
+        return Err(Failure::CannotWrite(path, files.discard(file)));
     }
     match files.finish(path, file) {
         Ok(()) => Ok(()),

@@ -4,6 +4,7 @@
 pub mod device_file;
 pub mod format;
 pub mod image_file;
+mod map;
 pub mod report;
 pub mod upgrade;
 pub mod zones;

@@ -4,11 +4,13 @@ ghost use Rattle.std.specs.Prelude.{◌≡◌};
 
 use crate::device_file;
 use crate::image_file::IMAGE;
+use crate::map::push_map;
 use clap::ArgMatches;
 use command_files::arguments::required;
 use command_files::{Failure, Files, printed};
 use command_words::{Argument, Takes, Words};
 use image_store::Image;
+use kept_device::KeptRun;
 use std::alloc::{AllocError, Global};
 use std::io::Write;
 use zone_state::{Zone, ZoneState};
@@ -17,6 +19,13 @@ use zone_state::{Zone, ZoneState};
 pub const NAME: &str = "report";
 
 const JSON: &str = "json";
+
+const MAP: &str = "map";
+
+const COLOR: &str = "color";
+
+/// When a map has colors: the words of its option.
+const WHEN: &[&str] = &["auto", "always", "never"];
 
 const LONG_ABOUT: &str = "\
 Prints an image's geometry and how much of its limits is in use, on the first line, and behind it each zone on a line, \
@@ -35,6 +44,10 @@ With --json one JSON object is printed, on a line: `block_bytes`, `zone_count`, 
 `number`, its `start`, its `state` as `zscli zones` prints it, its `condition`, the state's number, and `written`, how many of its \
 blocks are written.
 
+With --map each zone is drawn on a line: its number, the letter of its state, a bar of its written blocks, and how many of those \
+that can be written are. The letters are e empty, i opened by a write, o opened by a command, c closed, f full, r read only and x offline, \
+each with a color on a terminal. `<3` after them is run 3 where it reads the zone, and `>3` where it appends to it, as a journal keeps runs.
+
 Of a journal, which `serve --durable` makes of an image, it prints what the events in it left. Of a file that is no image, \
 `image refused REASON` tells the first fault.";
 
@@ -46,7 +59,7 @@ Example:
 /// How the command stands on the command line.
 pub static WORDS: Words = Words {
     name: NAME,
-    about: "Prints an image's geometry, limits and zones, as `blkzone report` has them",
+    about: "Prints an image's geometry, limits and zones, or draws them",
     long_about: LONG_ABOUT,
     example: EXAMPLE,
     arguments: &[
@@ -64,11 +77,26 @@ pub static WORDS: Words = Words {
             takes: Takes::Nothing,
             help: "Print one JSON object",
         },
+        Argument {
+            id: MAP,
+            long: MAP,
+            short: None,
+            takes: Takes::Nothing,
+            help: "Draw the zones; --json goes first",
+        },
+        Argument {
+            id: COLOR,
+            long: COLOR,
+            short: None,
+            takes: Takes::OneOf("WHEN", "auto", WHEN),
+            help: "When a map has colors; auto: on a terminal, unless NO_COLOR is set",
+        },
     ],
     one_of: &[],
 };
 
-/// Runs the command, which makes no file: each has the bytes that it had. What is printed isn't said.
+/// Runs the command, which makes no file: each has the bytes that it had. What is printed isn't said. On a terminal that shows colors a
+/// map has them, where the words don't say otherwise.
 ///
 /// # Errors
 ///
@@ -76,6 +104,7 @@ pub static WORDS: Words = Words {
 pub fn report<'a, F: Files, O: Write>(
     alloc: Global,
     matches: &ArgMatches<'a>,
+    terminal: bool,
     files: &mut F,
     out: &mut O,
 ) -> Result<(), Failure<'a>>
@@ -86,6 +115,14 @@ pub fn report<'a, F: Files, O: Write>(
     let image = device.image();
     let text = if matches.get_flag(JSON) {
         document_of(alloc, image)?
+    } else if matches.get_flag(MAP) {
+        let kept = device.kept(alloc)?;
+        map_of(
+            alloc,
+            image,
+            kept.runs.as_slice(),
+            has_color(matches, terminal),
+        )?
     } else {
         lines_of(alloc, image)?
     };
@@ -101,6 +138,28 @@ fn lines_of(alloc: Global, image: &Image) -> Result<String, AllocError> {
         push_zone(number as u64 * u64::from(size), size, zone, &mut lines)?;
     }
     Ok(lines)
+}
+
+/// Does a map have colors?
+fn has_color(matches: &ArgMatches<'_>, terminal: bool) -> bool {
+    match required(matches, COLOR) {
+        "always" => true,
+        "never" => false,
+        _ => terminal,
+    }
+}
+
+/// The geometry and how much of the limits is in use on a line, and then each zone, drawn on a line.
+fn map_of(
+    alloc: Global,
+    image: &Image,
+    runs: &[Option<KeptRun>],
+    colored: bool,
+) -> Result<String, AllocError> {
+    let mut map = String::new(alloc);
+    push_geometry(image, &mut map)?;
+    push_map(image, runs, colored, &mut map)?;
+    Ok(map)
 }
 
 /// Adds the geometry and how much of the limits is in use.

@@ -3,7 +3,7 @@
 use crate::refusal::sentence;
 use crate::source::{Source, origin_of_slot};
 use ebpf_gather::Origin;
-use ebpf_link::{Cut, Linked, Need};
+use ebpf_link::{Cut, GuardPlace, Linked, Need};
 use program_interface::Area;
 use std::alloc::{AllocError, Global};
 
@@ -17,8 +17,13 @@ fn area_name(area: Area) -> &'static str {
     }
 }
 
+/// Is a guard told in a line of its own? That of the block's size is the user's own doing, and of a loop that is cut a line tells more.
+pub(crate) fn is_listed(need: Need) -> bool {
+    !matches!(need, Need::BlockSize(_) | Need::Rounds(_))
+}
+
 /// What doesn't hold where a guard ends a run.
-fn unmet(alloc: Global, need: Need) -> Result<String, AllocError> {
+pub(crate) fn unmet(alloc: Global, need: Need) -> Result<String, AllocError> {
     match need {
         Need::Inside {
             area,
@@ -146,15 +151,13 @@ pub(crate) fn guard_lines(
         let line = format!(in alloc; "cut: {told}\n")?;
         push_line(&mut lines, line.as_str())?;
     }
-    for place in &linked.places {
-        let told = of_guard(
-            alloc,
-            source,
-            origin_of_slot(origins, place.slot),
-            place.need,
-        )?;
-        let line = format!(in alloc; "guard: {told}\n")?;
-        push_line(&mut lines, line.as_str())?;
+    for guard in &linked.guards {
+        let GuardPlace { slot, need } = guard.place;
+        if is_listed(need) {
+            let told = of_guard(alloc, source, origin_of_slot(origins, slot), need)?;
+            let line = format!(in alloc; "guard: {told}\n")?;
+            push_line(&mut lines, line.as_str())?;
+        }
     }
     Ok(lines)
 }

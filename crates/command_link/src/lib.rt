@@ -4,6 +4,7 @@
 mod guard_lines;
 pub mod link;
 mod making;
+mod notes;
 mod refusal;
 mod source;
 mod variables;

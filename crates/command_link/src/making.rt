@@ -1,22 +1,25 @@
 //! A program of an object's bytes.
 
-use crate::guard_lines::{guard_lines, of_guard};
+use crate::guard_lines::{guard_lines, is_listed, of_guard};
+use crate::notes::notes_of;
 use crate::refusal::{
     Refusal, of_gathering, of_inlining, of_linking, of_object, of_start, of_verdict,
 };
 use crate::source::{Source, origin_of_slot, source_of};
 use accepted_programs::Refusal as Verdict;
+use address_domain::Addresses;
 use ebpf_calls::{named_function, only_function};
 use ebpf_decode::{decode, push_instruction};
 use ebpf_gather::{Gathered, Origin, gather, origins};
 use ebpf_inline::inline;
-use ebpf_link::{Linked, LoopRule, link};
+use ebpf_link::{GuardPlace, Linked, Target, link};
 use ebpf_object::{Function, Object};
-use instruction_set::Instruction;
+use instruction_set::{Instruction, Program};
 use interval_domain::Intervals;
-use program_interface::{BlockSize, RunSizes};
+use program_interface::RunSizes;
 use std::alloc::{AllocError, Global};
 use verifier::{Judgement, judge};
+use word_domain::Domain;
 
 /// What is made of an object.
 #[derive(Drop)]
@@ -26,15 +29,19 @@ pub(crate) struct LinkedProgram {
     pub bytes: Vec<u8>,
     /// What is told of its guards, and of loops that are cut.
     pub told: String,
+    /// What is noted of it in a file of its own.
+    pub notes: String,
 }
 
 /// What is asked for of a program.
 #[derive(Drop)]
 pub(crate) struct Asked {
-    /// The size of the blocks.
-    pub block: BlockSize,
-    /// What becomes of a loop that isn't whole.
-    pub rule: LoopRule,
+    /// What it is made for.
+    pub target: Target,
+    /// The most bytes that are emitted for a block, if they are told.
+    pub emit: Option<u32>,
+    /// The number of the profile that judges it.
+    pub profile: u32,
     /// May no guard end a run?
     pub is_strict: bool,
 }
@@ -64,6 +71,138 @@ fn bytes_of(alloc: Global, slots: &[Option<Instruction>]) -> Result<Vec<u8>, All
     Ok(bytes)
 }
 
+/// What a verifier refuses of a program.
+fn judged<D: Domain>(
+    alloc: Global,
+    program: &Program,
+    sizes: RunSizes,
+) -> Result<Option<Verdict>, AllocError> {
+    D::fact_fits();
+    match judge::<D>(alloc, program, sizes)? {
+        Judgement::Accepted { .. } => Ok(None),
+        Judgement::Refused(refused) => Ok(Some(refused.refusal)),
+    }
+}
+
+/// What the verifier of a profile refuses of a program, with the limit that it is made for.
+fn verdict(alloc: Global, bytes: &[u8], asked: &Asked) -> Result<Option<Verdict>, Refusal> {
+    let Ok(program) = decode(alloc, bytes) else {
+        return Err(Refusal::Memory);
+    };
+    let block = asked.target.block;
+    let limit = asked.emit.unwrap_or(block.bytes());
+    let Some(sizes) = RunSizes::new(block, limit) else {
+        return Ok(None);
+    };
+    let found = match asked.profile {
+        3 => judged::<Addresses>(alloc, &program, sizes)?,
+        _ => judged::<Intervals>(alloc, &program, sizes)?,
+    };
+    Ok(found)
+}
+
+/// The slots of all functions as one.
+fn inlined(
+    alloc: Global,
+    source: &Source<'_, '_>,
+    gathered: &Gathered,
+) -> Result<Vec<Option<Instruction>>, Refusal> {
+    match inline(alloc, &gathered.unit) {
+        Ok(slots) => Ok(slots),
+        Err(fault) => Err(Refusal::of(of_inlining(alloc, source, gathered, fault))),
+    }
+}
+
+/// Slots of which a program is to be made, what they were made of, and what is asked for.
+#[derive(Drop)]
+struct Given<'a, 'b, 'c> {
+    source: &'c Source<'a, 'b>,
+    origins: &'c [Option<Origin>],
+    slots: Vec<Option<Instruction>>,
+    own: usize,
+    asked: &'c Asked,
+}
+
+/// A program, its bytes, and what the verifier refuses of it.
+#[derive(Drop)]
+struct Attempt {
+    linked: Linked,
+    bytes: Vec<u8>,
+    verdict: Option<Verdict>,
+}
+
+/// The program of slots, of which some need no guard of a position.
+fn tried(alloc: Global, given: &Given<'_, '_, '_>, free: &[bool]) -> Result<Attempt, Refusal> {
+    let Given {
+        source,
+        origins,
+        slots,
+        own,
+        asked,
+    } = given;
+    let linked = match link(alloc, slots, *own, asked.target, free) {
+        Ok(linked) => linked,
+        Err(fault) => {
+            let rule = asked.target.rule;
+            return Err(Refusal::of(of_linking(alloc, source, origins, rule, fault)));
+        }
+    };
+    let bytes = bytes_of(alloc, &linked.slots)?;
+    let verdict = verdict(alloc, bytes.as_slice(), asked)?;
+    Ok(Attempt {
+        linked,
+        bytes,
+        verdict,
+    })
+}
+
+/// So many answers.
+fn answers(alloc: Global, answer: bool, count: usize) -> Result<Vec<bool>, AllocError> {
+    let mut list = Vec::new(alloc);
+    list.resize(count, answer)?;
+    Ok(list)
+}
+
+/// So many guards of positions are put back at most.
+const MOST_BACK: usize = 24;
+
+/// The slot that was given of what the verifier refuses, where it has no guard of its position: there it gets one.
+fn put_back(attempt: &Attempt, free: &mut [bool]) -> bool {
+    let Some(verdict) = attempt.verdict else {
+        return false;
+    };
+    let Some(origin) = attempt.linked.origins.get(verdict.slot) else {
+        return false;
+    };
+    match free.get_mut(*origin) {
+        Some(found) if *found => {
+            *found = false;
+            true
+        }
+        _ => false,
+    }
+}
+
+/// A program that profile 3 accepts, with guards of positions only where it accepts none without; nothing, where none is found.
+fn freed(alloc: Global, given: &Given<'_, '_, '_>) -> Result<Option<Attempt>, Refusal> {
+    let mut free = answers(alloc, true, given.slots.len())?;
+    for _ in 0..MOST_BACK {
+        match tried(alloc, given, &free) {
+            Ok(found) => {
+                if found.verdict.is_none() {
+                    return Ok(Some(found));
+                }
+                if !put_back(&found, &mut free) {
+                    return Ok(None);
+                }
+            }
+            Err(Refusal::Memory) => return Err(Refusal::Memory),
+            Err(Refusal::Told(_)) => return Ok(None),
+        }
+    }
+    Ok(None)
+}
+
 /// The program that functions are laid out as.
 fn laid_out(
     alloc: Global,
@@ -71,29 +210,20 @@ fn laid_out(
     gathered: &Gathered,
     origins: &[Option<Origin>],
     asked: &Asked,
-) -> Result<Linked, Refusal> {
-    let slots = match inline(alloc, &gathered.unit) {
-        Ok(slots) => slots,
-        Err(fault) => return Err(Refusal::of(of_inlining(alloc, source, gathered, fault))),
+) -> Result<Attempt, Refusal> {
+    let given = Given {
+        source,
+        origins,
+        slots: inlined(alloc, source, gathered)?,
+        own: gathered.own,
+        asked,
     };
-    match link(alloc, &slots, gathered.own, asked.block, asked.rule) {
-        Ok(linked) => Ok(linked),
-        Err(fault) => Err(Refusal::of(of_linking(alloc, source, origins, asked.rule, fault))),
+    if asked.profile == 3 {
+        if let Some(found) = freed(alloc, &given)? {
+            return Ok(found);
+        }
     }
-}
-
-/// What the verifier refuses of a program, whatever its limit is: the least that it is refused for with the greatest one.
-fn verdict(alloc: Global, bytes: &[u8], block: BlockSize) -> Result<Option<Verdict>, Refusal> {
-    let Ok(program) = decode(alloc, bytes) else {
-        return Err(Refusal::Memory);
-    };
-    let Some(sizes) = RunSizes::new(block, block.bytes()) else {
-        return Ok(None);
-    };
-    match judge::<Intervals>(alloc, &program, sizes)? {
-        Judgement::Accepted { .. } => Ok(None),
-        Judgement::Refused(refused) => Ok(Some(refused.refusal)),
-    }
+    tried(alloc, &given, &[])
 }
 
 /// What a slot of a program was made of.
@@ -126,13 +256,17 @@ fn check_strict(
     origins: &[Option<Origin>],
     asked: &Asked,
 ) -> Result<(), Refusal> {
-    match linked.places.first() {
-        Some(place) if asked.is_strict => {
-            let origin = origin_of_slot(origins, place.slot);
-            Err(Refusal::of(of_guard(alloc, source, origin, place.need)))
-        }
-        _ => Ok(()),
+    if !asked.is_strict {
+        return Ok(());
     }
+    for guard in &linked.guards {
+        let GuardPlace { slot, need } = guard.place;
+        if is_listed(need) {
+            let origin = origin_of_slot(origins, slot);
+            return Err(Refusal::of(of_guard(alloc, source, origin, need)));
+        }
+    }
+    Ok(())
 }
 
 /// The program of an object.
@@ -148,16 +282,20 @@ fn program(
         Err(fault) => return Err(Refusal::of(of_gathering(alloc, &source, fault))),
     };
     let origins = origins(alloc, &gathered)?;
-    let linked = laid_out(alloc, &source, &gathered, &origins, asked)?;
+    let Attempt {
+        linked,
+        bytes,
+        verdict,
+    } = laid_out(alloc, &source, &gathered, &origins, asked)?;
     check_strict(alloc, &source, &linked, &origins, asked)?;
-    let bytes = bytes_of(alloc, linked.slots.as_slice())?;
-    let verdict = verdict(alloc, bytes.as_slice(), asked.block)?;
     check_verdict(alloc, &source, &linked, &origins, verdict)?;
     let told = guard_lines(alloc, &source, &linked, &origins)?;
+    let notes = notes_of(alloc, &source, &linked, &origins, asked)?;
     Ok(LinkedProgram {
         linked,
         bytes,
         told,
+        notes,
     })
 }
 

@@ -8,9 +8,10 @@ use command_files::Shown;
 use ebpf_calls::StartFault;
 use ebpf_gather::{GatherFault, Gathered, Origin, SlotProblem, Wanted};
 use ebpf_inline::InlineFault;
-use ebpf_link::{GuardPlace, LinkFault, LoopRule, Widest};
+use ebpf_link::{CELLS_BYTES, GuardPlace, LinkFault, LoopRule, MARK_BYTES, Widest};
 use ebpf_object::{HeaderFault, Object, ObjectFault};
 use ebpf_units::UnitFault;
+use program_interface::STACK_BYTES;
 use std::alloc::{AllocError, Global};
 
 /// Why no program is made.
@@ -310,6 +311,21 @@ pub(crate) fn of_inlining(
     }
 }
 
+/// What is told where guards have no bytes of scratch to write to.
+fn of_no_mark(alloc: Global, at: Option<usize>) -> Result<String, AllocError> {
+    match at {
+        Some(at) if at % 8 != 0 => format!(in alloc;
+            "guards can't write from byte {at} of scratch on, which is no multiple of 8; name another by --guard-at, or link with --silent-guards"
+        ),
+        Some(at) => format!(in alloc;
+            "guards can't write {MARK_BYTES} bytes from byte {at} of scratch on, since the program may store there; name another multiple of 8 by --guard-at, or link with --silent-guards"
+        ),
+        None => format!(in alloc;
+            "guards need {MARK_BYTES} bytes of scratch, and the program may store into all of it; bound the offsets at which it stores, or link with --silent-guards"
+        ),
+    }
+}
+
 /// What is told of loops that can't be laid out.
 pub(crate) fn of_linking(
     alloc: Global,
@@ -339,6 +355,13 @@ pub(crate) fn of_linking(
         ),
         LinkFault::Ends(GuardPlace { slot, need }) => {
             of_end(alloc, source, origin_of_slot(origins, slot), need)
+        }
+        LinkFault::NoMark(at) => of_no_mark(alloc, at),
+        LinkFault::NoStack(own) => {
+            let left = STACK_BYTES.saturating_sub(own);
+            format!(in alloc;
+                "the functions and their constant data leave {left} bytes of the stack, and guards need {CELLS_BYTES}; put less there, or link with --silent-guards"
+            )
         }
         LinkFault::Address(slot) => sentence(
             alloc,

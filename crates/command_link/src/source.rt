@@ -95,6 +95,11 @@ impl<'a> Source<'a, '_> {
         }
     }
 
+    /// The file and the line of a slot of the object's, with a colon between, where they are told.
+    pub fn line_of(&self, origin: Option<Origin>) -> Option<(&'a str, u64)> {
+        self.place(origin?).line
+    }
+
     /// The same, where it is a slot of the object's.
     pub fn place_of(&self, origin: Option<Origin>) -> Option<Place<'a>> {
         match origin {

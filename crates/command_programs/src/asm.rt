@@ -9,7 +9,7 @@ ghost use Rattle.command_programs.specs.steps.Told.{IsToldOfAssembly, MakesNone}
 
 use clap::ArgMatches;
 use command_files::arguments::{PROGRAM, required};
-use command_files::{Failure, Files, read, write};
+use command_files::{Failure, Files, MOST_OF_TEXT, read, write};
 use command_words::{Argument, Takes, Words};
 use ebpf_asm::{AssembleFault, AssemblyRefusal, assemble};
 use std::alloc::Global;
@@ -82,7 +82,7 @@ pub fn asm<'a, F: Files>(
     ensures contents { OnErr result (F.contents files.new ≡ F.contents files.old) }
 {
     let text_file = required(matches, TEXT);
-    let text = read(text_file, files)?;
+    let text = read(text_file, MOST_OF_TEXT, files)?;
     make(
         alloc,
         text_file,

@@ -5,7 +5,7 @@ ghost use Rattle.command_programs.specs.Asked.{Spell};
 ghost use Rattle.command_programs.specs.UserTold.{IsNoProgram};
 ghost use Rattle.command_programs.specs.steps.Told.{told_of_program};
 
-use command_files::{Failure, Files, read};
+use command_files::{Failure, Files, MOST_OF_PROGRAM, read};
 use ebpf_decode::{DecodeFault, ProgramRefusal, decode};
 use instruction_set::Program;
 use std::alloc::Global;
@@ -22,7 +22,7 @@ pub(crate) fn program_in_file<'a, F: Files>(
     ensures failed { IfErr result (IsNoProgram (F.contents files.old path.now) path.now) }
     ensures not_judged { result ≢ Err Failure.NotAccepted }
 {
-    let file = read(path, files)?;
+    let file = read(path, MOST_OF_PROGRAM, files)?;
     match decode(alloc, file.as_slice()) {
         Ok(program) => Ok(program),
         Err(fault) => Err(refused(path, file.as_slice(), fault)),

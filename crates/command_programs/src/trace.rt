@@ -22,7 +22,7 @@ use clap::ArgMatches;
 use command_files::arguments::{
     ARGUMENT_OPTION, EMIT_ARGUMENT, PROGRAM, PROGRAM_ARGUMENT, RUN_ARGUMENT, number, required,
 };
-use command_files::{Failure, Files, printed, read, size_as_block};
+use command_files::{Failure, Files, MOST_OF_BLOCK, printed, read, size_as_block};
 use command_words::{Argument, Takes, Words};
 use ebpf_asm::instruction_text;
 use instruction_set::Program;
@@ -139,7 +139,7 @@ pub fn trace<'a, F: Files, O: Write>(
     let asked = asked_for(matches)?;
     let program = program_in_file(alloc, required(matches, PROGRAM), files)?;
     let path = required(matches, BLOCK);
-    let block = read(path, files)?;
+    let block = read(path, MOST_OF_BLOCK, files)?;
     let sizes = run_sizes(size_as_block(path, block.len())?, asked.limit)?;
     run_asked(alloc, &program, block.as_slice(), sizes, asked, out)
 }

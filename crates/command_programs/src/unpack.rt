@@ -11,7 +11,7 @@ use crate::flags::{JSON, JSON_ARGUMENT, is_set};
 use crate::printing::print;
 use clap::ArgMatches;
 use command_files::arguments::{BLOCK_ARGUMENT, BLOCK_OPTION, block_size, number, required};
-use command_files::{Failure, Files, read};
+use command_files::{Failure, Files, MOST_OF_BLOCKS, read};
 use command_words::{Argument, Takes, Words};
 use emit_append::{BlockSize, FrameRefusal, UnpackFault, unpack as records_of};
 use std::alloc::{AllocError, Global};
@@ -80,7 +80,7 @@ pub fn unpack<'a, F: Files, O: Write>(
 {
     let block = number(matches, BLOCK_OPTION)?;
     let path = required(matches, FILE);
-    let file = read(path, files)?;
+    let file = read(path, MOST_OF_BLOCKS, files)?;
     let records = records_in(alloc, path, file.as_slice(), block_size(block)?)?;
     let text = text_of(alloc, records.as_slice(), is_set(matches, JSON))?;
     print(text.as_bytes(), out)

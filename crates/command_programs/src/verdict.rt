@@ -40,19 +40,20 @@ pub(crate) enum Verdict {
     },
 }
 
-/// Judges a program by a profile.
+/// Judges a program by a profile; this line goes with the words that say why, or how much a block takes.
 pub(crate) fn judged(
     alloc: Global,
     program: &Program,
     sizes: RunSizes,
     profile: Profile,
     form: Form,
+    linked: &str,
 ) -> Result<Verdict, AllocError>
     ensures { IfOk result (IsVerdict (operations_of profile) program.now sizes) }
 {
     match profile {
-        Profile::Two => judged_over::<Intervals>(alloc, program, sizes, form),
-        Profile::Three => judged_over::<Addresses>(alloc, program, sizes, form),
+        Profile::Two => judged_over::<Intervals>(alloc, program, sizes, form, linked),
+        Profile::Three => judged_over::<Addresses>(alloc, program, sizes, form, linked),
     }
 }
 
@@ -63,14 +64,15 @@ fn judged_over<D: Domain>(
     program: &Program,
     sizes: RunSizes,
     form: Form,
+    linked: &str,
 ) -> Result<Verdict, AllocError>
     ensures { IfOk result (IsVerdict D.operations program.now sizes) }
 {
     D::fact_fits();
     match judge::<D>(alloc, program, sizes)? {
         Judgement::Accepted { most_emitted, .. } => {
-            let facts = facts_asked::<D>(alloc, program, sizes, None, form)?;
-            let words = words_of_acceptance(alloc, program, most_emitted, form, facts.as_str())?;
+            let lines = lines_behind::<D>(alloc, program, sizes, None, form, linked)?;
+            let words = words_of_acceptance(alloc, program, most_emitted, form, lines.as_str())?;
             Ok(Verdict::Accepted {
                 most_emitted,
                 words,
@@ -78,7 +80,7 @@ fn judged_over<D: Domain>(
         }
         Judgement::Refused(Refused { refusal, facts }) => {
             let known = known_of(program.at(refusal.slot), &*facts);
-            let facts = facts_asked::<D>(alloc, program, sizes, Some(refusal), form)?;
+            let lines = lines_behind::<D>(alloc, program, sizes, Some(refusal), form, linked)?;
             let words = words_of_refusal(
                 alloc,
                 program,
@@ -86,25 +88,28 @@ fn judged_over<D: Domain>(
                 refusal,
                 known,
                 form,
-                facts.as_str(),
+                lines.as_str(),
             )?;
             Ok(Verdict::Refused { refusal, words })
         }
     }
 }
 
-/// The lines that say what is known at each slot, if they are asked for.
-fn facts_asked<D: Domain>(
+/// This line, and those that say what is known at each slot, if they are asked for.
+fn lines_behind<D: Domain>(
     alloc: Global,
     program: &Program,
     sizes: RunSizes,
     refusal: Option<Refusal>,
     form: Form,
+    linked: &str,
 ) -> Result<String, AllocError> {
-    match form {
-        Form::Worded { facts: true, .. } => fact_lines::<D>(alloc, program, sizes, refusal),
-        _ => Ok(String::new(alloc)),
+    let mut lines = String::from_str(alloc, linked)?;
+    if let Form::Worded { facts: true, .. } = form {
+        let facts = fact_lines::<D>(alloc, program, sizes, refusal)?;
+        lines.push_str(facts.as_str())?;
     }
+    Ok(lines)
 }
 
 /// The lines behind that of an accepted program: how many steps and bytes a block takes at most, if that is asked for, and these.
@@ -113,7 +118,7 @@ fn words_of_acceptance(
     program: &Program,
     most_emitted: usize,
     form: Form,
-    facts: &str,
+    lines: &str,
 ) -> Result<String, AllocError> {
     let mut words = String::new(alloc);
     if let Form::Worded {
@@ -125,7 +130,7 @@ fn words_of_acceptance(
         let emitted = Counted(most_emitted as u64, "byte");
         writeln!(words, "for a block at most {taken}, and {emitted} emitted")?;
     }
-    words.push_str(facts)?;
+    words.push_str(lines)?;
     Ok(words)
 }
 
@@ -138,7 +143,7 @@ fn words_of_refusal(
     refusal: Refusal,
     known: Known,
     form: Form,
-    facts: &str,
+    lines: &str,
 ) -> Result<String, AllocError> {
     let Refusal { slot, reason } = refusal;
     let mut words = String::new(alloc);
@@ -161,7 +166,7 @@ fn words_of_refusal(
             _ => {}
         }
     }
-    words.push_str(facts)?;
+    words.push_str(lines)?;
     Ok(words)
 }
 

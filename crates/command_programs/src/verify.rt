@@ -19,7 +19,7 @@ use command_files::arguments::{
     BLOCK_ARGUMENT, BLOCK_OPTION, EMIT_ARGUMENT, PROGRAM, PROGRAM_ARGUMENT, block_size, number,
     required,
 };
-use command_files::{Failure, Files};
+use command_files::{Failure, Files, GivenNumbers, linked_line};
 use command_profile::{PROFILE, Profile, profile_asked};
 use command_words::{Argument, Takes, Words};
 use instruction_set::Program;
@@ -57,15 +57,20 @@ Says whether a program is accepted for a block size and a limit of what it may e
 steps, or emit more than E bytes
   refused SLOT REASON  it is not: the first slot that fails, and the number of the first reason
 
-  1 a jump backward               6 a store outside, or into the context or the block
-  2 a jump to no instruction      7 a helper other than 1
-  3 a program that falls off      8 an emit from an unknown address
-  4 a write to R10                9 an emit of an unknown length
-  5 a load outside               10 an emit over the limit
+   1 a jump backward
+   2 a jump to no instruction
+   3 a program that falls off
+   4 a write to R10
+   5 a load outside
+   6 a store outside, or into the context or the block
+   7 a helper other than 1
+   8 an emit from an unknown address
+   9 an emit of an unknown length
+  10 an emit over the limit
 
 With --explain lines behind the first say more: of an accepted program how many steps and bytes a block takes at \
 most, the steps as many as it has instructions; of a refused one the instruction, the reason with its numbers, and what is known of each \
-register that the instruction reads.
+register that the instruction reads. Where `link` wrote PROGRAM.linked for another block, limit or profile, a line says for which.
 
 With --facts lines behind these say what is known at each slot, up to the first that is refused, behind which a > stands: the \
 instruction, and what is known of each register that it reads. Below it, further in, stands which address is forgotten there, in \
@@ -175,9 +180,11 @@ pub fn verify<'a, F: Files, O: Write>(
     ensures contents { F.contents files.new ≡ F.contents files.old }
 {
     let asked = asked_for(matches)?;
-    let program = program_in_file(alloc, required(matches, PROGRAM), files)?;
+    let path = required(matches, PROGRAM);
+    let program = program_in_file(alloc, path, files)?;
     let sizes = sizes_with(asked.block, asked.limit)?;
-    say(alloc, &program, sizes, asked.profile, asked.form, out)
+    let linked = linked_asked(alloc, path, &asked, files)?;
+    say(alloc, &program, sizes, asked, linked.as_str(), out)
 }
 
 /// What a user asks for.
@@ -228,23 +235,53 @@ fn sizes_with<'a>(block: u32, limit: u32) -> Result<RunSizes, Failure<'a>>
     run_sizes(block_size(block)?, limit)
 }
 
-/// Judges a program by a profile, and prints whether it is accepted.
+/// The line that says for which numbers the program in a file was linked, if words are asked for and other numbers are given.
+fn linked_asked<'a, F: Files>(
+    alloc: Global,
+    path: &str,
+    asked: &VerifyOptions,
+    files: &mut F,
+) -> Result<String, Failure<'a>>
+    ensures made { F.made files.new ≡ F.made files.old }
+    ensures contents { F.contents files.new ≡ F.contents files.old }
+    ensures not_judged { result ≢ Err Failure.NotAccepted }
+{
+    let given = GivenNumbers {
+        block: Some(asked.block),
+        emit: asked.limit,
+        profile: Some(match asked.profile {
+            Profile::Two => 2,
+            Profile::Three => 3,
+        }),
+    };
+    match asked.form {
+        Form::Worded {
+            explained: true,
+            ..
+        } => Ok(linked_line(alloc, path, given, files)?),
+        _ => Ok(String::new(alloc)),
+    }
+}
+
+/// Judges a program by the profile that is asked for, and prints whether it is accepted, with this line where words are asked for.
 fn say<'a, O: Write>(
     alloc: Global,
     program: &Program,
     sizes: RunSizes,
-    profile: Profile,
-    form: Form,
+    asked: VerifyOptions,
+    linked: &str,
     out: &mut O,
 ) -> Result<(), Failure<'a>>
-    ensures accepted { OnOk result (SaysAccepted (operations_of profile) program.now sizes form (O.contents out.old) (O.contents out.new)) }
+    ensures accepted { OnOk result
+        (SaysAccepted (operations_of asked.profile) program.now sizes asked.form (O.contents out.old) (O.contents out.new)) }
     ensures refused { result ≡ Err Failure.NotAccepted
-        → SaysRefused (operations_of profile) program.now sizes form (O.contents out.old) (O.contents out.new) }
+        → SaysRefused (operations_of asked.profile) program.now sizes asked.form (O.contents out.old) (O.contents out.new) }
     ensures quiet { IfErr result (λ failure. failure ≢ Failure.CannotPrint → failure ≢ Failure.NotAccepted
         → O.contents out.new ≡ O.contents out.old) }
 {
+    let VerifyOptions { profile, form, .. } = asked;
     let instructions = program.instruction_count();
-    match judged(alloc, program, sizes, profile, form)? {
+    match judged(alloc, program, sizes, profile, form, linked)? {
         Verdict::Accepted {
             most_emitted,
             words,

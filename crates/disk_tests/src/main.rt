@@ -27,7 +27,7 @@ fn main(rt: HostRuntime) -> io::Result<()> {
     discard(&mut files, "made", &mut out)?;
     finish_twice(&mut files, &mut Disk::new(&rt), "made", &mut out)?;
     store(&rt, "stored", &mut out)?;
-    match files.read("stored") {
+    match files.read("stored", 1) {
         Ok(bytes) => writeln!(out, "{} bytes: {:?}", bytes.len(), bytes.first()),
         Err(fault) => failed("read", "stored", fault, &mut out),
     }
@@ -37,7 +37,7 @@ fn main(rt: HostRuntime) -> io::Result<()> {
 fn read<F: Files, W: Write>(files: &mut F, path: &str, out: &mut W) -> io::Result<()>
     ensures { F.held files.new ≡ F.held files.old }
 {
-    match files.read(path) {
+    match files.read(path, 1) {
         Ok(bytes) => {
             let text = str::from_utf8(bytes.as_slice()).unwrap_or("no text");
             writeln!(out, "read {path}: {text:?}")
@@ -138,7 +138,7 @@ fn finish_empty<F: Files, W: Write>(files: &mut F, path: &str, out: &mut W) -> i
 fn discard<F: Files, W: Write>(files: &mut F, path: &str, out: &mut W) -> io::Result<()> {
     match begun(files, path) {
         Ok(file) => {
-            files.discard(file);
+            let _cause = files.discard(file);
             read(files, path, out)?;
             read(files, "made.unfinished", out)
         }

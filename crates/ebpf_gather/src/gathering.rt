@@ -12,7 +12,7 @@ use program_interface::{MOST_SLOTS, STACK_BYTES};
 use std::alloc::{AllocError, Global};
 
 /// The bytes that the function to start with has below its own: for what is put in between its instructions.
-pub const SPARE_BYTES: usize = 24;
+pub const SPARE_BYTES: usize = 32;
 
 /// What a program is made of.
 #[derive(Drop)]

@@ -1,2 +1,5 @@
-mod Masks
 mod Disjoint
+mod FreeWords
+mod Masks
+mod Unchanged
+mod Widths

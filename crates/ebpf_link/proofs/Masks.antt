@@ -44,7 +44,15 @@ low_below : (width : Width) (n most : ℕ) → n < most → low_bits width n < m
 low_below Bits32 n most below = let less = mod-le n (2 ^ 32) in omega arith
 low_below Bits64 n most below = below
 
-at_most : (fact : Fact) (w : ℕ) → ContainsWord fact w → w ≤ (bounds_of fact).high
+pub has_64_bits : (fact : Fact) (w : ℕ) → ContainsWord fact w → w < 2 ^ 64
+has_64_bits (Words b) w is = omega arith
+has_64_bits (Pointer area low high) w is = omega arith
+
+pub at_least : (fact : Fact) (w : ℕ) → ContainsWord fact w → (bounds_of fact).low ≤ w
+at_least (Words b) w is = omega arith
+at_least (Pointer area low high) w is = omega arith
+
+pub at_most : (fact : Fact) (w : ℕ) → ContainsWord fact w → w ≤ (bounds_of fact).high
 at_most (Words b) w is = omega arith
 at_most (Pointer area low high) w is = omega arith
 

@@ -1,7 +1,11 @@
+pub mod Copies
 pub mod Deciding
 pub mod Folding
 pub mod Guards
+pub mod Idle
+pub mod Marks
 pub mod Masks
 pub mod Remainders
 pub mod Spelling
 pub mod Sums
+pub mod Widening

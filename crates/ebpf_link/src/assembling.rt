@@ -1,12 +1,14 @@
 //! Pieces as slots: what computes nothing that is read is left out, and jumps get their distances.
 
 use crate::fault::{LinkFault, Widest};
-use crate::guards::{Guard, GuardPlace, Need};
+use crate::guards::{Guard, GuardPlace};
+use crate::labels::{guard_of, label_count};
 use crate::layout::Layout;
 use crate::lists::{number_at, set_number, zeros};
-use crate::liveness::{Registers, at, before, bit, reads, writes};
-use crate::pieces::Piece;
-use instruction_set::{Instruction, Register};
+use crate::liveness::{ALL, Registers, at, before, bit, reads, writes};
+use crate::marks::mark_word;
+use crate::pieces::{Piece, compute};
+use instruction_set::{Instruction, Operation, Register, Source};
 use program_interface::MOST_SLOTS;
 use std::alloc::{AllocError, Global};
 
@@ -17,12 +19,23 @@ pub struct Linked {
     pub slots: Vec<Option<Instruction>>,
     /// The slot that each was made of, or put in front of, of those that were given.
     pub origins: Vec<usize>,
-    /// How many guards of each kind were put in, also such as other instructions were then left out with.
-    pub guards: [usize; Guard::COUNT],
-    /// The guards that may end a block run of a block of the size that the program is made for, and what must hold.
-    pub places: Vec<GuardPlace>,
+    /// How many compares of guards of each kind were put in.
+    pub compares: [usize; Guard::COUNT],
+    /// The guards, in the order of their numbers, which begin at 1.
+    pub guards: Vec<LinkedGuard>,
+    /// The byte of scratch from which on a guard writes that ends a block run, if guards do.
+    pub mark: Option<usize>,
     /// The loops that weren't laid out to their ends.
     pub cuts: Vec<Cut>,
+}
+
+/// A guard of a program.
+#[derive(Clone, Copy, Debug, PartialEq, Eq)]
+pub struct LinkedGuard {
+    /// The first slot of the program at which it compares.
+    pub slot: usize,
+    /// What it is in front of, of the slots that were given, and what must hold.
+    pub place: GuardPlace,
 }
 
 /// A loop that is laid out no further than so many rounds.
@@ -67,6 +80,7 @@ fn piece_before(piece: &Piece, behind: Registers, live: &mut [Registers]) -> (Re
             (behind, false)
         }
         Piece::Plain(Instruction::Exit) => (bit(Register::R0), true),
+        Piece::Told(_) => (behind & (ALL ^ bit(Register::R0)), true),
         Piece::Plain(instruction) => {
             if only_writes(instruction) && writes(instruction) & behind == 0 {
                 return (behind, false);
@@ -158,7 +172,7 @@ fn distances(
                     *found = distance(here, number_at(&begins, *to));
                 }
             }
-            Piece::Plain(_) => {}
+            Piece::Plain(_) | Piece::Told(_) => {}
         }
         behind = here;
     }
@@ -179,9 +193,21 @@ fn push_piece(
     slots: &mut Vec<Option<Instruction>>,
     piece: &Piece,
     distance: i16,
+    words: &[i32],
 ) -> Result<(), AllocError> {
     match piece {
         Piece::Begins(_) => Ok(()),
+        Piece::Told(place) => {
+            let word = match words.get(*place) {
+                Some(word) => *word,
+                None => 0,
+            };
+            slots.extend_from_slice(&[Some(compute(
+                Operation::Move,
+                Register::R0,
+                Source::Immediate(word),
+            ))])
+        }
         Piece::Jump(instruction, _) => {
             slots.extend_from_slice(&[Some(by_distance(*instruction, distance))])
         }
@@ -191,18 +217,6 @@ fn push_piece(
                 slots.extend_from_slice(&[None])?;
             }
             Ok(())
-        }
-    }
-}
-
-/// The kinds of guards that a piece leads to the end of.
-fn counted(guards: &mut [usize; Guard::COUNT], piece: &Piece, slots: usize) {
-    if let Piece::Jump(_, to) = piece {
-        if *to >= slots {
-            let index = *to - slots;
-            if index < Guard::COUNT {
-                guards[index] = guards[index].saturating_add(1);
-            }
         }
     }
 }
@@ -217,6 +231,9 @@ fn without_idle_stores(layout: &Layout<'_>, sizes: &mut [usize]) {
     }
     if !layout.uses_scratch {
         set_number(sizes, 1, 0);
+    }
+    if layout.has_marks() && !layout.uses_context {
+        set_number(sizes, 2, 0);
     }
 }
 
@@ -294,34 +311,92 @@ fn too_long(
     Ok(LinkFault::TooLong { count, widest })
 }
 
-/// Is there such a guard among these?
-fn has(places: &[GuardPlace], wanted: GuardPlace) -> bool {
-    places.iter().any(|place| *place == wanted)
+/// The guards, and how many compares of each kind there are.
+#[derive(Drop)]
+struct Guards {
+    guards: Vec<LinkedGuard>,
+    compares: [usize; Guard::COUNT],
 }
 
-/// The guards in front of slots that were given, each once; but not that of the block's size.
-fn guard_places(alloc: Global, layout: &Layout<'_>) -> Result<Vec<GuardPlace>, AllocError> {
-    let mut places = Vec::new(alloc);
-    for place in layout.places.iter() {
-        let slot = number_at(layout.origins, place.slot);
-        let need = place.need;
-        let found = GuardPlace { slot, need };
-        if !matches!(need, Need::BlockSize(_)) && !has(&places, found) {
-            places.extend_from_slice(&[found])?;
+/// Counts a compare at a slot of the program that leads to a guard's end.
+fn count_compare(all: &mut Guards, guard: Guard, place: usize, slot: usize) {
+    let index = guard.index();
+    if index < Guard::COUNT {
+        all.compares[index] = all.compares[index].saturating_add(1);
+    }
+    if let Some(found) = all.guards.get_mut(place) {
+        found.slot = slot.min(found.slot);
+    }
+}
+
+/// The guards of a program, and where each compares first.
+fn guards_of(alloc: Global, layout: &Layout<'_>, sizes: &[usize]) -> Result<Guards, AllocError> {
+    let mut all = Guards {
+        guards: Vec::new(alloc),
+        compares: [0; Guard::COUNT],
+    };
+    for laid in layout.guards.iter() {
+        let slot = number_at(layout.origins, laid.place.slot);
+        let need = laid.place.need;
+        all.guards.extend_from_slice(&[LinkedGuard {
+            slot: MOST_SLOTS,
+            place: GuardPlace { slot, need },
+        }])?;
+    }
+    let mut slot: usize = 0;
+    for (place, piece) in layout.pieces.iter().enumerate() {
+        if let Piece::Jump(_, to) = piece {
+            if let Some(found) = guard_of(layout.slots, *to) {
+                if let Some(laid) = layout.guards.get(found) {
+                    count_compare(&mut all, laid.guard, found, slot);
+                }
+            }
+        }
+        slot = slot.saturating_add(number_at(sizes, place));
+    }
+    Ok(all)
+}
+
+/// What R0 has where each guard leads to what writes a mark.
+fn mark_words(
+    alloc: Global,
+    layout: &Layout<'_>,
+    guards: &[LinkedGuard],
+) -> Result<Vec<i32>, AllocError> {
+    let mut words = Vec::new(alloc);
+    for (place, found) in guards.iter().enumerate() {
+        if let Some(laid) = layout.guards.get(place) {
+            words.push(mark_word(laid.guard, found.slot, place.saturating_add(1)))?;
         }
     }
-    Ok(places)
+    Ok(words)
+}
+
+/// The slots of pieces that stay.
+fn slots_of(
+    alloc: Global,
+    pieces: &[Piece],
+    sizes: &[usize],
+    distances: &[i16],
+    words: &[i32],
+) -> Result<Vec<Option<Instruction>>, AllocError> {
+    let mut slots = Vec::new(alloc);
+    for (place, piece) in pieces.iter().enumerate() {
+        if number_at(sizes, place) > 0 {
+            let distance = match distances.get(place) {
+                Some(found) => *found,
+                None => 0,
+            };
+            push_piece(&mut slots, piece, distance, words)?;
+        }
+    }
+    Ok(slots)
 }
 
 /// The program of the pieces that were laid out.
 pub(crate) fn assembled(alloc: Global, layout: &Layout<'_>) -> Result<Linked, LinkFault> {
     let pieces = layout.pieces.as_slice();
-    // behind the slots there are the ends of guards, and the other way of an access
-    let all = layout
-        .slots
-        .len()
-        .saturating_add(Guard::COUNT)
-        .saturating_add(1);
+    let all = label_count(layout.slots, layout.guards.len());
     let mut sizes = sizes(alloc, pieces, all)?;
     without_idle_stores(layout, &mut sizes);
     let count = count(&sizes);
@@ -329,23 +404,14 @@ pub(crate) fn assembled(alloc: Global, layout: &Layout<'_>) -> Result<Linked, Li
         return Err(too_long(alloc, layout, &sizes, count)?);
     }
     let distances = distances(alloc, pieces, &sizes, all, count)?;
-    let mut slots = Vec::new(alloc);
-    let mut guards = [0; Guard::COUNT];
-    for (place, piece) in pieces.iter().enumerate() {
-        if number_at(&sizes, place) > 0 {
-            counted(&mut guards, piece, layout.slots.len());
-            let distance = match distances.get(place) {
-                Some(found) => *found,
-                None => 0,
-            };
-            push_piece(&mut slots, piece, distance)?;
-        }
-    }
+    let Guards { guards, compares } = guards_of(alloc, layout, &sizes)?;
+    let words = mark_words(alloc, layout, &guards)?;
     Ok(Linked {
-        slots,
+        slots: slots_of(alloc, pieces, &sizes, &distances, &words)?,
         origins: origins(alloc, layout, &sizes)?,
+        compares,
         guards,
-        places: guard_places(alloc, layout)?,
+        mark: layout.mark,
         cuts: layout.cuts(alloc)?,
     })
 }

@@ -25,9 +25,8 @@ impl Layout<'_> {
 
     /// Ends the block run.
     fn put_emit_end(&mut self, need: Need) -> Result<bool, LinkFault> {
-        self.note_guard(need)?;
         self.note_end(need);
-        self.push_guard(Instruction::Jump { distance: 0 }, Guard::Emit)?;
+        self.push_guard(Instruction::Jump { distance: 0 }, Guard::Emit, need)?;
         Ok(false)
     }
 
@@ -58,7 +57,8 @@ impl Layout<'_> {
             return Ok(true);
         }
         let emitted = known.facts.emitted.min(1 << 32) as i64;
-        let left = i64::from(self.block.bytes()) - emitted - FRAME_LENGTH_BYTES as i64;
+        let limit = self.target.limit.min(0x1_0000) as i64;
+        let left = limit - emitted - FRAME_LENGTH_BYTES as i64;
         self.guard_most(known, Need::Left(left.max(0) as usize), left)
     }
 
@@ -94,7 +94,7 @@ impl Layout<'_> {
         let mut most = i64::from(u16::MAX);
         for area in IN_ORDER {
             if areas.has(area) {
-                let length = small(area.length(self.block.bytes() as usize));
+                let length = small(area.length(self.target.block.bytes() as usize));
                 most = most.min(most_from(known.get(Register::R1).offsets(), length));
             }
         }
@@ -103,10 +103,10 @@ impl Layout<'_> {
 
     /// Where the address of an emit must lie in an area; nothing, where that is known or can't be helped.
     pub(crate) fn emitted_within(&self, known: &Known, area: Area) -> Option<Within> {
-        let length = area.length(self.block.bytes() as usize);
+        let length = area.length(self.target.block.bytes() as usize);
         let high = self.lengths(known).high;
         let fact = known.get(Register::R1);
-        if high > 0x4000 || fact.access(self.block, 0, high).is_some() {
+        if high > 0x4000 || fact.access(self.target.block, 0, high).is_some() {
             return None;
         }
         Some(Within {

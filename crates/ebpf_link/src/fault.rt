@@ -37,6 +37,13 @@ pub enum LinkFault {
     /// A guard always ends the block run.
     #[error("the block run always ends in front of slot {}", .0.slot)]
     Ends(GuardPlace),
+    /// A guard would end a block run, and there are no bytes of scratch in which it could write which one it was: none at all into which
+    /// nothing is stored, or not these.
+    #[error("a guard has no bytes of scratch to write to")]
+    NoMark(Option<usize>),
+    /// Guards that write have no room on the stack beside so many bytes.
+    #[error("guards have no room on the stack beside {0} bytes")]
+    NoStack(usize),
     /// An address may be one of the context or of another area, and no register has the context's.
     #[error("an address in the context or in another area, at slot {0}")]
     Address(usize),

@@ -3,12 +3,16 @@
 
 ghost use Rattle.std.specs.Prelude.{◌≡◌};
 ghost use Rattle.ebpf_link.specs.Guards.{guard_index, guard_word};
+ghost use Rattle.instruction_set.specs.declared.instruction.Instruction.TheVariants.{Load, StoreRegister};
+ghost use Rattle.instruction_set.specs.declared.operation.Size.TheVariants.{DoubleWord};
 
 use crate::fault::LinkFault;
 use crate::folding::folded;
+use crate::idle::leaves_as_is;
 use crate::known::{Known, narrow, step};
 use crate::layout::Layout;
 use crate::liveness::{ALL, at, bit, reads, writes};
+use crate::marks::words_stored;
 use crate::pieces::{compare, compute};
 use instruction_set::{
     Access, AccessKind, Instruction, Operation, Register, Relation, Size, Source,
@@ -191,19 +195,23 @@ fn exact(told: Option<Offsets>, area: Area) -> Option<i64> {
 }
 
 /// May something else follow an instruction than the next one, or may it change a register?
-fn ends_row(instruction: &Instruction, base: Register) -> bool {
+pub(crate) fn ends_row(instruction: &Instruction, base: Register) -> bool {
     (writes(instruction) & bit(base)) != 0
         || instruction.distance().is_some()
         || matches!(instruction, Instruction::Exit | Instruction::Call { .. })
 }
 
 impl Layout<'_> {
-    /// Puts an instruction that is no jump.
+    /// Puts an instruction that is no jump, but for one that changes nothing.
     pub(crate) fn put(
         &mut self,
         known: &mut Known,
         instruction: Instruction,
     ) -> Result<(), LinkFault> {
+        if leaves_as_is(known, &instruction) {
+            return Ok(());
+        }
+        self.stored |= words_stored(known, &instruction);
         step(known, &instruction);
         self.push_plain(folded(known, &instruction))
     }
@@ -219,8 +227,7 @@ impl Layout<'_> {
         number: i32,
     ) -> Result<bool, LinkFault> {
         let branch = compare(relation, dst, number);
-        self.note_guard(need)?;
-        self.push_guard(branch, guard)?;
+        self.push_guard(branch, guard, need)?;
         let goes_on = narrow(known, &branch, false);
         if !goes_on {
             self.note_end(need);
@@ -384,7 +391,12 @@ impl Layout<'_> {
         base: Register,
         within: Within,
     ) -> Result<bool, LinkFault> {
-        if base == Register::FRAME_POINTER || within.high < within.low || within.high < 0 {
+        let is_free = matches!(self.free.get(slot), Some(true));
+        if is_free
+            || base == Register::FRAME_POINTER
+            || within.high < within.low
+            || within.high < 0
+        {
             return Ok(true);
         }
         let Some(anchor) = self.put_anchor(known, slot, instruction, base, within.area)? else {
@@ -417,7 +429,7 @@ impl Layout<'_> {
 
     /// Where the accesses by a register must point that surely come from a slot on.
     fn accessed_from(&self, slot: usize, base: Register, area: Area) -> Within {
-        let length = area.length(self.block.bytes() as usize);
+        let length = area.length(self.target.block.bytes() as usize);
         let mut within = whole(area, length, 0);
         for later in slot..self.slots.len() {
             let Some(instruction) = self.slots.get(later) else {
@@ -451,7 +463,7 @@ impl Layout<'_> {
         access: Access,
     ) -> Result<bool, LinkFault> {
         let fact = known.get(access.base);
-        let found = fact.access(self.block, access.offset, u64::from(access.size));
+        let found = fact.access(self.target.block, access.offset, u64::from(access.size));
         if let Some(area) = found {
             if access.kind == AccessKind::Load || area.is_writable() {
                 return Ok(true);
@@ -466,7 +478,9 @@ impl Layout<'_> {
 }
 
 /// A store of a register into a cell of the stack.
-pub(crate) fn stored(src: Register, offset: i16) -> Instruction {
+pub(crate) fn stored(src: Register, offset: i16) -> Instruction
+    ensures { result ≡ StoreRegister DoubleWord 10 src offset }
+{
     Instruction::StoreRegister {
         size: Size::DoubleWord,
         dst: Register::FRAME_POINTER,
@@ -476,7 +490,9 @@ pub(crate) fn stored(src: Register, offset: i16) -> Instruction {
 }
 
 /// A load of a cell of the stack.
-pub(crate) fn loaded(dst: Register, offset: i16) -> Instruction {
+pub(crate) fn loaded(dst: Register, offset: i16) -> Instruction
+    ensures { result ≡ Load DoubleWord dst 10 offset }
+{
     Instruction::Load {
         size: Size::DoubleWord,
         dst,

@@ -1,7 +1,7 @@
 //! The slots of a program without loops.
 
 ghost use Rattle.std.specs.Prelude.{◌≡◌, ◌+◌, ◌++◌, ◌∷◌, [], IfOk, length};
-ghost use Rattle.ebpf_link.specs.Guards.{cut_pieces, guard_end, guard_index, guard_piece};
+ghost use Rattle.ebpf_link.specs.Guards.{cut_pieces, guard_piece};
 ghost use Rattle.ebpf_link.specs.declared.pieces.Piece.TheVariants.{Begins, Plain};
 
 use crate::area_sets::AreaSet;
@@ -9,13 +9,16 @@ use crate::assembling::Cut;
 use crate::fault::LinkFault;
 use crate::guards::{Guard, GuardPlace, Need, stored};
 use crate::known::{Known, at_start, join};
+use crate::labels::guard_label;
 use crate::lists::{number_at, set_answer};
 use crate::liveness::Registers;
 use crate::loops::Loops;
+use crate::marks::{CELLS_BYTES, ScratchWords};
 use crate::pieces::{Piece, compute};
 use crate::planning::Plan;
+use crate::target::{MarkRule, Target};
 use instruction_set::{Instruction, Operation, Register, Source};
-use program_interface::{BlockSize, MOST_SLOTS};
+use program_interface::{MOST_SLOTS, STACK_BYTES};
 use std::alloc::{AllocError, Global};
 
 /// The most pieces that are looked at, so many times those of a program.
@@ -24,6 +27,15 @@ const MOST_PIECES: usize = 4 * MOST_SLOTS;
 /// What is known at a slot that is to be come to.
 pub(crate) type Row = Option<Box<Known>>;
 
+/// A guard of a program that is laid out.
+#[derive(Clone, Copy)]
+pub(crate) struct LaidGuard {
+    pub guard: Guard,
+    pub place: GuardPlace,
+    /// The one before it in front of the same slot.
+    pub before: Option<usize>,
+}
+
 /// A program that is being laid out.
 #[derive(Drop)]
 pub(crate) struct Layout<'a> {
@@ -31,8 +43,10 @@ pub(crate) struct Layout<'a> {
     pub slots: &'a [Option<Instruction>],
     /// What each of them was made of, of the slots that were given.
     pub origins: &'a [usize],
-    /// The size of a block.
-    pub block: BlockSize,
+    /// What it is made for.
+    pub target: Target,
+    /// Needs an address at each slot no guard of its position?
+    pub free: &'a [bool],
     /// Their loops.
     pub loops: &'a Loops,
     /// The registers that are read from each slot on.
@@ -61,10 +75,16 @@ pub(crate) struct Layout<'a> {
     pub uses_block: bool,
     /// And that of scratch?
     pub uses_scratch: bool,
-    /// Is there a guard of each kind?
-    pub guarded: [bool; Guard::COUNT],
-    /// The guards, and which slots they are in front of.
-    pub places: Vec<GuardPlace>,
+    /// And that of the context?
+    pub uses_context: bool,
+    /// The guards, in the order of their numbers.
+    pub guards: Vec<LaidGuard>,
+    /// The last guard in front of each slot.
+    pub last_guards: Vec<Option<usize>>,
+    /// The words of scratch into which something may be stored.
+    pub stored: ScratchWords,
+    /// Where guards write in scratch, if they do.
+    pub mark: Option<usize>,
     /// The slot that is laid out.
     pub here: usize,
     /// What ends a block run at each slot, where it always does.
@@ -90,10 +110,9 @@ impl Layout<'_> {
         -(below as i16)
     }
 
-    fn push(&mut self, piece: Piece) -> Result<(), LinkFault>
+    pub(crate) fn push(&mut self, piece: Piece) -> Result<(), LinkFault>
         ensures pushed { IfOk result (λ _. self.new.pieces.items ≡ self.old.pieces.items ++ (piece ∷ [])) }
         ensures slots { self.new.slots ≡ self.old.slots }
-        ensures guarded { self.new.guarded ≡ self.old.guarded }
     {
         self.pieces.extend_from_slice(&[piece])?;
         Ok(())
@@ -103,34 +122,68 @@ impl Layout<'_> {
     pub(crate) fn push_plain(&mut self, instruction: Instruction) -> Result<(), LinkFault>
         ensures pushed { IfOk result (λ _. self.new.pieces.items ≡ self.old.pieces.items ++ (Plain instruction ∷ [])) }
         ensures slots { self.new.slots ≡ self.old.slots }
-        ensures guarded { self.new.guarded ≡ self.old.guarded }
     {
         self.push(Piece::Plain(instruction))
     }
 
-    /// The number of the end to which guards of a kind lead: behind those of the slots.
-    fn end_of(&self, guard: Guard) -> usize
-        ensures { result ≡ length self.now.slots.now + guard_index guard }
+    /// Puts a compare, or a jump, that leads to a guard's end. Gives the guard's place among all.
+    pub(crate) fn push_guard(
+        &mut self,
+        jump: Instruction,
+        guard: Guard,
+        need: Need,
+    ) -> Result<usize, LinkFault>
+        ensures { IfOk result (λ place. self.new.pieces.items
+            ≡ self.old.pieces.items ++ (guard_piece (length self.old.slots.now) place jump ∷ [])) }
     {
-        self.slots.len() + guard.index()
+        let place = self.note_guard(guard, need)?;
+        self.push(Piece::Jump(jump, guard_label(self.slots, place)))?;
+        Ok(place)
     }
 
-    /// Puts a compare, or a jump, that leads to a guard's end.
-    pub(crate) fn push_guard(&mut self, jump: Instruction, guard: Guard) -> Result<(), LinkFault>
-        ensures { let piece = guard_piece (length self.old.slots.now) guard jump in
-            IfOk result (λ _. self.new.pieces.items ≡ self.old.pieces.items ++ (piece ∷ [])) }
-    {
-        if let Some(guarded) = self.guarded.get_mut(guard.index()) {
-            *guarded = true;
+    /// Do guards write nothing?
+    fn is_silent(&self) -> bool {
+        matches!(self.target.marks, MarkRule::Silent)
+    }
+
+    /// The place of a guard of the slot that is laid out, if there is one already.
+    fn found_guard(&self, guard: Guard, need: Need) -> Option<usize> {
+        let mut next = *self.last_guards.get(self.here)?;
+        for _ in 0..self.guards.len() {
+            let place = next?;
+            let laid = self.guards.get(place)?;
+            if laid.guard == guard && laid.place.need == need {
+                return Some(place);
+            }
+            next = laid.before;
         }
-        self.push(Piece::Jump(jump, self.end_of(guard)))
+        None
     }
 
-    /// Notes what must hold where a guard of a slot lets a block run go on.
-    pub(crate) fn note_guard(&mut self, need: Need) -> Result<(), LinkFault> {
+    /// Notes what must hold where a guard of a slot lets a block run go on. Gives the guard's place among all.
+    fn note_guard(&mut self, guard: Guard, need: Need) -> Result<usize, LinkFault>
+        ensures pieces { self.new.pieces ≡ self.old.pieces }
+        ensures slots { self.new.slots ≡ self.old.slots }
+    {
+        if let Some(place) = self.found_guard(guard, need) {
+            return Ok(place);
+        }
+        let number = self.guards.len();
         let slot = self.here;
-        self.places.extend_from_slice(&[GuardPlace { slot, need }])?;
-        Ok(())
+        let before = match self.last_guards.get(slot) {
+            Some(found) => *found,
+            None => None,
+        };
+        let place = GuardPlace { slot, need };
+        self.guards.extend_from_slice(&[LaidGuard {
+            guard,
+            place,
+            before,
+        }])?;
+        if let Some(last) = self.last_guards.get_mut(slot) {
+            *last = Some(number);
+        }
+        Ok(number)
     }
 
     /// Notes that a guard always ends the block run here.
@@ -162,7 +215,6 @@ impl Layout<'_> {
     pub(crate) fn push_begin(&mut self, slot: usize) -> Result<(), LinkFault>
         ensures pushed { IfOk result (λ _. self.new.pieces.items ≡ self.old.pieces.items ++ (Begins slot ∷ [])) }
         ensures slots { self.new.slots ≡ self.old.slots }
-        ensures guarded { self.new.guarded ≡ self.old.guarded }
     {
         self.push(Piece::Begins(slot))
     }
@@ -246,36 +298,17 @@ impl Layout<'_> {
     fn keep_addresses(&mut self, known: &mut Known) -> Result<(), LinkFault> {
         let (block, scratch) = (self.cell(0), self.cell(1));
         self.put(known, stored(Register::R2, block))?;
-        self.put(known, stored(Register::R3, scratch))
-    }
-
-    /// The end to which guards of a kind lead.
-    fn push_end(&mut self, guard: Guard) -> Result<(), LinkFault>
-        ensures pushed { IfOk result (λ _. self.new.pieces.items
-            ≡ self.old.pieces.items ++ guard_end (length self.old.slots.now) guard) }
-        ensures guarded { self.new.guarded ≡ self.old.guarded }
-        ensures slots { self.new.slots ≡ self.old.slots }
-    {
-        self.push_begin(self.end_of(guard))?;
-        let source = Source::Immediate(guard.word());
-        self.push_plain(compute(Operation::Move, Register::R0, source))?;
-        self.push_plain(Instruction::Exit)
-    }
-
-    /// The end to which guards of a kind lead, if there are any.
-    fn put_end(&mut self, guard: Guard) -> Result<(), LinkFault> {
-        match self.guarded.get(guard.index()) {
-            Some(true) => self.push_end(guard),
-            _ => Ok(()),
+        self.put(known, stored(Register::R3, scratch))?;
+        if self.has_marks() {
+            let context = self.cell(3);
+            self.put(known, stored(Register::R1, context))?;
         }
+        Ok(())
     }
 
-    /// The ends to which guards lead.
-    fn put_ends(&mut self) -> Result<(), LinkFault> {
-        self.put_end(Guard::Memory)?;
-        self.put_end(Guard::Emit)?;
-        self.put_end(Guard::Block)?;
-        self.put_end(Guard::Rounds)
+    /// Is there room for what guards use that write?
+    pub(crate) fn has_marks(&self) -> bool {
+        self.own <= STACK_BYTES - CELLS_BYTES && !self.is_silent()
     }
 
     /// The slot that the jump back to where a loop begins was made of.
@@ -323,14 +356,16 @@ impl Layout<'_> {
             && number_at(&self.rounds, slot) > number_at(self.caps, slot)
     }
 
-    /// Ends the block run where a loop would go round once more.
-    fn cut(&mut self, slot: usize) -> Result<(), LinkFault>
-        ensures { IfOk result (λ _. self.new.pieces.items
-            ≡ self.old.pieces.items ++ cut_pieces (length self.old.slots.now) slot) }
+    /// Ends the block run where a loop would go round once more. Gives the guard's place among all.
+    fn cut(&mut self, slot: usize) -> Result<usize, LinkFault>
+        ensures { IfOk result (λ place. self.new.pieces.items
+            ≡ self.old.pieces.items ++ cut_pieces (length self.old.slots.now) place slot) }
     {
+        let need = Need::Rounds(number_at(self.caps, slot));
         set_answer(&mut self.is_cut, slot, true);
+        self.here = slot;
         self.push_begin(slot)?;
-        self.push_guard(Instruction::Jump { distance: 0 }, Guard::Rounds)
+        self.push_guard(Instruction::Jump { distance: 0 }, Guard::Rounds, need)
     }
 
     /// Forgets whether the loop that begins at a slot was left.

@@ -41,3 +41,16 @@ pub(crate) fn set_answer(list: &mut [bool], place: usize, answer: bool) {
         *found = answer;
     }
 }
+
+/// The answers for the slots that others were made of.
+pub(crate) fn answers_of(
+    alloc: Global,
+    answers: &[bool],
+    origins: &[usize],
+) -> Result<Vec<bool>, AllocError> {
+    let mut list = Vec::new(alloc);
+    for origin in origins {
+        list.push(matches!(answers.get(*origin), Some(true)))?;
+    }
+    Ok(list)
+}

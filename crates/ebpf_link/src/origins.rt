@@ -2,7 +2,7 @@
 
 use crate::area_sets::{ANY_AREA, AreaSet, NO_AREA};
 use crate::known::Known;
-use crate::liveness::{bit, writes};
+use crate::liveness::{Registers, bit, writes};
 use crate::stack::{cell_of, is_touched};
 use accepted_programs::CELLS;
 use instruction_set::{Instruction, Operation, Register, Size, Source, Width};
@@ -15,11 +15,28 @@ pub(crate) type Areas = [AreaSet; REGISTERS];
 /// And of each cell of the stack.
 pub(crate) type CellAreas = [AreaSet; CELLS];
 
-/// A register that another one was copied from, and whether all of its word was.
+/// A register that another one was copied from, whether all of its word was, and how much was added to all of it.
 #[derive(Clone, Copy, PartialEq, Eq)]
 pub(crate) struct Twin {
     pub register: Register,
     pub is_whole: bool,
+    pub more: i32,
+}
+
+/// The most that is added to a copy, either way.
+const MOST_MORE: i64 = 1 << 20;
+
+/// The same copy, to which a number more is added.
+fn with_more(twin: Twin, number: i64) -> Option<Twin> {
+    let more = i64::from(twin.more).wrapping_add(number);
+    if twin.is_whole && more >= -MOST_MORE && more <= MOST_MORE {
+        Some(Twin {
+            more: more as i32,
+            ..twin
+        })
+    } else {
+        None
+    }
 }
 
 /// The register that each was copied from, where both still have what they had then.
@@ -148,13 +165,44 @@ fn twin_given(known: &Known, instruction: &Instruction) -> Option<Twin> {
         return None;
     }
     let is_whole = width == Width::Bits64 || known.get(register).bounds().high < 0x1_0000_0000;
+    let direct = Twin {
+        register,
+        is_whole,
+        more: 0,
+    };
     let earlier = known.twins[register.index()];
     match earlier {
-        Some(earlier) if earlier.register != dst => Some(Twin {
-            register: earlier.register,
+        Some(earlier) if earlier.register != dst && (is_whole || earlier.more == 0) => Some(Twin {
             is_whole: earlier.is_whole && is_whole,
+            ..earlier
         }),
-        _ => Some(Twin { register, is_whole }),
+        _ => Some(direct),
+    }
+}
+
+/// The number that an instruction adds to a register, if it does nothing else.
+fn added(known: &Known, instruction: &Instruction) -> Option<(Register, i64)> {
+    let Instruction::Arithmetic {
+        width,
+        operation,
+        dst,
+        source: Source::Immediate(number),
+    } = *instruction
+    else {
+        return None;
+    };
+    let number = match operation {
+        Operation::Add => i64::from(number),
+        Operation::Subtract => i64::from(number).wrapping_neg(),
+        _ => return None,
+    };
+    let bounds = known.get(dst).bounds();
+    let is_within = bounds.high < 0x8000_0000
+        && (bounds.low.min(0x8000_0000) as i64).wrapping_add(number) >= 0;
+    if width == Width::Bits64 || is_within {
+        Some((dst, number))
+    } else {
+        None
     }
 }
 
@@ -201,6 +249,36 @@ fn note_store(known: &mut Known, instruction: &Instruction) {
     }
 }
 
+/// Changes what is known of copies to what it is where a number is added to a register.
+fn add_to_twins(known: &mut Known, dst: Register, number: i64) {
+    for j in 0..REGISTERS {
+        if let Some(twin) = known.twins[j] {
+            if j == dst.index() {
+                known.twins[j] = with_more(twin, number);
+            } else if twin.register == dst {
+                known.twins[j] = with_more(twin, number.wrapping_neg());
+            }
+        }
+    }
+}
+
+/// Changes what is known of copies to what it is where registers are written, one of them by a copy.
+fn write_twins(known: &mut Known, written: Registers, dst: Option<Register>, twin: Option<Twin>) {
+    for j in 0..REGISTERS {
+        if (written & bit(Register::from_number(j as u8))) != 0 {
+            known.twins[j] = None;
+        }
+        if let Some(found) = known.twins[j] {
+            if (written & bit(found.register)) != 0 {
+                known.twins[j] = None;
+            }
+        }
+    }
+    if let Some(dst) = dst {
+        known.twins[dst.index()] = twin;
+    }
+}
+
 /// Changes what is known of areas and copies to what it is behind an instruction that isn't a jump.
 pub(crate) fn step_origins(known: &mut Known, instruction: &Instruction) {
     note_store(known, instruction);
@@ -210,51 +288,13 @@ pub(crate) fn step_origins(known: &mut Known, instruction: &Instruction) {
     for j in 0..REGISTERS {
         if (written & bit(Register::from_number(j as u8))) != 0 {
             known.areas[j] = NO_AREA;
-            known.twins[j] = None;
-        }
-        if let Some(found) = known.twins[j] {
-            if (written & bit(found.register)) != 0 {
-                known.twins[j] = None;
-            }
         }
     }
     if let Some(dst) = instruction.destination() {
         known.areas[dst.index()] = areas;
-        known.twins[dst.index()] = twin;
     }
-}
-
-/// The most that a number is worth a copy for.
-const WORTH: u64 = 1 << 20;
-
-/// Are both copies of one word, of which the second may be a part?
-fn is_copy(twin: Option<Twin>, register: Register, high: u64) -> bool {
-    match twin {
-        Some(twin) => twin.register == register && (twin.is_whole || high < 0x1_0000_0000),
-        None => false,
+    match added(known, instruction) {
+        Some((dst, number)) => add_to_twins(known, dst, number),
+        None => write_twins(known, written, instruction.destination(), twin),
     }
-}
-
-/// A register that has the same word as another, of which more is known.
-pub(crate) fn better_copy(known: &Known, register: Register) -> Option<Register> {
-    let fact = known.get(register);
-    if fact.offsets().is_some() || fact.bounds().high <= WORTH {
-        return None;
-    }
-    for j in 0..REGISTERS {
-        let other = Register::from_number(j as u8);
-        let high = known.get(other).bounds().high;
-        if other == register || high > WORTH || known.get(other).offsets().is_some() {
-            continue;
-        }
-        if is_copy(known.twins[register.index()], other, high) {
-            return Some(other);
-        }
-        if let Some(twin) = known.twins[j] {
-            if twin.register == register && twin.is_whole {
-                return Some(other);
-            }
-        }
-    }
-    None
 }

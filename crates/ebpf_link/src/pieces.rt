@@ -14,6 +14,8 @@ pub(crate) enum Piece {
     Plain(Instruction),
     /// A jump to where this slot begins next.
     Jump(Instruction, usize),
+    /// R0 gets the kind, the slot and the number of the guard at this place.
+    Told(usize),
 }
 
 /// 64-bit arithmetic.

@@ -3,25 +3,18 @@
 use crate::area_sets::{AreaSet, NO_AREA};
 use crate::assembling::{Linked, assembled};
 use crate::fault::LinkFault;
-use crate::guards::{Guard, GuardPlace};
+use crate::flow::nothing;
+use crate::guards::GuardPlace;
 use crate::layout::{Layout, empty_rows, no_needs};
-use crate::lists::{no_answers, number_at, set_number, zeros};
+use crate::lists::{answers_of, no_answers, number_at, set_number, zeros};
 use crate::liveness::{Registers, live_registers};
 use crate::loops::Loops;
 use crate::ordering::{Sequence, ordered};
 use crate::remainders::with_remainders;
+use crate::target::{LoopRule, Target};
 use instruction_set::Instruction;
-use program_interface::{BlockSize, MOST_SLOTS};
+use program_interface::MOST_SLOTS;
 use std::alloc::{AllocError, Global};
-
-/// What becomes of a loop of which not all rounds can be laid out.
-#[derive(Clone, Copy, Debug, PartialEq, Eq)]
-pub enum LoopRule {
-    /// No program is made.
-    Whole,
-    /// It has as many rounds as there are slots for.
-    Cut,
-}
 
 /// What is known beforehand: how much records may have, and what scratch may.
 #[derive(Clone, Copy)]
@@ -42,7 +35,9 @@ struct Parts {
     loops: Loops,
     live: Vec<Registers>,
     own: usize,
-    block: BlockSize,
+    target: Target,
+    /// Needs an address at each slot no guard of its position?
+    free: Vec<bool>,
 }
 
 /// Lays a program out, with so many rounds of each loop, where block runs leave no addresses in scratch but of these areas.
@@ -56,7 +51,8 @@ fn laid_once<'a>(
     let mut layout = Layout {
         slots: &parts.slots,
         origins: &parts.origins,
-        block: parts.block,
+        target: parts.target,
+        free: &parts.free,
         loops: &parts.loops,
         live: &parts.live,
         plan,
@@ -71,8 +67,11 @@ fn laid_once<'a>(
         own: parts.own,
         uses_block: false,
         uses_scratch: false,
-        guarded: [false; Guard::COUNT],
-        places: Vec::new(alloc),
+        uses_context: false,
+        guards: Vec::new(alloc),
+        last_guards: nothing(alloc, count)?,
+        stored: 0,
+        mark: None,
         here: 0,
         ended: no_needs(alloc, count)?,
         passed: no_answers(alloc, count)?,
@@ -107,7 +106,7 @@ fn middle(low: usize, high: usize) -> usize {
 
 /// The longest record, of those that can be of several lengths, with which all fit the block.
 fn longest(alloc: Global, parts: &Parts, caps: &[usize]) -> Result<u64, LinkFault> {
-    let limit = parts.block.bytes() as usize;
+    let limit = parts.target.limit;
     let (mut low, mut high) = (0, limit);
     for _ in 0..13 {
         let middle = middle(low, high);
@@ -146,7 +145,7 @@ fn made_with(alloc: Global, parts: &Parts, caps: &[usize]) -> Result<Made, LinkF
     };
     let layout = laid_out(alloc, parts, caps, plan)?;
     let linked = assembled(alloc, &layout)?;
-    if layout.emitted <= parts.block.bytes() as usize {
+    if layout.emitted <= parts.target.limit {
         return Ok(Made {
             linked,
             ended: layout.first_ended(),
@@ -296,7 +295,7 @@ fn cut(alloc: Global, parts: &Parts) -> Result<Option<Linked>, LinkFault> {
 }
 
 /// A program with all rounds; where it has more slots than can be, and loops may be cut, with as many rounds as there are slots for.
-fn planned(alloc: Global, parts: &Parts, rule: LoopRule) -> Result<Linked, LinkFault> {
+fn planned(alloc: Global, parts: &Parts) -> Result<Linked, LinkFault> {
     let mut caps = zeros(alloc, parts.slots.len())?;
     fill(&mut caps, usize::MAX);
     match made_with(alloc, parts, &caps) {
@@ -304,7 +303,7 @@ fn planned(alloc: Global, parts: &Parts, rule: LoopRule) -> Result<Linked, LinkF
             Some(place) => Err(LinkFault::Ends(place)),
             None => Ok(found.linked),
         },
-        Err(fault) if rule == LoopRule::Whole || !is_length(&fault) => Err(fault),
+        Err(fault) if parts.target.rule == LoopRule::Whole || !is_length(&fault) => Err(fault),
         Err(fault) => match cut(alloc, parts)? {
             Some(linked) => Ok(linked),
             None => Err(fault),
@@ -314,27 +313,30 @@ fn planned(alloc: Global, parts: &Parts, rule: LoopRule) -> Result<Linked, LinkF
 
 /// A program that does on blocks of one size what these slots do, without a jump back, as far as that can be told: where an access or an
 /// emit would trap, a guard ends the block run, and where loops may be cut, where one would go round more often than there are slots
-/// for. Below so many bytes of the stack there are 24 that the slots don't use.
+/// for. Below so many bytes of the stack there are 32 that the slots don't use. Addresses at slots that are free are accessed or emitted
+/// from without a guard of their position.
 ///
 /// # Errors
 ///
 /// An instruction leads to no other; a loop isn't known to end; there are more slots than a program can have; a guard always ends the
-/// block run; an address may be of the context or of another area.
+/// block run; an address may be of the context or of another area; a guard has no bytes of scratch to write to, or none of the stack.
 pub fn link(
     alloc: Global,
     slots: &[Option<Instruction>],
     own: usize,
-    block: BlockSize,
-    rule: LoopRule,
+    target: Target,
+    free: &[bool],
 ) -> Result<Linked, LinkFault> {
     let Sequence { slots, origins } = ordered(alloc, &with_remainders(alloc, slots)?)?;
+    let free_slots = answers_of(alloc, free, &origins)?;
     let parts = Parts {
         loops: Loops::of(alloc, &slots)?,
         live: live_registers(alloc, &slots)?,
         slots,
         origins,
         own,
-        block,
+        target,
+        free: free_slots,
     };
-    planned(alloc, &parts, rule)
+    planned(alloc, &parts)
 }

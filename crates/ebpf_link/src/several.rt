@@ -2,8 +2,9 @@
 
 use crate::area_sets::{ANY_AREA, AreaSet, IN_ORDER, NO_AREA};
 use crate::fault::LinkFault;
-use crate::guards::{Anchor, Guard, Within, address_again, narrowed, whole};
+use crate::guards::{Anchor, Within, address_again, narrowed, whole};
 use crate::known::{Known, narrow};
+use crate::labels::other_way;
 use crate::layout::{Layout, boxed};
 use crate::lists::{number_at, set_answer};
 use crate::origins::{accessed_areas, is_address};
@@ -72,11 +73,6 @@ impl Layout<'_> {
         if is_written { written_of(areas) } else { areas }
     }
 
-    /// The label of the way on which an address isn't in an area.
-    fn other_way(&self) -> usize {
-        self.slots.len() + Guard::COUNT
-    }
-
     /// Puts a compare that leads to the other way. False where it always does.
     fn put_other_way(
         &mut self,
@@ -86,7 +82,7 @@ impl Layout<'_> {
         number: i32,
     ) -> Result<bool, LinkFault> {
         let branch = compare(relation, dst, number);
-        self.push_jump(branch, self.other_way())?;
+        self.push_jump(branch, other_way(self.slots))?;
         Ok(narrow(known, &branch, false))
     }
 
@@ -108,7 +104,7 @@ impl Layout<'_> {
 
     /// Where an address must lie in an area for what an instruction does.
     fn within_for(&self, known: &Known, instruction: &Instruction, area: Area) -> Option<Within> {
-        let length = area.length(self.block.bytes() as usize);
+        let length = area.length(self.target.block.bytes() as usize);
         match instruction.access() {
             Some(access) => Some(narrowed(whole(area, length, 0), access, length)),
             None => self.emitted_within(known, area),
@@ -162,7 +158,7 @@ impl Layout<'_> {
     ) -> Result<(), LinkFault> {
         let here = boxed(alloc, *known)?;
         self.visit_tried(slot, instruction, here, attempt)?;
-        self.push_begin(self.other_way())?;
+        self.push_begin(other_way(self.slots))?;
         self.push_again(attempt)?;
         self.put_back(known, attempt.anchor)
     }

@@ -13,10 +13,10 @@ use crate::guards::{Guard, Need};
 use crate::known::{Known, narrow, source_fact};
 use crate::layout::{Layout, boxed};
 use crate::lists::set_answer;
-use crate::liveness::{Registers, at, bit, reads};
-use crate::origins::better_copy;
+use crate::liveness::{Registers, at};
 use crate::pieces::{compute, target};
 use crate::sums::sum_in_place;
+use crate::widening::widened;
 use instruction_set::{Instruction, Operation, Register, Relation, Size, Source, Width};
 use program_interface::Area;
 use std::alloc::Global;
@@ -26,7 +26,7 @@ use word_domain::Domain;
 const BLOCK_SIZE_BYTE: i64 = 16;
 
 /// The greatest number that a mask is put behind.
-const ONES: u32 = 0xf_ffff;
+pub(crate) const ONES: u32 = 0xf_ffff;
 
 /// The greatest word that isn't negative, as a signed one of a width.
 fn greatest(width: Width) -> u64 {
@@ -176,25 +176,6 @@ fn better(known: &Known, instruction: &Instruction, others: Registers) -> Instru
 }
 
 impl Layout<'_> {
-    /// Puts copies in place of registers that an instruction reads, of which more is known.
-    fn put_copies(
-        &mut self,
-        known: &mut Known,
-        instruction: &Instruction,
-    ) -> Result<(), LinkFault> {
-        let read = reads(instruction);
-        for number in 0..10u8 {
-            let register = Register::from_number(number);
-            if (read & bit(register)) != 0 {
-                if let Some(copy) = better_copy(known, register) {
-                    let source = Source::Register(copy);
-                    self.put(known, compute(Operation::Move, register, source))?;
-                }
-            }
-        }
-        Ok(())
-    }
-
     /// Is it a load of the block's size from the context?
     fn loads_block_size(&self, known: &Known, instruction: &Instruction) -> Option<Register> {
         let Instruction::Load {
@@ -243,7 +224,7 @@ impl Layout<'_> {
         }
         let mask = idle_mask(known, &instruction);
         let size = self.loads_block_size(known, &instruction);
-        let bytes = self.block.bytes() as i32;
+        let bytes = self.target.block.bytes() as i32;
         if let (Some(dst), true) = (size, known.is_sized) {
             self.put(
                 known,
@@ -252,7 +233,11 @@ impl Layout<'_> {
             return Ok(true);
         }
         let others = at(self.live, slot.saturating_add(instruction.slots()));
-        self.put(known, better(known, &instruction, others))?;
+        let mut placed = better(known, &instruction, others);
+        if self.target.widens {
+            placed = widened(known, &placed);
+        }
+        self.put(known, placed)?;
         if let Some((width, dst, mask)) = mask {
             self.put(
                 known,
@@ -328,12 +313,15 @@ impl Layout<'_> {
         to: i64,
     ) -> Result<(), LinkFault> {
         let behind = target(slot, 0);
-        self.put_copies(&mut known, &branch)?;
+        self.put_copies(&mut known, slot, &branch)?;
         let branch = with_number(&known, &branch);
         if let Some(is_taken) = decided(&known, &branch) {
             return self.go_on(slot, if is_taken { to } else { behind }, known);
         }
-        let branch = as_unsigned(&known, &branch);
+        let mut branch = as_unsigned(&known, &branch);
+        if self.target.widens {
+            branch = widened(&known, &branch);
+        }
         let mut taken = boxed(alloc, *known)?;
         let is_taken = narrow(&mut taken, &branch, true);
         let is_passed = narrow(&mut known, &branch, false);
@@ -359,7 +347,7 @@ impl Layout<'_> {
         instruction: Instruction,
         mut known: Box<Known>,
     ) -> Result<(), LinkFault> {
-        self.put_copies(&mut known, &instruction)?;
+        self.put_copies(&mut known, slot, &instruction)?;
         let areas = self.open_areas(&known, slot, &instruction);
         if areas.count() > 1 {
             return self.visit_several(alloc, slot, instruction, known, areas);

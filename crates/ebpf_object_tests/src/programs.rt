@@ -5,7 +5,7 @@ use ebpf_calls::{called_slots, named_function, only_function};
 use ebpf_decode::{decode, push_instruction};
 use ebpf_gather::gather;
 use ebpf_inline::inline;
-use ebpf_link::{LoopRule, link};
+use ebpf_link::{Target, link};
 use ebpf_object::Object;
 use instruction_set::{Instruction, Program};
 use interp::Machine;
@@ -35,7 +35,7 @@ fn linked(alloc: Global, block: BlockSize) -> Result<Vec<u8>, Fail> {
     let filter = named_function(&object, b"filter").ok_or("no filter")?;
     let gathered = gather(alloc, &object, filter)?;
     let slots = inline(alloc, &gathered.unit)?;
-    let linked = link(alloc, &slots, gathered.own, block, LoopRule::Whole)?;
+    let linked = link(alloc, &slots, gathered.own, Target::of(block), &[])?;
     Ok(bytes_of(alloc, &linked.slots)?)
 }
 

@@ -11,7 +11,7 @@ use ebpf_calls::only_function;
 use ebpf_decode::{decode, push_instruction};
 use ebpf_gather::gather;
 use ebpf_inline::inline;
-use ebpf_link::{LinkFault, Linked, LoopRule, link};
+use ebpf_link::{LinkFault, Linked, MarkRule, Target, link};
 use ebpf_object::Object;
 use instruction_set::{Instruction, Program};
 use interval_domain::Intervals;
@@ -62,12 +62,28 @@ fn is_accepted(alloc: Global, linked: &Linked, block: BlockSize) -> Result<bool,
     Ok(verify::<Intervals>(alloc, program, sizes).is_ok())
 }
 
+/// The program of slots, whose guards write where there is room.
+fn made(
+    alloc: Global,
+    slots: &[Option<Instruction>],
+    own: usize,
+    block: BlockSize,
+) -> Result<Linked, LinkFault> {
+    let mut target = Target::of(block);
+    let found = link(alloc, slots, own, target, &[]);
+    if !matches!(found, Err(LinkFault::NoMark(_))) {
+        return found;
+    }
+    target.marks = MarkRule::Silent;
+    link(alloc, slots, own, target, &[])
+}
+
 /// The program that is made of a draft does what the draft does, but on so many blocks; or none is made.
 fn check(rt: &impl Abort, alloc: Global, draft: &Draft) -> Result<(), Fail> {
     let name = draft.name;
     let block = BlockSize::new(draft.block).ok_or("no block")?;
     let (slots, own) = slots_of(alloc, draft.object)?;
-    let linked = match link(alloc, &slots, own, block, LoopRule::Whole) {
+    let linked = match made(alloc, &slots, own, block) {
         Ok(linked) => linked,
         Err(LinkFault::Loop { .. } | LinkFault::TooLong { .. }) => {
             assert!(rt; draft.ended.is_none(), "{name} isn't made");

@@ -4,6 +4,7 @@ use Rattle.command_files.specs.Made.{Made, MakesAtMost, MakesAtMostOne, MakesOne
 use Rattle.command_files.proofs.Proved.{only_one}
 use Rattle.command_files.specs.declared.failure.Failure.{Failure}
 use Rattle.command_files.specs.declared.failure.Failure.TheVariants.{CannotPrint}
+use Rattle.zscli.specs.Makes.{MakesFew, MakesNamed}
 
 -- none with this name, or one, is at most one
 at_most_one : (path : List ℕ) (before after : Option (List Made)) → MakesAtMost path before after → MakesAtMostOne before after
@@ -28,3 +29,8 @@ pub one_where_done : {T E : Type 0} (r : Result T E) (path : List ℕ) (before a
     → MakesAtMostOne before after
 one_where_done (Ok done) path before after made kept = at_most_one path before after made
 one_where_done (Err failure) path before after made kept = inl kept
+
+-- few files are files with one name, but for a program and what is noted beside it
+pub named : (before after : Option (List Made)) → MakesFew before after → MakesNamed before after
+named before after (inl one) = inl (one_name before after one)
+named before after (inr program) = inr program

@@ -3,8 +3,10 @@
 ghost use Rattle.std.specs.Prelude.{◌≡◌, ◌≢◌, IfErr, OnErr};
 ghost use Rattle.command_files.specs.Made.{MakesAtMostOne, MakesOneName};
 ghost use Rattle.zscli.specs.Ended.{end_of};
+ghost use Rattle.zscli.specs.Makes.{MakesFew, MakesNamed};
 
 use crate::entries_block::asked_block;
+use crate::streams::Streams;
 use clap::error::ErrorKind;
 use clap::{ArgMatches, Command};
 use command_demo::demo;
@@ -18,39 +20,41 @@ use command_images::{format, report, upgrade, zones};
 use command_link::link;
 use command_programs::{asm, disasm, trace, unpack, verify};
 use command_serve::serve;
-use command_words::{Words, command_over};
+use command_words::{Words, command_over, laid_out};
 use std::alloc::{AllocError, Global};
 use std::io::{Read, Write};
 
 /// The program's version, which `--version` prints.
 const VERSION: &str = "0.1.0";
 
-/// Reads the words of a command line, the program's name first, and does the command that they name. All files that are made have
-/// one name. Unless the input is taken, as by `serve` alone, at most one is made; and where this fails for another reason than
-/// `out`, where `exec` saves an image, none is made, and each file has the bytes that it had. What it gives is why a command line
-/// ends with another status all the same whose work is done: commands were refused, where `exec` is to fail for these.
+/// Reads the words of a command line, the program's name first, and does the command that they name. All files that are made have one
+/// name, but for a program and what is noted beside it. Unless the input is taken, as by `serve` alone, at most one is made, or these two;
+/// and where this fails for another reason than standard output, where `exec` saves an image, none is made, and each file has the bytes
+/// that it had. What it gives is why a command line ends with another status all the same whose work is done: commands were refused,
+/// where `exec` is to fail for these. What `entry` notes of a program goes to standard error; where this fails, nothing does.
 ///
 /// # Errors
 ///
 /// Why the words are no command's, or why the command ended before its work was done.
-pub fn command<'a, F: DurableFiles, I: Read + Drop, O: Write>(
+pub fn command<'a, F: DurableFiles, I: Read + Drop, O: Write, E: Write>(
     alloc: Global,
     words: &'a [String],
     files: &mut F,
-    input: &mut Option<I>,
-    out: &mut O,
+    streams: &mut Streams<I, O, E>,
 ) -> Result<Option<Failure<'a>>, Failure<'a>>
-    ensures name { MakesOneName (F.made files.old) (F.made files.new) }
-    ensures one { input.new ≡ input.old → MakesAtMostOne (F.made files.old) (F.made files.new) }
-    ensures kept { input.new ≡ input.old → IfErr result (λ failure. failure ≢ Failure.CannotPrint → F.made files.new ≡ F.made files.old) }
-    ensures contents { input.new ≡ input.old
+    ensures name { MakesNamed (F.made files.old) (F.made files.new) }
+    ensures one { streams.new.input ≡ streams.old.input → MakesFew (F.made files.old) (F.made files.new) }
+    ensures kept { streams.new.input ≡ streams.old.input
+        → IfErr result (λ failure. failure ≢ Failure.CannotPrint → F.made files.new ≡ F.made files.old) }
+    ensures contents { streams.new.input ≡ streams.old.input
         → IfErr result (λ failure. failure ≢ Failure.CannotPrint → F.contents files.new ≡ F.contents files.old) }
+    ensures unnoted { OnErr result (E.contents streams.new.err ≡ E.contents streams.old.err) }
 {
     let mut line = command_line(alloc)?;
     match line.try_get_matches_from_mut(words) {
-        Ok(matches) => perform(alloc, &mut line, &matches, files, input, out),
+        Ok(matches) => perform(alloc, &mut line, &matches, files, streams),
         Err(error) => {
-            print_help(alloc, words, error, out)?;
+            print_help(alloc, words, error, &mut streams.out)?;
             Ok(None)
         }
     }
@@ -74,7 +78,9 @@ fn print_help<'a, O: Write>(
     out: &mut O,
 ) -> Result<(), Failure<'a>> {
     if error.kind() == ErrorKind::DisplayHelp || error.kind() == ErrorKind::DisplayVersion {
-        return printed(write!(out, "{error}"));
+        let text = format!(in alloc; "{error}")?;
+        let laid = laid_out(alloc, text.as_str())?;
+        return printed(out.write_all(laid.as_bytes()));
     }
     read_shown(alloc, words)?;
     Err(Failure::from(error))
@@ -105,23 +111,30 @@ fn shown_words(alloc: Global, words: &[String]) -> Result<Vec<String>, AllocErro
 }
 
 /// Does the command that a command line has.
-fn perform<'a, F: DurableFiles, I: Read + Drop, O: Write>(
+fn perform<'a, F: DurableFiles, I: Read + Drop, O: Write, E: Write>(
     alloc: Global,
     line: &mut Command<'a>,
     matches: &ArgMatches<'a>,
     files: &mut F,
-    input: &mut Option<I>,
-    out: &mut O,
+    streams: &mut Streams<I, O, E>,
 ) -> Result<Option<Failure<'a>>, Failure<'a>>
-    ensures name { MakesOneName (F.made files.old) (F.made files.new) }
-    ensures one { input.new ≡ input.old → MakesAtMostOne (F.made files.old) (F.made files.new) }
-    ensures kept { input.new ≡ input.old → IfErr result (λ failure. failure ≢ Failure.CannotPrint → F.made files.new ≡ F.made files.old) }
-    ensures contents { input.new ≡ input.old
+    ensures name { MakesNamed (F.made files.old) (F.made files.new) }
+    ensures one { streams.new.input ≡ streams.old.input → MakesFew (F.made files.old) (F.made files.new) }
+    ensures kept { streams.new.input ≡ streams.old.input
+        → IfErr result (λ failure. failure ≢ Failure.CannotPrint → F.made files.new ≡ F.made files.old) }
+    ensures contents { streams.new.input ≡ streams.old.input
         → IfErr result (λ failure. failure ≢ Failure.CannotPrint → F.contents files.new ≡ F.contents files.old) }
+    ensures unnoted { OnErr result (E.contents streams.new.err ≡ E.contents streams.old.err) }
 {
     match matches.subcommand() {
-        Some((serve::NAME, matches)) => perform_serve(alloc, matches, files, input, out),
-        _ => perform_at_once(alloc, line, matches, files, out),
+        Some((serve::NAME, matches)) => perform_serve(
+            alloc,
+            matches,
+            files,
+            &mut streams.input,
+            &mut streams.out,
+        ),
+        _ => perform_at_once(alloc, line, matches, files, streams),
     }
 }
 
@@ -165,21 +178,26 @@ fn perform_durably<'a, F: DurableFiles, I: Read + Drop, O: Write>(
 }
 
 /// Does the command that a command line has, where it is another than `serve`.
-fn perform_at_once<'a, F: DurableFiles, O: Write>(
+fn perform_at_once<'a, F: DurableFiles, I, O: Write, E: Write>(
     alloc: Global,
     line: &mut Command<'a>,
     matches: &ArgMatches<'a>,
     files: &mut F,
-    out: &mut O,
+    streams: &mut Streams<I, O, E>,
 ) -> Result<Option<Failure<'a>>, Failure<'a>>
-    ensures one { MakesAtMostOne (F.made files.old) (F.made files.new) }
+    ensures one { MakesFew (F.made files.old) (F.made files.new) }
     ensures kept { IfErr result (λ failure. failure ≢ Failure.CannotPrint → F.made files.new ≡ F.made files.old) }
     ensures contents { IfErr result (λ failure. failure ≢ Failure.CannotPrint → F.contents files.new ≡ F.contents files.old) }
+    ensures unnoted { OnErr result (E.contents streams.new.err ≡ E.contents streams.old.err) }
 {
     match matches.subcommand() {
-        Some((exec::NAME, matches)) => perform_exec(alloc, matches, files, out),
+        Some((exec::NAME, matches)) => perform_exec(alloc, matches, files, &mut streams.out),
+        Some((link::NAME, matches)) => {
+            perform_link(alloc, matches, files, &mut streams.out)?;
+            Ok(None)
+        }
         Some((name, matches)) => {
-            perform_other(alloc, line, name, matches, files, out)?;
+            perform_other(alloc, line, name, matches, files, streams)?;
             Ok(None)
         }
         None => Err(no_command(line)),
@@ -203,50 +221,66 @@ fn perform_exec<'a, F: Files, O: Write>(
     }
 }
 
-/// Does the command with this name, of those but `exec`.
-fn perform_other<'a, F: DurableFiles, O: Write>(
+/// Does `link`.
+fn perform_link<'a, F: Files, O: Write>(
+    alloc: Global,
+    matches: &ArgMatches<'a>,
+    files: &mut F,
+    out: &mut O,
+) -> Result<(), Failure<'a>>
+    ensures one { MakesFew (F.made files.old) (F.made files.new) }
+    ensures kept { OnErr result (F.made files.new ≡ F.made files.old) }
+    ensures contents { OnErr result (F.contents files.new ≡ F.contents files.old) }
+{
+    link::link(alloc, matches, files, out)
+}
+
+/// Does the command with this name, of those but `exec` and `link`.
+fn perform_other<'a, F: DurableFiles, I, O: Write, E: Write>(
     alloc: Global,
     line: &mut Command<'a>,
     name: &str,
     matches: &ArgMatches<'a>,
     files: &mut F,
-    out: &mut O,
+    streams: &mut Streams<I, O, E>,
 ) -> Result<(), Failure<'a>>
     ensures one { MakesAtMostOne (F.made files.old) (F.made files.new) }
     ensures kept { OnErr result (F.made files.new ≡ F.made files.old) }
     ensures contents { OnErr result (F.contents files.new ≡ F.contents files.old) }
+    ensures unnoted { OnErr result (E.contents streams.new.err ≡ E.contents streams.old.err) }
 {
     match name {
         format::NAME => format::format(alloc, matches, files),
-        zones::NAME => zones::zones(alloc, matches, files, out),
-        report::NAME => report::report(alloc, matches, files, out),
+        zones::NAME => zones::zones(alloc, matches, files, &mut streams.out),
+        report::NAME => report::report(alloc, matches, streams.colored, files, &mut streams.out),
         upgrade::NAME => upgrade::upgrade(alloc, matches, files),
         fold::NAME => fold::fold(alloc, matches, files),
-        _ => perform_without_image(alloc, line, name, matches, files, out),
+        _ => perform_without_image(alloc, line, name, matches, files, streams),
     }
 }
 
 /// Does the command with this name, of those that take no image.
-fn perform_without_image<'a, F: Files, O: Write>(
+fn perform_without_image<'a, F: Files, I, O: Write, E: Write>(
     alloc: Global,
     line: &mut Command<'a>,
     name: &str,
     matches: &ArgMatches<'a>,
     files: &mut F,
-    out: &mut O,
+    streams: &mut Streams<I, O, E>,
 ) -> Result<(), Failure<'a>>
     ensures one { MakesAtMostOne (F.made files.old) (F.made files.new) }
     ensures kept { OnErr result (F.made files.new ≡ F.made files.old) }
     ensures contents { OnErr result (F.contents files.new ≡ F.contents files.old) }
+    ensures unnoted { OnErr result (E.contents streams.new.err ≡ E.contents streams.old.err) }
 {
+    let out = &mut streams.out;
     match name {
         asm::NAME => asm::asm(alloc, matches, files),
         disasm::NAME => disasm::disasm(alloc, matches, files, out),
-        link::NAME => link::link(alloc, matches, files, out),
         trace::NAME => trace::trace(alloc, matches, files, out),
         verify::NAME => verify::verify(alloc, matches, files, out),
         unpack::NAME => unpack::unpack(alloc, matches, files, out),
-        entry::NAME => entry::entry(alloc, line, matches, files, out),
+        entry::NAME => entry::entry(alloc, line, matches, files, out, &mut streams.err),
         entries::NAME => perform_entries(alloc, matches, files, out),
         explain::NAME => explain::explain(alloc, matches, files, out),
         demo::NAME => demo::demo(alloc, matches, out),
@@ -264,8 +298,8 @@ fn perform_entries<'a, F: Files, O: Write>(
     ensures made { F.made files.new ≡ F.made files.old }
     ensures contents { F.contents files.new ≡ F.contents files.old }
 {
-    let block = asked_block(alloc, matches, files)?;
-    entries::entries(alloc, matches, block, files, out)
+    let (block, geometry) = asked_block(alloc, matches, files)?;
+    entries::entries(alloc, matches, block, geometry, files, out)
 }
 
 /// The words in front of all commands.

@@ -7,10 +7,12 @@ use command_entry::entries;
 use command_files::arguments::{BLOCK_OPTION, block_size, number_or_hexadecimal};
 use command_files::{Failure, Files};
 use command_images::device_file;
+use image_store::Geometry;
 use program_interface::BlockSize;
 use std::alloc::Global;
 
-/// The size of a block where a line says nothing of it: that of the image that the words name, or else the one that they give.
+/// The size of a block where a line says nothing of it: that of the image that the words name, with its geometry, or else the one that
+/// they give.
 ///
 /// # Errors
 ///
@@ -19,15 +21,19 @@ pub fn asked_block<'a, F: Files>(
     alloc: Global,
     matches: &ArgMatches<'a>,
     files: &mut F,
-) -> Result<BlockSize, Failure<'a>>
+) -> Result<(BlockSize, Option<Geometry>), Failure<'a>>
     ensures made { F.made files.new ≡ F.made files.old }
     ensures contents { F.contents files.new ≡ F.contents files.old }
 {
     match matches.get_str(entries::IMAGE) {
         Some(path) => {
             let device = device_file::load(alloc, path, files)?;
-            Ok(device.image().geometry().block())
+            let geometry = device.image().geometry();
+            Ok((geometry.block(), Some(geometry)))
         }
-        None => block_size(number_or_hexadecimal(matches, BLOCK_OPTION)?),
+        None => {
+            let block = block_size(number_or_hexadecimal(matches, BLOCK_OPTION)?)?;
+            Ok((block, None))
+        }
     }
 }

@@ -1,40 +1,66 @@
 //! The command line of Pifnjarl: files in, one command, text out.
 #![tactic(auto)]
 
+mod caused;
 mod commands;
 mod entries_block;
+mod streams;
 
-use command_files::{Disk, Failure, conclude};
+use caused::Caused;
+use command_files::{Disk, Failure, FileCause, conclude};
 use commands::{command, ended};
 use std::env::{self, Env};
 use std::fs::File;
-use std::io::{self, Read, Write};
+use std::io::{self, IsTerminal, Read, Write};
 use std::process::ExitCode;
 use std::rt;
+use streams::Streams;
 
 fn main(rt: HostRuntime) -> ExitCode {
-    let mut err = rt.stderr();
+    let mut streams = Streams {
+        input: Some(rt.stdin()),
+        out: Caused::new(io::writer(&rt)),
+        colored: rt.stdout().is_terminal() && !asks_no_color(&rt),
+        err: rt.stderr(),
+    };
     let words = match command_line_words(&rt) {
         Ok(words) => words,
-        Err(failure) => return ExitCode::from(conclude(Err(failure), &mut err).status),
+        Err(failure) => return ExitCode::from(conclude(Err(failure), &mut streams.err).status),
     };
-    let mut out = io::writer(&rt);
-    let mut input = Some(rt.stdin());
-    let done = on_disk(&rt, words.as_slice(), &mut input, &mut out);
+    let done = ended(on_disk(&rt, words.as_slice(), &mut streams));
+    if let Err(Failure::CannotPrint) = &done {
+        print_cause(streams.out.cause(), &mut streams.err);
+    }
     // Where standard error fails, nobody can be told.
-    ExitCode::from(conclude(ended(done), &mut err).status)
+    ExitCode::from(conclude(done, &mut streams.err).status)
+}
+
+/// Prints why standard output failed, where that is known.
+fn print_cause<E: Write>(cause: FileCause, err: &mut E) {
+    let words = cause.words();
+    if !words.is_empty() {
+        // The line for scripts comes next, also where this one isn't printed.
+        let _ = writeln!(err, "-: {words}");
+    }
+}
+
+/// Does the user want no colors, by a variable `NO_COLOR` that isn't empty?
+fn asks_no_color<R: Env + AllocGlobal>(rt: &R) -> bool {
+    match env::var(rt, "NO_COLOR") {
+        Ok(value) => !value.is_empty(),
+        Err(_) => false,
+    }
 }
 
 /// Does what the words of a command line ask for on the files of the system. The runtime is any here: of the one that `main` is given,
 /// the prover finds no proof for files that are written durably.
-fn on_disk<'a, R: rt::Files<File = File> + AllocGlobal, I: Read + Drop, O: Write>(
+fn on_disk<'a, R: rt::Files<File = File> + AllocGlobal, I: Read + Drop, O: Write, E: Write>(
     rt: &R,
     words: &'a [String],
-    input: &mut Option<I>,
-    out: &mut O,
+    streams: &mut Streams<I, O, E>,
 ) -> Result<Option<Failure<'a>>, Failure<'a>> {
     let mut files = Disk::new(rt);
-    command(rt.alloc(), words, &mut files, input, out)
+    command(rt.alloc(), words, &mut files, streams)
 }
 
 /// The words of the command line, the program's name first.

@@ -2,7 +2,7 @@
 use Rattle.std.specs.Prelude.{◌≡◌, ◌≢◌, ◌⊎◌, ℕ, List}
 use Rattle.std.specs.Borrow.{Bor}
 use Rattle.image_text.specs.declared.fault.LoadFault.{LoadFault}
-use Rattle.image_text.specs.declared.fault.LoadFault.TheVariants.{Magic, Stream, Memory}
+use Rattle.image_text.specs.declared.fault.LoadFault.TheVariants.{Magic, Stream, Memory, Truncated}
 use Rattle.device_meaning.specs.State.{State, new_state}
 use Rattle.durable_machine.specs.declared.fault.Fault.{Fault}
 use Rattle.durable_machine.specs.declared.fault.Fault.TheVariants.{Damaged, OfFile, Undone, Unreadable}
@@ -25,6 +25,10 @@ TellsJournal path Unreadable failure = (failure ≡ ImageRefused path Magic) ⊎
 TellsJournal path (Damaged place) failure = failure ≡ JournalRefused path place journal.OpenGate
 TellsJournal path (Undone place) failure = failure ≡ JournalRefused path place journal.Undone
 TellsJournal path (OfFile error) failure = failure ≡ NoMemory
+
+-- that of a file that ends where an image goes on: as an image, or as a journal with its fault at the front
+abbrev pub TellsCut : Bor (List ℕ) → Failure → Type 0
+TellsCut path failure = (failure ≡ ImageRefused path Truncated) ⊎ (failure ≡ JournalRefused path 0 journal.NoBase)
 
 -- bytes are refused as a journal for a fault, which this tells
 pub record RefusesJournal (path : Bor (List ℕ)) (bytes : List ℕ) (failure : Failure) : Type 0 where

@@ -1,7 +1,7 @@
 //! Entries that were worked out apart from any program: a loop that isn't laid out to its end, a remainder and `memcmp`.
 
 use super::{program_of, slots_of};
-use ebpf_link::{LoopRule, ROUNDS_GUARD, link};
+use ebpf_link::{LoopRule, ROUNDS_GUARD, Target, link};
 use instruction_set::Program;
 use interp::Machine;
 use program_interface::{BlockSize, CONTEXT_BYTES, SCRATCH_BYTES, STACK_BYTES};
@@ -49,7 +49,11 @@ const ROWS: &[Row] = &[
 fn linked(alloc: Global) -> Result<Program, Fail> {
     let block = BlockSize::new(512).ok_or("no block")?;
     let (slots, own) = slots_of(alloc, ENTRIES)?;
-    let linked = link(alloc, &slots, own, block, LoopRule::Cut)?;
+    let target = Target {
+        rule: LoopRule::Cut,
+        ..Target::of(block)
+    };
+    let linked = link(alloc, &slots, own, target, &[])?;
     program_of(alloc, &linked.slots)
 }
 

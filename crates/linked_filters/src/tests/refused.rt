@@ -3,7 +3,7 @@
 
 use super::entries::{BLOCK, block_of, run};
 use super::{is_accepted, program_of, slots_of};
-use ebpf_link::{LoopRule, link};
+use ebpf_link::{LoopRule, MarkRule, Target, link};
 use program_interface::{BlockSize, SCRATCH_BYTES};
 use program_meaning::End;
 use std::alloc::Global;
@@ -107,7 +107,12 @@ fn check(rt: &impl Abort, alloc: Global, filter: &Filter) -> Result<(), Fail> {
     let name = filter.name;
     let size = BlockSize::new(512).ok_or("no block")?;
     let (slots, own) = slots_of(alloc, filter.object)?;
-    let linked = link(alloc, &slots, own, size, LoopRule::Cut)?;
+    let target = Target {
+        rule: LoopRule::Cut,
+        marks: MarkRule::Silent,
+        ..Target::of(size)
+    };
+    let linked = link(alloc, &slots, own, target, &[])?;
     assert!(rt; is_accepted(alloc, &linked, size)?, "{name} is refused");
     let program = program_of(alloc, &linked.slots)?;
     for (block, r0, group, counted) in filter.runs {

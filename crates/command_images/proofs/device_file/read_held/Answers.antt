@@ -4,4 +4,5 @@ use Rattle.command_images.proofs.device_file.read_held.Goals as goal
 
 pub returns-in-Ok-clause-bytes : goal.returns-in-Ok-clause-bytes
 returns-in-Ok-clause-bytes g c =
-    all_taken 18446744073709551615 c.in-Ok.bytes.items (g.F.Files.contents c.args.files.now c.args.path.now) (omega (arith, c.in-Ok.bytes.ok, c.in-Ok.bytes.small)) c.in-Ok.ensures.bytes
+    all_taken 1073741825 c.in-Ok.bytes.items (g.F.Files.contents c.args.files.now c.args.path.now)
+    (omega (arith, c.in-Ok.bytes.ok, c.len.ensures, c.if-len-le-MOST_OF_JOURNAL.true)) c.in-Ok.ensures.bytes

@@ -1,0 +1,5 @@
+mod AddedLines
+mod Ascii
+mod GuardLemmas
+mod ReadBack
+mod SpelledLines

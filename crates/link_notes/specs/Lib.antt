@@ -1,0 +1,6 @@
+pub mod Notes
+pub mod Text
+pub mod Unread
+pub mod Reading
+pub mod Ended
+pub mod Laws
