@@ -13,10 +13,11 @@ use std::env::{self, Env};
 use std::fs::File;
 use std::io::{self, IsTerminal, Read, Write};
 use std::process::ExitCode;
-use std::rt;
+use std::{fs, rt};
 use streams::Streams;
 
 fn main(rt: HostRuntime) -> ExitCode {
+    let _held = (null_device(&rt), null_device(&rt), null_device(&rt));
     let mut streams = Streams {
         input: Some(rt.stdin()),
         out: Caused::new(io::writer(&rt)),
@@ -33,6 +34,15 @@ fn main(rt: HostRuntime) -> ExitCode {
     }
     // Where standard error fails, nobody can be told.
     ExitCode::from(conclude(done, &mut streams.err).status)
+}
+
+/// The null device, or none where there is none. A standard stream that is closed leaves its number to the file that is opened next: what
+/// is printed would go into an image. Held three times, the null device takes the numbers of all three.
+fn null_device<R: rt::Files<File = File>>(rt: &R) -> Option<File> {
+    match fs::open(rt, "/dev/null") {
+        Ok(device) => Some(device),
+        Err(_) => None,
+    }
 }
 
 /// Prints why standard output failed, where that is known.
