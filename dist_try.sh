@@ -39,7 +39,7 @@ package=$1
 
 # a root with a shell
 make_root() {
-    mkdir -p "$1/bin" "$1/dev" "$1/tmp" "$1/usr/local" "$1/var/lib/dpkg/info" "$1/var/lib/dpkg/updates" "$1/work"
+    mkdir -p "$1/bin" "$1/dev" "$1/tmp" "$1/usr/local" "$1/var/lib/dpkg/info" "$1/var/lib/dpkg/updates" "$1/try"
     : > "$1/var/lib/dpkg/status"
     cp "$(command -v busybox)" "$1/bin/busybox"
     mknod -m 666 "$1/dev/null" c 1 3
@@ -58,9 +58,9 @@ give_libraries() {
 
 # formats, appends and reads by the program, and serves by the target, in a root
 use() {
-    cat > "$1/work/use.sh" << 'END'
+    cat > "$1/try/use.sh" << 'END'
 set -eux
-cd /work
+cd /try
 zscli --version
 zscli demo > demo
 zscli format zoned.img --block 512 --zones 4 --size 64 --capacity 64 --open 2 --active 3
@@ -81,7 +81,7 @@ kill $target
 wait $target
 grep -q '^nqn' said
 END
-    chroot "$1" /bin/env -i PATH=/usr/local/bin:/usr/bin:/bin /bin/sh /work/use.sh
+    chroot "$1" /bin/env -i PATH=/usr/local/bin:/usr/bin:/bin /bin/sh /try/use.sh
 }
 
 dpkg_in() {
