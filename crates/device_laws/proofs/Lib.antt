@@ -1,2 +1,9 @@
+mod OthersKept
+mod OthersZones
+mod OwnTurns
 mod Reached
+mod Restores
+mod Tenants
+mod TenantsShare
+mod UsersLaws
 mod Witness
