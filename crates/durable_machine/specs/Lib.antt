@@ -1,7 +1,10 @@
 pub mod Applied
 pub mod Bases
 pub mod Batches
+pub mod Events
 pub mod Files
+pub mod Journal
+pub mod LastBatch
 pub mod Laws
 pub mod Refused
 pub mod Replay

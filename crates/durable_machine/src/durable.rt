@@ -21,9 +21,9 @@ ghost use Rattle.durable_machine.specs.Batches.{
 
 use crate::base::put_base;
 use crate::committing::commit;
+use crate::journal::{Journal, add_event, repair};
 use crate::replay::replay;
 use crate::{Fault, Machine};
-use event_journal::{Journal, add_event, repair};
 use std::alloc::{AllocError, Global};
 use stored_file::{FileError, SECTOR, StoredFile, read_whole};
 

@@ -4,7 +4,7 @@ use Rattle.stored_file.specs.File.{FileState}
 use Rattle.nvme_entry.specs.Entry.{decoded, identifier_of}
 use Rattle.event_frames.specs.Frames.{header, request_frame}
 use Rattle.event_frames.specs.Requests as request
-use Rattle.event_journal.specs.Events.{spelled}
+use Rattle.durable_machine.specs.Events.{spelled}
 use Rattle.device_events.specs.declared.reply.Reply.{Reply}
 use Rattle.device_events.specs.declared.reply.Reply.TheVariants.{Idle}
 use Rattle.device_events.specs.ToldEvents as told

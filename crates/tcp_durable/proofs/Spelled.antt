@@ -1,7 +1,7 @@
 -- A frame as a journal spells it, put behind other events part by part.
 use Rattle.std.proofs.Common.{◌≡◌, ℕ, List, [], ◌∷◌, ◌++◌, length, sym, ap, ◌∙◌, append_assoc}
 use Rattle.std.proofs.lemmas.List.{append-nil}
-use Rattle.event_journal.specs.Events.{number_bytes, spelled}
+use Rattle.durable_machine.specs.Events.{number_bytes, spelled}
 
 pub begun : (es opened all digits : List ℕ) (n : ℕ) → opened ≡ es ++ 1 ∷ [] → all ≡ opened ++ digits → digits ≡ number_bytes n
     → all ≡ es ++ (1 ∷ number_bytes n)

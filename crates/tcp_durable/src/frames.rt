@@ -3,7 +3,7 @@
 ghost use Rattle.std.specs.Prelude.{◌≡◌, ◌≤◌, ◌++◌, [], ◌∷◌, length, take, OnErr, OnOk};
 ghost use Rattle.event_frames.specs.Frames.{header, request_frame};
 ghost use Rattle.event_frames.specs.Requests.{Submitted, Turned};
-ghost use Rattle.event_journal.specs.Events.{number_bytes, spelled};
+ghost use Rattle.durable_machine.specs.Events.{number_bytes, spelled};
 ghost use Rattle.nvme_entry.specs.declared.command.TheConstants.{MOST_TRANSFER};
 
 use byteorder::{ByteOrder, LittleEndian};

@@ -22,8 +22,7 @@ use durable_device::laws::changes_come_again;
 use durable_device::{
     DurableDevice, Folding, FrameDevice, MOST_JOURNAL, asks_change, base_of, is_refusal,
 };
-use durable_machine::{Durable, commit, put_base};
-use event_journal::Journal;
+use durable_machine::{Durable, Journal, commit, put_base};
 use nvme_entry::Entry;
 use runner::Reply;
 use std::alloc::{AllocError, Global};

@@ -2,7 +2,7 @@
 use Rattle.std.specs.Prelude.{ℕ, ◌≡◌, ◌⊎◌, Bool, true, false, nat_eq, List, [], ◌∷◌, Option, Some, None, Ok, Err}
 use Rattle.std.specs.List.{starts_with}
 use Rattle.stored_file.specs.File.{LeavesOnly}
-use Rattle.system_file.specs.Calls.{Call, Opened}
+use Rattle.stored_file.specs.Calls.{Call, Opened}
 use Rattle.handed_file.specs.Handed.{noted, told_of}
 use Rattle.handed_file.specs.declared.handed_file.HandedFile.{HandedFile}
 use Rattle.device_meaning.specs.State.{State, new_state}
@@ -11,7 +11,7 @@ use Rattle.durable_machine.specs.declared.fault.Fault.TheVariants.{Unreadable, D
 use Rattle.durable_device.specs.Kept.{IsKept, IsKeptInBase, IsOldOrStandsFor, LeavesFound, StandsFor, StandsForIt}
 use Rattle.durable_device.specs.Machine.{IsDeviceBase, next_state}
 use Rattle.durable_machine.specs.Refused.{IsUndone}
-use Rattle.event_journal.specs.declared.journal.Journal.{Journal}
+use Rattle.durable_machine.specs.declared.journal.Journal.{Journal}
 use Rattle.image_base.specs.Base.{magic}
 use Rattle.image_store.specs.Namespace.{ZonedNamespace, shape}
 use Rattle.image_text.specs.Fault.{load_number}

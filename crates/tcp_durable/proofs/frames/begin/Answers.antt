@@ -1,4 +1,4 @@
-use Rattle.event_journal.proofs.Numbers.{are_number_bytes}
+use Rattle.durable_machine.proofs.Numbers.{are_number_bytes}
 use Rattle.tcp_durable.proofs.Spelled.{begun}
 use Rattle.tcp_durable.proofs.frames.begin.Goals as goal
 

@@ -3,7 +3,7 @@ use Rattle.std.specs.Prelude.{Ok}
 use Rattle.std.proofs.lemmas.Result.{IfOk-weaker}
 use Rattle.handed_file.specs.Handed.{noted, told_of}
 use Rattle.stored_file.specs.File.{LeavesOnly}
-use Rattle.system_file.specs.Calls.{Call}
+use Rattle.stored_file.specs.Calls.{Call}
 use Rattle.durable_device.specs.Kept.{IsKeptInBase, IsOldOrStandsFor}
 use Rattle.image_text.specs.Reading.{namespace_in}
 use Rattle.device_meaning.specs.State.{State, new_state}
