@@ -42,8 +42,8 @@ TurnsMayWait =
 -- ---- from any beginning
 
 module _ (judge : Judge) where
-  -- The machine that begins where a device may begin: with the namespace and the programs of the state, and with the runs that were kept, of
-  -- each how far it had come (`MayBegin`, `WasBegun`). The state has the turns that are left of these runs.
+  -- The machine that begins where a device may begin: with the namespace and the programs of the state, and with the runs that were
+  -- kept, of each how far it had come (`MayBegin`, `WasBegun`). The state has the turns that are left of these runs.
   abbrev pub machine_from : (s : State) → MayBegin judge s → Machine
   machine_from s begins = record { namespace = s.namespace; slots = s.slots; runs = begins.runs }
 
@@ -52,11 +52,12 @@ module _ (judge : Judge) where
     pub replies : replies_now judge events m ≡ replies_to judge events s
     pub after : Corresponds (machine_after judge events m) (state_after judge events s)
 
--- from every state on that a device may begin with, also one that comes out of a journal with runs that were begun, whatever events come and
--- whoever judges programs, a machine that reads each block at its turn does what one does that has all turns of its runs
+-- from every state on that a device may begin with, also one that comes out of a journal with runs that were begun, whatever events
+-- come and whoever judges programs, a machine that reads each block at its turn does what one does that has all turns of its runs
 abbrev pub FixedFromAnyBeginning : Type 0
 FixedFromAnyBeginning =
-    (judge : Judge) (s : State) (begins : MayBegin judge s) (events : List Occurrence) → GoOnTheSame judge (machine_from judge s begins) s events
+    (judge : Judge) (s : State) (begins : MayBegin judge s) (events : List Occurrence)
+    → GoOnTheSame judge (machine_from judge s begins) s events
 
 -- from there on, too, however long a run waits, one that was kept among them, its next turn is the same
 abbrev pub TurnsMayWaitFromAnyBeginning : Type 0
