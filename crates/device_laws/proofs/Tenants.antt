@@ -1,7 +1,8 @@
 -- What events of a tenant that respect what it owns leave of what others own, and what others read.
-use Rattle.std.proofs.Common.{◌≡◌, ℕ, ◌+◌, ◌*◌, ◌/◌, ◌%◌, Bool, List, [], ◌∷◌, ◌++◌, Option, Some, None, Result, Ok, refl, ap, sym, subst, ◌∙◌, inl, inr}
+use Rattle.std.proofs.Common.{◌≡◌, ℕ, ◌+◌, ◌*◌, ◌/◌, ◌%◌, Bool, true, false, List, [], ◌∷◌, ◌++◌, Option, Some, None, Result, Ok, refl, ap, sym, subst, ◌∙◌, inl, inr}
 use Rattle.std.specs.Prelude.{nat_le, not}
 use Rattle.std.specs.List.{concat}
+use Rattle.std.proofs.lemmas.Bool.{not-true}
 use Rattle.zone_state.specs.declared.status.Status.{Status}
 use Rattle.zone_state.specs.declared.status.TheConstants.Status.{LBA_OUT_OF_RANGE, ZONE_BOUNDARY_ERROR}
 use Rattle.common_definitions.specs.Checks.{demand, first_failed}
@@ -16,13 +17,13 @@ use Rattle.zns_commands.specs.Read.{blocks_read, read_refusal}
 use Rattle.zns_commands.specs.Transfer.{transfer_checks}
 use Rattle.device_meaning.specs.Admission.{Loaded}
 use Rattle.device_meaning.specs.EventReplies.{Submission, completion, submission_of}
-use Rattle.device_meaning.specs.Events.{state_after}
+use Rattle.device_meaning.specs.Events.{Occurrence, state_after}
 use Rattle.device_meaning.specs.Happenings.{happens, result_by, submitted}
 use Rattle.device_meaning.specs.Judging.{Judge}
 use Rattle.device_meaning.specs.State.{State, loaded_at}
 use Rattle.device_events.specs.Replies.{ReplyWithData}
 use Rattle.device_events.specs.ToldEvents as told
-use Rattle.device_laws.specs.Tenants.{KeepsBlocks, OthersAreKept, OthersLeaveMine, OthersReadTheSame, OthersRunsUseOwn, Tenant, TenantsLeaveOthers, everyone_else}
+use Rattle.device_laws.specs.Tenants.{KeepsBlocks, OthersAreKept, OthersLeaveMine, OthersReadTheSame, RespectKeepsRunsApart, Respects, RunsUseOwn, Tenant, TenantsLeaveOthers, everyone_else}
 use Rattle.device_laws.proofs.OthersKept.{events_keep}
 
 -- ---- a Read
@@ -113,9 +114,31 @@ tenants_leave_others judge tenant s events uses respect =
     let all = events_keep tenant judge events s uses respect in
     record { kept = all.kept; read = others_read tenant judge s (state_after judge events s) all.kept; runs = all.runs }
 
-pub others_runs_use_own : (judge : Judge) → OthersRunsUseOwn judge
-others_runs_use_own judge tenant other s events apart uses respect others run place at owned =
-    others run place ((events_keep tenant judge events s uses respect).kept.none_begins run place at (apart place.queue owned)) owned
+module _ (judge : Judge) where
+  -- the runs of another tenant still use only what that one owns, where the two share no queue
+  others_use_own : (tenant other : Tenant) (s : State) (o : Occurrence) → ((queue : ℕ) → other.queues queue ≡ true → tenant.queues queue ≡ false)
+      → Respects tenant s o.event → RunsUseOwn tenant s → RunsUseOwn other s → RunsUseOwn other (happens judge s o.starved o.event).state
+  others_use_own tenant other s o apart respects uses others run place at owned =
+      let kept = (events_keep tenant judge (o ∷ []) s uses (respects, tt)).kept in
+      others run place (kept.none_begins run place at (apart place.queue owned)) owned
+
+  own_use_own : (tenant : Tenant) (s : State) (o : Occurrence) → Respects tenant s o.event → RunsUseOwn tenant s
+      → RunsUseOwn tenant (happens judge s o.starved o.event).state
+  own_use_own tenant s o respects uses = (events_keep tenant judge (o ∷ []) s uses (respects, tt)).runs
+
+  pub respect_keeps_runs_apart : RespectKeepsRunsApart judge
+  respect_keeps_runs_apart mine s [] own others each = (own, others)
+  respect_keeps_runs_apart mine s (o ∷ os) own others each =
+      let t = (happens judge s o.starved o.event).state in
+      elim each.0 [
+        | inl respects ↦
+            respect_keeps_runs_apart mine t os (own_use_own mine s o respects own)
+            (others_use_own mine (everyone_else mine) s o (λ queue owned. not-true (mine.queues queue) owned) respects own others) each.1
+        | inr respects ↦
+            respect_keeps_runs_apart mine t os
+            (others_use_own (everyone_else mine) mine s o (λ queue owned. ap not owned) respects others own)
+            (own_use_own (everyone_else mine) s o respects others) each.1
+      ]
 
 pub others_leave_mine : (judge : Judge) → OthersLeaveMine judge
 others_leave_mine judge mine s events uses respect =

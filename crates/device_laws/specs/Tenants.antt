@@ -123,12 +123,6 @@ TenantsLeaveOthers judge =
     (tenant : Tenant) (s : State) (events : List Occurrence) → RunsUseOwn tenant s → AllRespect tenant judge events s
     → LeavesOthers tenant judge s (state_after judge events s)
 
--- and so the runs of another tenant still use only what that one owns, where the two share no queue
-abbrev pub OthersRunsUseOwn : Judge → Type 0
-OthersRunsUseOwn judge =
-    (tenant other : Tenant) (s : State) (events : List Occurrence) → ((queue : ℕ) → other.queues queue ≡ true → tenant.queues queue ≡ false)
-    → RunsUseOwn tenant s → AllRespect tenant judge events s → RunsUseOwn other s → RunsUseOwn other (state_after judge events s)
-
 -- ---- what a tenant finds again
 
 -- all others together, as one tenant: they own what this one doesn't
@@ -154,3 +148,18 @@ OthersLeaveMine judge =
     (mine : Tenant) (s : State) (events : List Occurrence)
     → RunsUseOwn (everyone_else mine) s → AllRespect (everyone_else mine) judge events s
     → HasWhatItHad mine judge s (state_after judge events s)
+
+-- each of these events respects what the tenant owns, or what all others do
+abbrev pub EachRespectsOne : Tenant → Judge → List Occurrence → State → Type 0
+EachRespectsOne mine judge [] s = Unit {0}
+EachRespectsOne mine judge (o ∷ os) s =
+    (Respects mine s o.event ⊎ Respects (everyone_else mine) s o.event)
+    × EachRespectsOne mine judge os (happens judge s o.starved o.event).state
+
+-- Where all that happens to a device respects the one or the other, from a state without active runs on, the runs of each use only what
+-- it owns, in each state that is left. So what the laws above ask of runs holds there.
+abbrev pub RespectKeepsRunsApart : Judge → Type 0
+RespectKeepsRunsApart judge =
+    (mine : Tenant) (s : State) (events : List Occurrence) → RunsUseOwn mine s → RunsUseOwn (everyone_else mine) s
+    → EachRespectsOne mine judge events s
+    → RunsUseOwn mine (state_after judge events s) × RunsUseOwn (everyone_else mine) (state_after judge events s)

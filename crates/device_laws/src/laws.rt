@@ -13,7 +13,7 @@ ghost use Rattle.pushdown.specs.Pushdown.{Pushdown};
 ghost use Rattle.device_meaning.specs.Reached.{EventsKeepReached, TurnsKeepReached};
 ghost use Rattle.pushdown.specs.ReadBack.{AppendedBlocksReadBack, AppendedByRunsReadsBack, ResultsReadBack, WrittenBlocksReadBack};
 ghost use Rattle.device_laws.specs.Laws.{CompletedAtMostOnce, EmptyIsReached, EnoughTurnsComplete, LoadedIsReached, OutcomeIsItsOwn, SameEventsSameAnswers, SavedStatesLoad, TurnsAreFew};
-ghost use Rattle.device_laws.specs.Tenants.{OthersLeaveMine, OthersRunsUseOwn, TenantsLeaveOthers};
+ghost use Rattle.device_laws.specs.Tenants.{OthersLeaveMine, RespectKeepsRunsApart, TenantsLeaveOthers};
 ghost use Rattle.device_laws.specs.TenantsShare.{TenantsShare};
 ghost use Rattle.device_laws.specs.Witness.{PushdownIsMet};
 
@@ -174,14 +174,19 @@ pub fn pushdown_is_met()
 /// program and its result, and each of their runs the turns that are left of it; no run of theirs ends or begins; and each Read and
 /// each Result of theirs is answered as before. A zone of theirs that was implicitly opened may be closed.
 pub fn tenants_leave_others()
-    ensures kept { TenantsLeaveOthers interval_judge }
-    ensures theirs { OthersRunsUseOwn interval_judge }
+    ensures { TenantsLeaveOthers interval_judge }
 {}
 
 /// Whatever all others do, of whom none names what a tenant owns, it has then what it had: the blocks of its zones, its programs and
 /// results, and its runs; and it reads the same.
 pub fn others_leave_mine()
     ensures { OthersLeaveMine interval_judge }
+{}
+
+/// Where all that happens to a device respects what a tenant owns, or what all others do, from a state without active runs on, the runs
+/// of each use only what it owns, in each state that is left: so what the laws on tenants ask of runs holds there.
+pub fn respect_keeps_runs_apart()
+    ensures { RespectKeepsRunsApart interval_judge }
 {}
 
 /// Tenants share the open and active resources, what reports tell, the numbers of runs, and whatever Select All takes: an example of each.
