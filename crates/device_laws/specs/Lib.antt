@@ -1,2 +1,4 @@
 pub mod Laws
+pub mod Tenants
+pub mod TenantsShare
 pub mod Witness

@@ -1,7 +1,8 @@
 //! Laws of a device, which judges programs by intervals, in the states that events leave from an image on.
-//! Each function does nothing: what it ensures is the law. Five are of its own: where a device begins, that it judges soundly,
-//! that what is saved loads again, and that there is a Run of which the pushdown theorem speaks. The others are those laws of
-//! `pushdown` that a device's user asks for, of intervals; the rest hold of a device too, by the trait `Domain`.
+//! Each function does nothing: what it ensures is the law. Of its own are those of where a device begins, that it judges soundly, and that
+//! what is saved loads again; what users ask of completions, of a run's turns and of the same events; what tenants leave of each other's;
+//! and that there is a Run of which the pushdown theorem speaks. The others are those laws of `pushdown` that a device's user asks
+//! for, of intervals; the rest hold of a device too, by the trait `Domain`.
 
 ghost use Rattle.device_meaning.specs.Judging.{IsSoundJudge, interval_judge};
 ghost use Rattle.pushdown.specs.AnyOrder.{TurnsInAnyOrder};
@@ -11,7 +12,9 @@ ghost use Rattle.pushdown.specs.Laws.{LastTurnCompletes, OnlyLoadsChangeSlots, R
 ghost use Rattle.pushdown.specs.Pushdown.{Pushdown};
 ghost use Rattle.device_meaning.specs.Reached.{EventsKeepReached, TurnsKeepReached};
 ghost use Rattle.pushdown.specs.ReadBack.{AppendedBlocksReadBack, AppendedByRunsReadsBack, ResultsReadBack, WrittenBlocksReadBack};
-ghost use Rattle.device_laws.specs.Laws.{EmptyIsReached, LoadedIsReached, SavedStatesLoad};
+ghost use Rattle.device_laws.specs.Laws.{CompletedAtMostOnce, EmptyIsReached, EnoughTurnsComplete, LoadedIsReached, OutcomeIsItsOwn, SameEventsSameAnswers, SavedStatesLoad, TurnsAreFew};
+ghost use Rattle.device_laws.specs.Tenants.{OthersLeaveMine, RespectKeepsRunsApart, TenantsLeaveOthers};
+ghost use Rattle.device_laws.specs.TenantsShare.{TenantsShare};
 ghost use Rattle.device_laws.specs.Witness.{PushdownIsMet};
 
 /// A device begins with an empty image, in a state that events leave.
@@ -57,6 +60,36 @@ pub fn no_reply_is_trapped()
 pub fn each_is_completed_once()
     ensures so_far { NoCompletionIsLost interval_judge }
     ensures drained { EachIsCompletedOnce interval_judge }
+{}
+
+/// No submission is completed twice: of each queue and identifier, completions are at most as many as submissions, those of the runs
+/// that were active before among them.
+pub fn completed_at_most_once()
+    ensures { CompletedAtMostOnce interval_judge }
+{}
+
+/// Two devices in one state that do the same events, and are given the memory that these ask for, answer the same and come to one
+/// state, whichever doors the events came through.
+pub fn same_events_same_answers()
+    ensures { SameEventsSameAnswers interval_judge }
+{}
+
+/// An admitted Run has at most as many turns as source blocks.
+pub fn turns_are_few()
+    ensures { TurnsAreFew }
+{}
+
+/// Whatever events follow an admitted Run, once as many of them were its own turns as it has source blocks, its completion is
+/// among the replies, a success.
+pub fn enough_turns_complete()
+    ensures { EnoughTurnsComplete interval_judge }
+{}
+
+/// What an admitted Run comes to depends neither on when its turns come nor on what comes between them: any two lists of events with
+/// as many turns of it leave the same turns of it and the same blocks in its destination, its turns were answered the same, and so
+/// is the next, of which the last is answered by the completion.
+pub fn outcome_is_its_own()
+    ensures { OutcomeIsItsOwn interval_judge }
 {}
 
 /// In every state that events leave, the last turn of a run is answered with the run's completion, a success, and any other with
@@ -135,4 +168,28 @@ pub fn pushdown()
 /// three turns, of which the second appends a block, and a command of another queue succeeds between the first and the second.
 pub fn pushdown_is_met()
     ensures { PushdownIsMet }
+{}
+
+/// Whatever a tenant does that respects what it owns, it leaves what others own: each zone of theirs keeps its blocks, each slot its
+/// program and its result, and each of their runs the turns that are left of it; no run of theirs ends or begins; and each Read and
+/// each Result of theirs is answered as before. A zone of theirs that was implicitly opened may be closed.
+pub fn tenants_leave_others()
+    ensures { TenantsLeaveOthers interval_judge }
+{}
+
+/// Whatever all others do, of whom none names what a tenant owns, it has then what it had: the blocks of its zones, its programs and
+/// results, and its runs; and it reads the same.
+pub fn others_leave_mine()
+    ensures { OthersLeaveMine interval_judge }
+{}
+
+/// Where all that happens to a device respects what a tenant owns, or what all others do, from a state without active runs on, the runs
+/// of each use only what it owns, in each state that is left: so what the laws on tenants ask of runs holds there.
+pub fn respect_keeps_runs_apart()
+    ensures { RespectKeepsRunsApart interval_judge }
+{}
+
+/// Tenants share the open and active resources, what reports tell, the numbers of runs, and whatever Select All takes: an example of each.
+pub fn tenants_share()
+    ensures { TenantsShare }
 {}

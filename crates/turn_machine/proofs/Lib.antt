@@ -1,3 +1,4 @@
+mod FromBeginnings
 mod Machines
 mod NextTurns
 mod OtherEvents

@@ -19,7 +19,7 @@ use Rattle.device_meaning.proofs.Proved.{decoded_has, events_keep_for_runs}
 use Rattle.device_events.specs.Replies.{ReplyWithData}
 use Rattle.device_events.specs.ToldEvents.{ToldEvent}
 use Rattle.device_events.specs.ToldEvents as told
-use Rattle.turn_machine.specs.Laws.{Corresponds, FixedAtAdmission}
+use Rattle.turn_machine.specs.Laws.{Corresponds, FixedAtAdmission, GoOnTheSame}
 use Rattle.turn_machine.specs.Machine.{Machine, happens_now, machine_after, new_machine, replies_now, run_at, submitted_now, turned_now_at, without_turns}
 use Rattle.turn_machine.proofs.OtherEvents.{leaving_follows, starting_follows}
 use Rattle.turn_machine.proofs.TurnsTaken.{Follows, KeepsAll, needs_kept, none_at, turn_follows}
@@ -114,12 +114,15 @@ module _ (judge : Judge) where
   new_is_viewed : (ns : ZonedNamespace) → viewed (new_machine ns) ≡ new_state ns
   new_is_viewed ns = refl
 
+  -- a machine whose runs are under way goes on as the state that corresponds
+  pub go_on_the_same : (m : Machine) → AreUnderWay m → (events : List Occurrence) → GoOnTheSame judge m (viewed m) events
+  go_on_the_same m under events = record {
+    replies = replies_follow events m under;
+    after = corresponding (machine_after judge events m) (state_after judge events (viewed m)) (states_follow events m under);
+  }
+
 pub fixed_at_admission : FixedAtAdmission
 fixed_at_admission judge ns events =
-    let m = new_machine ns in
-    let under = new_under_way judge ns in
-    record {
-      replies = replies_follow judge events m under ∙ ap (replies_to judge events) (new_is_viewed judge ns);
-      after = corresponding (machine_after judge events m) (state_after judge events (new_state ns))
-          (sym (ap (state_after judge events) (new_is_viewed judge ns)) ∙ states_follow judge events m under);
-    }
+    let same = subst (λ (s : State). GoOnTheSame judge (new_machine ns) s events) (new_is_viewed judge ns)
+    (go_on_the_same judge (new_machine ns) (new_under_way judge ns) events) in
+    record { replies = same.replies; after = same.after }

@@ -110,7 +110,7 @@ module _ (m : Machine) (run : ℕ) (a : Active) (at : run_at m run ≡ Some a) w
     event_beside starved (told.Faulted zone state) differs = at
 
 module _ (judge : Judge) where
-  waits : (events : List Occurrence) (m : Machine) → AreUnderWay m → (run : ℕ) (a : Active) → run_at m run ≡ Some a
+  pub waits : (events : List Occurrence) (m : Machine) → AreUnderWay m → (run : ℕ) (a : Active) → run_at m run ≡ Some a
       → AllByRecursion (λ o. o.event ≢ told.Turned run) events
       → (run_at (machine_after judge events m) run ≡ Some a) × (turn_now (machine_after judge events m) a ≡ turn_now m a)
   waits [] m under run a at others = (at, refl)

@@ -1,6 +1,6 @@
 //! Laws of the machine that reads at its turn. Each function does nothing: what it ensures is the law.
 
-ghost use Rattle.turn_machine.specs.Laws.{FixedAtAdmission, TurnsMayWait};
+ghost use Rattle.turn_machine.specs.Laws.{FixedAtAdmission, FixedFromAnyBeginning, TurnsMayWait, TurnsMayWaitFromAnyBeginning};
 
 /// What a run does is fixed when it is admitted: a machine that keeps only how far a run has come, and at each turn reads the source
 /// block and the program as they are then, gives the same replies to every list of events, from every namespace on, as one
@@ -15,4 +15,16 @@ pub fn fixed_at_admission()
 /// them.
 pub fn turns_may_wait()
     ensures { TurnsMayWait }
+{}
+
+/// The same from every state on that a device may begin with, one out of a journal with runs that were begun among them: a machine that
+/// begins with the same namespace and programs, and of each run with how far it has come, gives the same replies to every list
+/// of events, and corresponds to the state after them.
+pub fn fixed_from_any_beginning()
+    ensures { FixedFromAnyBeginning }
+{}
+
+/// However long a run waits there, one that was begun before or one that was admitted since, its next turn is the same.
+pub fn turns_may_wait_from_any_beginning()
+    ensures { TurnsMayWaitFromAnyBeginning }
 {}
