@@ -1,5 +1,8 @@
 mod Disjoint
+mod EndLemmas
 mod FreeWords
+mod MarkPieces
+mod MarkRuns
 mod Masks
 mod Unchanged
 mod Widths

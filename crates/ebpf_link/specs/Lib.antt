@@ -1,8 +1,11 @@
+pub mod Assembling
 pub mod Copies
 pub mod Deciding
+pub mod Ends
 pub mod Folding
 pub mod Guards
 pub mod Idle
+pub mod Marking
 pub mod Marks
 pub mod Masks
 pub mod Remainders

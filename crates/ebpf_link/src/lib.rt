@@ -17,6 +17,7 @@ mod guards;
 mod idle;
 mod known;
 mod labels;
+pub mod laws;
 mod layout;
 mod lists;
 mod liveness;
