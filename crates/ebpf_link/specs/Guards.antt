@@ -1,9 +1,9 @@
 -- Guards, and the compares that lead to their ends.
 use Rattle.std.specs.Prelude.{ℕ, ℤ, List, [], ◌∷◌, ◌+◌, ◌++◌, ◌≡◌, IsSomeAnd, min, pos, length, slice_get, slice_index}
 use Rattle.instruction_set.specs.declared.instruction.Instruction.{Instruction}
-use Rattle.instruction_set.specs.declared.instruction.Instruction.TheVariants.{Arithmetic, Exit, Jump}
+use Rattle.instruction_set.specs.declared.instruction.Instruction.TheVariants.{Branch, Jump}
 use Rattle.instruction_set.specs.declared.instruction.Source.TheVariants.{Immediate}
-use Rattle.instruction_set.specs.declared.operation.Operation.TheVariants.{Move}
+use Rattle.instruction_set.specs.declared.operation.Relation.{Relation}
 use Rattle.instruction_set.specs.declared.operation.Width.TheVariants.{Bits64}
 use Rattle.ebpf_link.specs.declared.guards.Guard.{Guard}
 use Rattle.ebpf_link.specs.declared.guards.Guard.TheVariants as kind
@@ -56,6 +56,14 @@ pub record IsGuarded (before after : Layout) (jump : Instruction) (guard : Guard
   pub one_more : after.pieces.items ≡ before.pieces.items ++ (guard_piece (length before.slots.now) place jump ∷ [])
   pub noted : IsGuardAt after.guards.items place guard before.here need
   pub kept : KeepsGuards before.guards.items after.guards.items
+
+-- so it is for some guard
+abbrev pub IsGuardedBy : Layout → Layout → Instruction → Guard → Need → Type 0
+IsGuardedBy before after jump guard need = (place : ℕ) × IsGuarded before after jump guard need place
+
+-- a 64-bit compare with a number
+abbrev pub compare_with : Relation → ℕ → ℤ → Instruction
+compare_with relation dst number = Branch Bits64 relation dst (Immediate number) (pos 0)
 
 -- where a loop is laid out no further, each way to its first slot ends the block run: it leads to a guard that says after how many rounds
 pub record IsCut (before after : Layout) (head place : ℕ) : Type 0 where

@@ -1,4 +1,5 @@
 pub mod Assembling
+pub mod Bounds
 pub mod Copies
 pub mod Deciding
 pub mod Ends
@@ -9,6 +10,7 @@ pub mod Marking
 pub mod Marks
 pub mod Masks
 pub mod Remainders
+pub mod ScratchWords
 pub mod Spelling
 pub mod Sums
 pub mod Widening

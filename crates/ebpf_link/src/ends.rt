@@ -1,8 +1,8 @@
 //! The ends of block runs to which guards lead.
 
-ghost use Rattle.std.specs.Prelude.{◌≡◌, ◌++◌, IfOk, IfSome, length, map, min, pos, slice_get};
+ghost use Rattle.std.specs.Prelude.{◌≡◌, ◌++◌, IfOk, length, map, min, pos, slice_get};
 ghost use Rattle.ebpf_link.specs.Ends.{EndsAll, guard_end, is_of_kind, label_of, labels_of, mark_pieces, marked_ends, silent_end, silent_ends, told_end, told_ends};
-ghost use Rattle.ebpf_link.specs.Marks.{IsPlace, mark_end};
+ghost use Rattle.ebpf_link.specs.Marks.{IsPlaceOfMarks, mark_end};
 ghost use Rattle.ebpf_link.specs.declared.pieces.Piece.TheVariants.{Plain};
 ghost use Rattle.instruction_set.specs.declared.instruction.Instruction.TheVariants.{Load, StoreRegister};
 ghost use Rattle.instruction_set.specs.declared.operation.Size.TheVariants.{Word};
@@ -239,25 +239,33 @@ impl Layout<'_> {
     }
 
     /// Where guards write, if there are any that do.
+    #[tactic(auto, using(crate::proofs::MarkPlaces::no_guards, crate::proofs::MarkPlaces::some_guards))]
     fn place_of_marks(&self) -> Result<Option<usize>, LinkFault>
-        ensures { IfOk result (λ found. IfSome found (λ at. IsPlace self.now.stored at)) }
+        ensures { IfOk result (λ found. IsPlaceOfMarks self.now.guards.items self.now.target.marks self.now.stored found) }
     {
-        if self.guards.is_empty() {
+        if self.guards.len() == 0 {
             return Ok(None);
         }
-        mark_place(self.target.marks, self.stored)
+        let found = mark_place(self.target.marks, self.stored)?;
+        Ok(found)
     }
 
     /// The ends to which guards lead.
     pub(crate) fn put_ends(&mut self) -> Result<(), LinkFault>
         ensures ends { IfOk result (λ _. EndsAll self.new) }
-        ensures free { IfOk result (λ _. IfSome self.new.mark (λ at. IsPlace self.old.stored at)) }
+        ensures place { IfOk result (λ _. IsPlaceOfMarks self.old.guards.items self.old.target.marks self.old.stored self.new.mark) }
     {
         let place = self.place_of_marks()?;
         self.mark = place;
         match place {
-            Some(at) => self.put_marks(at),
-            None => self.put_silent_ends(),
+            Some(at) => {
+                self.put_marks(at)?;
+                Ok(())
+            }
+            None => {
+                self.put_silent_ends()?;
+                Ok(())
+            }
         }
     }
 }

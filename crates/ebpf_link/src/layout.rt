@@ -14,9 +14,10 @@ use crate::labels::guard_label;
 use crate::lists::{number_at, set_answer};
 use crate::liveness::Registers;
 use crate::loops::Loops;
-use crate::marks::{CELLS_BYTES, ScratchWords};
+use crate::marks::CELLS_BYTES;
 use crate::pieces::{Piece, compute};
 use crate::planning::Plan;
+use crate::scratch_words::ScratchWords;
 use crate::target::{MarkRule, Target};
 use instruction_set::{Instruction, Operation, Register, Source};
 use program_interface::{MOST_SLOTS, STACK_BYTES};
@@ -207,8 +208,25 @@ impl Layout<'_> {
         Ok(number)
     }
 
+    /// Notes that a guard always ends the block run here, where nothing goes on behind it.
+    pub(crate) fn note_unless(&mut self, goes_on: bool, need: Need)
+        ensures pieces { self.new.pieces ≡ self.old.pieces }
+        ensures slots { self.new.slots ≡ self.old.slots }
+        ensures guards { self.new.guards ≡ self.old.guards }
+        ensures here { self.new.here ≡ self.old.here }
+    {
+        if !goes_on {
+            self.note_end(need);
+        }
+    }
+
     /// Notes that a guard always ends the block run here.
-    pub(crate) fn note_end(&mut self, need: Need) {
+    pub(crate) fn note_end(&mut self, need: Need)
+        ensures pieces { self.new.pieces ≡ self.old.pieces }
+        ensures slots { self.new.slots ≡ self.old.slots }
+        ensures guards { self.new.guards ≡ self.old.guards }
+        ensures here { self.new.here ≡ self.old.here }
+    {
         if let Some(found) = self.ended.get_mut(self.here) {
             *found = Some(need);
         }

@@ -28,6 +28,7 @@ mod origins;
 mod pieces;
 mod planning;
 mod remainders;
+mod scratch_words;
 mod several;
 mod spilling;
 mod stack;
@@ -36,6 +37,7 @@ mod target;
 mod threading;
 mod visiting;
 mod widening;
+mod within;
 
 pub use assembling::{Cut, Linked, LinkedGuard};
 pub use fault::{LinkFault, Widest};
