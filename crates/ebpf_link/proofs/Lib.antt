@@ -1,5 +1,11 @@
+mod BoundLemmas
 mod Disjoint
+mod EndLemmas
 mod FreeWords
+mod MarkPieces
+mod MarkPlaces
+mod MarkRuns
 mod Masks
+mod StoredWords
 mod Unchanged
 mod Widths

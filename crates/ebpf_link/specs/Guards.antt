@@ -1,12 +1,16 @@
--- The ends of block runs to which guards lead.
-use Rattle.std.specs.Prelude.{ℕ, ℤ, List, [], ◌∷◌, ◌+◌, min, pos}
+-- Guards, and the compares that lead to their ends.
+use Rattle.std.specs.Prelude.{ℕ, ℤ, List, [], ◌∷◌, ◌+◌, ◌++◌, ◌≡◌, IsSomeAnd, min, pos, length, slice_get, slice_index}
 use Rattle.instruction_set.specs.declared.instruction.Instruction.{Instruction}
-use Rattle.instruction_set.specs.declared.instruction.Instruction.TheVariants.{Arithmetic, Exit, Jump}
+use Rattle.instruction_set.specs.declared.instruction.Instruction.TheVariants.{Branch, Jump}
 use Rattle.instruction_set.specs.declared.instruction.Source.TheVariants.{Immediate}
-use Rattle.instruction_set.specs.declared.operation.Operation.TheVariants.{Move}
+use Rattle.instruction_set.specs.declared.operation.Relation.{Relation}
 use Rattle.instruction_set.specs.declared.operation.Width.TheVariants.{Bits64}
 use Rattle.ebpf_link.specs.declared.guards.Guard.{Guard}
 use Rattle.ebpf_link.specs.declared.guards.Guard.TheVariants as kind
+use Rattle.ebpf_link.specs.declared.guards.Need.{Need}
+use Rattle.ebpf_link.specs.declared.guards.Need.TheVariants as need
+use Rattle.ebpf_link.specs.declared.layout.LaidGuard.{LaidGuard}
+use Rattle.ebpf_link.specs.declared.layout.Layout.{Layout}
 use Rattle.ebpf_link.specs.declared.pieces.Piece.{Piece}
 use Rattle.ebpf_link.specs.declared.pieces.Piece.TheVariants as piece
 
@@ -24,9 +28,19 @@ guard_word kind.Emit = pos 0x7002
 guard_word kind.Block = pos 0x7003
 guard_word kind.Rounds = pos 0x7004
 
--- what ends a block run, for guards of a kind that write nothing: R0 gets its word
-abbrev pub guard_end : Guard → List Piece
-guard_end guard = piece.Plain (Arithmetic Bits64 Move 0 (Immediate (guard_word guard))) ∷ piece.Plain Exit ∷ []
+-- a guard is of this kind, in front of this slot, and this must hold there
+pub record IsOf (guard : Guard) (slot : ℕ) (need : Need) (laid : LaidGuard) : Type 0 where
+  pub same_kind : laid.guard ≡ guard
+  pub same_slot : laid.place.slot ≡ slot
+  pub same_need : laid.place.need ≡ need
+
+-- such a guard has this place among all
+abbrev pub IsGuardAt : List LaidGuard → ℕ → Guard → ℕ → Need → Type 0
+IsGuardAt guards place guard slot need = IsSomeAnd (slice_get guards place) (IsOf guard slot need)
+
+-- each guard has its place still
+abbrev pub KeepsGuards : List LaidGuard → List LaidGuard → Type 0
+KeepsGuards before after = (more : List LaidGuard) × (after ≡ before ++ more)
 
 -- the label of the end to which the guard at a place among all leads, of a program of so many slots
 abbrev pub guard_label : ℕ → ℕ → ℕ
@@ -36,6 +50,23 @@ guard_label slots place = slots + 2 + min place 0x100000
 abbrev pub guard_piece : ℕ → ℕ → Instruction → Piece
 guard_piece slots place jump = piece.Jump jump (guard_label slots place)
 
--- where a loop is laid out no further: each way to its first slot ends the block run
-abbrev pub cut_pieces : ℕ → ℕ → ℕ → List Piece
-cut_pieces slots place head = piece.Begins head ∷ guard_piece slots place (Jump (pos 0)) ∷ []
+-- one piece more: a compare, or a jump, that leads to the end of a guard, which is of this kind, in front of the slot that is laid out, and
+-- has this need
+pub record IsGuarded (before after : Layout) (jump : Instruction) (guard : Guard) (need : Need) (place : ℕ) : Type 0 where
+  pub one_more : after.pieces.items ≡ before.pieces.items ++ (guard_piece (length before.slots.now) place jump ∷ [])
+  pub noted : IsGuardAt after.guards.items place guard before.here need
+  pub kept : KeepsGuards before.guards.items after.guards.items
+
+-- so it is for some guard
+abbrev pub IsGuardedBy : Layout → Layout → Instruction → Guard → Need → Type 0
+IsGuardedBy before after jump guard need = (place : ℕ) × IsGuarded before after jump guard need place
+
+-- a 64-bit compare with a number
+abbrev pub compare_with : Relation → ℕ → ℤ → Instruction
+compare_with relation dst number = Branch Bits64 relation dst (Immediate number) (pos 0)
+
+-- where a loop is laid out no further, each way to its first slot ends the block run: it leads to a guard that says after how many rounds
+pub record IsCut (before after : Layout) (head place : ℕ) : Type 0 where
+  pub pieces : after.pieces.items
+      ≡ before.pieces.items ++ (piece.Begins head ∷ guard_piece (length before.slots.now) place (Jump (pos 0)) ∷ [])
+  pub noted : IsGuardAt after.guards.items place kind.Rounds head (need.Rounds (slice_index before.caps.now head))

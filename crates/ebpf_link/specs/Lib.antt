@@ -1,11 +1,16 @@
+pub mod Assembling
+pub mod Bounds
 pub mod Copies
 pub mod Deciding
+pub mod Ends
 pub mod Folding
 pub mod Guards
 pub mod Idle
+pub mod Marking
 pub mod Marks
 pub mod Masks
 pub mod Remainders
+pub mod ScratchWords
 pub mod Spelling
 pub mod Sums
 pub mod Widening

@@ -1,5 +1,5 @@
 -- What a guard that ends a block run leaves in scratch.
-use Rattle.std.specs.Prelude.{ℕ, ℤ, List, [], ◌∷◌, ◌≡◌, ◌<◌, ◌+◌, ◌*◌, ◌+ℤ◌, ◌*ℤ◌, min, pos}
+use Rattle.std.specs.Prelude.{ℕ, ℤ, List, [], ◌∷◌, Option, Some, None, IsSomeAnd, ◌≡◌, ◌<◌, ◌≤◌, ◌+◌, ◌*◌, ◌+ℤ◌, ◌*ℤ◌, min, pos}
 use Rattle.std.specs.Int.{bit_at}
 use Rattle.instruction_set.specs.declared.instruction.Instruction.{Instruction}
 use Rattle.instruction_set.specs.declared.instruction.Instruction.TheVariants.{Arithmetic, Exit, Load, StoreRegister}
@@ -7,8 +7,13 @@ use Rattle.instruction_set.specs.declared.instruction.Source.TheVariants.{Immedi
 use Rattle.instruction_set.specs.declared.operation.Operation.TheVariants.{Add, And, Move, RightShift}
 use Rattle.instruction_set.specs.declared.operation.Size.TheVariants.{DoubleWord, Word}
 use Rattle.instruction_set.specs.declared.operation.Width.TheVariants.{Bits64}
+use Rattle.ebpf_link.specs.declared.fault.LinkFault.{LinkFault}
+use Rattle.ebpf_link.specs.declared.fault.LinkFault.TheVariants.{NoMark}
 use Rattle.ebpf_link.specs.declared.guards.Guard.{Guard}
 use Rattle.ebpf_link.specs.declared.guards.Guard.TheVariants as kind
+use Rattle.ebpf_link.specs.declared.layout.LaidGuard.{LaidGuard}
+use Rattle.ebpf_link.specs.declared.target.MarkRule.{MarkRule}
+use Rattle.ebpf_link.specs.declared.target.MarkRule.TheVariants.{At, Found, Silent}
 
 -- the number of a kind of guards, above that of a slot and of a guard
 abbrev pub mark_kind : Guard → ℤ
@@ -24,6 +29,28 @@ AreFree stored word = (word < 127) × (bit_at stored word ≡ 0) × (bit_at stor
 -- a word begins at a byte, and this word and the next one are none of the set
 abbrev pub IsPlace : ℕ → ℕ → Type 0
 IsPlace stored at = (word : ℕ) × (at ≡ 8 * word) × AreFree stored word
+
+-- the last such place
+pub record IsLastPlace (stored at : ℕ) : Type 0 where
+  pub place : IsPlace stored at
+  pub last : (other : ℕ) → IsPlace stored other → other ≤ at
+
+-- where guards write by a rule, if they do: at its byte, or at the last place
+abbrev pub IsMarkPlace : MarkRule → ℕ → Option ℕ → Type 0
+IsMarkPlace Silent stored found = found ≡ None
+IsMarkPlace (At at) stored found = (found ≡ Some at) × IsPlace stored at
+IsMarkPlace Found stored found = IsSomeAnd found (λ at. IsLastPlace stored at)
+
+-- where the guards of a program write by a rule, if there are any and they do
+abbrev pub IsPlaceOfMarks : List LaidGuard → MarkRule → ℕ → Option ℕ → Type 0
+IsPlaceOfMarks [] marks stored found = found ≡ None
+IsPlaceOfMarks guards marks stored found = IsMarkPlace marks stored found
+
+-- that a rule has no place: its byte is none, or there is none at all
+abbrev pub LacksPlace : MarkRule → ℕ → LinkFault → Type 0
+LacksPlace Silent stored fault = ⊥
+LacksPlace (At at) stored fault = (fault ≡ NoMark (Some at)) × (IsPlace stored at → ⊥)
+LacksPlace Found stored fault = (fault ≡ NoMark None) × ((at : ℕ) → IsPlace stored at → ⊥)
 
 -- what R0 has where a guard leads to what writes its mark: of 16 bits the guard's number, of 12 its slot, and above these its kind
 abbrev pub mark_word : Guard → ℕ → ℕ → ℤ

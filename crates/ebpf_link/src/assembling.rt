@@ -1,9 +1,12 @@
 //! Pieces as slots: what computes nothing that is read is left out, and jumps get their distances.
 
+ghost use Rattle.std.specs.Prelude.{◌≡◌, ◌++◌, IfOk, OnOk, length, pos, slice_get, unwrap_or};
+ghost use Rattle.ebpf_link.specs.Assembling.{by_distance, mark_words, slots_of, told_word};
+
 use crate::fault::{LinkFault, Widest};
 use crate::guards::{Guard, GuardPlace};
 use crate::labels::{guard_of, label_count};
-use crate::layout::Layout;
+use crate::layout::{LaidGuard, Layout};
 use crate::lists::{number_at, set_number, zeros};
 use crate::liveness::{ALL, Registers, at, before, bit, reads, writes};
 use crate::marks::mark_word;
@@ -129,7 +132,9 @@ fn distance(from: usize, to: usize) -> i16 {
 }
 
 /// The same jump by another distance.
-fn by_distance(instruction: Instruction, slots: i16) -> Instruction {
+fn by_distance(instruction: Instruction, slots: i16) -> Instruction
+    ensures { result ≡ by_distance instruction slots }
+{
     match instruction {
         Instruction::Branch {
             width,
@@ -188,20 +193,29 @@ fn count(sizes: &[usize]) -> usize {
     count
 }
 
+/// What R0 gets where the guard at a place leads.
+fn word_at(words: &[i32], place: usize) -> i32
+    ensures { result ≡ unwrap_or (slice_get words.now place) (pos 0) }
+{
+    match words.get(place) {
+        Some(word) => *word,
+        None => 0,
+    }
+}
+
 /// Adds the slots of a piece that stays.
 fn push_piece(
     slots: &mut Vec<Option<Instruction>>,
     piece: &Piece,
     distance: i16,
     words: &[i32],
-) -> Result<(), AllocError> {
+) -> Result<(), AllocError>
+    ensures { OnOk result (slots.new.items ≡ slots.old.items ++ slots_of piece.now distance words.now) }
+{
     match piece {
         Piece::Begins(_) => Ok(()),
         Piece::Told(place) => {
-            let word = match words.get(*place) {
-                Some(word) => *word,
-                None => 0,
-            };
+            let word = word_at(words, *place);
             slots.extend_from_slice(&[Some(compute(
                 Operation::Move,
                 Register::R0,
@@ -362,14 +376,24 @@ fn mark_words(
     alloc: Global,
     layout: &Layout<'_>,
     guards: &[LinkedGuard],
-) -> Result<Vec<i32>, AllocError> {
+) -> Result<Vec<i32>, AllocError>
+    ensures { IfOk result (λ words. words.items ≡ mark_words layout.now.guards.items guards.now (length guards.now)) }
+{
     let mut words = Vec::new(alloc);
     for (place, found) in guards.iter().enumerate() {
-        if let Some(laid) = layout.guards.get(place) {
-            words.push(mark_word(laid.guard, found.slot, place.saturating_add(1)))?;
-        }
+        words.push(word_of(&layout.guards, place, found.slot))?;
     }
     Ok(words)
+}
+
+/// What R0 has where the guard at a place, which compares first at a slot of the program, leads to what writes a mark.
+fn word_of(guards: &[LaidGuard], place: usize, slot: usize) -> i32
+    ensures { result ≡ told_word guards.now place slot }
+{
+    match guards.get(place) {
+        Some(laid) => mark_word(laid.guard, slot, place.saturating_add(1)),
+        None => 0,
+    }
 }
 
 /// The slots of pieces that stay.

@@ -2,9 +2,10 @@
 
 use crate::area_sets::{AreaSet, IN_ORDER};
 use crate::fault::LinkFault;
-use crate::guards::{Guard, Need, Within, small, whole};
+use crate::guards::{Guard, Need};
 use crate::known::Known;
 use crate::layout::Layout;
+use crate::within::{Within, small, whole};
 use instruction_set::{Instruction, Register, Relation};
 use program_interface::{Area, FRAME_LENGTH_BYTES};
 use word_domain::{Bounds, Domain, Offsets};

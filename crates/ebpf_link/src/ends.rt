@@ -1,8 +1,9 @@
 //! The ends of block runs to which guards lead.
 
-ghost use Rattle.std.specs.Prelude.{◌≡◌, ◌++◌, IfOk, min, pos};
-ghost use Rattle.ebpf_link.specs.Guards.{guard_end};
-ghost use Rattle.ebpf_link.specs.Marks.{mark_end};
+ghost use Rattle.std.specs.Prelude.{◌≡◌, ◌++◌, IfOk, length, map, min, pos, slice_get};
+ghost use Rattle.ebpf_link.specs.Ends.{EndsAll, guard_end, is_of_kind, label_of, labels_of, mark_pieces, marked_ends, silent_end, silent_ends, told_end, told_ends};
+ghost use Rattle.ebpf_link.specs.Marks.{IsPlaceOfMarks, mark_end};
+ghost use Rattle.ebpf_link.specs.declared.pieces.Piece.TheVariants.{Plain};
 ghost use Rattle.instruction_set.specs.declared.instruction.Instruction.TheVariants.{Load, StoreRegister};
 ghost use Rattle.instruction_set.specs.declared.operation.Size.TheVariants.{Word};
 
@@ -74,6 +75,10 @@ impl Layout<'_> {
     /// Ends a block run, for guards of a kind that write nothing.
     fn push_end(&mut self, guard: Guard) -> Result<(), LinkFault>
         ensures pushed { IfOk result (λ _. self.new.pieces.items ≡ self.old.pieces.items ++ guard_end guard) }
+        ensures slots { self.new.slots ≡ self.old.slots }
+        ensures guards { self.new.guards ≡ self.old.guards }
+        ensures own { self.new.own ≡ self.old.own }
+        ensures mark { self.new.mark ≡ self.old.mark }
     {
         let source = Source::Immediate(guard.word());
         self.push_plain(compute(Operation::Move, Register::R0, source))?;
@@ -81,30 +86,71 @@ impl Layout<'_> {
     }
 
     /// Is the guard at a place among all of a kind?
-    fn is_kind(&self, place: usize, guard: Guard) -> bool {
+    fn is_kind(&self, place: usize, guard: Guard) -> bool
+        ensures { result ≡ is_of_kind guard (slice_get self.now.guards.items place) }
+    {
         match self.guards.get(place) {
-            Some(laid) => laid.guard == guard,
+            Some(laid) => laid.guard.index() == guard.index(),
             None => false,
         }
     }
 
-    /// The end to which guards of a kind lead that write nothing, if there are any.
-    fn put_end(&mut self, guard: Guard) -> Result<(), LinkFault> {
-        let mut is_needed = false;
-        for place in 0..self.guards.len() {
-            if self.is_kind(place, guard) {
-                self.push_begin(guard_label(self.slots, place))?;
-                is_needed = true;
-            }
-        }
-        if is_needed {
-            return self.push_end(guard);
+    /// The label of the guard at a place, if that is of a kind.
+    fn push_label(&mut self, guard: Guard, place: usize) -> Result<(), LinkFault>
+        ensures pushed { IfOk result (λ _. self.new.pieces.items
+            ≡ self.old.pieces.items ++ label_of (length self.old.slots.now) self.old.guards.items guard place) }
+        ensures slots { self.new.slots ≡ self.old.slots }
+        ensures guards { self.new.guards ≡ self.old.guards }
+        ensures own { self.new.own ≡ self.old.own }
+        ensures mark { self.new.mark ≡ self.old.mark }
+    {
+        if self.is_kind(place, guard) {
+            return self.push_begin(guard_label(self.slots, place));
         }
         Ok(())
     }
 
+    /// The labels of the guards of a kind.
+    fn push_labels(&mut self, guard: Guard) -> Result<(), LinkFault>
+        ensures pushed { IfOk result (λ _. self.new.pieces.items ≡ self.old.pieces.items
+            ++ labels_of (length self.old.slots.now) self.old.guards.items guard (length self.old.guards.items)) }
+        ensures slots { self.new.slots ≡ self.old.slots }
+        ensures guards { self.new.guards ≡ self.old.guards }
+        ensures own { self.new.own ≡ self.old.own }
+        ensures mark { self.new.mark ≡ self.old.mark }
+    {
+        for place in 0..self.guards.len() {
+            self.push_label(guard, place)?;
+        }
+        Ok(())
+    }
+
+    /// The end to which guards of a kind lead that write nothing, if there are any.
+    fn put_end(&mut self, guard: Guard) -> Result<(), LinkFault>
+        ensures pushed { IfOk result (λ _. self.new.pieces.items
+            ≡ self.old.pieces.items ++ silent_end (length self.old.slots.now) self.old.guards.items guard) }
+        ensures slots { self.new.slots ≡ self.old.slots }
+        ensures guards { self.new.guards ≡ self.old.guards }
+        ensures own { self.new.own ≡ self.old.own }
+        ensures mark { self.new.mark ≡ self.old.mark }
+    {
+        let before = self.pieces.len();
+        self.push_labels(guard)?;
+        if self.pieces.len() == before {
+            return Ok(());
+        }
+        self.push_end(guard)
+    }
+
     /// The ends to which guards lead that write nothing.
-    fn put_silent_ends(&mut self) -> Result<(), LinkFault> {
+    fn put_silent_ends(&mut self) -> Result<(), LinkFault>
+        ensures pushed { IfOk result (λ _. self.new.pieces.items
+            ≡ self.old.pieces.items ++ silent_ends (length self.old.slots.now) self.old.guards.items) }
+        ensures slots { self.new.slots ≡ self.old.slots }
+        ensures guards { self.new.guards ≡ self.old.guards }
+        ensures own { self.new.own ≡ self.old.own }
+        ensures mark { self.new.mark ≡ self.old.mark }
+    {
         self.put_end(Guard::Memory)?;
         self.put_end(Guard::Emit)?;
         self.put_end(Guard::Block)?;
@@ -112,7 +158,14 @@ impl Layout<'_> {
     }
 
     /// The end to which a guard leads: R0 gets its kind, its slot and its number.
-    fn push_told(&mut self, place: usize) -> Result<(), LinkFault> {
+    fn push_told(&mut self, place: usize) -> Result<(), LinkFault>
+        ensures pushed { IfOk result (λ _. self.new.pieces.items
+            ≡ self.old.pieces.items ++ told_end (length self.old.slots.now) (length self.old.guards.items) place) }
+        ensures slots { self.new.slots ≡ self.old.slots }
+        ensures guards { self.new.guards ≡ self.old.guards }
+        ensures own { self.new.own ≡ self.old.own }
+        ensures mark { self.new.mark ≡ self.old.mark }
+    {
         self.push_begin(guard_label(self.slots, place))?;
         self.push(Piece::Told(place))?;
         if place.saturating_add(1) < self.guards.len() {
@@ -121,32 +174,98 @@ impl Layout<'_> {
         Ok(())
     }
 
-    /// The ends to which guards lead that write from a byte of scratch on.
-    fn put_marks(&mut self, at: usize) -> Result<(), LinkFault> {
-        if !self.has_marks() {
-            return Err(LinkFault::NoStack(self.own));
-        }
-        self.mark = Some(at);
-        self.uses_context = true;
-        self.uses_scratch = true;
+    /// The ends to which all guards lead: R0 gets what is told of each.
+    fn push_all_told(&mut self) -> Result<(), LinkFault>
+        ensures pushed { IfOk result (λ _. self.new.pieces.items ≡ self.old.pieces.items
+            ++ told_ends (length self.old.slots.now) (length self.old.guards.items) (length self.old.guards.items)) }
+        ensures slots { self.new.slots ≡ self.old.slots }
+        ensures guards { self.new.guards ≡ self.old.guards }
+        ensures own { self.new.own ≡ self.old.own }
+        ensures mark { self.new.mark ≡ self.old.mark }
+    {
         for place in 0..self.guards.len() {
             self.push_told(place)?;
-        }
-        self.push_begin(mark_label(self.slots))?;
-        for instruction in mark_end(self.cell(3), self.cell(1), at) {
-            self.push_plain(instruction)?;
         }
         Ok(())
     }
 
-    /// The ends to which guards lead.
-    pub(crate) fn put_ends(&mut self) -> Result<(), LinkFault> {
-        if self.guards.is_empty() {
-            return Ok(());
+    /// Puts instructions that are no jumps.
+    fn push_all(&mut self, instructions: &[Instruction]) -> Result<(), LinkFault>
+        ensures pushed { IfOk result (λ _. self.new.pieces.items ≡ self.old.pieces.items ++ map Plain instructions.now) }
+        ensures slots { self.new.slots ≡ self.old.slots }
+        ensures guards { self.new.guards ≡ self.old.guards }
+        ensures own { self.new.own ≡ self.old.own }
+        ensures mark { self.new.mark ≡ self.old.mark }
+    {
+        for instruction in instructions {
+            self.push_plain(*instruction)?;
         }
-        match mark_place(self.target.marks, self.stored)? {
-            Some(at) => self.put_marks(at),
-            None => self.put_silent_ends(),
+        Ok(())
+    }
+
+    /// What writes a mark from a byte of scratch on, and ends the block run.
+    fn push_mark(&mut self, at: usize) -> Result<(), LinkFault>
+        ensures pushed { IfOk result (λ _. self.new.pieces.items
+            ≡ self.old.pieces.items ++ mark_pieces (length self.old.slots.now) self.old.own at) }
+        ensures slots { self.new.slots ≡ self.old.slots }
+        ensures guards { self.new.guards ≡ self.old.guards }
+        ensures own { self.new.own ≡ self.old.own }
+        ensures mark { self.new.mark ≡ self.old.mark }
+    {
+        let context = self.cell(3);
+        let scratch = self.cell(1);
+        let instructions = mark_end(context, scratch, at);
+        self.push_begin(mark_label(self.slots))?;
+        self.push_all(&instructions)?;
+        Ok(())
+    }
+
+    /// The ends to which guards lead that write from a byte of scratch on.
+    fn put_marks(&mut self, at: usize) -> Result<(), LinkFault>
+        ensures pushed { IfOk result (λ _. self.new.pieces.items ≡ self.old.pieces.items
+            ++ marked_ends (length self.old.slots.now) (length self.old.guards.items) self.old.own at) }
+        ensures slots { self.new.slots ≡ self.old.slots }
+        ensures guards { self.new.guards ≡ self.old.guards }
+        ensures own { self.new.own ≡ self.old.own }
+        ensures mark { self.new.mark ≡ self.old.mark }
+    {
+        if !self.has_marks() {
+            return Err(LinkFault::NoStack(self.own));
+        }
+        self.uses_context = true;
+        self.uses_scratch = true;
+        self.push_all_told()?;
+        self.push_mark(at)
+    }
+
+    /// Where guards write, if there are any that do.
+    #[tactic(auto, using(crate::proofs::MarkPlaces::no_guards, crate::proofs::MarkPlaces::some_guards))]
+    fn place_of_marks(&self) -> Result<Option<usize>, LinkFault>
+        ensures { IfOk result (λ found. IsPlaceOfMarks self.now.guards.items self.now.target.marks self.now.stored found) }
+    {
+        if self.guards.len() == 0 {
+            return Ok(None);
+        }
+        let found = mark_place(self.target.marks, self.stored)?;
+        Ok(found)
+    }
+
+    /// The ends to which guards lead.
+    pub(crate) fn put_ends(&mut self) -> Result<(), LinkFault>
+        ensures ends { IfOk result (λ _. EndsAll self.new) }
+        ensures place { IfOk result (λ _. IsPlaceOfMarks self.old.guards.items self.old.target.marks self.old.stored self.new.mark) }
+    {
+        let place = self.place_of_marks()?;
+        self.mark = place;
+        match place {
+            Some(at) => {
+                self.put_marks(at)?;
+                Ok(())
+            }
+            None => {
+                self.put_silent_ends()?;
+                Ok(())
+            }
         }
     }
 }

@@ -1,8 +1,9 @@
 //! Guards: compares in front of what a program does, that end the block run where it would trap. Each is idle in every block run that
 //! doesn't trap without it, but for that of an emit whose address and length are both ranges: it wants room for the longest.
 
-ghost use Rattle.std.specs.Prelude.{◌≡◌};
-ghost use Rattle.ebpf_link.specs.Guards.{guard_index, guard_word};
+ghost use Rattle.std.specs.Prelude.{◌≡◌, IfOk, false, if◌then◌else◌};
+ghost use Rattle.ebpf_link.specs.Deciding.{edge};
+ghost use Rattle.ebpf_link.specs.Guards.{IsGuardedBy, compare_with, guard_index, guard_word};
 ghost use Rattle.instruction_set.specs.declared.instruction.Instruction.TheVariants.{Load, StoreRegister};
 ghost use Rattle.instruction_set.specs.declared.operation.Size.TheVariants.{DoubleWord};
 
@@ -12,8 +13,9 @@ use crate::idle::leaves_as_is;
 use crate::known::{Known, narrow, step};
 use crate::layout::Layout;
 use crate::liveness::{ALL, at, bit, reads, writes};
-use crate::marks::words_stored;
 use crate::pieces::{compare, compute};
+use crate::scratch_words::words_stored;
+use crate::within::{Within, narrowed, whole};
 use instruction_set::{
     Access, AccessKind, Instruction, Operation, Register, Relation, Size, Source,
 };
@@ -107,38 +109,6 @@ pub struct GuardPlace {
     pub need: Need,
 }
 
-/// Where an address must lie, in bytes behind the first one of an area.
-#[derive(Clone, Copy)]
-pub(crate) struct Within {
-    pub area: Area,
-    pub low: i64,
-    pub high: i64,
-    /// What is told of it.
-    pub need: Need,
-}
-
-impl Within {
-    /// The bounds of the distance, as numbers to compare with.
-    pub fn compared(self) -> (i32, i32) {
-        let high = self.high.clamp(0, 100_000) as i32;
-        (self.low.clamp(0, 100_000) as i32, high)
-    }
-}
-
-/// Any place of an area, for so many bytes.
-pub(crate) fn whole(area: Area, length: usize, bytes: usize) -> Within {
-    Within {
-        area,
-        low: 0,
-        high: small(length),
-        need: Need::Inside {
-            area,
-            bytes,
-            length,
-        },
-    }
-}
-
 /// A register that has an address, at which distance from its area's first byte, and the cell that has what it had before.
 #[derive(Clone, Copy)]
 pub(crate) struct Anchor {
@@ -155,33 +125,6 @@ pub(crate) fn address_again(base: Register, anchor: Anchor) -> [Option<Instructi
     }
     let back = Source::Immediate(anchor.distance.clamp(-100_000, 100_000).wrapping_neg());
     [Some(added), Some(compute(Operation::Add, base, back))]
-}
-
-/// The length of an area, which is small.
-pub(crate) fn small(length: usize) -> i64 {
-    if length < 0x10_0000 {
-        length as i64
-    } else {
-        0x10_0000
-    }
-}
-
-/// Where an access's base must point, besides that it did.
-pub(crate) fn narrowed(within: Within, access: Access, length: usize) -> Within {
-    let offset = i64::from(access.offset);
-    let low = offset.wrapping_neg();
-    let high = small(length)
-        .wrapping_sub(offset)
-        .wrapping_sub(i64::from(access.size));
-    let bytes = match within.need {
-        Need::Inside { bytes, .. } => bytes,
-        _ => 0,
-    };
-    Within {
-        low: within.low.max(low),
-        high: within.high.min(high),
-        ..whole(within.area, length, bytes.max(usize::from(access.size)))
-    }
 }
 
 /// The distance from an area's first byte, where it is known to be one.
@@ -225,13 +168,15 @@ impl Layout<'_> {
         relation: Relation,
         dst: Register,
         number: i32,
-    ) -> Result<bool, LinkFault> {
+    ) -> Result<bool, LinkFault>
+        ensures guarded { IfOk result (λ _. IsGuardedBy self.old self.new (compare_with relation dst number) guard need) }
+        ensures known { IfOk result (λ goes_on. edge known.old.facts (compare_with relation dst number) false
+            ≡ (if goes_on then Some known.new.facts else None)) }
+    {
         let branch = compare(relation, dst, number);
-        self.push_guard(branch, guard, need)?;
         let goes_on = narrow(known, &branch, false);
-        if !goes_on {
-            self.note_end(need);
-        }
+        self.note_unless(goes_on, need);
+        let _place = self.push_guard(branch, guard, need)?;
         Ok(goes_on)
     }
 

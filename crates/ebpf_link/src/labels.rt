@@ -1,6 +1,7 @@
 //! The labels of what is laid out beside the slots: numbers behind theirs.
 
 ghost use Rattle.std.specs.Prelude.{◌≡◌, length};
+ghost use Rattle.ebpf_link.specs.Ends.{mark_label};
 ghost use Rattle.ebpf_link.specs.Guards.{guard_label};
 
 use instruction_set::Instruction;
@@ -14,7 +15,9 @@ pub(crate) fn other_way(slots: &[Option<Instruction>]) -> usize {
 }
 
 /// What writes which guard ended a block run.
-pub(crate) fn mark_label(slots: &[Option<Instruction>]) -> usize {
+pub(crate) fn mark_label(slots: &[Option<Instruction>]) -> usize
+    ensures { result ≡ mark_label (length slots.now) }
+{
     slots.len() + 1
 }
 

@@ -1,8 +1,9 @@
 //! The slots of a program without loops.
 
-ghost use Rattle.std.specs.Prelude.{◌≡◌, ◌+◌, ◌++◌, ◌∷◌, [], IfOk, length};
-ghost use Rattle.ebpf_link.specs.Guards.{cut_pieces, guard_piece};
-ghost use Rattle.ebpf_link.specs.declared.pieces.Piece.TheVariants.{Begins, Plain};
+ghost use Rattle.std.specs.Prelude.{◌≡◌, ◌+◌, ◌++◌, ◌∷◌, [], IfOk, IfSome, length, true};
+ghost use Rattle.ebpf_link.specs.Guards.{IsCut, IsGuardAt, IsGuarded, IsOf, KeepsGuards};
+ghost use Rattle.ebpf_link.specs.Ends.{cell_offset, EndsAll};
+ghost use Rattle.ebpf_link.specs.declared.pieces.Piece.TheVariants.{Begins, Jump, Plain};
 
 use crate::area_sets::AreaSet;
 use crate::assembling::Cut;
@@ -13,9 +14,10 @@ use crate::labels::guard_label;
 use crate::lists::{number_at, set_answer};
 use crate::liveness::Registers;
 use crate::loops::Loops;
-use crate::marks::{CELLS_BYTES, ScratchWords};
+use crate::marks::CELLS_BYTES;
 use crate::pieces::{Piece, compute};
 use crate::planning::Plan;
+use crate::scratch_words::ScratchWords;
 use crate::target::{MarkRule, Target};
 use instruction_set::{Instruction, Operation, Register, Source};
 use program_interface::{MOST_SLOTS, STACK_BYTES};
@@ -95,6 +97,13 @@ pub(crate) struct Layout<'a> {
     pub scratch: AreaSet,
 }
 
+/// Is a guard of this kind, in front of this slot, and must this hold there?
+fn is_same(laid: &LaidGuard, guard: Guard, slot: usize, need: Need) -> bool
+    ensures { result ≡ true → IsOf guard slot need laid.now }
+{
+    laid.guard == guard && laid.place.slot == slot && laid.place.need == need
+}
+
 /// Joins what is known into a row.
 fn add(row: &mut Row, known: Box<Known>) {
     match row {
@@ -105,14 +114,20 @@ fn add(row: &mut Row, known: Box<Known>) {
 
 impl Layout<'_> {
     /// The offset from R10 of a cell that guards use.
-    pub(crate) fn cell(&self, number: usize) -> i16 {
+    pub(crate) fn cell(&self, number: usize) -> i16
+        ensures { result ≡ cell_offset self.now.own number }
+    {
         let below = self.own.min(512) + 8 * (number.min(8) + 1);
         -(below as i16)
     }
 
+    /// Puts a piece.
     pub(crate) fn push(&mut self, piece: Piece) -> Result<(), LinkFault>
         ensures pushed { IfOk result (λ _. self.new.pieces.items ≡ self.old.pieces.items ++ (piece ∷ [])) }
         ensures slots { self.new.slots ≡ self.old.slots }
+        ensures guards { self.new.guards ≡ self.old.guards }
+        ensures own { self.new.own ≡ self.old.own }
+        ensures mark { self.new.mark ≡ self.old.mark }
     {
         self.pieces.extend_from_slice(&[piece])?;
         Ok(())
@@ -122,6 +137,9 @@ impl Layout<'_> {
     pub(crate) fn push_plain(&mut self, instruction: Instruction) -> Result<(), LinkFault>
         ensures pushed { IfOk result (λ _. self.new.pieces.items ≡ self.old.pieces.items ++ (Plain instruction ∷ [])) }
         ensures slots { self.new.slots ≡ self.old.slots }
+        ensures guards { self.new.guards ≡ self.old.guards }
+        ensures own { self.new.own ≡ self.old.own }
+        ensures mark { self.new.mark ≡ self.old.mark }
     {
         self.push(Piece::Plain(instruction))
     }
@@ -133,8 +151,7 @@ impl Layout<'_> {
         guard: Guard,
         need: Need,
     ) -> Result<usize, LinkFault>
-        ensures { IfOk result (λ place. self.new.pieces.items
-            ≡ self.old.pieces.items ++ (guard_piece (length self.old.slots.now) place jump ∷ [])) }
+        ensures { IfOk result (λ place. IsGuarded self.old self.new jump guard need place) }
     {
         let place = self.note_guard(guard, need)?;
         self.push(Piece::Jump(jump, guard_label(self.slots, place)))?;
@@ -147,12 +164,14 @@ impl Layout<'_> {
     }
 
     /// The place of a guard of the slot that is laid out, if there is one already.
-    fn found_guard(&self, guard: Guard, need: Need) -> Option<usize> {
+    fn found_guard(&self, guard: Guard, need: Need) -> Option<usize>
+        ensures { IfSome result (λ place. IsGuardAt self.now.guards.items place guard self.now.here need) }
+    {
         let mut next = *self.last_guards.get(self.here)?;
         for _ in 0..self.guards.len() {
             let place = next?;
             let laid = self.guards.get(place)?;
-            if laid.guard == guard && laid.place.need == need {
+            if is_same(laid, guard, self.here, need) {
                 return Some(place);
             }
             next = laid.before;
@@ -162,8 +181,11 @@ impl Layout<'_> {
 
     /// Notes what must hold where a guard of a slot lets a block run go on. Gives the guard's place among all.
     fn note_guard(&mut self, guard: Guard, need: Need) -> Result<usize, LinkFault>
+        ensures noted { IfOk result (λ place. IsGuardAt self.new.guards.items place guard self.old.here need) }
+        ensures kept { KeepsGuards self.old.guards.items self.new.guards.items }
         ensures pieces { self.new.pieces ≡ self.old.pieces }
         ensures slots { self.new.slots ≡ self.old.slots }
+        ensures here { self.new.here ≡ self.old.here }
     {
         if let Some(place) = self.found_guard(guard, need) {
             return Ok(place);
@@ -186,8 +208,25 @@ impl Layout<'_> {
         Ok(number)
     }
 
+    /// Notes that a guard always ends the block run here, where nothing goes on behind it.
+    pub(crate) fn note_unless(&mut self, goes_on: bool, need: Need)
+        ensures pieces { self.new.pieces ≡ self.old.pieces }
+        ensures slots { self.new.slots ≡ self.old.slots }
+        ensures guards { self.new.guards ≡ self.old.guards }
+        ensures here { self.new.here ≡ self.old.here }
+    {
+        if !goes_on {
+            self.note_end(need);
+        }
+    }
+
     /// Notes that a guard always ends the block run here.
-    pub(crate) fn note_end(&mut self, need: Need) {
+    pub(crate) fn note_end(&mut self, need: Need)
+        ensures pieces { self.new.pieces ≡ self.old.pieces }
+        ensures slots { self.new.slots ≡ self.old.slots }
+        ensures guards { self.new.guards ≡ self.old.guards }
+        ensures here { self.new.here ≡ self.old.here }
+    {
         if let Some(found) = self.ended.get_mut(self.here) {
             *found = Some(need);
         }
@@ -207,7 +246,13 @@ impl Layout<'_> {
     }
 
     /// Puts a jump to where a slot begins next.
-    pub(crate) fn push_jump(&mut self, jump: Instruction, to: usize) -> Result<(), LinkFault> {
+    pub(crate) fn push_jump(&mut self, jump: Instruction, to: usize) -> Result<(), LinkFault>
+        ensures pushed { IfOk result (λ _. self.new.pieces.items ≡ self.old.pieces.items ++ (Jump jump to ∷ [])) }
+        ensures slots { self.new.slots ≡ self.old.slots }
+        ensures guards { self.new.guards ≡ self.old.guards }
+        ensures own { self.new.own ≡ self.old.own }
+        ensures mark { self.new.mark ≡ self.old.mark }
+    {
         self.push(Piece::Jump(jump, to))
     }
 
@@ -215,6 +260,9 @@ impl Layout<'_> {
     pub(crate) fn push_begin(&mut self, slot: usize) -> Result<(), LinkFault>
         ensures pushed { IfOk result (λ _. self.new.pieces.items ≡ self.old.pieces.items ++ (Begins slot ∷ [])) }
         ensures slots { self.new.slots ≡ self.old.slots }
+        ensures guards { self.new.guards ≡ self.old.guards }
+        ensures own { self.new.own ≡ self.old.own }
+        ensures mark { self.new.mark ≡ self.old.mark }
     {
         self.push(Piece::Begins(slot))
     }
@@ -358,14 +406,14 @@ impl Layout<'_> {
 
     /// Ends the block run where a loop would go round once more. Gives the guard's place among all.
     fn cut(&mut self, slot: usize) -> Result<usize, LinkFault>
-        ensures { IfOk result (λ place. self.new.pieces.items
-            ≡ self.old.pieces.items ++ cut_pieces (length self.old.slots.now) place slot) }
+        ensures { IfOk result (λ place. IsCut self.old self.new slot place) }
     {
         let need = Need::Rounds(number_at(self.caps, slot));
         set_answer(&mut self.is_cut, slot, true);
-        self.here = slot;
         self.push_begin(slot)?;
-        self.push_guard(Instruction::Jump { distance: 0 }, Guard::Rounds, need)
+        self.here = slot;
+        let place = self.push_guard(Instruction::Jump { distance: 0 }, Guard::Rounds, need)?;
+        Ok(place)
     }
 
     /// Forgets whether the loop that begins at a slot was left.
@@ -402,7 +450,9 @@ impl Layout<'_> {
     }
 
     /// Lays all slots out.
-    pub(crate) fn run(&mut self, alloc: Global) -> Result<(), LinkFault> {
+    pub(crate) fn run(&mut self, alloc: Global) -> Result<(), LinkFault>
+        ensures { IfOk result (λ _. EndsAll self.new) }
+    {
         let mut known = at_start(self.plan.scratch);
         if self.own <= 488 {
             self.keep_addresses(&mut known)?;

@@ -1,5 +1,7 @@
 //! Lists of numbers and answers, by place.
 
+ghost use Rattle.std.specs.Prelude.{◌≡◌, slice_index};
+
 use std::alloc::{AllocError, Global};
 
 /// So many zeros.
@@ -21,7 +23,9 @@ pub(crate) fn no_answers(alloc: Global, count: usize) -> Result<Vec<bool>, Alloc
 }
 
 /// The number at a place of a list, or 0.
-pub(crate) fn number_at(list: &[usize], place: usize) -> usize {
+pub(crate) fn number_at(list: &[usize], place: usize) -> usize
+    ensures { result ≡ slice_index list.now place }
+{
     match list.get(place) {
         Some(found) => *found,
         None => 0,

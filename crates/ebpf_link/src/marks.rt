@@ -1,15 +1,12 @@
 //! What a guard that ends a block run leaves in scratch: its number, its slot, and the block's index in the run.
 
-ghost use Rattle.std.specs.Prelude.{IfOk, IfSome, ◌≡◌, ◌≤ℤ◌, min, pos, true};
-ghost use Rattle.ebpf_link.specs.Marks.{AreFree, IsPlace, mark_kind, mark_word};
+ghost use Rattle.std.specs.Prelude.{ℕ, MatchOption, MatchResult, ◌≡◌, ◌≤ℤ◌, false, min, pos, true};
+ghost use Rattle.ebpf_link.specs.Marks.{AreFree, IsLastPlace, IsMarkPlace, IsPlace, LacksPlace, mark_kind, mark_word};
 
 use crate::fault::LinkFault;
 use crate::guards::Guard;
-use crate::known::Known;
+use crate::scratch_words::{ScratchWords, WORDS};
 use crate::target::MarkRule;
-use instruction_set::{AccessKind, Instruction};
-use program_interface::{Area, SCRATCH_BYTES};
-use word_domain::{Domain, Offsets};
 
 /// The bytes that a guard writes.
 pub const MARK_BYTES: usize = 16;
@@ -17,53 +14,10 @@ pub const MARK_BYTES: usize = 16;
 /// The bytes of the stack that guards use: the addresses of the block, of scratch and of the context, and a word of a register.
 pub const CELLS_BYTES: usize = 32;
 
-/// A set of words of scratch: a bit for each.
-pub(crate) type ScratchWords = u128;
-
-/// How many words of 8 bytes scratch has.
-const WORDS: usize = SCRATCH_BYTES / 8;
-
-/// The words of scratch from one byte to another.
-fn words_between(first: i64, last: i64) -> ScratchWords {
-    if last < 0 || first >= SCRATCH_BYTES as i64 {
-        return 0;
-    }
-    let first = first.max(0) as u64 / 8;
-    let last = last.min(SCRATCH_BYTES as i64 - 1) as u64 / 8;
-    let from = u128::MAX << first.min(127) as u32;
-    let up_to = u128::MAX >> (127 - last.min(127)) as u32;
-    from & up_to
-}
-
-/// The words of scratch into which bytes at an offset from an address may be stored.
-fn words_at(told: Option<Offsets>, offset: i16, size: u8) -> ScratchWords {
-    match told {
-        None => u128::MAX,
-        Some(told) if told.area != Area::Scratch => 0,
-        Some(told) => {
-            let offset = i64::from(offset);
-            let last = told
-                .high
-                .saturating_add(offset)
-                .saturating_add(i64::from(size));
-            words_between(told.low.saturating_add(offset), last.saturating_sub(1))
-        }
-    }
-}
-
-/// The words of scratch into which an instruction may store.
-pub(crate) fn words_stored(known: &Known, instruction: &Instruction) -> ScratchWords {
-    match instruction.access() {
-        Some(access) if access.kind == AccessKind::Store => {
-            words_at(known.get(access.base).offsets(), access.offset, access.size)
-        }
-        _ => 0,
-    }
-}
-
 /// Is nothing stored into a word and the next one?
 fn is_free(stored: ScratchWords, word: usize) -> bool
-    ensures { result ≡ true → AreFree stored word }
+    ensures free { result ≡ true → AreFree stored word }
+    ensures taken { result ≡ false → AreFree stored word → ⊥ }
 {
     if word >= WORDS - 1 {
         return false;
@@ -73,14 +27,18 @@ fn is_free(stored: ScratchWords, word: usize) -> bool
 
 /// Is there a mark's place from a byte on?
 fn is_place(stored: ScratchWords, at: usize) -> bool
-    ensures { result ≡ true → IsPlace stored at }
+    ensures place { result ≡ true → IsPlace stored at }
+    ensures none { result ≡ false → IsPlace stored at → ⊥ }
 {
-    at % 8 == 0 && is_free(stored, at / 8)
+    if at % 8 != 0 {
+        return false;
+    }
+    is_free(stored, at / 8)
 }
 
 /// The last place for a mark.
 fn last_place(stored: ScratchWords) -> Option<usize>
-    ensures { IfSome result (λ at. IsPlace stored at) }
+    ensures { MatchOption result ((at : ℕ) → IsPlace stored at → ⊥) (λ at. IsLastPlace stored at) }
 {
     for back in 1..WORDS {
         let at = 8 * (WORDS - 1 - back);
@@ -93,7 +51,7 @@ fn last_place(stored: ScratchWords) -> Option<usize>
 
 /// Where guards write, if they do.
 pub(crate) fn mark_place(marks: MarkRule, stored: ScratchWords) -> Result<Option<usize>, LinkFault>
-    ensures { IfOk result (λ found. IfSome found (λ at. IsPlace stored at)) }
+    ensures { MatchResult result (IsMarkPlace marks stored) (LacksPlace marks stored) }
 {
     match marks {
         MarkRule::Silent => Ok(None),

@@ -2,13 +2,14 @@
 
 use crate::area_sets::{ANY_AREA, AreaSet, IN_ORDER, NO_AREA};
 use crate::fault::LinkFault;
-use crate::guards::{Anchor, Within, address_again, narrowed, whole};
+use crate::guards::{Anchor, address_again};
 use crate::known::{Known, narrow};
 use crate::labels::other_way;
 use crate::layout::{Layout, boxed};
 use crate::lists::{number_at, set_answer};
 use crate::origins::{accessed_areas, is_address};
 use crate::pieces::{compare, target};
+use crate::within::{Within, narrowed, whole};
 use instruction_set::{AccessKind, Instruction, Register, Relation};
 use program_interface::Area;
 use std::alloc::Global;

@@ -52,6 +52,10 @@ abbrev pub guards_from : ℕ → List (List ℕ) → Result (List ToldGuard) (�
 guards_from number [] = Ok []
 guards_from number (line ∷ rest) = guard_before number (guard_of line) (guards_from (number + 1) rest)
 
+-- the guards of all lines that are left
+abbrev pub guards_left : ℕ × List (List ℕ) → Result (List ToldGuard) (ℕ × Wanted)
+guards_left left = guards_from left.0 left.1
+
 abbrev pub is_heading : Option (List ℕ) → Bool
 is_heading None = false
 is_heading (Some line) = bytes_eq line (codes "linked 1")

@@ -3,7 +3,7 @@
 ghost use Rattle.std.specs.Prelude.{◌≡◌, map, option_copied, option_map, OnOk};
 ghost use Rattle.common_definitions.specs.Gives.{Gives};
 ghost use Rattle.link_notes.specs.Notes.{told_guard, told_notes};
-ghost use Rattle.link_notes.specs.Reading.{fault_told, guard_of, guards_from, heading_of, is_heading, needed, notes_in};
+ghost use Rattle.link_notes.specs.Reading.{fault_told, guard_of, guards_left, heading_of, is_heading, needed, notes_in};
 ghost use Rattle.link_notes.specs.Unread.{left_of, past};
 ghost use Rattle.link_notes.specs.declared.reading.NotesFault.TheVariants.{Memory};
 
@@ -118,7 +118,7 @@ fn required(unread: &mut Unread<'_>, key: &[u8], wanted: Wanted) -> Result<u32, 
 /// The guards of all lines.
 #[tactic(auto, using(crate::proofs::GuardLemmas::guard_read, crate::proofs::GuardLemmas::guard_refused, crate::proofs::GuardLemmas::guards_read, crate::proofs::GuardLemmas::guards_begin))]
 fn guards<'a>(alloc: Global, unread: Unread<'a>) -> Result<Vec<GuardNote<'a>>, NotesFault>
-    ensures { Gives fault_told (λ guards. map told_guard guards.items) result (guards_from (left_of unread.entry).0 (left_of unread.entry).1) }
+    ensures { Gives fault_told (λ guards. map told_guard guards.items) result (guards_left (left_of unread.entry)) }
 {
     let mut guards = Vec::new(alloc);
     let mut rest = unread;
