@@ -19,7 +19,7 @@ use Rattle.device_events.specs.Replies.{ReplyWithData}
 use Rattle.device_events.specs.ToldEvents.{ToldEvent}
 use Rattle.device_events.specs.ToldEvents as told
 use Rattle.pushdown.specs.Pushdown.{is_turn_of, own_turns}
-use Rattle.device_laws.specs.Laws.{IsCompletedAmong, own_replies}
+use Rattle.device_laws.specs.Laws.{IsCompletedAmong, own_answers}
 
 -- a free run number isn't that of an active run
 pub not_free : (places : List (Option Place)) (free run : ℕ) (place : Place) → position is_none places ≡ Some free
@@ -80,9 +80,9 @@ module _ (judge : Judge) (run : ℕ) where
     own_takes s o turn later mine goes =
         own_is s o.starved o.event mine ∙ turned_is s run (record place { turns = turn ∷ later }) turn later goes.at refl
 
-    pub own_answers : (s : State) (o : Occurrence) (turn : Turn) (later : List Turn) → is_turn_of run o.event ≡ true → Goes place s (turn ∷ later)
+    pub answers_own : (s : State) (o : Occurrence) (turn : Turn) (later : List Turn) → is_turn_of run o.event ≡ true → Goes place s (turn ∷ later)
         → (happens judge s o.starved o.event).reply ≡ answer turn
-    own_answers s o turn later mine goes =
+    answers_own s o turn later mine goes =
         ap (λ (h : Happening). h.reply) (own_takes s o turn later mine goes) ∙ same_reply run place (turn ∷ later) turn.ending
 
     pub own_goes : (s : State) (o : Occurrence) (turn next : Turn) (later : List Turn) → is_turn_of run o.event ≡ true
@@ -127,7 +127,7 @@ module _ (judge : Judge) (run : ℕ) where
       later = os;
       are = refl;
       own = mine;
-      reply = subst (IsCompletionOf place.queue place.cid (λ status. status ≡ SUCCESS)) (sym (own_answers s o turn [] mine goes))
+      reply = subst (IsCompletionOf place.queue place.cid (λ status. status ≡ SUCCESS)) (sym (answers_own s o turn [] mine goes))
           (completed_by turn.ending goes.ends);
     }
     own_completes o os rest mine s (turn ∷ next ∷ turns) goes few =
@@ -151,7 +151,7 @@ module _ (judge : Judge) (run : ℕ) where
 
     abbrev Answers : List Occurrence → Type 0
     Answers events = (s : State) (turns : List Turn) → Goes place s turns → own_turns run events < length turns
-        → own_replies run events (replies_to judge events s) ≡ map answer (take (own_turns run events) turns)
+        → own_answers run events (replies_to judge events s) ≡ map answer (take (own_turns run events) turns)
 
     -- the replies to the later of the turns, and before them the first's, if it is one of the run's
     abbrev from : Occurrence → ReplyWithData → List Occurrence → List ReplyWithData → Bool → List ReplyWithData
@@ -162,12 +162,12 @@ module _ (judge : Judge) (run : ℕ) where
     own_answered : (o : Occurrence) (os : List Occurrence) → Answers os → is_turn_of run o.event ≡ true → (s : State) (turns : List Turn)
         → Goes place s turns → suc (own_turns run os) < length turns
         → let h = happens judge s o.starved o.event in
-        h.reply ∷ own_replies run os (replies_to judge os h.state) ≡ map answer (take (suc (own_turns run os)) turns)
+        h.reply ∷ own_answers run os (replies_to judge os h.state) ≡ map answer (take (suc (own_turns run os)) turns)
     own_answered o os rest mine s [] goes less = absurd goes.ends
     own_answered o os rest mine s (turn ∷ []) goes less = absurd (omega (arith, less))
     own_answered o os rest mine s (turn ∷ next ∷ turns) goes less =
         let h = happens judge s o.starved o.event in
-        ap (λ (r : ReplyWithData). r ∷ own_replies run os (replies_to judge os h.state)) (own_answers s o turn (next ∷ turns) mine goes)
+        ap (λ (r : ReplyWithData). r ∷ own_answers run os (replies_to judge os h.state)) (answers_own s o turn (next ∷ turns) mine goes)
         ∙ ap (λ (rs : List ReplyWithData). answer turn ∷ rs)
         (rest h.state (next ∷ turns) (own_goes s o turn next turns mine goes) (omega (arith, less)))
 

@@ -85,31 +85,31 @@ EnoughTurnsComplete judge =
     (admitted_place (submission_of queue entry input) s command) events
 
 -- the replies to a run's own turns, of those to these events, in order
-abbrev pub own_replies : ℕ → List Occurrence → List ReplyWithData → List ReplyWithData
-own_replies run events replies = map (λ x. x.1) (filter (λ x. is_turn_of run x.0.event) (zip events replies))
+abbrev pub own_answers : ℕ → List Occurrence → List ReplyWithData → List ReplyWithData
+own_answers run events replies = map (λ x. x.1) (filter (λ x. is_turn_of run x.0.event) (zip events replies))
 
 -- a Run that is admitted, and events after it
 module _ (judge : Judge) (s : State) (queue : ℕ) (entry input : List ℕ) (starved : Bool) (command : RunCommand) (run : ℕ) where
   -- what its own turns among the events were answered
   abbrev pub answers_so_far : List Occurrence → List ReplyWithData
   answers_so_far events =
-      own_replies run events (replies_to judge events (happens judge s starved (told.Submitted queue entry input)).state)
+      own_answers run events (replies_to judge events (happens judge s starved (told.Submitted queue entry input)).state)
 
   -- its place then, which has the turns that are left
   abbrev pub place_then : List Occurrence → Option Place
   place_then events = place_at (now judge s queue entry input starved command run events) run
 
   -- the blocks of its destination in a state
-  abbrev pub destination_in : State → List (List ℕ)
-  destination_in t = blocks_at t (admitted_place (submission_of queue entry input) s command).destination
+  abbrev pub its_blocks : State → List (List ℕ)
+  its_blocks t = blocks_at t (admitted_place (submission_of queue entry input) s command).destination
 
   -- the blocks there after the events
   abbrev pub blocks_then : List Occurrence → List (List ℕ)
-  blocks_then events = destination_in (now judge s queue entry input starved command run events)
+  blocks_then events = its_blocks (now judge s queue entry input starved command run events)
 
   -- its next turn after the events
-  abbrev pub next_turn : List Occurrence → Happening
-  next_turn events = next judge s queue entry input starved command run events
+  abbrev pub turn_then : List Occurrence → Happening
+  turn_then events = next judge s queue entry input starved command run events
 
   -- Two lists of events come to the same for the run: its turns so far were answered the same, the same turns are left, and its
   -- destination has the same blocks. Its next turn is answered the same, the last by the completion, and leaves the same blocks there.
@@ -117,8 +117,8 @@ module _ (judge : Judge) (s : State) (queue : ℕ) (entry input : List ℕ) (sta
     pub answers : answers_so_far first ≡ answers_so_far second
     pub left : place_then first ≡ place_then second
     pub blocks : blocks_then first ≡ blocks_then second
-    pub next_answer : (next_turn first).reply ≡ (next_turn second).reply
-    pub next_blocks : destination_in (next_turn first).state ≡ destination_in (next_turn second).state
+    pub next_answer : (turn_then first).reply ≡ (turn_then second).reply
+    pub next_blocks : its_blocks (turn_then first).state ≡ its_blocks (turn_then second).state
 
 -- In each state that events leave: what an admitted Run comes to depends neither on when its turns come nor on what comes between
 -- them. Any two lists of events with as many turns of it, fewer than it has, come to the same for it.

@@ -56,8 +56,8 @@ passes = 0xb7 ∷ replicate 7 0 ++ 0x95 ∷ replicate 7 0
 abbrev pub asks : ℕ → List ℕ → List ℕ → Occurrence
 asks queue entry bytes = record { event = told.Submitted queue entry bytes; starved = false }
 
-abbrev pub after : List Occurrence → State → State
-after events s = state_after interval_judge events s
+abbrev pub left_by : List Occurrence → State → State
+left_by events s = state_after interval_judge events s
 
 abbrev pub reply_to : Occurrence → State → ReplyWithData
 reply_to o s = (happens interval_judge s o.starved o.event).reply
@@ -80,18 +80,18 @@ four open_limit active_limit =
 
 -- one zone may be open, and two active: the first has written a block to its zone 0
 abbrev pub written : State
-written = after (asks 1 (append_to 0) (replicate 512 7) ∷ []) (new_state (all_empty (four 1 2)))
+written = left_by (asks 1 (append_to 0) (replicate 512 7) ∷ []) (new_state (all_empty (four 1 2)))
 
 -- and then the second one to its zone 2
 abbrev pub second_writes : List Occurrence
 second_writes = asks 2 (append_to 16) (replicate 512 7) ∷ []
 
 abbrev pub both_written : State
-both_written = after second_writes written
+both_written = left_by second_writes written
 
 -- two may be open, and four active: each has a block to read, an open zone, and a program
 abbrev pub can_run : State
-can_run = after (
+can_run = left_by (
     asks 1 (append_to 0) (replicate 512 7)
     ∷ asks 1 (open_at 8) []
     ∷ asks 2 (append_to 16) (replicate 512 7)
@@ -121,7 +121,7 @@ pub record TenantsShare : Type 0 where
   -- Select All: that of the second takes the first's zone too, which loses its block (ZNS 1.1, 3.4.3); so it doesn't respect what it owns
   pub names_all : names_own second_tenant written.namespace (decoded reset_all) ≡ false
   pub had : blocks_at written 0 ≡ replicate 512 7 ∷ []
-  pub lost : blocks_at (after (asks 2 reset_all [] ∷ []) written) 0 ≡ []
+  pub lost : blocks_at (left_by (asks 2 reset_all [] ∷ []) written) 0 ≡ []
   -- the numbers of runs: the lowest that is free is that of the next Run, whoever asks for it
   pub would_be_first : reply_to (asks 2 (run_of 1 16 24) []) can_run ≡ without_data (reply.Pending 0)
-  pub is_second : reply_to (asks 2 (run_of 1 16 24) []) (after first_runs can_run) ≡ without_data (reply.Pending 1)
+  pub is_second : reply_to (asks 2 (run_of 1 16 24) []) (left_by first_runs can_run) ≡ without_data (reply.Pending 1)
