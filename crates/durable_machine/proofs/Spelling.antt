@@ -62,3 +62,15 @@ one_added es opened sized all digits event first second third are =
     ∙ append_assoc (es ++ 1 ∷ []) (number_bytes (length event)) event
     ∙ append_assoc es (1 ∷ []) (number_bytes (length event) ++ event)
     ∙ ap (λ (l : List ℕ). es ++ 1 ∷ l) (sym (append-nil (number_bytes (length event) ++ event)))
+
+-- and where it stands in three parts
+pub parts_added : (es opened sized one two all digits a b c : List ℕ) → opened ≡ es ++ 1 ∷ [] → sized ≡ opened ++ digits → one ≡ sized ++ a → two ≡ one ++ b → all ≡ two ++ c → digits ≡ number_bytes (length (a ++ b ++ c))
+    → all ≡ es ++ spelled ((a ++ b ++ c) ∷ [])
+parts_added es opened sized one two all digits a b c first second is_a is_b is_c are =
+    let parts : all ≡ sized ++ (a ++ b ++ c) =
+    is_c ∙ ap (λ (l : List ℕ). l ++ c) (is_b ∙ ap (λ (l : List ℕ). l ++ b) is_a ∙ append_assoc sized a b) ∙ append_assoc sized (a ++ b) c in
+    one_added es opened sized all digits (a ++ b ++ c) first second parts are
+
+-- nothing stands behind it
+pub alone : (event : List ℕ) → event ++ [] ++ [] ≡ event
+alone event = append-nil (event ++ []) ∙ append-nil event

@@ -10,4 +10,5 @@ pub mod Refused
 pub mod Replay
 pub mod Restart
 pub mod Runs
+pub mod Unkept
 pub mod Waiting

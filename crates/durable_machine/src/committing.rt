@@ -21,7 +21,7 @@ use stored_file::{FileError, StoredFile};
 /// # Errors
 ///
 /// No memory, or the disk's. Then the file has to be opened again, and nothing may go out.
-pub fn commit<M: Machine, F: StoredFile>(
+pub(crate) fn commit<M: Machine, F: StoredFile>(
     alloc: Global,
     journal: &mut Journal<F>,
     waiting: &mut Vec<u8>,

@@ -1,6 +1,6 @@
 //! The journal.
 
-ghost use Rattle.std.specs.Prelude.{◌≡◌, ◌⊎◌, ◌<◌, ◌≤◌, ◌^◌, ◌+◌, ◌++◌, [], ◌∷◌, List, ℕ, length, take, drop, OnOk, OnErr, IsErrOf};
+ghost use Rattle.std.specs.Prelude.{◌≡◌, ◌⊎◌, ◌<◌, ◌≤◌, ◌^◌, ◌+◌, ◌++◌, [], ◌∷◌, List, ℕ, length, take, drop, IfOk, OnOk, OnErr, IsErrOf};
 ghost use Rattle.stored_file.specs.File.{IsWhole, LeavesNow, LeavesOnly};
 ghost use Rattle.stored_file.specs.Cause.{HasCause};
 ghost use Rattle.durable_machine.specs.Events.{spelled, AreSpelled, AreSized};
@@ -30,28 +30,73 @@ pub fn add_event(events: &mut Vec<u8>, event: &[u8]) -> Result<(), AllocError>
     ensures refused { OnErr result (events.new.items ≡ events.old.items) }
     ensures sized { length event.now < 2 ^ 64 }
 {
+    add_parts(events, event, &[], &[])
+}
+
+/// Puts an event, of which the bytes stand in three parts, after those of a batch, whole or not at all.
+///
+/// # Errors
+///
+/// No memory. Then the batch is as it was.
+pub(crate) fn add_parts(
+    events: &mut Vec<u8>,
+    first: &[u8],
+    second: &[u8],
+    third: &[u8],
+) -> Result<(), AllocError>
+    ensures added { OnOk result
+        (events.new.items ≡ events.old.items ++ spelled ((first.now ++ second.now ++ third.now) ∷ [])) }
+    ensures refused { OnErr result (events.new.items ≡ events.old.items) }
+    ensures sized { OnOk result (length (first.now ++ second.now ++ third.now) < 2 ^ 64) }
+{
     let before = events.len();
-    let result = put_event(events, event);
+    let result = put_parts(events, first, second, third);
     if result.is_err() {
         events.truncate(before);
     }
     result
 }
 
-/// Puts an event after those of a batch, or its first bytes.
+/// Puts it after those of a batch, or its first bytes.
 ///
 /// # Errors
 ///
-/// No memory.
-fn put_event(events: &mut Vec<u8>, event: &[u8]) -> Result<(), AllocError>
-    ensures added { OnOk result (events.new.items ≡ events.old.items ++ spelled (event.now ∷ [])) }
+/// No memory: there is none for so many bytes either, where their number is none of 64 bits.
+fn put_parts(
+    events: &mut Vec<u8>,
+    first: &[u8],
+    second: &[u8],
+    third: &[u8],
+) -> Result<(), AllocError>
+    ensures added { OnOk result
+        (events.new.items ≡ events.old.items ++ spelled ((first.now ++ second.now ++ third.now) ∷ [])) }
     ensures begins { take (length events.old.items) events.new.items ≡ events.old.items }
-    ensures sized { length event.now < 2 ^ 64 }
+    ensures sized { OnOk result (length (first.now ++ second.now ++ third.now) < 2 ^ 64) }
 {
+    let size = size_of(first.len(), second.len(), third.len())?;
     events.push(1)?;
-    events.extend_from_slice(&(event.len() as u64).to_le_bytes())?;
-    events.extend_from_slice(event)?;
+    events.extend_from_slice(&size.to_le_bytes())?;
+    events.extend_from_slice(first)?;
+    events.extend_from_slice(second)?;
+    events.extend_from_slice(third)?;
     Ok(())
+}
+
+/// The length of three parts.
+///
+/// # Errors
+///
+/// It is no number of 64 bits, so that no memory has room for them.
+fn size_of(first: usize, second: usize, third: usize) -> Result<u64, AllocError>
+    ensures { IfOk result (λ size. size ≡ first + (second + third)) }
+{
+    let Some(behind) = second.checked_add(third) else {
+        return Err(AllocError);
+    };
+    let Some(size) = first.checked_add(behind) else {
+        return Err(AllocError);
+    };
+    Ok(size as u64)
 }
 
 impl<F: StoredFile> Journal<F> {

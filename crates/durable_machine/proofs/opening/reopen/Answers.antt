@@ -4,7 +4,7 @@ use Rattle.durable_machine.specs.Refused.{IsRefused, Refuses}
 use Rattle.durable_machine.proofs.Refusing.{refuses}
 use Rattle.durable_machine.proofs.Files.{end_whole, one_state}
 use Rattle.durable_machine.proofs.Restarting.{end_at_sector, end_there, gate_room, gate_size_whole, gate_whole, no_moment, opened, read_only, repairs_left, same_file, untouched}
-use Rattle.durable_machine.proofs.durable.reopen.Goals as goal
+use Rattle.durable_machine.proofs.opening.reopen.Goals as goal
 
 pub gate_in-gate-requires-clause-within : goal.gate_in-gate-requires-clause-within
 gate_in-gate-requires-clause-within g c =

@@ -1,6 +1,6 @@
 use Rattle.durable_machine.specs.Refused.{Refuses}
 use Rattle.durable_machine.proofs.Restarting.{err_so, ok_so, reads_on, refuses_read}
-use Rattle.durable_machine.proofs.durable.Durable.open.Goals as goal
+use Rattle.durable_machine.proofs.opening.Durable+M+InFile+F.open.Goals as goal
 
 pub returns-in-Ok-clause-any_moment : goal.returns-in-Ok-clause-any_moment
 returns-in-Ok-clause-any_moment g c = ok_so _ _ _ c.open_read.ensures.any_moment
