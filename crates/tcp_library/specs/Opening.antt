@@ -23,6 +23,7 @@ use Rattle.tcp_admin.specs.declared.subsystem.Subsystem.{Subsystem}
 use Rattle.tcp_device.specs.Format.{IsFormatOf}
 use Rattle.tcp_device.specs.State.{ServedState, begun, begun_on}
 use Rattle.tcp_durable.specs.declared.keeper.Keeper.{Keeper}
+use Rattle.durable_machine.specs.declared.in_file.InFile.{InFile}
 use Rattle.tcp_library.specs.Calls.{KeepsAll}
 use Rattle.tcp_library.specs.Sessions.{IsInMemory}
 use Rattle.tcp_library.specs.declared.handle.Handle.{Handle}
@@ -69,10 +70,10 @@ pub record IsServed (device : State) (journal : Journal HandedFile) (session : S
   pub format : NamespaceFormat
   pub format_is : IsFormatOf (shape device.namespace) format
   pub begins : session.served ≡ begun_on device subsystem format
-  pub keeper : Keeper HandedFile
+  pub keeper : Keeper (InFile HandedFile)
   pub kept : session.keeper ≡ Some keeper
   pub usable : session.failed ≡ false
-  pub journal_is : keeper.journal ≡ journal
+  pub journal_is : keeper.events.journal ≡ journal
   pub is_kept : IsKept device journal.gate (told_of (noted journal.file))
 
 -- the device is the one that a file stands for which was left by these calls. While C makes those for opening it, a crash leaves what an
