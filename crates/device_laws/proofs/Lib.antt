@@ -2,6 +2,7 @@ mod OthersKept
 mod OthersZones
 mod OwnTurns
 mod Reached
+mod Restores
 mod Tenants
 mod TenantsShare
 mod UsersLaws

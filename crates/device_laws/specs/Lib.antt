@@ -1,4 +1,5 @@
 pub mod Laws
+pub mod Restores
 pub mod Tenants
 pub mod TenantsShare
 pub mod Witness

@@ -13,6 +13,7 @@ ghost use Rattle.pushdown.specs.Pushdown.{Pushdown};
 ghost use Rattle.device_meaning.specs.Reached.{EventsKeepReached, TurnsKeepReached};
 ghost use Rattle.pushdown.specs.ReadBack.{AppendedBlocksReadBack, AppendedByRunsReadsBack, ResultsReadBack, WrittenBlocksReadBack};
 ghost use Rattle.device_laws.specs.Laws.{CompletedAtMostOnce, EmptyIsReached, EnoughTurnsComplete, LoadedIsReached, OutcomeIsItsOwn, SameEventsSameAnswers, SavedStatesLoad, TurnsAreFew};
+ghost use Rattle.device_laws.specs.Restores.{RunsGoOnAfterRestores};
 ghost use Rattle.device_laws.specs.Tenants.{OthersLeaveMine, RespectKeepsRunsApart, TenantsLeaveOthers};
 ghost use Rattle.device_laws.specs.TenantsShare.{TenantsShare};
 ghost use Rattle.device_laws.specs.Witness.{PushdownIsMet};
@@ -90,6 +91,12 @@ pub fn enough_turns_complete()
 /// is the next, of which the last is answered by the completion.
 pub fn outcome_is_its_own()
     ensures { OutcomeIsItsOwn interval_judge }
+{}
+
+/// A run that was admitted before its device was restored goes on after it: the turns are left that were left, and they end with the
+/// completion that was fixed at admission. The state is the one before, so all else goes on too.
+pub fn runs_go_on_after_restores()
+    ensures { RunsGoOnAfterRestores }
 {}
 
 /// In every state that events leave, the last turn of a run is answered with the run's completion, a success, and any other with
