@@ -23,14 +23,14 @@ pub(crate) struct EndedAt<'a> {
 pub(crate) fn ended_guard<'a>(
     notes: &LinkNotes<'a>,
     answered: &Answered<'_>,
-    data: &[u8],
+    scratch: &[u8],
 ) -> Option<EndedAt<'a>>
-    ensures { result ≡ ended_guard (may_be_result answered.now) notes.now data.now }
+    ensures { result ≡ ended_guard (may_be_result answered.now) notes.now scratch.now }
 {
-    if data.len() != RESULT_BYTES || !may_be_result(answered) {
+    if scratch.len() != RESULT_BYTES || !may_be_result(answered) {
         return None;
     }
-    let ended = ended_at(data, notes.guard_at?)?;
+    let ended = ended_at(scratch, notes.guard_at?)?;
     let guard = guard_of(notes, ended)?;
     Some(EndedAt { ended, guard })
 }
