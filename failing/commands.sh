@@ -120,7 +120,7 @@ check() {
         echo "wrong: run $number changes a slot though its Load was refused"
         wrong=1
     fi
-    if [ -e "$work/run/image.unfinished" ] || [ -e "$work/run/new.unfinished" ] || [ -e "$work/run/old.unfinished" ]; then
+    if [ -n "$(find "$work/run" -name '*.unfinished')" ]; then
         echo "wrong: run $number leaves an unfinished file"
         wrong=1
     fi

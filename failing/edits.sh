@@ -7,21 +7,30 @@
 #   failing/edits.sh --due      prints the crates that are due
 #   failing/edits.sh --turn     prints the crate whose edits the gate tries: the tree chooses it
 #
-# failing/edits/record has for each crate the checksum of its src/ and specs/ (without tests) and of its edits when all of these
-# were refused last. A crate whose edits are all refused is written there; where one isn't, the status is 1. For its edits a
+# failing/edits/record has for each crate the checksum of its src/ and specs/ (without tests and imports) and of its edits when all of
+# these were refused last. A crate whose edits are all refused is written there; where one isn't, the status is 1. For its edits a
 # crate is proved once more, in some minutes.
 set -eu
 cd "$(dirname "$0")/.."
 record=failing/edits/record
 
-# the checksum of a crate without its tests, and of its edits
+# a file without its imports: an edit is as wrong wherever the names that it is written in come from
+without_imports() {
+    awk '
+        /^ *((pub|ghost) )?use / { goes_on = /[{,]$/; next }
+        goes_on { goes_on = !/[;}]$/; next }
+        { print }
+    ' "$1"
+}
+
+# the checksum of a crate without its tests and imports, and of its edits
 sum_of() {
     {
         (
             cd "crates/$1"
             find src specs -type f ! -name tests.rt ! -path '*/tests/*' 2> /dev/null | LC_ALL=C sort | while read -r file; do
                 echo "$file"
-                sed -e '/^$/d' -e '/^#\[cfg(test)\]$/d' -e '/^mod tests;$/d' "$file"
+                without_imports "$file" | sed -e '/^$/d' -e '/^#\[cfg(test)\]$/d' -e '/^mod tests;$/d'
             done
         )
         (cd "failing/edits/$1" && LC_ALL=C sha256sum ./*.edit)

@@ -46,6 +46,7 @@ import subprocess
 import tempfile
 import warnings
 import weakref
+import zlib
 from collections import deque
 from contextlib import contextmanager, suppress
 from enum import Enum, IntEnum
@@ -415,7 +416,7 @@ _SCRATCH_BYTES = 1024
 _ENDED = struct.Struct("<IIQ")
 
 _NOTES = re.compile(
-    r"linked 1\nblock (\d+)\n(?:emit (\d+)\n)?profile \d+\n(?:guard-at (\d+)\n)?((?:guard \d+ slot \d+ \S+ [^\n]*\n)*)", re.ASCII
+    r"linked 1\n(?:sum (\d+)\n)?block (\d+)\n(?:emit (\d+)\n)?profile \d+\n(?:guard-at (\d+)\n)?((?:guard \d+ slot \d+ \S+ [^\n]*\n)*)", re.ASCII
 )
 
 _GUARD = re.compile(r"guard (\d+) slot (\d+) (\S+) ([^\n]*)\n", re.ASCII)
@@ -430,8 +431,10 @@ class _Guard(NamedTuple):
 
 
 class _Notes(NamedTuple):
-    """What a program was linked for, the byte of scratch from which on guards write, and its guards by their numbers."""
+    """The CRC-32 of the program's bytes, what it was linked for, the byte of scratch from which on guards write, and its guards by their
+    numbers."""
 
+    sum: Optional[int]
     block: int
     emit: Optional[int]
     guard_at: Optional[int]
@@ -442,22 +445,22 @@ def _notes(text: str) -> Optional[_Notes]:
     """The notes of a text; `None` where it is damaged.
 
     >>> _notes("linked 1\\nblock 512\\nprofile 2\\nguard-at 1008\\nguard 1 slot 5 filter.c:12 in top: a record has no byte\\n")
-    _Notes(block=512, emit=None, guard_at=1008, guards={1: _Guard(slot=5, place='filter.c:12', text='in top: a record has no byte')})
+    _Notes(sum=None, block=512, emit=None, guard_at=1008, guards={1: _Guard(slot=5, place='filter.c:12', text='in top: a record has no byte')})
     >>> _notes("linked 2\\n")
     """
     found = _NOTES.fullmatch(text)
     if found is None:
         return None
-    block, emit, guard_at, lines = found.groups()
+    sum_, block, emit, guard_at, lines = found.groups()
     at = None if guard_at is None else int(guard_at)
     if at is not None and at + _ENDED.size > _SCRATCH_BYTES:
         return None
     guards = {int(number): _Guard(int(slot), place, words) for number, slot, place, words in _GUARD.findall(lines)}
-    return _Notes(int(block), None if emit is None else int(emit), at, guards)
+    return _Notes(None if sum_ is None else int(sum_), int(block), None if emit is None else int(emit), at, guards)
 
 
-def _notes_beside(program: FilePath) -> Optional[_Notes]:
-    """The notes beside a program's file, if there are any. Damaged ones are a warning."""
+def _notes_beside(program: FilePath, data: bytes) -> Optional[_Notes]:
+    """The notes beside the file of a program of these bytes, if there are any. Damaged ones and another program's are a warning."""
     path = f"{os.fspath(program)}.linked"
     try:
         text = Path(path).read_text(encoding="ascii", errors="replace")
@@ -466,6 +469,9 @@ def _notes_beside(program: FilePath) -> Optional[_Notes]:
     notes = _notes(text)
     if notes is None:
         warnings.warn(f"{path} is damaged, and not used")
+    elif notes.sum not in (None, zlib.crc32(data)):
+        warnings.warn(f"{path} has the notes of another program, and is not used")
+        return None
     return notes
 
 
@@ -1111,7 +1117,7 @@ class Device:
         record with two bytes of its length.
 
         Where `zscli link` wrote notes beside the file, `NAME.linked`, they say for which block size and which limit the program was
-        linked. Other ones are `LinkedOtherwise`, and nothing is loaded.
+        linked. Other ones are `LinkedOtherwise`, and nothing is loaded. Notes of another program are a warning, and not used.
 
         >>> with example() as device:
         ...     device.load(0, EMITS_NOTHING[:8], emit=0)  # doctest: +ELLIPSIS
@@ -1122,8 +1128,9 @@ class Device:
             raise ValueError(f"there is no slot {slot}")
         notes: Optional[_Notes] = None
         if isinstance(program, (str, os.PathLike)):
-            notes = self._fitting_notes(program, emit)
-            program = Path(program).read_bytes()
+            data = Path(program).read_bytes()
+            notes = self._fitting_notes(program, data, emit)
+            program = data
         self._do(_Opcode.LOAD, slot | emit << 32, len(program), data=program)
         self._loaded[slot] = notes
 
@@ -1305,9 +1312,9 @@ class Device:
 
     # ---- programs that were linked
 
-    def _fitting_notes(self, program: FilePath, emit: int) -> Optional[_Notes]:
+    def _fitting_notes(self, program: FilePath, data: bytes, emit: int) -> Optional[_Notes]:
         """The notes beside a program's file, which have to be for this device's blocks and this limit."""
-        notes, name = _notes_beside(program), os.fspath(program)
+        notes, name = _notes_beside(program, data), os.fspath(program)
         if notes is not None and notes.block != self.geometry.block:
             raise LinkedOtherwise(f"{name} was linked for blocks of {notes.block} bytes, and the device has {self.geometry.block}")
         if notes is not None and notes.emit not in (None, emit):

@@ -16,6 +16,7 @@ import sys
 import tempfile
 import traceback
 import unittest
+import zlib
 from pathlib import Path
 from typing import Callable, Dict, List, Optional, Tuple
 from unittest import mock
@@ -448,6 +449,18 @@ class Linked(Over):
             device.result(0)
         # the program's bytes have no notes
         device.load(0, self.program.read_bytes(), emit=9)
+
+    def test_notes_of_another_program_are_not_used(self) -> None:
+        """As their sum says, which is the CRC-32 of the program's bytes."""
+        summed = self.NOTES.replace("linked 1\n", f"linked 1\nsum {zlib.crc32(self.program.read_bytes())}\n")
+        self.note(summed)
+        _, run = self.over(bytes([10]))
+        with self.assertRaises(pifnjarl.GuardEnded):
+            run.wait()
+        self.note(summed.replace("sum ", "sum 1").replace("block 512", "block 4096"))
+        with self.assertWarnsRegex(UserWarning, "guarded.bin.linked has the notes of another program, and is not used"):
+            _, run = self.other(bytes([10]))
+        self.assertEqual(run.wait(), pifnjarl.Result(records=0, blocks=0))
 
     def test_notes_are_never_needed(self) -> None:
         """Without them, and with damaged ones, a program is loaded and run."""

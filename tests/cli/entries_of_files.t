@@ -119,7 +119,7 @@ Each kind of entry has the words that `zscli entry` has for it.
   $ wc -l < made
   12
 
-With an image, blocks that aren't within the capacity of one zone are refused by their line. What the device refuses otherwise is left to it.
+With an image, blocks that are in no zone, or not within the capacity of one, are refused by their line. What the device refuses otherwise is left to it.
 
   $ zscli format small --block 512 --zones 4 --size 8 --capacity 6 --open 2 --active 3
   $ head -c 3072 /dev/zero > six
@@ -145,7 +145,33 @@ With an image, blocks that aren't within the capacity of one zone are refused by
   line, line 1: 1 block from LBA 14 on: not within the capacity of zone 1, 6 blocks
   line 1 refused
   [2]
-  $ fits 'read --lba 64 --blocks 1'
+  $ fits 'read --lba 31 --blocks 1 --cid 1'
+  line, line 1: 1 block from LBA 31 on: not within the capacity of zone 3, 6 blocks
+  line 1 refused
+  [2]
+  $ fits 'read --lba 32 --blocks 1'
+  line, line 1: LBA 32: in no zone, since all zones have 32 LBAs from 0 on
+  line 1 refused
+  [2]
+  $ fits 'run --slot 0 --from 8 --blocks 6 --to 24'
+  $ fits 'run --slot 0 --from 8 --blocks 7 --to 24'
+  line, line 1: 7 blocks from LBA 8 on: not within the capacity of zone 1, 6 blocks
+  line 1 refused
+  [2]
+  $ fits 'run --slot 0 --from 64 --blocks 1 --to 24'
+  line, line 1: LBA 64: in no zone, since all zones have 32 LBAs from 0 on
+  line 1 refused
+  [2]
+  $ fits 'run --slot 0 --from 8 --blocks 1 --to 40'
+  line, line 1: LBA 40: in no zone, since all zones have 32 LBAs from 0 on
+  line 1 refused
+  [2]
+  $ fits 'open --lba 32'
+  line, line 1: LBA 32: in no zone, since all zones have 32 LBAs from 0 on
+  line 1 refused
+  [2]
+  $ fits 'reset --all'
+  $ fits 'load --slot 0 --program program --emit 0'
   $ fits 'append --lba 8 --data seven ; comment'
   line, line 1: 7 blocks from LBA 8 on: not within the capacity of zone 1, 6 blocks
   line 1 refused

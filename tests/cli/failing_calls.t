@@ -128,16 +128,42 @@ Where a new image has no room, the old one stays, also where standard output fai
   1 empty 0
   2 empty 0
   3 empty 0
+
+So does a program or a command file. A pipe, a device, or a file whose folder takes no new one is written where it stands.
+
   $ zscli disasm copying > listing
   $ failing ROOM=15 zscli asm listing made
   made: no room is left
   cannot write made
   [1]
+  $ ls made*
+  ls: cannot access 'made*': No such file or directory
+  [2]
+  $ cp copying made
+  $ failing ROOM=15 zscli asm listing made
+  made: no room is left
+  cannot write made
+  [1]
+  $ cmp copying made
   $ echo 'turn 0' > work
   $ failing ROOM=15 zscli entry result --slot 0 --into work
   work: no room is left
   cannot write work
   [1]
+  $ cat work
+  turn 0
+  $ ls made* work*
+  made
+  work
+  $ zscli asm listing /dev/stdout | cmp - copying
+  $ zscli asm listing /dev/stdout > there
+  $ cmp there copying
+  $ zscli asm listing /dev/null
+  $ zscli asm listing /dev/fd/1 > there
+  $ cmp there copying
+  $ ls -d *.unfinished*
+  ls: cannot access '*.unfinished*': No such file or directory
+  [2]
 
 A journal whose new file can't be written, or brought to the disk, stays in use: `serve --durable` goes on with it, and folds it when it
 has grown by 64 MiB more.

@@ -102,13 +102,24 @@ A loop that can be left early, and has more rounds than there are slots for, is 
 
   $ rm program
   $ link entries
-  link refused: guarded.c, line 36, in entries: a loop of 512 rounds, which take 8174 of 8177 slots, and a program has 4096 at most; give it a constant bound, fewer rounds, or less in each, or link with --cut-loops
+  link refused: guarded.c, line 36, in entries: a loop of 512 rounds, which take 8174 of 8177 slots, and a program has 4096 at most; give it fewer rounds, or less in each, or link with --cut-loops
   [3]
   $ ls program
   ls: cannot access 'program': No such file or directory
   [2]
 
-With `--cut-loops` it has as many rounds as there are slots for. A block that needs more ends with 7004h.
+With `--cut-loops` it has as many rounds as there are slots for. A block that needs more ends with 7004h. `--strict` wants no such loop, and
+no guard of the block's size either.
+
+  $ link entries --cut-loops --strict
+  link refused: guarded.c, line 36, in entries: there is room for 248 rounds of a loop: a block that needs more ends its run with R0 = 7004h
+  [3]
+  $ link last --strict
+  link refused: guarded.c, line 27, in last: a guard ends the run where a block has other than 512 bytes; write 512 in place of the size that the context has
+  [3]
+  $ ls program
+  ls: cannot access 'program': No such file or directory
+  [2]
 
   $ link entries --verbose --cut-loops
   cut: guarded.c, line 36, in entries: there is room for 248 rounds of a loop: a block that needs more ends its run with R0 = 7004h
@@ -144,10 +155,10 @@ A loop that has too many rounds. The sentence says where it is, what is wrong, a
   $ grep -n 'for (' "$ROOT/tests/cli/data/loop.c"
   6:    for (int i = 0; i < 4096; i++)
   $ zscli link loop.o --block 4096 -o program
-  link refused: loop.c, line 6, in filter: a loop that isn't known to be over after 1365 rounds, and 16385 slots; give it a constant bound, fewer rounds, or less in each, or link with --cut-loops
+  link refused: loop.c, line 6, in filter: a loop that isn't over after 1365 rounds, for which a program of 4096 slots has no room; give it fewer rounds, or less in each, and a constant bound if it has none; one that can be left early can be linked with --cut-loops
   [3]
   $ zscli link loop.o --block 4096 -o program --cut-loops
-  link refused: loop.c, line 6, in filter: a loop that isn't known to be over after 1365 rounds, and 16385 slots; give it a constant bound, fewer rounds, or less in each
+  link refused: loop.c, line 6, in filter: a loop that isn't over after 1365 rounds, for which a program of 4096 slots has no room; give it fewer rounds, or less in each, and a constant bound if it has none
   [3]
   $ zscli link loop.o --block 4096 -o program --function other
   link refused: no function other
@@ -157,7 +168,7 @@ Where the table of lines is damaged, it has the slot of the function instead of 
 
   $ change loop 164 377
   $ zscli link changed.o --block 4096 -o program
-  link refused: filter, slot 9: a loop that isn't known to be over after 1365 rounds, and 16385 slots; give it a constant bound, fewer rounds, or less in each, or link with --cut-loops; behind `clang -g` the line is told
+  link refused: filter, slot 9: a loop that isn't over after 1365 rounds, for which a program of 4096 slots has no room; give it fewer rounds, or less in each, and a constant bound if it has none; one that can be left early can be linked with --cut-loops; behind `clang -g` the line is told
   [3]
 
 Other functions of which no program is made.

@@ -7,7 +7,9 @@ The C is tests/cli/data/guarded.c and marks.c.
 The notes have what the program was linked for, and its guards: number, slot and place of each.
 
   $ zscli link guarded.o --block 512 -o record.bin --function record > lines
-  $ cat record.bin.linked
+  $ python3 -c 'import zlib; print("sum", zlib.crc32(open("record.bin", "rb").read()))' > sum
+  $ sed -n 2p record.bin.linked | cmp - sum
+  $ sed 2d record.bin.linked
   linked 1
   block 512
   profile 2
@@ -73,7 +75,7 @@ A program that may store into all of scratch has no bytes for it. With `--silent
   $ link counts --silent-guards --verbose
   guard: marks.c, line 13, in counts: a guard ends the run where 8 bytes aren't all within the 1024 of scratch; see to it just before, as by `if (offset > 1016) return 0;`
   15 slots; compares put in: 1 of accesses, 0 of emits, 0 of the block's size
-  $ cat program.linked
+  $ sed 2d program.linked
   linked 1
   block 512
   profile 2
@@ -87,7 +89,7 @@ The limit of `--emit` is that of the program.
   37 slots; compares put in: 0 of accesses, 2 of emits, 0 of the block's size
   $ zscli verify program --block 512 --emit 66
   accepted 37
-  $ sed -n 3p program.linked
+  $ sed -n 4p program.linked
   emit 66
   $ link record --emit 513
   --emit gives 513 bytes, and a block has 512
@@ -100,7 +102,7 @@ Profile 3 knows the sum of the record's place and length, so no guard is needed.
   12 slots; compares put in: 0 of accesses, 0 of emits, 0 of the block's size
   $ zscli verify program --block 512 --emit 258 --profile 3
   accepted 12
-  $ sed -n 3p program.linked
+  $ sed -n 4p program.linked
   profile 3
   $ link record --profile 4
   --profile: '4' is not a number from 2 to 3

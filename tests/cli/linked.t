@@ -51,6 +51,24 @@ slot.
   $ explain --commands work.cmd --program guarded.bin | tail -n 1
   queue 1, command 5: result of slot 0: 1024 bytes
 
+Notes that have a sum, the CRC-32 of the program's bytes, are of no other program: that is said in place of what they have.
+
+  $ sum=$(python3 -c 'import zlib; print(zlib.crc32(open("guarded.bin", "rb").read()))')
+  $ summed() { notes 'linked 1' "sum $1" 'block 512' 'profile 2' 'guard-at 1008' 'guard 2 slot 2 filter.c:12 in top: "a" is over 9'; }
+  $ summed $sum
+  $ explain --commands work.cmd --program guarded.bin | tail -n 1
+    block 1 ended at the guard of filter.c:12 in top: "a" is over 9
+  $ summed 1
+  $ zscli explain replies --commands work.cmd --program guarded.bin | grep guarded
+  guarded.bin.linked has the notes of another program
+  $ zscli explain replies --commands work.cmd --program guarded.bin --json | grep -c guard
+  0
+  [1]
+  $ zscli verify guarded.bin --block 4096 --emit 66 --explain | tail -n 1
+  guarded.bin.linked has the notes of another program
+  $ zscli entry load --slot 0 --program guarded.bin --emit 64 > line
+  guarded.bin.linked has the notes of another program
+
 A guard whose line isn't known is named by its slot.
 
   $ notes 'linked 1' 'block 512' 'profile 2' 'guard-at 1008' 'guard 2 slot 2 ? a record has no byte'

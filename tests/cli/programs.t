@@ -41,8 +41,9 @@ Where it can't write the program, it says so: here no file may have a byte.
   unwritten: too large for the file system, or for a limit of the user
   cannot write unwritten
   status 1
-  $ wc -c < unwritten
-  0
+  $ ls unwritten
+  ls: cannot access 'unwritten': No such file or directory
+  [2]
 
 `verify` looks at the program before the sizes: a file of no bytes is refused before a block size and a limit that are wrong.
 

@@ -9,8 +9,7 @@ use disk_file::DiskCalls;
 use std::alloc::{AllocError, Global};
 use std::fs::File;
 use std::rt;
-use stored_file::{StoredFile, TearingFile};
-use system_file::SystemFile;
+use stored_file::{StoredFile, SystemFile, TearingFile};
 
 /// Files of which the one that is held is written durably.
 pub trait DurableFiles: Files {

@@ -113,11 +113,11 @@ fn folded<'a, S: StoredFile + Drop>(
     path: &'a str,
     mut device: DurableDevice<S>,
 ) -> Result<S, Failure<'a>>
-    requires { IsKept device.store.machine device.store.journal.gate (S.told device.store.journal.file) }
+    requires { IsKept device.store.machine device.store.events.journal.gate (S.told device.store.events.journal.file) }
     ensures kept { IfOk result (λ file. (gate : ℕ) × IsKeptInBase device.store.machine gate (S.told file)) }
     ensures any_moment { IfOk result (λ file.
-        LeavesOnly (S.told device.store.journal.file) (S.told file) (λ c. StandsFor c device.store.machine)) }
-    ensures failed { (contents : Option (List ℕ)) → Opens S.told contents (S.told device.store.journal.file) device.store.machine
+        LeavesOnly (S.told device.store.events.journal.file) (S.told file) (λ c. StandsFor c device.store.machine)) }
+    ensures failed { (contents : Option (List ℕ)) → Opens S.told contents (S.told device.store.events.journal.file) device.store.machine
         → IfErr result (FailsToOpen S.told contents path.now) }
 {
     let came = device.fold(alloc);

@@ -12,8 +12,7 @@ use crate::DurableFiles;
 use command_files::{Failure, FileCause, JournalFault, cannot_read};
 use command_images::image_file;
 use durable_device::DurableDevice;
-use durable_machine::{Durable, Fault};
-use event_journal::Journal;
+use durable_machine::{Durable, Fault, InFile, Journal};
 use image_base::MAGIC;
 use image_store::Image;
 use std::alloc::Global;
@@ -31,9 +30,9 @@ pub(crate) fn open<'a, F: DurableFiles>(
     files: &mut F,
 ) -> Result<DurableDevice<F::Stored>, Failure<'a>>
     ensures opened { IfOk result (λ device. Opens F.Stored.told (F.contents files.old path.now)
-        (F.Stored.told device.store.journal.file) device.store.machine) }
+        (F.Stored.told device.store.events.journal.file) device.store.machine) }
     ensures kept { IfOk result (λ device.
-        IsKept device.store.machine device.store.journal.gate (F.Stored.told device.store.journal.file)) }
+        IsKept device.store.machine device.store.events.journal.gate (F.Stored.told device.store.events.journal.file)) }
     ensures failed { IfErr result (IsntOpened F.Stored.told (F.contents files.old path.now) path.now) }
     ensures made { F.made files.new ≡ F.made files.old }
     ensures contents { F.contents files.new ≡ F.contents files.old }
@@ -94,9 +93,9 @@ pub(crate) fn reopen<'a, S: StoredFile + Drop>(
 ) -> Result<DurableDevice<S>, Failure<'a>>
     requires { IsRestarted (S.told file) }
     ensures opened { (contents : Option (List ℕ)) → IsFound (S.told file) contents
-        → IfOk result (λ device. Opens S.told contents (S.told device.store.journal.file) device.store.machine) }
+        → IfOk result (λ device. Opens S.told contents (S.told device.store.events.journal.file) device.store.machine) }
     ensures kept { IfOk result (λ device.
-        IsKept device.store.machine device.store.journal.gate (S.told device.store.journal.file)) }
+        IsKept device.store.machine device.store.events.journal.gate (S.told device.store.events.journal.file)) }
     ensures failed { (contents : Option (List ℕ)) → IsFound (S.told file) contents
         → IfErr result (FailsToOpen S.told contents path.now) }
 {
@@ -113,9 +112,9 @@ fn make_durable<'a, S: StoredFile + Drop>(
     mut file: S,
 ) -> Result<DurableDevice<S>, Failure<'a>>
     ensures opened { (contents : Option (List ℕ)) → IsFound (S.told file) contents
-        → IfOk result (λ device. Opens S.told contents (S.told device.store.journal.file) device.store.machine) }
+        → IfOk result (λ device. Opens S.told contents (S.told device.store.events.journal.file) device.store.machine) }
     ensures kept { IfOk result (λ device.
-        IsKept device.store.machine device.store.journal.gate (S.told device.store.journal.file)) }
+        IsKept device.store.machine device.store.events.journal.gate (S.told device.store.events.journal.file)) }
     ensures failed { (contents : Option (List ℕ)) → IsFound (S.told file) contents
         → IfErr result (FailsToOpen S.told contents path.now) }
 {
@@ -186,14 +185,17 @@ pub(crate) fn failed<'a>(path: &'a str, error: FileError) -> Failure<'a>
 
 /// The file of a durable device, which is written no more.
 pub(crate) fn into_file<S: StoredFile + Drop>(device: DurableDevice<S>) -> S
-    ensures { result ≡ device.store.journal.file }
+    ensures { result ≡ device.store.events.journal.file }
 {
     let DurableDevice { store, .. } = device;
     let Durable {
         machine: _machine,
+        events,
+    } = store;
+    let InFile {
         journal,
         waiting: _waiting,
-    } = store;
+    } = events;
     let Journal { file, gate: _gate } = journal;
     file
 }

@@ -89,13 +89,13 @@ fn serve_and_end<S: StoredFile + Drop, I: Read, O: Write>(
     input: &mut I,
     out: &mut O,
 ) -> Result<(), ServeFault>
-    requires { IsKept device.old.store.machine device.old.store.journal.gate (S.told device.old.store.journal.file) }
+    requires { IsKept device.old.store.machine device.old.store.events.journal.gate (S.told device.old.store.events.journal.file) }
     ensures done { OnOk result (ServesAll S.told (I.remaining input.old)
         (seen device.old.store.machine (O.contents out.old)) (seen device.new.store.machine (O.contents out.new))
-        (S.told device.old.store.journal.file) (S.told device.new.store.journal.file)) }
+        (S.told device.old.store.events.journal.file) (S.told device.new.store.events.journal.file)) }
     ensures stopped { IfErr result (StopsIn S.told (I.remaining input.old)
         (seen device.old.store.machine (O.contents out.old)) (seen device.new.store.machine (O.contents out.new))
-        (S.told device.old.store.journal.file) (S.told device.new.store.journal.file)) }
+        (S.told device.old.store.events.journal.file) (S.told device.new.store.events.journal.file)) }
 {
     match durable_serve::serve(alloc, device, input, out) {
         Ok(()) => end_runs(alloc, device, out),
@@ -109,15 +109,15 @@ fn end_runs<S: StoredFile + Drop, O: Write>(
     device: &mut DurableDevice<S>,
     out: &mut O,
 ) -> Result<(), ServeFault>
-    requires { IsKept device.old.store.machine device.old.store.journal.gate (S.told device.old.store.journal.file) }
+    requires { IsKept device.old.store.machine device.old.store.events.journal.gate (S.told device.old.store.events.journal.file) }
     ensures kept { OnOk result
-        (IsKept device.new.store.machine device.new.store.journal.gate (S.told device.new.store.journal.file)) }
+        (IsKept device.new.store.machine device.new.store.events.journal.gate (S.told device.new.store.events.journal.file)) }
     ensures ended { OnOk result ((given : ℕ) × HasGiven most_turns
         (seen device.old.store.machine (O.contents out.old)) (seen device.new.store.machine (O.contents out.new))
-        (S.told device.old.store.journal.file) (S.told device.new.store.journal.file) given) }
+        (S.told device.old.store.events.journal.file) (S.told device.new.store.events.journal.file) given) }
     ensures stopped { IfErr result (StopsGiving most_turns
         (seen device.old.store.machine (O.contents out.old)) (seen device.new.store.machine (O.contents out.new))
-        (S.told device.old.store.journal.file) (S.told device.new.store.journal.file)) }
+        (S.told device.old.store.events.journal.file) (S.told device.new.store.events.journal.file)) }
 {
     let mut answer = Vec::new(alloc);
     match give_turns(alloc, device, u32::MAX, &mut answer, out) {

@@ -2,3 +2,4 @@ pub mod Identifiers
 pub mod Printed
 pub mod Added
 pub mod Done
+pub mod Zones

@@ -39,7 +39,7 @@ entry has one more than the highest that an entry before it in FILE has in its q
 lowest that none before it has.
 
 A block has the bytes that a line's own --block says, or else those of the image that --image names, or those of --block. \
-With --image a line whose blocks are not within the capacity of one zone is wrong. \
+With --image a line whose blocks are in no zone, or not within the capacity of one, is wrong. \
 A file of blocks of any length can be appended or written. Where these, or the blocks of a read, are more than one \
 command moves, 131072 bytes, they become several lines of whole blocks. Those of an append name the same zone, those of \
 a write and a read go on where the one before them ended. --cid is then the identifier of the first.
@@ -84,8 +84,8 @@ pub static WORDS: Words = Words {
 };
 
 /// Prints the command file that the lines of a file ask for, with blocks of this size where a line says nothing of it, and makes no
-/// file: each has the bytes that it had. Where a geometry is given, a line whose blocks cross the capacity of a zone is wrong. Where another
-/// thing than standard output fails, nothing is printed.
+/// file: each has the bytes that it had. Where a geometry is given, a line whose blocks are in no zone or cross the capacity of one is wrong.
+/// Where another thing than standard output fails, nothing is printed.
 ///
 /// # Errors
 ///

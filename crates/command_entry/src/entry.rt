@@ -110,17 +110,19 @@ fn submit<'a, F: Files, O: Write>(
     ensures silent { IfErr result (λ failure. failure ≢ Failure.CannotPrint → O.contents out.new ≡ O.contents out.old) }
 {
     let words = EntryWords::of(command_line, name, matches, None)?;
-    let linked = linked_of(alloc, &words, files)?;
-    give(alloc, command_line, matches, &words, files, out)?;
+    let data = read_data(alloc, &words, files)?;
+    let linked = linked_of(alloc, &words, data.as_slice(), files)?;
+    give(alloc, command_line, matches, &words, data, files, out)?;
     Ok(linked)
 }
 
-/// Prints the line of the entry that words ask for, or adds it to the command file that they name.
+/// Prints the line of the entry that words ask for, with these bytes of a file beside it, or adds it to the command file that they name.
 fn give<'a, F: Files, O: Write>(
     alloc: Global,
     command_line: &mut Command<'a>,
     matches: &ArgMatches<'a>,
     words: &EntryWords<'a>,
+    data: Vec<u8>,
     files: &mut F,
     out: &mut O,
 ) -> Result<(), Failure<'a>>
@@ -130,7 +132,6 @@ fn give<'a, F: Files, O: Write>(
     ensures contents { OnErr result (F.contents files.new ≡ F.contents files.old) }
     ensures silent { IfErr result (λ failure. failure ≢ Failure.CannotPrint → O.contents out.new ≡ O.contents out.old) }
 {
-    let data = read_data(alloc, words, files)?;
     let Asked { command, input } = Asked::of(command_line, words, data)?;
     let identifiers = words.numbers.identifiers;
     match matches.get_str(INTO) {

@@ -1,4 +1,4 @@
-//! Numbers with which a program is loaded other than it was linked for.
+//! What the notes beside a program say of a Load.
 
 ghost use Rattle.std.specs.Prelude.{◌≡◌};
 
@@ -11,10 +11,12 @@ use std::io::Write;
 /// The profile by which a Load judges.
 const LOAD_PROFILE: u32 = 2;
 
-/// The line that says for which numbers the program of a Load was linked, where other ones are given. No file changes.
+/// The line that says that the notes beside the program of a Load, of these bytes, are another one's, or for which numbers it was linked,
+/// where other ones are given. No file changes.
 pub(crate) fn linked_of<F: Files>(
     alloc: Global,
     words: &EntryWords<'_>,
+    program: &[u8],
     files: &mut F,
 ) -> Result<String, AllocError>
     ensures made { F.made files.new ≡ F.made files.old }
@@ -26,7 +28,7 @@ pub(crate) fn linked_of<F: Files>(
         profile: Some(LOAD_PROFILE),
     };
     match words.kind {
-        Kind::Load => linked_line(alloc, words.path, given, files),
+        Kind::Load => linked_line(alloc, words.path, program, given, files),
         _ => Ok(String::new(alloc)),
     }
 }

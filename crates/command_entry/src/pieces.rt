@@ -8,7 +8,7 @@ use crate::command_text::CommandText;
 use crate::data_file::check_data;
 use crate::kinds::Kind;
 use crate::words::EntryWords;
-use crate::zone_room::check_zone_room;
+use crate::zone_room::check_zones;
 use clap::Command;
 use command_files::Failure;
 use command_files::arguments::no_command;
@@ -27,6 +27,11 @@ pub(crate) fn add_entry<'a>(
         check_data(words, input.as_slice(), usize::MAX)?;
         return add_pieces(alloc, command_line, words, input.as_slice(), text);
     }
+    let blocks = match words.numbers.blocks {
+        Some(blocks) => blocks.get() as usize,
+        None => 0,
+    };
+    check_zones(alloc, command_line, words, blocks, text.geometry)?;
     let asked = Asked::of(command_line, words, input)?;
     let identifiers = words.numbers.identifiers;
     text.add(
@@ -53,7 +58,7 @@ fn add_pieces<'a>(
         Some(blocks) => blocks.get() as usize,
         None => data.len() / size as usize,
     };
-    check_zone_room(alloc, command_line, words, left, text.geometry)?;
+    check_zones(alloc, command_line, words, left, text.geometry)?;
     let mut rest = data;
     let mut lba = words.numbers.lba;
     let mut identifiers = words.numbers.identifiers;

@@ -1,5 +1,8 @@
 //! Where the runs of a program ended at a guard.
 
+ghost use Rattle.std.specs.Prelude.{◌≡◌, find};
+ghost use Rattle.command_explain.specs.steps.Ended.{ended_guard, is_guard_of, may_be_result};
+
 use crate::completion_words::Answered;
 use link_notes::{Ended, GuardNote, LinkNotes, UNKNOWN_PLACE, ended_at};
 use nvme_entry::Command;
@@ -20,18 +23,22 @@ pub(crate) struct EndedAt<'a> {
 pub(crate) fn ended_guard<'a>(
     notes: &LinkNotes<'a>,
     answered: &Answered<'_>,
-    data: &[u8],
-) -> Option<EndedAt<'a>> {
-    if data.len() != RESULT_BYTES || !may_be_result(answered) {
+    scratch: &[u8],
+) -> Option<EndedAt<'a>>
+    ensures { result ≡ ended_guard (may_be_result answered.now) notes.now scratch.now }
+{
+    if scratch.len() != RESULT_BYTES || !may_be_result(answered) {
         return None;
     }
-    let ended = ended_at(data, notes.guard_at?)?;
+    let ended = ended_at(scratch, notes.guard_at?)?;
     let guard = guard_of(notes, ended)?;
     Some(EndedAt { ended, guard })
 }
 
 /// Can a completion be that of a result, as far as its command is known?
-fn may_be_result(answered: &Answered<'_>) -> bool {
+fn may_be_result(answered: &Answered<'_>) -> bool
+    ensures { result ≡ may_be_result answered.now }
+{
     match answered {
         Answered::Taken(taken) => matches!(taken.command, Some(Command::Result(_))),
         Answered::Unnamed | Answered::NotThere(_) => true,
@@ -39,13 +46,14 @@ fn may_be_result(answered: &Answered<'_>) -> bool {
 }
 
 /// The guard with the number and the slot that a run left in its scratch.
-fn guard_of<'a>(notes: &LinkNotes<'a>, ended: Ended) -> Option<GuardNote<'a>> {
-    for guard in &notes.guards {
-        if guard.number == ended.number && guard.slot == ended.slot {
-            return Some(*guard);
-        }
-    }
-    None
+fn guard_of<'a>(notes: &LinkNotes<'a>, ended: Ended) -> Option<GuardNote<'a>>
+    ensures { result ≡ find (is_guard_of ended) notes.now.guards.items }
+{
+    notes
+        .guards
+        .iter()
+        .find(|guard| guard.number == ended.number && guard.slot == ended.slot)
+        .copied()
 }
 
 /// Adds a line that says at which guard a block's run ended, where one has ended it.

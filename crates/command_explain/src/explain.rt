@@ -11,7 +11,8 @@ use crate::submissions::{Submission, submissions};
 use clap::ArgMatches;
 use command_files::arguments::required;
 use command_files::{
-    Failure, Files, MOST_OF_EVENTS, notes_path, printed, push_damage, read, read_notes,
+    Failure, Files, MOST_OF_EVENTS, MOST_OF_PROGRAM, MOST_OF_TEXT, is_others, notes_path, printed,
+    push_damage, push_others, read, read_or_none,
 };
 use command_words::{Argument, Takes, Words};
 use device_events::Reply;
@@ -46,6 +47,8 @@ pub(crate) enum Form {
 struct NotesFile {
     path: String,
     bytes: Vec<u8>,
+    /// The bytes of the program, where they can be read.
+    program: Option<Vec<u8>>,
 }
 
 const LONG_ABOUT: &str = "\
@@ -199,13 +202,18 @@ fn notes_file<'a, F: Files>(
         return Ok(None);
     };
     let path = notes_path(alloc, program)?;
-    match read_notes(path.as_str(), files)? {
-        Some(bytes) => Ok(Some(NotesFile { path, bytes })),
-        None => Ok(None),
-    }
+    let Some(bytes) = read_or_none(path.as_str(), MOST_OF_TEXT, files)? else {
+        return Ok(None);
+    };
+    let program = read_or_none(program, MOST_OF_PROGRAM, files)?;
+    Ok(Some(NotesFile {
+        path,
+        bytes,
+        program,
+    }))
 }
 
-/// The notes in a file, if there is one; where they are damaged, a line of words says so.
+/// The notes in a file, if there is one; where they are damaged or another program's, a line of words says so.
 fn notes_in<'n>(
     alloc: Global,
     file: &'n Option<NotesFile>,
@@ -216,11 +224,29 @@ fn notes_in<'n>(
         return Ok(None);
     };
     match link_notes::parse(alloc, file.bytes.as_slice()) {
-        Ok(notes) => Ok(Some(notes)),
+        Ok(notes) => {
+            let program = match &file.program {
+                Some(bytes) => Some(bytes.as_slice()),
+                None => None,
+            };
+            if is_others(&notes, program) {
+                push_other_program(file.path.as_str(), form, out)?;
+                return Ok(None);
+            }
+            Ok(Some(notes))
+        }
         Err(fault) => {
             push_fault(file.path.as_str(), fault, form, out)?;
             Ok(None)
         }
+    }
+}
+
+/// Adds a line of words that says that the notes in a file with this name are another program's.
+fn push_other_program(path: &str, form: Form, out: &mut String) -> Result<(), AllocError> {
+    match form {
+        Form::Words => push_others(path, out),
+        Form::Json => Ok(()),
     }
 }
 

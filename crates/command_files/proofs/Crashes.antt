@@ -57,6 +57,28 @@ module _ (files after : List Made) (file : Made) (put : after ≡ files ++ file 
   put_somehow = subst (λ (tried : List Attempt). LeavesOthers file.path (tried_of files) tried) (sym behind)
       (placed_somehow (record { path = file.path; bytes = file.bytes; progress = whole; done = true }) (tried_of files))
 
+-- what leaves the old or the new under a name leaves the others
+pub leaves_others : (path : List ℕ) (New : List ℕ → Type 0) (before after : List Attempt)
+    → LeavesOldOrNew path New before after → LeavesOthers path before after
+leaves_others path New before after leaves = record {
+  any_moment = λ name c differs left. ⊎_elim (λ (was : LeftSoFar before name c). was)
+      (λ (new : (name ≡ path) × ((bytes : List ℕ) × New bytes × (c ≡ Some bytes))). absurd (differs new.0)) (leaves.any_moment name c left);
+}
+
+-- in two parts
+pub others_joined : (path : List ℕ) (a b c : List Attempt) → LeavesOthers path a b → LeavesOthers path b c → LeavesOthers path a c
+others_joined path a b c first then = record {
+  any_moment = λ name left differs is. first.any_moment name left differs (then.any_moment name left differs is);
+}
+
+-- one that is written where its name leads
+pub written_there : (path name bytes : List ℕ) (progress : Progress) (done : Bool) (before after : List Attempt) → path ≡ name
+    → after ≡ record { path = path; bytes = bytes; progress = progress; done = done } ∷ before → LeavesOthers name before after
+written_there path name bytes progress done before after same is =
+    subst (λ (n : List ℕ). LeavesOthers n before after) same
+    (subst (λ (tried : List Attempt). LeavesOthers path before tried) (sym is)
+    (placed_somehow (record { path = path; bytes = bytes; progress = progress; done = done }) before))
+
 -- none is
 pub others_as_before : (path : List ℕ) (tried : List Attempt) → LeavesOthers path tried tried
 others_as_before path tried = record { any_moment = λ name c differs left. left }

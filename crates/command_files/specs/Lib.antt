@@ -4,6 +4,7 @@ pub mod FileCause
 pub mod JournalFault
 pub mod Laws
 pub mod Lines
+pub mod Linked
 pub mod Shown
 pub mod Number
 pub mod Pieces

@@ -1,6 +1,6 @@
 -- What an error is told as (profile): of the system, of the command line, of a command file, of a file that can't be read or
 -- written, and of a word that spells no number of a range.
-use Rattle.std.specs.Prelude.{◌≡◌, ◌<◌, ◌⊎◌, ℕ, List, Option, IfSome}
+use Rattle.std.specs.Prelude.{◌≡◌, ◌<◌, ◌*◌, ◌^◌, ◌⊎◌, ℕ, List, length, Option, IfSome}
 use Rattle.std.specs.Borrow.{Bor}
 use Rattle.std.specs.declared.io.ErrorKind.{ErrorKind}
 use Rattle.std.specs.declared.io.ErrorKind.TheVariants as system
@@ -49,6 +49,16 @@ told_of_file system.StorageFull = file.Failed file_cause.NoRoom
 told_of_file system.QuotaExceeded = file.Failed file_cause.NoRoom
 told_of_file system.FileTooLarge = file.Failed file_cause.TooLarge
 told_of_file _ = file.Failed file_cause.Other
+
+-- a file that is told as too large has more bytes than so many times 2^20, where they are told, and this number is told
+abbrev pub IsPast : Option (List ℕ) → ℕ → FileFault → Type 0
+IsPast told mebibytes (file.Failed (file_cause.LargerThan most)) = (most ≡ mebibytes) × IfSome told (λ bytes. mebibytes * 2 ^ 20 < length bytes)
+IsPast told mebibytes _ = Unit {0}
+
+-- it is told as another one
+abbrev pub IsNotPast : FileFault → Type 0
+IsNotPast (file.Failed (file_cause.LargerThan most)) = ⊥
+IsNotPast _ = Unit {0}
 
 -- a file with this name that can't be read
 abbrev pub told_unread : Bor (List ℕ) → FileFault → Failure

@@ -1,22 +1,19 @@
 //! The files of the system.
 
-ghost use Rattle.std.specs.Prelude.{◌≡◌, ℕ, List, [], ◌∷◌, ◌++◌, IfOk, IsSome, None, Some, OnErr, OnOk, option_map, string_bytes};
-ghost use Rattle.placed_file.specs.Placing.{after_rename, begun};
+ghost use Rattle.std.specs.Prelude.{◌≡◌, ℕ, List, [], ◌∷◌, ◌++◌, IfErr, IsSome, None, Some, OnErr, OnOk, option_map, string_bytes};
 ghost use Rattle.command_files.specs.Crash.{LeavesOldOrNew};
 ghost use Rattle.command_files.specs.Made.{told_made};
+ghost use Rattle.command_files.specs.UserTold.{IsNotPast};
 
 use crate::file_cause::FileCause;
+use crate::file_reader::FileReader;
 use crate::files::{FileFault, Files, MEBIBYTE};
-use crate::held_file::{HeldFile, behind_links};
-use crate::unfinished::{
-    FileWriter, HeldName, begin_beside, hold_finished, place_under, settle_name,
-};
-use image_text::{Sink, Source, StreamFault};
-use placed_file::{Attempts, Progress, Written};
-use std::alloc::Global;
+use crate::unfinished::{FileWriter, HeldName, begin_beside, hold_finished, settle_name};
+use crate::writing::{put_under, write_beside, write_there};
+use placed_file::Attempts;
 use std::fs::File;
-use std::io::{BufReader, Read};
-use std::{fs, io, mem, rt};
+use std::io::Read;
+use std::{fs, mem, rt};
 
 /// The name by which a command line names standard input.
 pub const STANDARD_INPUT: &str = "-";
@@ -102,7 +99,7 @@ impl<R: rt::Files<File = File> + AllocGlobal> Disk<'_, R> {
             return Err(FileFault::Failed(FileCause::NotFound));
         };
         let mut file = begin_beside(self.rt, held)?;
-        if let Err(fault) = file.write_whole(bytes) {
+        if let Err(fault) = file.write_to_disk(bytes) {
             self.discard(file);
             return Err(fault);
         }
@@ -115,6 +112,7 @@ impl<R: rt::Files<File = File> + AllocGlobal> Disk<'_, R> {
     ///
     /// Standard input was read already, or those of the system.
     fn opened(&mut self, path: &str) -> Result<File, FileFault>
+        ensures not_past { IfErr result IsNotPast }
         ensures held { self.new.held ≡ self.old.held }
         ensures tried { self.new.tried ≡ self.old.tried }
     {
@@ -171,11 +169,8 @@ impl<R: rt::Files<File = File> + AllocGlobal> Disk<'_, R> {
         ensures crash { (name : List ℕ) → option_map (λ held. string_bytes held.name) self.old.held ≡ Some name →
             LeavesOldOrNew name (λ bytes. bytes ≡ file.old.written.bytes) self.old.tried.attempts self.new.tried.attempts }
     {
-        file.complete()?;
         let held = self.held.as_ref().unwrap();
-        let (done, progress) = place_under(self.rt, held, file);
-        self.tried.add(held.name.as_bytes(), &file.written, &progress, done.is_ok());
-        done
+        put_under(self.rt, held, file, &mut self.tried)
     }
 }
 
@@ -203,16 +198,13 @@ impl<R: rt::Files<File = File> + AllocGlobal> Files for Disk<'_, R> {
     }
 
     fn write(&mut self, path: &str, bytes: &[u8]) -> Result<(), FileFault> {
-        let mut written = Written::new();
-        written.add(bytes);
-        let done = fs::write(self.rt, path, bytes);
-        self.tried.add(
-            path.as_bytes(),
-            &written,
-            &in_its_place(done.is_ok()),
-            done.is_ok(),
-        );
-        Ok(done?)
+        match write_beside(self.rt, path, bytes, &mut self.tried) {
+            // No new file takes the place of a pipe, nor of a file whose folder takes none.
+            Err(FileFault::Failed(FileCause::NotOrdinary | FileCause::PermissionDenied)) => {
+                write_there(self.rt, path, bytes, &mut self.tried)
+            }
+            done => done,
+        }
     }
 
     fn open(&mut self, path: &str) -> Result<FileReader<File>, FileFault> {
@@ -222,10 +214,7 @@ impl<R: rt::Files<File = File> + AllocGlobal> Files for Disk<'_, R> {
     fn hold(&mut self, path: &str) -> Result<(), FileFault> {
         // Its own lock would keep this command from the same file too.
         self.held = None;
-        let name = String::from_str(self.rt.alloc(), path)?;
-        let target = behind_links(self.rt, path)?;
-        let file = HeldFile::of(self.rt, target.as_str())?;
-        self.held = Some(HeldName { name, target, file });
+        self.held = Some(HeldName::of(self.rt, path)?);
         Ok(())
     }
 
@@ -258,55 +247,5 @@ impl<R: rt::Files<File = File> + AllocGlobal> Files for Disk<'_, R> {
         // The failure that led here is told; one more would hide it.
         let _ = fs::remove_file(self.rt, file.name.as_str());
         file.cause
-    }
-}
-
-/// What was done for a file that is written where it stands: a crash may leave anything of it.
-fn in_its_place(done: bool) -> Progress
-    ensures { result ≡ after_rename done begun }
-{
-    let mut progress = Progress::begun();
-    progress.note_rename(done);
-    progress
-}
-
-/// A file of the system that is read in pieces.
-#[derive(Drop)]
-pub struct FileReader<F: Read + Drop> {
-    file: BufReader<F>,
-    failures: u64,
-}
-
-impl<F: Read + Drop> FileReader<F> {
-    /// What reads a file, of which no call has failed.
-    fn new(alloc: Global, file: F) -> io::Result<FileReader<F>>
-        ensures { IfOk result (λ reader. reader.failures ≡ 0) }
-    {
-        Ok(FileReader {
-            file: BufReader::new(alloc, file)?,
-            failures: 0,
-        })
-    }
-}
-
-impl<F: Read + Drop> Source for FileReader<F> {
-    ghost tells = { ⊥ };
-
-    ghost rest = { λ _. [] };
-
-    ghost failures = { λ reader. reader.failures };
-
-    fn read(&mut self, to: &mut [u8]) -> Result<usize, StreamFault> {
-        match self.file.read(to) {
-            Ok(count) => Ok(count),
-            Err(_) => {
-                self.failures += 1;
-                Err(StreamFault)
-            }
-        }
-    }
-
-    fn failures(&self) -> u64 {
-        self.failures
     }
 }

@@ -1,11 +1,11 @@
 //! Where names lead to bytes.
 
-ghost use Rattle.std.specs.Prelude.{◌≡◌, ◌≤◌, ◌*◌, ◌^◌, ℕ, List, [], IfOk, IfSome, OnOk, OnErr, Option, None, Some, length, take};
+ghost use Rattle.std.specs.Prelude.{◌≡◌, ◌≤◌, ◌*◌, ◌^◌, ℕ, List, [], IfErr, IfOk, IfSome, OnOk, OnErr, Option, None, Some, length, take};
 ghost use Rattle.std.specs.IoError.{error_kind};
 ghost use Rattle.placed_file.specs.Placing.{Attempt};
 ghost use Rattle.command_files.specs.Crash.{AreWritten, LeavesOldOrNew, LeavesOthers};
 ghost use Rattle.command_files.specs.Made.{AreAsTold, HasReplaced, KeepsModes, Made, then_made};
-ghost use Rattle.command_files.specs.UserTold.{told_of_file};
+ghost use Rattle.command_files.specs.UserTold.{IsPast, told_of_file};
 ghost use Rattle.command_files.specs.declared.files.FileFault.TheVariants.{Memory};
 
 use crate::file_cause::FileCause;
@@ -64,15 +64,16 @@ pub trait Files {
         ensures modes { modes self.new ≡ modes self.old }
         ensures held { held self.new ≡ held self.old }
         ensures bytes { IfOk result (λ file. AreAsTold (contents self.old path.now) file.items) }
-        ensures within { IfOk result (λ file. length file.items ≤ mebibytes * 2 ^ 20) };
+        ensures within { IfOk result (λ file. length file.items ≤ mebibytes * 2 ^ 20) }
+        ensures larger { IfErr result (IsPast (contents self.old path.now) mebibytes) };
 
     /// Makes a file of these bytes, in place of the one with this name, whose permissions it keeps, or makes none.
     /// Where files tell their bytes, it has just these then, and each other what it had; where this fails, each has.
     ///
     /// # Errors
     ///
-    /// It can't be written. It isn't told as made then; of a file of the system a beginning may
-    /// stand there.
+    /// It can't be written, or another command holds it ([`FileCause::InUse`]). It isn't told as made then. A file of the system is as it
+    /// was, unless none can be put in its place, as in a folder that takes no new file: a beginning of the bytes may stand there then.
     fn write(&mut self, path: &str, bytes: &[u8]) -> Result<(), FileFault>
         ensures made { OnOk result (made self.new ≡ then_made (made self.old) path.now bytes.now) }
         ensures kept { OnErr result (made self.new ≡ made self.old) }

@@ -227,6 +227,34 @@ pub(crate) fn behind_links<R: rt::Files + AllocGlobal>(rt: &R, path: &str) -> io
     Err(io::Error::from(ErrorKind::FilesystemLoop))
 }
 
+/// Does a name lead to a stream that a command has open, as that of standard output? Its file isn't replaced: what is open would be
+/// another one then.
+///
+/// # Errors
+///
+/// A link can't be read, or there are too many.
+pub(crate) fn leads_to_a_stream<R: rt::Files + AllocGlobal>(
+    rt: &R,
+    path: &str,
+) -> io::Result<bool> {
+    let mut name = String::from_str(rt.alloc(), path)?;
+    for _link in 0..MOST_TRIES {
+        if is_of_a_stream(name.as_str()) {
+            return Ok(true);
+        }
+        match behind_link(rt, name.as_str())? {
+            Some(next) => name = next,
+            None => return Ok(false),
+        }
+    }
+    Err(io::Error::from(ErrorKind::FilesystemLoop))
+}
+
+/// Is a name one by which Linux names streams that are open?
+fn is_of_a_stream(name: &str) -> bool {
+    name.starts_with("/proc/") || name.starts_with("/dev/fd/")
+}
+
 /// Where a name leads that is a link; `None` for any other.
 fn behind_link<R: rt::Files + AllocGlobal>(rt: &R, name: &str) -> io::Result<Option<String>> {
     match fs::symlink_metadata(rt, name) {

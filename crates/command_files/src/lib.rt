@@ -8,6 +8,8 @@ mod data_fault;
 mod disk;
 mod failure;
 mod file_cause;
+mod file_lines;
+mod file_reader;
 mod files;
 mod held_file;
 mod journal_fault;
@@ -18,21 +20,26 @@ mod memory_files;
 mod notes;
 mod numbers;
 mod object_file;
+mod option_lines;
 mod pieces;
 mod shown;
 mod unfinished;
 mod whole;
+mod writing;
 
 pub use counted::Counted;
 pub use data_fault::DataFault;
-pub use disk::{Disk, FileReader, STANDARD_INPUT};
+pub use disk::{Disk, STANDARD_INPUT};
 pub use failure::{Conclusion, Failure, conclude, printed};
 pub use file_cause::FileCause;
+pub use file_reader::FileReader;
 pub use files::{FileFault, Files};
 pub use journal_fault::JournalFault;
 pub use limits::{MOST_OF_BLOCK, MOST_OF_BLOCKS, MOST_OF_EVENTS, MOST_OF_PROGRAM, MOST_OF_TEXT};
 pub use memory_files::{MemoryFiles, MemoryReader, MemoryWriter};
-pub use notes::{GivenNumbers, linked_line, notes_path, push_damage, read_notes};
+pub use notes::{
+    GivenNumbers, is_others, linked_line, notes_path, push_damage, push_others, read_or_none,
+};
 pub use object_file::object_refusal;
 pub use shown::Shown;
 pub use unfinished::FileWriter;

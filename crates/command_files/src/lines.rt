@@ -1,16 +1,15 @@
 //! What a failure is printed as.
 
-ghost use Rattle.std.specs.Prelude.{◌≡◌, ◌∷◌, ◌++◌, [], codes, Some, OnOk};
+ghost use Rattle.std.specs.Prelude.{◌≡◌, ◌++◌, [], codes, Some, OnOk};
 ghost use Rattle.std.specs.Fmt.{decimal};
-ghost use Rattle.std.specs.Io.KnownBytes.{Appends};
-ghost use Rattle.command_files.specs.Lines.{IsTold, at_byte, at_line, cause_sentence, commands_text, device_text, emit_text, failure_text, journal_text, not_a_block_text, no_block_size, no_number, not_an_image_text, range_line, sentence};
+ghost use Rattle.command_files.specs.Lines.{IsTold, at_byte, at_line, commands_text, sentence};
 ghost use Rattle.command_files.specs.Pieces.{piece_text, pieces_text, text_with};
 ghost use Rattle.command_files.specs.Shown.{shown};
 
-use crate::arguments::BLOCK_OPTION;
 use crate::failure::Failure;
-use crate::file_cause::FileCause;
+use crate::file_lines::{of_device, of_journal, of_no_block, of_no_image, print_file};
 use crate::object_file::ProgramWords;
+use crate::option_lines::{of_emit, print_range};
 use crate::pieces::Piece::{self, Named, Nothing, Number, Plain};
 use crate::pieces::print_pieces;
 use std::fmt::InlineText;
@@ -160,124 +159,6 @@ fn alone(text: &str) -> [Piece<'_>; 1]
     [Plain(text)]
 }
 
-/// Prints that the word of an option is not what is wanted there.
-fn print_range<W: Write>(
-    out: &mut W,
-    option: &str,
-    word: &str,
-    least: u64,
-    most: u64,
-) -> io::Result<()>
-    ensures { OnOk result (Appends (W.contents out.old) (W.contents out.new) (range_line option.now (shown word.now) least most)) }
-{
-    if option == BLOCK_OPTION {
-        print_pieces(out, &of_block(option, word))
-    } else {
-        print_pieces(out, &of_range(option, word, least, most))
-    }
-}
-
-/// The word of an option that is no block size.
-fn of_block<'p>(option: &'p str, word: &'p str) -> [Piece<'p>; 5]
-    ensures { pieces_text result ≡ no_block_size option.now (shown word.now) }
-{
-    [
-        Plain("--"),
-        Plain(option),
-        Plain(": '"),
-        Named(word),
-        Plain("' is not a block size (512, 1024, 2048, 4096, 8192 or 16384)\n"),
-    ]
-}
-
-/// The word of an option that is no number from the least to the most.
-fn of_range<'p>(option: &'p str, word: &'p str, least: u64, most: u64) -> [Piece<'p>; 9]
-    ensures { pieces_text result ≡ no_number option.now (shown word.now) least most }
-{
-    [
-        Plain("--"),
-        Plain(option),
-        Plain(": '"),
-        Named(word),
-        Plain("' is not a number from "),
-        Number(least),
-        Plain(" to "),
-        Number(most),
-        Plain("\n"),
-    ]
-}
-
-/// Prints of a file that fails why, where that is known, and the line for scripts, which begins so.
-fn print_file<'p, W: Write>(
-    out: &mut W,
-    path: &'p str,
-    cause: FileCause,
-    script: &'p str,
-) -> io::Result<()>
-    ensures { let text = cause_sentence (shown path.now) cause ++ (script.now ++ shown path.now ++ 10 ∷ []) in
-        OnOk result (Appends (W.contents out.old) (W.contents out.new) text) }
-{
-    match cause {
-        FileCause::Other => print_pieces(out, &of_file(Nothing, "", "", "", script, path)),
-        FileCause::LargerThan(mebibytes) => print_pieces(out, &of_large(path, mebibytes, script)),
-        _ => {
-            let words = cause.words();
-            print_pieces(out, &of_file(Named(path), ": ", words, "\n", script, path))
-        }
-    }
-}
-
-/// A file that fails, with these words of its cause.
-fn of_file<'p>(
-    name: Piece<'p>,
-    mark: &'p str,
-    words: &'p str,
-    end: &'p str,
-    script: &'p str,
-    path: &'p str,
-) -> [Piece<'p>; 7]
-    ensures { pieces_text result
-        ≡ (piece_text name.entry ++ mark.now ++ words.now ++ end.now) ++ (script.now ++ shown path.now ++ 10 ∷ []) }
-{
-    [
-        name,
-        Plain(mark),
-        Plain(words),
-        Plain(end),
-        Plain(script),
-        Named(path),
-        Plain("\n"),
-    ]
-}
-
-/// A file that has more bytes than are read of it.
-fn of_large<'p>(path: &'p str, mebibytes: u32, script: &'p str) -> [Piece<'p>; 7]
-    ensures { pieces_text result
-        ≡ cause_sentence (shown path.now) (FileCause.LargerThan mebibytes) ++ (script.now ++ shown path.now ++ 10 ∷ []) }
-{
-    [
-        Named(path),
-        Plain(": larger than "),
-        Number(mebibytes as u64),
-        Plain(" MiB, the most that is read of it\n"),
-        Plain(script),
-        Named(path),
-        Plain("\n"),
-    ]
-}
-
-/// A file that isn't replaced by an image, since it has bytes that are none.
-fn of_no_image(path: &str) -> [Piece<'_>; 4]
-    ensures { Some (pieces_text result) ≡ text_with [] (not_an_image_text (shown path.now)) }
-{
-    [
-        Named(path),
-        Plain(": it has bytes that are no image; `--force` replaces it\ncannot write "),
-        Named(path),
-        Plain("\n"),
-    ]
-}
-
 /// A line of a file, why it is refused, and the line for scripts.
 fn of_line<'p>(path: &'p str, number: usize, words: &'p str) -> [Piece<'p>; 8]
     ensures { pieces_text result ≡ at_line (shown path.now) number words.now }
@@ -307,56 +188,6 @@ fn of_commands(path: &str, line: usize, commands: u64) -> [Piece<'_>; 6]
         Number(commands),
         Plain("\n"),
     ]
-}
-
-/// A file of so many bytes, as which there is no block.
-fn of_no_block(path: &str, bytes: usize) -> [Piece<'_>; 4]
-    ensures { Some (pieces_text result) ≡ text_with [] (not_a_block_text (shown path.now) bytes) }
-{
-    [
-        Named(path),
-        Plain(": "),
-        Number(bytes as u64),
-        Plain(" bytes; a block has a power of 2 from 512 to 16384\ngeometry refused 1\n"),
-    ]
-}
-
-/// More bytes to be emitted than a block has.
-fn of_emit(emit: u32, block: u32) -> [Piece<'static>; 5]
-    ensures { Some (pieces_text result) ≡ text_with [] (emit_text emit block) }
-{
-    [
-        Plain("--emit gives "),
-        Number(emit as u64),
-        Plain(" bytes, and a block has "),
-        Number(block as u64),
-        Plain("\nemit exceeds block\n"),
-    ]
-}
-
-/// A journal of which these words say what is wrong at a byte.
-fn of_journal<'a>(path: &'a str, place: usize, words: &'a str) -> [Piece<'a>; 8]
-    ensures { Some (pieces_text result) ≡ text_with [] (journal_text (shown path.now) place words.now) }
-{
-    [
-        Named(path),
-        Plain(", byte "),
-        Number(place as u64),
-        Plain(": "),
-        Plain(words),
-        Plain("\njournal refused "),
-        Number(place as u64),
-        Plain("\n"),
-    ]
-}
-
-/// A journal whose device has more than an image keeps.
-fn of_device(path: &str) -> [Piece<'_>; 2]
-    ensures { Some (pieces_text result) ≡ text_with [] (device_text (shown path.now)) }
-{
-    let words =
-        ": its device has a program or a run, which no image keeps; `serve --durable` keeps them\ndevice refused\n";
-    [Named(path), Plain(words)]
 }
 
 /// What is refused with these words behind a name and a mark, and the line for scripts, which ends with a number.

@@ -1,11 +1,11 @@
 //! Files of the system that aren't finished: written beside the one whose name is held, which they get at the end.
 
-ghost use Rattle.std.specs.Prelude.{◌≡◌, [], IfOk, option_map, string_bytes};
+ghost use Rattle.std.specs.Prelude.{◌≡◌, ◌++◌, [], IfOk, OnOk, option_map, string_bytes};
 ghost use Rattle.placed_file.specs.Placing.{IsWhole};
 
 use crate::file_cause::FileCause;
 use crate::files::FileFault;
-use crate::held_file::{HeldFile, folder_of};
+use crate::held_file::{HeldFile, behind_links, folder_of};
 use image_text::{Sink, StreamFault};
 use placed_file::{Placing, Progress, Written, put_in_place};
 use std::alloc::{AllocError, Global};
@@ -30,6 +30,25 @@ pub(crate) struct HeldName {
     pub(crate) target: String,
     /// The file that is there.
     pub(crate) file: Option<HeldFile>,
+}
+
+impl HeldName {
+    /// A name, with the file that it leads to, which no other command works on then.
+    ///
+    /// # Errors
+    ///
+    /// The file is no ordinary one, another command holds it, or it can't be opened.
+    pub(crate) fn of<R: rt::Files<File = File> + AllocGlobal>(
+        rt: &R,
+        path: &str,
+    ) -> Result<HeldName, FileFault>
+        ensures { IfOk result (λ held. string_bytes held.name ≡ path.now) }
+    {
+        let name = String::from_str(rt.alloc(), path)?;
+        let target = behind_links(rt, path)?;
+        let file = HeldFile::of(rt, target.as_str())?;
+        Ok(HeldName { name, target, file })
+    }
 }
 
 /// A file of no bytes yet beside the one that is held, whose permissions and owner it has.
@@ -216,15 +235,26 @@ pub struct FileWriter {
 }
 
 impl FileWriter {
-    /// Hands the system all of these bytes, to a file of no bytes yet, and brings them to the disk: some file systems find only then that
-    /// they have no room.
+    /// Writes these bytes behind those that were written, all or none of which the system may have then.
     ///
     /// # Errors
     ///
     /// Those of the system.
-    pub(crate) fn write_whole(&mut self, bytes: &[u8]) -> Result<(), FileFault> {
+    pub(crate) fn hand_over(&mut self, bytes: &[u8]) -> Result<(), FileFault>
+        ensures { OnOk result (self.new.written.bytes ≡ self.old.written.bytes ++ bytes.now) }
+    {
         self.file.write_all(bytes)?;
         self.written.add(bytes);
+        Ok(())
+    }
+
+    /// Writes these bytes, and brings them to the disk: some file systems find only then that they have no room.
+    ///
+    /// # Errors
+    ///
+    /// Those of the system.
+    pub(crate) fn write_to_disk(&mut self, bytes: &[u8]) -> Result<(), FileFault> {
+        self.hand_over(bytes)?;
         self.file.flush()?;
         synced(self.file.get_ref())
     }

@@ -18,7 +18,7 @@ fn area_name(area: Area) -> &'static str {
 }
 
 /// Is a guard told in a line of its own? That of the block's size is the user's own doing, and of a loop that is cut a line tells more.
-pub(crate) fn is_listed(need: Need) -> bool {
+fn is_listed(need: Need) -> bool {
     !matches!(need, Need::BlockSize(_) | Need::Rounds(_))
 }
 
@@ -68,6 +68,9 @@ fn proving(alloc: Global, need: Need) -> Result<String, AllocError> {
         Need::Most(most) | Need::Left(most) => {
             format!(in alloc; "see to it just before, as by `if (length > {most}) return 0;`")
         }
+        Need::BlockSize(bytes) => {
+            format!(in alloc; "write {bytes} in place of the size that the context has")
+        }
         _ => String::from_str(alloc, "write less"),
     }
 }
@@ -114,7 +117,7 @@ pub(crate) fn of_end(
 }
 
 /// What is told of a loop that is cut.
-fn of_cut(
+pub(crate) fn of_cut(
     alloc: Global,
     source: &Source<'_, '_>,
     origin: Option<Origin>,

@@ -46,11 +46,12 @@ are unrolled as often as they can go round, as far as is known of registers. In 
 to lie within an area stands a guard: a compare that ends the run with this block where it does not. `guard` and a sentence tell \
 of each where it is, what it ends the run for, and what to write so that none is needed. Where a guard always ends the run, and \
 where a loop has more rounds than there are slots for, no program is made. With --cut-loops a loop has as many rounds as there \
-is room for, and a block that needs more ends the run.
+is room for, and a block that needs more ends the run. With --strict a program with any guard or such a loop is refused.
 
 A guard that ends a run writes 16 bytes of scratch: its number (u32), its slot (u32) and the block's index (u64). They are the last \
 into which the program stores nothing; --guard-at names others. PROGRAM.linked, a file of text, has a line for each guard, and for \
-which blocks, limit and profile the program was linked. Where it can't be written, a line tells so, and the program is made.
+which blocks, limit and profile the program was linked, and a sum of its bytes, by which it is known that the notes are its own. Where \
+it can't be written, a line tells so, and the program is made.
 
 Of an object of which no program is made, or one that `verify` refuses, `link refused` and a sentence tell \
 the function, the line, where `clang -g` wrote it, and what to write instead, and no file is written.";
@@ -117,7 +118,7 @@ pub static WORDS: Words = Words {
             long: STRICT,
             short: None,
             takes: Takes::Nothing,
-            help: "Refuse a program with a guard that may end a run",
+            help: "Refuse a program with a guard that may end a run, or a loop that is cut",
         },
         Argument {
             id: GUARD_AT,

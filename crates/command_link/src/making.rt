@@ -1,6 +1,6 @@
 //! A program of an object's bytes.
 
-use crate::guard_lines::{guard_lines, is_listed, of_guard};
+use crate::guard_lines::{guard_lines, of_cut, of_guard};
 use crate::notes::notes_of;
 use crate::refusal::{
     Refusal, of_gathering, of_inlining, of_linking, of_object, of_start, of_verdict,
@@ -248,7 +248,7 @@ fn check_verdict(
     }
 }
 
-/// Refuses a program with a guard, where there may be none.
+/// Refuses a program with a loop that is cut or with a guard, also of the block's size, where there may be none.
 fn check_strict(
     alloc: Global,
     source: &Source<'_, '_>,
@@ -259,14 +259,18 @@ fn check_strict(
     if !asked.is_strict {
         return Ok(());
     }
-    for guard in &linked.guards {
-        let GuardPlace { slot, need } = guard.place;
-        if is_listed(need) {
-            let origin = origin_of_slot(origins, slot);
-            return Err(Refusal::of(of_guard(alloc, source, origin, need)));
-        }
+    if let Some(cut) = linked.cuts.first() {
+        let origin = origin_of_slot(origins, cut.back);
+        return Err(Refusal::of(of_cut(alloc, source, origin, *cut)));
     }
-    Ok(())
+    match linked.guards.first() {
+        Some(guard) => {
+            let GuardPlace { slot, need } = guard.place;
+            let origin = origin_of_slot(origins, slot);
+            Err(Refusal::of(of_guard(alloc, source, origin, need)))
+        }
+        None => Ok(()),
+    }
 }
 
 /// The program of an object.
@@ -290,7 +294,7 @@ fn program(
     check_strict(alloc, &source, &linked, &origins, asked)?;
     check_verdict(alloc, &source, &linked, &origins, verdict)?;
     let told = guard_lines(alloc, &source, &linked, &origins)?;
-    let notes = notes_of(alloc, &source, &linked, &origins, asked)?;
+    let notes = notes_of(alloc, &source, &linked, bytes.as_slice(), &origins, asked)?;
     Ok(LinkedProgram {
         linked,
         bytes,

@@ -5,7 +5,7 @@ use crate::making::Asked;
 use crate::source::{Source, origin_of_slot, symbol_name};
 use ebpf_gather::Origin;
 use ebpf_link::{Linked, LinkedGuard};
-use link_notes::{GuardNote, LinkNotes, UNKNOWN_PLACE, print};
+use link_notes::{GuardNote, LinkNotes, UNKNOWN_PLACE, print, program_sum};
 use std::alloc::{AllocError, Global};
 
 /// What is noted of a guard.
@@ -86,11 +86,12 @@ fn small(number: usize) -> u32 {
     number.min(0xffff) as u32
 }
 
-/// What is noted of a program.
+/// What is noted of a program of these bytes.
 pub(crate) fn notes_of(
     alloc: Global,
     source: &Source<'_, '_>,
     linked: &Linked,
+    program: &[u8],
     origins: &[Option<Origin>],
     asked: &Asked,
 ) -> Result<String, AllocError> {
@@ -107,6 +108,7 @@ pub(crate) fn notes_of(
         }
     }
     let notes = LinkNotes {
+        sum: Some(program_sum(program)),
         block: asked.target.block.bytes(),
         emit: asked.emit,
         profile: asked.profile,

@@ -81,13 +81,23 @@ fn verdict_advice(reason: Reason) -> &'static str {
     }
 }
 
-/// What to write in place of a loop of which not all rounds have room.
+/// What to write in place of a loop of which not all rounds have room: how many it has is known.
 fn loop_advice(rule: LoopRule) -> &'static str {
     match rule {
+        LoopRule::Whole => "give it fewer rounds, or less in each, or link with --cut-loops",
+        LoopRule::Cut => "give it fewer rounds, or less in each",
+    }
+}
+
+/// What to write in place of a loop of which it isn't known how many rounds it has: too many, or any number.
+fn long_loop_advice(rule: LoopRule) -> &'static str {
+    match rule {
         LoopRule::Whole => {
-            "give it a constant bound, fewer rounds, or less in each, or link with --cut-loops"
+            "give it fewer rounds, or less in each, and a constant bound if it has none; one that can be left early can be linked with --cut-loops"
         }
-        LoopRule::Cut => "give it a constant bound, fewer rounds, or less in each",
+        LoopRule::Cut => {
+            "give it fewer rounds, or less in each, and a constant bound if it has none"
+        }
     }
 }
 
@@ -339,16 +349,18 @@ pub(crate) fn of_linking(
         LinkFault::Leaves(_) => {
             format!(in alloc; "{fault}; compile the file by `clang -target bpf -O2 -c`")
         }
-        LinkFault::Loop {
-            back,
-            rounds,
-            count,
-        } => {
+        LinkFault::Loop { back, rounds, .. } => {
             let place = source.place_of(origin_of_slot(origins, back));
             let problem = format!(in alloc;
-                "a loop that isn't known to be over after {rounds} rounds, and {count} slots"
+                "a loop that isn't over after {rounds} rounds, for which a program of 4096 slots has no room"
             )?;
-            sentence(alloc, source, place, problem.as_str(), loop_advice(rule))
+            sentence(
+                alloc,
+                source,
+                place,
+                problem.as_str(),
+                long_loop_advice(rule),
+            )
         }
         LinkFault::TooLong { count, widest } => of_length(
             alloc, source, origins, rule, count, widest,

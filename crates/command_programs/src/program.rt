@@ -10,6 +10,13 @@ use ebpf_decode::{DecodeFault, ProgramRefusal, decode};
 use instruction_set::Program;
 use std::alloc::Global;
 
+/// A program, and the bytes of its file.
+#[derive(Drop)]
+pub(crate) struct ProgramFile {
+    pub(crate) program: Program,
+    pub(crate) bytes: Vec<u8>,
+}
+
 /// The program that the bytes of a file spell. Each file has the bytes that it had.
 pub(crate) fn program_in_file<'a, F: Files>(
     alloc: Global,
@@ -22,10 +29,28 @@ pub(crate) fn program_in_file<'a, F: Files>(
     ensures failed { IfErr result (IsNoProgram (F.contents files.old path.now) path.now) }
     ensures not_judged { result ≢ Err Failure.NotAccepted }
 {
-    let file = read(path, MOST_OF_PROGRAM, files)?;
-    match decode(alloc, file.as_slice()) {
-        Ok(program) => Ok(program),
-        Err(fault) => Err(refused(path, file.as_slice(), fault)),
+    match program_file(alloc, path, files) {
+        Ok(ProgramFile { program, .. }) => Ok(program),
+        Err(failure) => Err(failure),
+    }
+}
+
+/// The same with the bytes.
+pub(crate) fn program_file<'a, F: Files>(
+    alloc: Global,
+    path: &'a str,
+    files: &mut F,
+) -> Result<ProgramFile, Failure<'a>>
+    ensures made { F.made files.new ≡ F.made files.old }
+    ensures contents { F.contents files.new ≡ F.contents files.old }
+    ensures spelled { IfOk result (λ file. Spell (F.contents files.old path.now) file.program) }
+    ensures failed { IfErr result (IsNoProgram (F.contents files.old path.now) path.now) }
+    ensures not_judged { result ≢ Err Failure.NotAccepted }
+{
+    let bytes = read(path, MOST_OF_PROGRAM, files)?;
+    match decode(alloc, bytes.as_slice()) {
+        Ok(program) => Ok(ProgramFile { program, bytes }),
+        Err(fault) => Err(refused(path, bytes.as_slice(), fault)),
     }
 }
 

@@ -11,7 +11,7 @@ ghost use Rattle.command_programs.specs.Printed.{PrintsAccepted, PrintsRefused, 
 
 use crate::flags::{JSON, JSON_ARGUMENT, is_set};
 use crate::printing::print;
-use crate::program::program_in_file;
+use crate::program::program_file;
 use crate::sizes::{limit, run_sizes};
 use crate::verdict::{Verdict, acceptance_text, judged, refusal_text};
 use clap::ArgMatches;
@@ -181,10 +181,10 @@ pub fn verify<'a, F: Files, O: Write>(
 {
     let asked = asked_for(matches)?;
     let path = required(matches, PROGRAM);
-    let program = program_in_file(alloc, path, files)?;
+    let file = program_file(alloc, path, files)?;
     let sizes = sizes_with(asked.block, asked.limit)?;
-    let linked = linked_asked(alloc, path, &asked, files)?;
-    say(alloc, &program, sizes, asked, linked.as_str(), out)
+    let linked = linked_asked(alloc, path, file.bytes.as_slice(), &asked, files)?;
+    say(alloc, &file.program, sizes, asked, linked.as_str(), out)
 }
 
 /// What a user asks for.
@@ -235,10 +235,11 @@ fn sizes_with<'a>(block: u32, limit: u32) -> Result<RunSizes, Failure<'a>>
     run_sizes(block_size(block)?, limit)
 }
 
-/// The line that says for which numbers the program in a file was linked, if words are asked for and other numbers are given.
+/// The line that the notes beside the file with a program of these bytes give, if words are asked for.
 fn linked_asked<'a, F: Files>(
     alloc: Global,
     path: &str,
+    bytes: &[u8],
     asked: &VerifyOptions,
     files: &mut F,
 ) -> Result<String, Failure<'a>>
@@ -258,7 +259,7 @@ fn linked_asked<'a, F: Files>(
         Form::Worded {
             explained: true,
             ..
-        } => Ok(linked_line(alloc, path, given, files)?),
+        } => Ok(linked_line(alloc, path, bytes, given, files)?),
         _ => Ok(String::new(alloc)),
     }
 }

@@ -9,8 +9,7 @@ use std::fs::File;
 use std::io::{Read, Seek};
 use std::os::unix::fs::FileExt;
 use std::rt;
-use stored_file::{FileError, StoredFile};
-use system_file::{FileCalls, Record, SystemFile};
+use stored_file::{FileCalls, FileError, Record, StoredFile, SystemFile};
 
 /// A file of the system that is held, under an exclusive lock until this is dropped. Each method makes one call, and then notes it
 /// with its answer. No clause says that it makes that call: this is to be read.

@@ -5,8 +5,8 @@ use Rattle.std.specs.List.{AllByRecursion, cons_option}
 use Rattle.std.proofs.lemmas.Bool.{leb-true}
 use Rattle.common_definitions.specs.Bytes.{AreBytes, field}
 use Rattle.common_definitions.proofs.Proved.{all_append, bytes_from, bytes_to, front_fit, rest_fit}
-use Rattle.event_journal.specs.Events.{number_bytes, spelled}
-use Rattle.event_journal.specs.Journal.{AreFrames}
+use Rattle.durable_machine.specs.Events.{number_bytes, spelled}
+use Rattle.durable_machine.specs.Journal.{AreFrames}
 use Rattle.durable_machine.specs.Files.{joined}
 use Rattle.image_base.specs.Base.{IsBaseOf, Told, magic}
 use Rattle.zone_state.specs.declared.state.FaultState.TheVariants.{ReadOnly, Offline}

@@ -3,7 +3,7 @@ use Rattle.std.specs.Prelude.{◌≡◌, ◌≤◌, ℕ, false, List, length, ta
 use Rattle.std.specs.List.{AllByRecursion}
 use Rattle.common_definitions.specs.Bytes.{AreBytes}
 use Rattle.stored_file.specs.File.{FileState, MayLeave}
-use Rattle.event_journal.specs.Journal.{StandsFor as HasJournal}
+use Rattle.durable_machine.specs.Journal.{StandsFor as HasJournal}
 use Rattle.durable_machine.specs.Files.{IsFront, joined}
 use Rattle.device_events.specs.ToldEvents.{ToldEvent}
 use Rattle.device_meaning.specs.Beginning.{MayBegin}

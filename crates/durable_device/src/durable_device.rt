@@ -14,7 +14,7 @@ ghost use Rattle.durable_device.specs.Machine.{IsDeviceBase};
 ghost use Rattle.durable_device.specs.Serving.{HasAnswered, HasServed, HaveServed, IsAfterSome, IsBeforeOrAfter, Leads};
 
 use crate::{FrameDevice, Given};
-use durable_machine::{Durable, Fault};
+use durable_machine::{Durable, Fault, InFile};
 use image_store::Image;
 use runner::Device;
 use std::alloc::{AllocError, Global};
@@ -29,7 +29,7 @@ pub const MOST_JOURNAL: usize = 1 << 26;
 #[derive(Drop)]
 pub struct DurableDevice<F: StoredFile + Drop> {
     /// The device and its journal.
-    pub store: Durable<FrameDevice, F>,
+    pub store: Durable<FrameDevice, InFile<F>>,
     /// How many bytes of the file were taken when it was made, was opened, or was to be folded last.
     pub folded: usize,
     /// What came of the last fold; [`Folding::Done`] where there was none yet.
@@ -63,20 +63,20 @@ impl<F: StoredFile + Drop> DurableDevice<F> {
         ensures state { IfOk result (λ device. StandsForIt (F.told file).seen device.store.machine) }
         ensures reached { IfOk result (λ device. IsReached interval_judge device.store.machine) }
         ensures kept { IfOk result (λ device.
-            IsKept device.store.machine device.store.journal.gate (F.told device.store.journal.file)) }
-        ensures counted { IfOk result (λ device. device.folded ≡ device.store.journal.gate) }
+            IsKept device.store.machine device.store.events.journal.gate (F.told device.store.events.journal.file)) }
+        ensures counted { IfOk result (λ device. device.folded ≡ device.store.events.journal.gate) }
 
         // A crash at any moment leaves what an earlier program may have left; where all was on the disk, the same device.
-        ensures any_moment { IfOk result (λ device. KeepsRestarted (F.told file) (F.told device.store.journal.file)) }
+        ensures any_moment { IfOk result (λ device. KeepsRestarted (F.told file) (F.told device.store.events.journal.file)) }
         ensures any_moment_err { IfErr result (λ refusal. KeepsRestarted (F.told file) (F.told refusal.1)) }
 
         ensures refused { IfErr result (λ refusal. RefusesFile (F.told file) (F.told refusal.1) refusal.0) }
     {
-        match Durable::<FrameDevice, F>::open(alloc, file) {
+        match Durable::<FrameDevice, InFile<F>>::open(alloc, file) {
             Ok(store) => {
                 // Brings in that the device is in a state that events leave.
                 let _ = store.machine.image();
-                let folded = store.journal.gate;
+                let folded = store.events.journal.gate;
                 Ok(DurableDevice {
                     store,
                     folded,
@@ -99,17 +99,17 @@ impl<F: StoredFile + Drop> DurableDevice<F> {
         ensures state { IfOk result (λ device. StandsForIt (F.told file).seen device.store.machine) }
         ensures reached { IfOk result (λ device. IsReached interval_judge device.store.machine) }
         ensures kept { IfOk result (λ device.
-            IsKept device.store.machine device.store.journal.gate (F.told device.store.journal.file)) }
-        ensures counted { IfOk result (λ device. device.folded ≡ device.store.journal.gate) }
-        ensures any_moment { IfOk result (λ device. KeepsRestarted (F.told file) (F.told device.store.journal.file)) }
+            IsKept device.store.machine device.store.events.journal.gate (F.told device.store.events.journal.file)) }
+        ensures counted { IfOk result (λ device. device.folded ≡ device.store.events.journal.gate) }
+        ensures any_moment { IfOk result (λ device. KeepsRestarted (F.told file) (F.told device.store.events.journal.file)) }
         ensures any_moment_err { IfErr result (λ refusal. KeepsRestarted (F.told file) (F.told refusal.1)) }
         ensures refused { IfErr result (λ refusal. RefusesFile (F.told file) (F.told refusal.1) refusal.0) }
     {
-        match Durable::<FrameDevice, F>::open_read(alloc, file, bytes) {
+        match Durable::<FrameDevice, InFile<F>>::open_read(alloc, file, bytes) {
             Ok(store) => {
                 // Brings in that the device is in a state that events leave.
                 let _ = store.machine.image();
-                let folded = store.journal.gate;
+                let folded = store.events.journal.gate;
                 Ok(DurableDevice {
                     store,
                     folded,
@@ -129,13 +129,13 @@ impl<F: StoredFile + Drop> DurableDevice<F> {
     pub fn create(alloc: Global, image: Image, file: F) -> Result<DurableDevice<F>, (FileError, F)>
         ensures new { IfOk result (λ device. device.store.machine ≡ new_state image) }
         ensures kept { IfOk result (λ device.
-            IsKept device.store.machine device.store.journal.gate (F.told device.store.journal.file)) }
+            IsKept device.store.machine device.store.events.journal.gate (F.told device.store.events.journal.file)) }
         ensures in_base { IfOk result (λ device.
-            IsKeptInBase device.store.machine device.store.journal.gate (F.told device.store.journal.file)) }
-        ensures counted { IfOk result (λ device. device.folded ≡ device.store.journal.gate) }
+            IsKeptInBase device.store.machine device.store.events.journal.gate (F.told device.store.events.journal.file)) }
+        ensures counted { IfOk result (λ device. device.folded ≡ device.store.events.journal.gate) }
 
         // A crash at any moment leaves what it might have left before, or a file that stands for the device.
-        ensures any_moment { IfOk result (λ device. LeavesOnly (F.told file) (F.told device.store.journal.file)
+        ensures any_moment { IfOk result (λ device. LeavesOnly (F.told file) (F.told device.store.events.journal.file)
             (IsOldOrStandsFor (F.told file) (new_state image))) }
         ensures any_moment_err { IfErr result (λ failure. LeavesOnly (F.told file) (F.told failure.1)
             (IsOldOrStandsFor (F.told file) (new_state image))) }
@@ -148,9 +148,9 @@ impl<F: StoredFile + Drop> DurableDevice<F> {
             Ok(made) => made,
             Err(AllocError) => return Err((FileError::Memory, file)),
         };
-        match Durable::<FrameDevice, F>::create(alloc, machine, base, file) {
+        match Durable::<FrameDevice, InFile<F>>::create(alloc, machine, base, file) {
             Ok(store) => {
-                let folded = store.journal.gate;
+                let folded = store.events.journal.gate;
                 Ok(DurableDevice {
                     store,
                     folded,
@@ -168,15 +168,15 @@ impl<F: StoredFile + Drop> DurableDevice<F> {
     ///
     /// No memory. Then the device is as it was, and nothing is noted.
     pub fn apply(&mut self, alloc: Global, frame: &[u8]) -> Result<Option<Given>, AllocError>
-        requires kept { IsCommittedBut self.old.store.waiting.items self.old.store.machine self.old.store.journal.gate
-            (F.told self.old.store.journal.file) }
+        requires kept { IsCommittedBut self.old.store.events.waiting.items self.old.store.machine self.old.store.events.journal.gate
+            (F.told self.old.store.events.journal.file) }
         ensures done { IfOk result (λ given.
             HasAnswered frame.now self.old.store.machine self.new.store.machine given) }
         ensures refused { OnErr result (self.new.store.machine ≡ self.old.store.machine) }
-        ensures not_noted { OnErr result (self.new.store.waiting.items ≡ self.old.store.waiting.items) }
-        ensures same { self.new.store.journal ≡ self.old.store.journal }
-        ensures kept { IsCommittedBut self.new.store.waiting.items self.new.store.machine self.new.store.journal.gate
-            (F.told self.new.store.journal.file) }
+        ensures not_noted { OnErr result (self.new.store.events.waiting.items ≡ self.old.store.events.waiting.items) }
+        ensures same { self.new.store.events.journal ≡ self.old.store.events.journal }
+        ensures kept { IsCommittedBut self.new.store.events.waiting.items self.new.store.machine self.new.store.events.journal.gate
+            (F.told self.new.store.events.journal.file) }
         ensures counted { self.new.folded ≡ self.old.folded }
     {
         self.store.apply(alloc, frame)
@@ -189,24 +189,24 @@ impl<F: StoredFile + Drop> DurableDevice<F> {
     ///
     /// No memory, or the disk's. Then the file has to be opened again, and nothing may go out.
     pub fn commit(&mut self, alloc: Global) -> Result<(), FileError>
-        requires kept { IsCommittedBut self.old.store.waiting.items self.old.store.machine self.old.store.journal.gate
-            (F.told self.old.store.journal.file) }
+        requires kept { IsCommittedBut self.old.store.events.waiting.items self.old.store.machine self.old.store.events.journal.gate
+            (F.told self.old.store.events.journal.file) }
         ensures same { self.new.store.machine ≡ self.old.store.machine }
-        ensures none { OnOk result (self.new.store.waiting.items ≡ []) }
+        ensures none { OnOk result (self.new.store.events.waiting.items ≡ []) }
         ensures committed { OnOk result
-            (IsKept self.new.store.machine self.new.store.journal.gate (F.told self.new.store.journal.file)) }
-        ensures kept { OnOk result (IsCommittedBut self.new.store.waiting.items self.new.store.machine self.new.store.journal.gate
-            (F.told self.new.store.journal.file)) }
+            (IsKept self.new.store.machine self.new.store.events.journal.gate (F.told self.new.store.events.journal.file)) }
+        ensures kept { OnOk result (IsCommittedBut self.new.store.events.waiting.items self.new.store.machine
+            self.new.store.events.journal.gate (F.told self.new.store.events.journal.file)) }
 
         // A crash at any moment of it leaves the device that was committed before, or the one after all that was done since.
-        ensures any_moment { (before : State) → IsKept before self.old.store.journal.gate (F.told self.old.store.journal.file)
-            → LeavesOnly (F.told self.old.store.journal.file) (F.told self.new.store.journal.file)
+        ensures any_moment { (before : State) → IsKept before self.old.store.events.journal.gate (F.told self.old.store.events.journal.file)
+            → LeavesOnly (F.told self.old.store.events.journal.file) (F.told self.new.store.events.journal.file)
             (IsEither before self.old.store.machine) }
 
         ensures counted { self.new.folded ≡ self.old.folded }
 
         // It doesn't give up by itself.
-        ensures cause { HasCause (F.told self.old.store.journal.file) (F.told self.new.store.journal.file) result }
+        ensures cause { HasCause (F.told self.old.store.events.journal.file) (F.told self.new.store.events.journal.file) result }
     {
         self.store.commit(alloc)
     }
@@ -224,22 +224,22 @@ impl<F: StoredFile + Drop> DurableDevice<F> {
         alloc: Global,
         frames: &[Vec<u8>],
     ) -> Result<Vec<Option<Given>>, FileError>
-        requires { IsKept self.old.store.machine self.old.store.journal.gate (F.told self.old.store.journal.file) }
+        requires { IsKept self.old.store.machine self.old.store.events.journal.gate (F.told self.old.store.events.journal.file) }
 
         ensures served { IfOk result (λ given.
             HasServed (bytes_of frames.now) self.old.store.machine self.new.store.machine given.items) }
 
         ensures acknowledged { OnOk result
-            (IsKept self.new.store.machine self.new.store.journal.gate (F.told self.new.store.journal.file)) }
+            (IsKept self.new.store.machine self.new.store.events.journal.gate (F.told self.new.store.events.journal.file)) }
 
         // A crash at any moment of the call leaves the device from before it, or that after all the events.
-        ensures any_moment { LeavesOnly (F.told self.old.store.journal.file) (F.told self.new.store.journal.file)
+        ensures any_moment { LeavesOnly (F.told self.old.store.events.journal.file) (F.told self.new.store.events.journal.file)
             (IsBeforeOrAfter (bytes_of frames.now) self.old.store.machine) }
 
         ensures counted { self.new.folded ≡ self.old.folded }
 
         // It doesn't give up by itself.
-        ensures cause { HasCause (F.told self.old.store.journal.file) (F.told self.new.store.journal.file) result }
+        ensures cause { HasCause (F.told self.old.store.events.journal.file) (F.told self.new.store.events.journal.file) result }
     {
         self.store.serve(alloc, frames)
     }
@@ -255,7 +255,7 @@ impl<F: StoredFile + Drop> DurableDevice<F> {
         alloc: Global,
         batches: &[Vec<Vec<u8>>],
     ) -> Result<Vec<Vec<Option<Given>>>, FileError>
-        requires { IsKept self.old.store.machine self.old.store.journal.gate (F.told self.old.store.journal.file) }
+        requires { IsKept self.old.store.machine self.old.store.events.journal.gate (F.told self.old.store.events.journal.file) }
 
         ensures served { IfOk result (λ given.
             HaveServed (batches_of batches.now) self.old.store.machine self.new.store.machine (lists_of given.items)) }
@@ -263,14 +263,14 @@ impl<F: StoredFile + Drop> DurableDevice<F> {
         ensures led { OnOk result (Leads (joined (batches_of batches.now)) self.old.store.machine self.new.store.machine) }
 
         ensures acknowledged { OnOk result
-            (IsKept self.new.store.machine self.new.store.journal.gate (F.told self.new.store.journal.file)) }
+            (IsKept self.new.store.machine self.new.store.events.journal.gate (F.told self.new.store.events.journal.file)) }
 
-        ensures any_moment { LeavesOnly (F.told self.old.store.journal.file) (F.told self.new.store.journal.file)
+        ensures any_moment { LeavesOnly (F.told self.old.store.events.journal.file) (F.told self.new.store.events.journal.file)
             (IsAfterSome (batches_of batches.now) self.old.store.machine) }
 
         ensures counted { self.new.folded ≡ self.old.folded }
 
-        ensures cause { HasCause (F.told self.old.store.journal.file) (F.told self.new.store.journal.file) result }
+        ensures cause { HasCause (F.told self.old.store.events.journal.file) (F.told self.new.store.events.journal.file) result }
     {
         self.store.serve_all(alloc, batches)
     }
@@ -283,21 +283,21 @@ impl<F: StoredFile + Drop> DurableDevice<F> {
     ///
     /// The disk's, or no memory to hand the file over.
     pub fn fold(&mut self, alloc: Global) -> Result<Folding, FileError>
-        requires { IsKept self.old.store.machine self.old.store.journal.gate (F.told self.old.store.journal.file) }
+        requires { IsKept self.old.store.machine self.old.store.events.journal.gate (F.told self.old.store.events.journal.file) }
         ensures same { self.new.store.machine ≡ self.old.store.machine }
-        ensures counted { OnOk result (self.new.folded ≡ self.new.store.journal.gate) }
+        ensures counted { OnOk result (self.new.folded ≡ self.new.store.events.journal.gate) }
         ensures kept { OnOk result
-            (IsKept self.new.store.machine self.new.store.journal.gate (F.told self.new.store.journal.file)) }
+            (IsKept self.new.store.machine self.new.store.events.journal.gate (F.told self.new.store.events.journal.file)) }
         ensures told { IfOk result (λ folding. self.new.last_fold ≡ folding) }
         ensures in_base { IfOk result (λ folding. folding ≡ Folding.Done →
-            IsKeptInBase self.new.store.machine self.new.store.journal.gate (F.told self.new.store.journal.file)) }
-        ensures any_moment { LeavesOnly (F.told self.old.store.journal.file) (F.told self.new.store.journal.file)
+            IsKeptInBase self.new.store.machine self.new.store.events.journal.gate (F.told self.new.store.events.journal.file)) }
+        ensures any_moment { LeavesOnly (F.told self.old.store.events.journal.file) (F.told self.new.store.events.journal.file)
             (λ c. StandsFor c self.old.store.machine) }
 
         // It doesn't give up by itself.
-        ensures cause { HasCause (F.told self.old.store.journal.file) (F.told self.new.store.journal.file) result }
+        ensures cause { HasCause (F.told self.old.store.events.journal.file) (F.told self.new.store.events.journal.file) result }
         ensures no_room { IfOk result (λ folding. folding ≡ Folding.NoRoom →
-            (F.told self.old.store.journal.file).faults < (F.told self.new.store.journal.file).faults) }
+            (F.told self.old.store.events.journal.file).faults < (F.told self.new.store.events.journal.file).faults) }
     {
         let Ok(base) = self.store.machine.base(alloc) else {
             return Ok(self.note_fold(Folding::NoMemory));
@@ -314,11 +314,11 @@ impl<F: StoredFile + Drop> DurableDevice<F> {
     fn note_fold(&mut self, folding: Folding) -> Folding
         ensures told { result ≡ folding }
         ensures noted { self.new.last_fold ≡ folding }
-        ensures counted { self.new.folded ≡ self.new.store.journal.gate }
+        ensures counted { self.new.folded ≡ self.new.store.events.journal.gate }
         ensures same { self.new.store ≡ self.old.store }
     {
         self.last_fold = folding;
-        self.folded = self.store.journal.gate;
+        self.folded = self.store.events.journal.gate;
         folding
     }
 
@@ -340,9 +340,9 @@ impl<F: StoredFile + Drop> DurableDevice<F> {
     /// How many bytes of the file the base and the journal behind it take. Opening reads them, and does the events again; so where
     /// they have grown long, it is time to fold.
     pub fn length(&self) -> usize
-        ensures { result ≡ self.now.store.journal.gate }
+        ensures { result ≡ self.now.store.events.journal.gate }
     {
-        self.store.journal.gate
+        self.store.events.journal.gate
     }
 }
 

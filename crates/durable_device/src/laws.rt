@@ -32,8 +32,8 @@ pub fn first_batches_come_back()
 
 /// Whatever a crash leaves of a device at rest, that device is opened of it: so no event is lost that was acknowledged.
 pub fn acknowledged_comes_back<F: StoredFile + Drop>(device: &DurableDevice<F>)
-    requires { IsKept device.now.store.machine device.now.store.journal.gate (F.told device.now.store.journal.file) }
-    ensures { ComesBack (F.told device.now.store.journal.file) device.now.store.machine }
+    requires { IsKept device.now.store.machine device.now.store.events.journal.gate (F.told device.now.store.events.journal.file) }
+    ensures { ComesBack (F.told device.now.store.events.journal.file) device.now.store.machine }
 {
     durable_machine::laws::acknowledged_comes_back(&device.store);
 }

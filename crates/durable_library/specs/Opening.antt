@@ -2,7 +2,7 @@
 use Rattle.std.specs.Prelude.{ℕ, ◌≡◌, ◌≢◌, ◌⊎◌, List, [], ◌∷◌, Option, Some, None, Ok}
 use Rattle.handed_file.specs.Handed.{told_of}
 use Rattle.stored_file.specs.File.{LeavesOnly}
-use Rattle.system_file.specs.Calls.{Call, Opened}
+use Rattle.stored_file.specs.Calls.{Call, Opened}
 use Rattle.image_store.specs.Namespace.{ZonedNamespace}
 use Rattle.image_text.specs.Reading.{namespace_in}
 use Rattle.device_meaning.specs.State.{new_state}

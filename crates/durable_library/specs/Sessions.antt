@@ -16,7 +16,7 @@ state_of s = s.device.store.machine
 
 -- the file
 abbrev pub file_of : Session → HandedFile
-file_of s = s.device.store.journal.file
+file_of s = s.device.store.events.journal.file
 
 -- what is known of it once C has made each call that it was handed, as long as none was refused
 abbrev pub promised : Session → FileState
@@ -28,11 +28,11 @@ told s = told_of (made_calls (file_of s))
 
 -- all that was done is kept once C has made the calls that it was handed, as long as the file hasn't to be opened again
 abbrev pub WillBeKept : Session → Type 0
-WillBeKept s = s.failed ≡ false → IsKept (state_of s) s.device.store.journal.gate (promised s)
+WillBeKept s = s.failed ≡ false → IsKept (state_of s) s.device.store.events.journal.gate (promised s)
 
 -- all that was done is on the disk, by what C told
 abbrev pub IsOnTheDisk : Session → Type 0
-IsOnTheDisk s = IsKept (state_of s) s.device.store.journal.gate (told s)
+IsOnTheDisk s = IsKept (state_of s) s.device.store.events.journal.gate (told s)
 
 -- what these bytes ask for is done, and the frames of the replies are kept. While C makes the calls for it, a crash leaves the device
 -- after the first of its batches
@@ -43,7 +43,7 @@ pub record HasServed (bytes : List ℕ) (old new : Session) : Type 0 where
 -- the journal is folded: while C makes the calls for it, a crash leaves the same device, and then the base alone stands for it
 pub record HasFolded (old new : Session) : Type 0 where
   pub same : state_of new ≡ state_of old
-  pub in_base : IsKeptInBase (state_of new) new.device.store.journal.gate (promised new)
+  pub in_base : IsKeptInBase (state_of new) new.device.store.events.journal.gate (promised new)
   pub moments : LeavesOnly (promised old) (promised new) (λ c. StandsFor c (state_of old))
 
 -- it isn't, since the new file would be longer than C has room for, or memory is wanting: the device is kept as it was

@@ -26,7 +26,7 @@ impl Session {
 
     /// A device that was opened.
     pub fn new(alloc: Global, device: DurableDevice<HandedFile>) -> Session
-        requires { IsKept device.store.machine device.store.journal.gate (told_of (noted device.store.journal.file)) }
+        requires { IsKept device.store.machine device.store.events.journal.gate (told_of (noted device.store.events.journal.file)) }
         ensures device { result.device ≡ device }
         ensures kept { WillBeKept result }
     {
@@ -57,7 +57,7 @@ impl Session {
         requires { WillBeKept self.now }
         ensures { IsTrue result → IsOnTheDisk self.now }
     {
-        !self.failed && self.device.store.journal.file.is_settled()
+        !self.failed && self.device.store.events.journal.file.is_settled()
     }
 
     /// The frames of the replies, once what they answer is on the disk; none before.
@@ -80,7 +80,7 @@ impl Session {
         if self.failed {
             return None;
         }
-        self.device.store.journal.file.next()
+        self.device.store.events.journal.file.next()
     }
 
     /// Takes the next call for done.
@@ -89,7 +89,7 @@ impl Session {
         ensures done { TakesDone self.old self.new 0 }
         ensures kept { WillBeKept self.new }
     {
-        self.device.store.journal.file.tell_done();
+        self.device.store.events.journal.file.tell_done();
     }
 
     /// Takes it for failed: the file has to be opened again.
@@ -107,7 +107,7 @@ impl Session {
         ensures folds { FoldsTo self.old self.new result }
         ensures kept { WillBeKept self.new }
     {
-        self.device.store.journal.file.grant(room);
+        self.device.store.events.journal.file.grant(room);
         match self.device.fold(alloc) {
             Ok(folding) => Some(folding),
             Err(_) => {

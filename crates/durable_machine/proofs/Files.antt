@@ -4,10 +4,10 @@ use Rattle.std.proofs.lemmas.List.{append-nil, take_at}
 use Rattle.std.proofs.lemmas.List.Sums.{fold-append}
 use Rattle.stored_file.specs.File.{FileState, IsAsBefore, MayLeave, IsWhole, LeavesOnly}
 use Rattle.stored_file.proofs.Moments.{started}
-use Rattle.event_journal.specs.Events.{spelled}
-use Rattle.event_journal.specs.Journal.{StandsFor, IsAt}
-use Rattle.event_journal.proofs.Frames.{one_meaning, frames_whole}
-use Rattle.event_journal.proofs.Steps.{at_rest, rests_as_before}
+use Rattle.durable_machine.specs.Events.{spelled}
+use Rattle.durable_machine.specs.Journal.{StandsFor, IsAt}
+use Rattle.durable_machine.proofs.Frames.{one_meaning, frames_whole}
+use Rattle.durable_machine.proofs.Steps.{at_rest, rests_as_before}
 use Rattle.durable_machine.specs.Runs.{state_again, HasRun}
 use Rattle.durable_machine.specs.Files.{IsFront, IsStateAt, IsState, KeepsState, IsDurable, joined, whole_sectors}
 use Rattle.durable_machine.specs.Batches.{IsBeforeOrAfter}

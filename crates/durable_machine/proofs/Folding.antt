@@ -2,7 +2,7 @@
 use Rattle.std.proofs.Common.{◌≡◌, arith, ◌+◌, ◌-◌, ◌≤◌, ℕ, Bool, List, [], ◌∷◌, ◌++◌, length, take, replicate, refl, sym, ◌∙◌, ap, append_assoc, length-append}
 use Rattle.std.proofs.lemmas.List.{append-nil, take_all, length-replicate, replicate-append-replicate}
 use Rattle.stored_file.specs.File.{FileState, IsOnDisk}
-use Rattle.event_journal.proofs.Steps.{at_rest}
+use Rattle.durable_machine.proofs.Steps.{at_rest}
 use Rattle.durable_machine.specs.Files.{IsFront, IsState, IsDurable, IsInBase, whole_sectors}
 use Rattle.durable_machine.proofs.Files.{is_before}
 

@@ -1,9 +1,17 @@
 pub mod Batches
 pub mod ComingBack
+pub mod Crash
 pub mod Files
+pub mod FirstEvents
 pub mod Folding
+pub mod Frames
+pub mod Numbers
+pub mod ReadFrames
 pub mod Refusing
+pub mod Repairing
 pub mod Replaying
 pub mod Restarting
 pub mod Running
+pub mod Spelling
+pub mod Steps
 pub mod Waiting

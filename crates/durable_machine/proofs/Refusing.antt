@@ -2,8 +2,8 @@
 use Rattle.std.proofs.Common.{◌≡◌, ◌<◌, ℕ, Bool, List, ◌++◌, length, take, drop, sym, ◌∙◌, ap, subst, arith, append_assoc, length-append, length-take, take-append-drop}
 use Rattle.stored_file.specs.File.{FileState}
 use Rattle.stored_file.specs.declared.stored_file.FileError.TheVariants.{Memory, NoRoom, Failed}
-use Rattle.event_journal.specs.Journal.{IsDamagedAt}
-use Rattle.event_journal.proofs.Frames.{damaged_none}
+use Rattle.durable_machine.specs.Journal.{IsDamagedAt}
+use Rattle.durable_machine.proofs.Frames.{damaged_none}
 use Rattle.durable_machine.specs.Bases.{BeginsBase, BeginsNoBase}
 use Rattle.durable_machine.specs.Files.{IsState, whole_sectors}
 use Rattle.durable_machine.specs.Refused.{IsUntouched, HasNoState, IsDamaged, IsRefused, Refuses}

@@ -2,12 +2,12 @@
 use Rattle.std.proofs.Common.{◌≡◌, inl, inr, ◌<◌, ◌≤◌, ◌+◌, ℕ, Bool, false, List, [], ◌∷◌, ◌++◌, length, take, drop, refl, sym, ◌∙◌, ap, subst, arith, append_assoc, length-append, length-take, take-append-drop}
 use Rattle.std.proofs.lemmas.List.{append-nil, take-take, drop_at, drop-drop}
 use Rattle.std.proofs.lemmas.List.Sums.{fold-append}
-use Rattle.event_journal.specs.Events.{number_bytes, spelled, AreSized, BeginsEvent, BeginsNoEvent}
-use Rattle.event_journal.specs.Journal.{BeginsBatch, BeginsNoBatch, BeginsOpen, IsEnd}
-use Rattle.event_journal.specs.Restart.{IsLast}
-use Rattle.event_journal.proofs.Spelling.{one_list, too_short}
-use Rattle.event_journal.proofs.FirstEvents.{AreFirst, one_more_read}
-use Rattle.event_journal.proofs.Frames.{frames-append, one_frame, length-frame}
+use Rattle.durable_machine.specs.Events.{number_bytes, spelled, AreSized, BeginsEvent, BeginsNoEvent}
+use Rattle.durable_machine.specs.Journal.{BeginsBatch, BeginsNoBatch, BeginsOpen, IsEnd}
+use Rattle.durable_machine.specs.LastBatch.{IsLast}
+use Rattle.durable_machine.proofs.Spelling.{one_list, too_short}
+use Rattle.durable_machine.proofs.FirstEvents.{AreFirst, one_more_read}
+use Rattle.durable_machine.proofs.Frames.{frames-append, one_frame, length-frame}
 use Rattle.durable_machine.specs.Runs.{state_again}
 use Rattle.durable_machine.specs.Files.{IsFront, IsStateAt, whole_sectors}
 use Rattle.durable_machine.specs.Bases.{BeginsBase}

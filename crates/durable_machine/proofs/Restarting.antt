@@ -3,11 +3,11 @@ use Rattle.std.proofs.Common.{IfOk, IfErr, Result, Ok, Err, ◌≡◌, ◌⊎◌
 use Rattle.std.proofs.lemmas.List.{drop_at}
 use Rattle.stored_file.specs.File.{FileState, IsAsBefore, IsWhole, LeavesNow, LeavesOnly, MayLeave}
 use Rattle.stored_file.proofs.Moments.{then_on, weaken}
-use Rattle.event_journal.specs.Events.{spelled}
-use Rattle.event_journal.specs.Journal.{StandsFor, payload_length}
-use Rattle.event_journal.specs.Restart.{IsLast, IsSameBut}
-use Rattle.event_journal.proofs.Frames.{length-frame, no_further, one_list_of_batches}
-use Rattle.event_journal.proofs.Restarting.{end_within, offset_whole, room, same_front, same_itself, stands_either, stands_none, stands_same}
+use Rattle.durable_machine.specs.Events.{spelled}
+use Rattle.durable_machine.specs.Journal.{StandsFor, payload_length}
+use Rattle.durable_machine.specs.LastBatch.{IsLast, IsSameBut}
+use Rattle.durable_machine.proofs.Frames.{length-frame, no_further, one_list_of_batches}
+use Rattle.durable_machine.proofs.Repairing.{end_within, offset_whole, room, same_front, same_itself, stands_either, stands_none, stands_same}
 use Rattle.durable_machine.specs.Runs.{state_again}
 use Rattle.durable_machine.specs.Files.{IsState, KeepsState, joined}
 use Rattle.durable_machine.specs.Refused.{HasNoState, IsDamaged, IsUndone, IsUntouched, Refuses}

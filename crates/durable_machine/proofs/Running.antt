@@ -4,8 +4,8 @@ use Rattle.std.proofs.lemmas.Bool.{cases_Bool}
 use Rattle.std.proofs.lemmas.List.{map-append, take_more}
 use Rattle.std.proofs.lemmas.List.Sums.{fold-append}
 use Rattle.std.specs.declared.alloc.Global.{Global}
-use Rattle.event_journal.specs.Events.{spelled}
-use Rattle.event_journal.proofs.Spelling.{spelled-append, sized-append}
+use Rattle.durable_machine.specs.Events.{spelled}
+use Rattle.durable_machine.proofs.Spelling.{spelled-append, sized-append}
 use Rattle.durable_machine.specs.declared.machine.Applied.{Applied}
 use Rattle.durable_machine.specs.Applied.{HasApplied}
 use Rattle.durable_machine.specs.Batches.{bytes_of}

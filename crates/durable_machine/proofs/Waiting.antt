@@ -3,10 +3,10 @@ use Rattle.std.proofs.Common.{◌≡◌, ◌⊎◌, ◌<◌, ◌^◌, inl, inr, 
 use Rattle.std.proofs.lemmas.List.{take_at}
 use Rattle.std.proofs.lemmas.List.Sums.{fold-append}
 use Rattle.stored_file.specs.File.{FileState, LeavesOnly}
-use Rattle.event_journal.specs.Events.{spelled}
-use Rattle.event_journal.specs.Journal.{IsAt, StandsFor}
-use Rattle.event_journal.proofs.Spelling.{sized-append, spelled-append}
-use Rattle.event_journal.proofs.Steps.{at_rest}
+use Rattle.durable_machine.specs.Events.{spelled}
+use Rattle.durable_machine.specs.Journal.{IsAt, StandsFor}
+use Rattle.durable_machine.proofs.Spelling.{sized-append, spelled-append}
+use Rattle.durable_machine.proofs.Steps.{at_rest}
 use Rattle.durable_machine.specs.Files.{IsState, IsDurable, IsOldOrStands, joined}
 use Rattle.durable_machine.specs.Runs.{state_again}
 use Rattle.durable_machine.specs.Batches.{HasServed, IsBeforeOrAfter}

@@ -1,7 +1,7 @@
 -- What a file stands for.
 use Rattle.std.specs.Prelude.{◌≡◌, ◌⊎◌, ℕ, ◌+◌, ◌*◌, ◌/◌, Bool, List, [], ◌∷◌, ◌++◌, length}
 use Rattle.stored_file.specs.File.{FileState, MayLeave}
-use Rattle.event_journal.specs.Journal.{HasBatches, IsAt}
+use Rattle.durable_machine.specs.Journal.{HasBatches, IsAt}
 use Rattle.durable_machine.specs.Runs.{state_again}
 
 -- so many bytes in whole sectors

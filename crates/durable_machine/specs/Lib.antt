@@ -1,10 +1,14 @@
 pub mod Applied
 pub mod Bases
 pub mod Batches
+pub mod Events
 pub mod Files
+pub mod Journal
+pub mod LastBatch
 pub mod Laws
 pub mod Refused
 pub mod Replay
 pub mod Restart
 pub mod Runs
+pub mod Unkept
 pub mod Waiting

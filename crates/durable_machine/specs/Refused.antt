@@ -2,7 +2,7 @@
 use Rattle.std.specs.Prelude.{◌≡◌, ◌<◌, ℕ, ◌+◌, Bool, List, ◌++◌, length}
 use Rattle.stored_file.specs.File.{FileState, LeavesOnly}
 use Rattle.stored_file.specs.declared.stored_file.FileError.TheVariants.{Memory, NoRoom, Failed}
-use Rattle.event_journal.specs.Journal.{IsDamagedAt}
+use Rattle.durable_machine.specs.Journal.{IsDamagedAt}
 use Rattle.durable_machine.specs.Files.{IsFront, IsState}
 use Rattle.durable_machine.specs.Replay.{IsIdleAt}
 use Rattle.durable_machine.specs.declared.fault.Fault.{Fault}

@@ -1,8 +1,8 @@
 -- What is done again of a journal.
 use Rattle.std.specs.Prelude.{◌≡◌, ℕ, ◌+◌, ◌≤◌, Bool, false, List, ◌++◌, length}
-use Rattle.event_journal.specs.Events.{AreSized, BeginsEvent, spelled}
-use Rattle.event_journal.specs.Journal.{AreFrames, BeginsNoBatch, IsSector}
-use Rattle.event_journal.specs.Restart.{IsLast}
+use Rattle.durable_machine.specs.Events.{AreSized, BeginsEvent, spelled}
+use Rattle.durable_machine.specs.Journal.{AreFrames, BeginsNoBatch, IsSector}
+use Rattle.durable_machine.specs.LastBatch.{IsLast}
 use Rattle.durable_machine.specs.Runs.{state_again}
 use Rattle.durable_machine.specs.Files.{joined}
 use Rattle.durable_machine.specs.declared.replay.Halt.{Halt}

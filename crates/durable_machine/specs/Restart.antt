@@ -1,7 +1,7 @@
 -- What an earlier program may have left of a file, by what is read of it.
 use Rattle.std.specs.Prelude.{◌≡◌, ◌⊎◌, ℕ, ◌+◌, Bool, List, length}
 use Rattle.stored_file.specs.File.{FileState, IsOnDisk, LeavesNow, LeavesOnly}
-use Rattle.event_journal.specs.Restart.{IsLast, IsSameBut}
+use Rattle.durable_machine.specs.LastBatch.{IsLast, IsSameBut}
 use Rattle.durable_machine.specs.Files.{IsState, IsStateAt, KeepsState}
 use Rattle.durable_machine.specs.Runs.{state_again}
 

@@ -1,7 +1,7 @@
 -- What lists of events do.
 use Rattle.std.specs.Prelude.{◌≡◌, ℕ, Bool, false, List, [], ◌∷◌, map}
 use Rattle.std.specs.List.{fold}
-use Rattle.event_journal.specs.Events.{spelled, AreSized}
+use Rattle.durable_machine.specs.Events.{spelled, AreSized}
 
 -- an event, and whether memory is refused while it is done
 pub record Occurrence : Type 0 where

@@ -1,7 +1,7 @@
 -- What of a machine is committed, and what waits for it.
 use Rattle.std.specs.Prelude.{◌≡◌, ◌⊎◌, ℕ, Bool, List}
 use Rattle.stored_file.specs.File.{FileState}
-use Rattle.event_journal.specs.Events.{AreSized, spelled}
+use Rattle.durable_machine.specs.Events.{AreSized, spelled}
 use Rattle.durable_machine.specs.Applied.{HasApplied}
 use Rattle.durable_machine.specs.Runs.{state_again}
 use Rattle.durable_machine.specs.Files.{IsDurable, IsState}

@@ -3,13 +3,13 @@
 ghost use Rattle.std.specs.Prelude.{◌≡◌, [], OnOk};
 ghost use Rattle.stored_file.specs.File.{LeavesOnly};
 ghost use Rattle.stored_file.specs.Cause.{HasCause};
-ghost use Rattle.event_journal.specs.Events.{AreSpelled};
-ghost use Rattle.event_journal.specs.Journal.{IsSettled};
+ghost use Rattle.durable_machine.specs.Events.{AreSpelled};
+ghost use Rattle.durable_machine.specs.Journal.{IsSettled};
 ghost use Rattle.durable_machine.specs.Files.{IsDurable};
 ghost use Rattle.durable_machine.specs.Waiting.{IsCommittedBut, IsEither};
 
 use crate::Machine;
-use event_journal::Journal;
+use crate::journal::Journal;
 use std::alloc::Global;
 use std::mem;
 use stored_file::{FileError, StoredFile};
@@ -21,7 +21,7 @@ use stored_file::{FileError, StoredFile};
 /// # Errors
 ///
 /// No memory, or the disk's. Then the file has to be opened again, and nothing may go out.
-pub fn commit<M: Machine, F: StoredFile>(
+pub(crate) fn commit<M: Machine, F: StoredFile>(
     alloc: Global,
     journal: &mut Journal<F>,
     waiting: &mut Vec<u8>,

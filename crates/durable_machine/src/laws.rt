@@ -3,7 +3,7 @@
 ghost use Rattle.durable_machine.specs.Files.{IsDurable};
 ghost use Rattle.durable_machine.specs.Laws.{FirstBatchesComeBack, OpeningChangesNothing, RestartsComeBack, ComesBack};
 
-use crate::{Durable, Machine};
+use crate::{Durable, InFile, Machine};
 use stored_file::StoredFile;
 
 /// Of a file that a crash left while batches were served, the machine after the first of them is opened: some of them, none
@@ -24,7 +24,9 @@ pub fn restarts_come_back<M: Machine>()
 {}
 
 /// Whatever a crash leaves of a store at rest, its machine is opened of it: so no event is lost that was acknowledged.
-pub fn acknowledged_comes_back<M: Machine + Drop, F: StoredFile + Drop>(store: &Durable<M, F>)
-    requires { IsDurable M.loads M.next store.now.machine store.now.journal.gate (F.told store.now.journal.file) }
-    ensures { ComesBack M.loads M.next (F.told store.now.journal.file) store.now.machine }
+pub fn acknowledged_comes_back<M: Machine + Drop, F: StoredFile + Drop>(
+    store: &Durable<M, InFile<F>>,
+)
+    requires { IsDurable M.loads M.next store.now.machine store.now.events.journal.gate (F.told store.now.events.journal.file) }
+    ensures { ComesBack M.loads M.next (F.told store.now.events.journal.file) store.now.machine }
 {}

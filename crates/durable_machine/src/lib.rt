@@ -4,21 +4,41 @@
 //! A file begins with a base, which stands for a machine, in whole sectors. Behind it stands the journal of the events
 //! that have happened to the machine since. A crash leaves a file that stands for the machine after the first of the
 //! batches of events that were handed in: none skipped, none in part, and all that were acknowledged.
+//!
+//! An event is a text of bytes; several of them are added to the journal at once, as a batch, all or none. The batches stand in sectors
+//! of their own: a sector with an open gate (1), and the events, of which each has a 1 and its length before it (8 bytes, the lowest
+//! first), with zeros behind. At the end stands a sector with a closed gate (0). What stands behind a gate that isn't open doesn't count.
+//!
+//! A batch is written behind the closed gate, with a closed gate of its own behind it. When that is on the disk, the
+//! gate is opened. So what is torn stands behind a closed gate, or is a gate that was to be opened and has whole events
+//! behind it; no checksum is trusted, and no length that isn't known is followed. As a gate has a sector of its own, a
+//! disk may tear the whole sector where it writes one byte of it. An open gate with more than its sector, where no batch
+//! stands whole, is nothing that a crash leaves: it is damage.
 #![tactic(auto)]
 
 mod base;
 mod committing;
 mod durable;
 mod fault;
+mod in_file;
+mod in_memory;
+mod journal;
+mod journal_reading;
 pub mod laws;
 mod machine;
+mod opening;
 mod reading;
 mod replay;
 mod sectors;
+mod store;
 
 pub use base::put_base;
-pub use committing::commit;
 pub use durable::Durable;
 pub use fault::Fault;
+pub use in_file::InFile;
+pub use in_memory::InMemory;
+pub use journal::{Journal, add_event, repair};
+pub use journal_reading::{first_batch, first_event, is_end};
 pub use machine::{Applied, Machine, Saves};
 pub use reading::machine_in;
+pub use store::Store;

@@ -5,9 +5,9 @@ ghost use Rattle.durable_machine.specs.Replay.{AreAllDone, HaltsAtBatch, HaltsAt
 ghost use Rattle.durable_machine.specs.Restart.{IsReplayed};
 ghost use Rattle.durable_machine.specs.Refused.{IsRefused};
 
+use crate::journal_reading::{first_batch, first_event, is_end};
 use crate::sectors::in_sectors;
 use crate::{Fault, Machine};
-use event_journal::{first_batch, first_event, is_end};
 use std::alloc::{AllocError, Global};
 use stored_file::{FileError, SECTOR};
 

@@ -5,7 +5,7 @@ ghost use Rattle.stored_file.specs.Tearing.{told_of};
 ghost use Rattle.durable_machine_tests.specs.Number.{IsBaseOf, IsKept};
 
 use crate::Number;
-use durable_machine::{Durable, Fault, Saves};
+use durable_machine::{Durable, Fault, InFile, InMemory, Saves, Store};
 use std::alloc::{AllocError, Global};
 use std::test::Fail;
 use stored_file::{FileError, SECTOR, StoredFile, TearingFile};
@@ -33,8 +33,8 @@ fn after(number: Number, events: &[Vec<u8>]) -> Number {
 }
 
 /// The store that a file of these bytes, all of them on the disk, opens as.
-fn opened(alloc: Global, bytes: &[u8]) -> Result<Durable<Number, TearingFile>, Fault>
-    ensures { IfOk result (λ store. IsKept store.machine store.journal.gate (told_of store.journal.file)) }
+fn opened(alloc: Global, bytes: &[u8]) -> Result<Durable<Number, InFile<TearingFile>>, Fault>
+    ensures { IfOk result (λ store. IsKept store.machine store.events.journal.gate (told_of store.events.journal.file)) }
 {
     match Durable::open(alloc, TearingFile::new(alloc, bytes)?) {
         Ok(store) => Ok(store),
@@ -53,9 +53,9 @@ fn base_of(alloc: Global, number: Number) -> Result<Vec<u8>, FileError>
 }
 
 /// A new store of the number 0, in the place of a file of no bytes.
-fn created(alloc: Global) -> Result<Durable<Number, TearingFile>, FileError>
-    ensures kept { IfOk result (λ store. IsKept store.machine store.journal.gate (told_of store.journal.file)) }
-    ensures none { IfOk result (λ store. store.waiting.items ≡ []) }
+fn created(alloc: Global) -> Result<Durable<Number, InFile<TearingFile>>, FileError>
+    ensures kept { IfOk result (λ store. IsKept store.machine store.events.journal.gate (told_of store.events.journal.file)) }
+    ensures none { IfOk result (λ store. store.events.waiting.items ≡ []) }
 {
     let number = Number { value: 0 };
     let base = base_of(alloc, number)?;
@@ -77,7 +77,7 @@ fn comes_back(
     if number != either.0 && number != either.1 {
         return Ok(false);
     }
-    let file = &store.journal.file;
+    let file = &store.events.journal.file;
     for moment in 0..=file.moment() {
         let left = file.crashed(alloc, moment, seed)?;
         if opened(alloc, &left)?.machine != number {
@@ -111,17 +111,24 @@ fn each_comes_back(
 fn each_batch_is_cut_off_at_each_moment(rt: HostRuntime) -> Result<(), Fail> {
     let alloc = rt.alloc();
     let first = created(alloc)?;
-    let mut bytes = first.journal.file.bytes().to_vec(alloc)?;
+    let mut bytes = first.events.journal.file.bytes().to_vec(alloc)?;
     for index in 0..6 {
         let mut store = opened(alloc, &bytes)?;
         let events = batch(alloc, index)?;
-        let from = store.journal.file.moment();
+        let from = store.events.journal.file.moment();
         let before = store.machine;
         let replies = store.serve(alloc, &events)?;
         assert_eq!(rt; replies.len(), events.len());
         assert!(rt; store.machine == after(before, &events));
-        assert!(rt; each_comes_back(alloc, &store.journal.file, from, (before, store.machine))?);
-        bytes = store.journal.file.bytes().to_vec(alloc)?;
+        assert!(rt;
+            each_comes_back(
+                alloc,
+                &store.events.journal.file,
+                from,
+                (before, store.machine)
+            )?
+        );
+        bytes = store.events.journal.file.bytes().to_vec(alloc)?;
     }
     Ok(())
 }
@@ -130,7 +137,7 @@ fn each_batch_is_cut_off_at_each_moment(rt: HostRuntime) -> Result<(), Fail> {
 fn what_was_done_waits_for_the_commit(rt: HostRuntime) -> Result<(), Fail> {
     let alloc = rt.alloc();
     let mut store = created(alloc)?;
-    let from = store.journal.file.moment();
+    let from = store.events.journal.file.moment();
     let before = store.machine;
     store.apply(alloc, &[5])?;
     store.apply(alloc, &[1, 2])?;
@@ -138,16 +145,31 @@ fn what_was_done_waits_for_the_commit(rt: HostRuntime) -> Result<(), Fail> {
     let after = store.machine;
     assert!(rt; after == before.after(&[5]).after(&[9]));
     assert!(rt; !store.is_committed());
-    assert_eq!(rt; store.journal.file.moment(), from);
-    assert!(rt; each_comes_back(alloc, &store.journal.file, from, (before, before))?);
+    assert_eq!(rt; store.events.journal.file.moment(), from);
+    assert!(rt; each_comes_back(alloc, &store.events.journal.file, from, (before, before))?);
     store.commit(alloc)?;
     assert!(rt; store.is_committed());
     assert!(rt; store.machine == after);
-    assert!(rt; each_comes_back(alloc, &store.journal.file, from, (before, after))?);
-    let committed = store.journal.file.moment();
+    assert!(rt; each_comes_back(alloc, &store.events.journal.file, from, (before, after))?);
+    let committed = store.events.journal.file.moment();
     store.apply(alloc, &[1, 2])?;
     store.commit(alloc)?;
-    assert_eq!(rt; store.journal.file.moment(), committed);
+    assert_eq!(rt; store.events.journal.file.moment(), committed);
+    Ok(())
+}
+
+#[test]
+fn what_is_in_memory_is_on_no_disk(rt: HostRuntime) -> Result<(), Fail> {
+    let alloc = rt.alloc();
+    let mut store = Durable {
+        machine: Number { value: 0 },
+        events: InMemory,
+    };
+    let reply = store.apply(alloc, &[5])?;
+    assert_eq!(rt; reply, 5);
+    assert!(rt; store.is_committed());
+    store.commit(alloc)?;
+    assert!(rt; !Store::<Number>::is_on_disk(&store.events));
     Ok(())
 }
 
@@ -161,11 +183,11 @@ fn a_fold_is_cut_off_at_each_moment(rt: HostRuntime) -> Result<(), Fail> {
     }
     let replies = store.serve_all(alloc, &batches)?;
     assert_eq!(rt; replies.len(), batches.len());
-    let from = store.journal.file.moment();
+    let from = store.events.journal.file.moment();
     let number = store.machine;
     store.fold(base_of(alloc, number)?)?;
-    assert_eq!(rt; store.journal.file.bytes().len(), 2 * SECTOR);
-    assert!(rt; each_comes_back(alloc, &store.journal.file, from, (number, number))?);
+    assert_eq!(rt; store.events.journal.file.bytes().len(), 2 * SECTOR);
+    assert!(rt; each_comes_back(alloc, &store.events.journal.file, from, (number, number))?);
     Ok(())
 }
 

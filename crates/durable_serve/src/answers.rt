@@ -37,17 +37,17 @@ pub(crate) fn perform<W: Write, F: StoredFile + Drop>(
     answer: &mut Vec<u8>,
     out: &mut W,
 ) -> Result<Vec<Option<Given>>, ServeFault>
-    requires kept { IsKept device.old.store.machine device.old.store.journal.gate (F.told device.old.store.journal.file) }
+    requires kept { IsKept device.old.store.machine device.old.store.events.journal.gate (F.told device.old.store.events.journal.file) }
     ensures kept { OnOk result
-        (IsKept device.new.store.machine device.new.store.journal.gate (F.told device.new.store.journal.file)) }
+        (IsKept device.new.store.machine device.new.store.events.journal.gate (F.told device.new.store.events.journal.file)) }
     ensures on_disk { IfErr result (λ why. why ≡ ServeFault.Write
-        → IsKept device.new.store.machine device.new.store.journal.gate (F.told device.new.store.journal.file)) }
-    ensures cause { BlamesDisk (F.told device.old.store.journal.file) (F.told device.new.store.journal.file) result }
+        → IsKept device.new.store.machine device.new.store.events.journal.gate (F.told device.new.store.events.journal.file)) }
+    ensures cause { BlamesDisk (F.told device.old.store.events.journal.file) (F.told device.new.store.events.journal.file) result }
     ensures done { IfOk result (λ given. GaveReplies turns (bytes_of frames.now)
         (seen device.old.store.machine (W.contents out.old)) (seen device.new.store.machine (W.contents out.new)) given.items) }
     ensures failed { IfErr result (λ why. FailsIn why (bytes_of frames.now)
         (seen device.old.store.machine (W.contents out.old)) (seen device.new.store.machine (W.contents out.new))) }
-    ensures any_moment { LeavesOnly (F.told device.old.store.journal.file) (F.told device.new.store.journal.file)
+    ensures any_moment { LeavesOnly (F.told device.old.store.events.journal.file) (F.told device.new.store.events.journal.file)
         (IsBeforeOrAfter (bytes_of frames.now) device.old.store.machine) }
 {
     let given = device.serve(alloc, frames)?;

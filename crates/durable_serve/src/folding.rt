@@ -23,21 +23,21 @@ pub(crate) fn fold_when_due<F: StoredFile + Drop>(
     alloc: Global,
     device: &mut DurableDevice<F>,
 ) -> Result<Option<Folding>, ServeFault>
-    requires kept { IsKept device.old.store.machine device.old.store.journal.gate (F.told device.old.store.journal.file) }
+    requires kept { IsKept device.old.store.machine device.old.store.events.journal.gate (F.told device.old.store.events.journal.file) }
     ensures same { device.new.store.machine ≡ device.old.store.machine }
     ensures kept { OnOk result
-        (IsKept device.new.store.machine device.new.store.journal.gate (F.told device.new.store.journal.file)) }
-    ensures cause { BlamesDisk (F.told device.old.store.journal.file) (F.told device.new.store.journal.file) result }
-    ensures idle { device.old.store.journal.gate - device.old.folded ≤ MOST_JOURNAL
+        (IsKept device.new.store.machine device.new.store.events.journal.gate (F.told device.new.store.events.journal.file)) }
+    ensures cause { BlamesDisk (F.told device.old.store.events.journal.file) (F.told device.new.store.events.journal.file) result }
+    ensures idle { device.old.store.events.journal.gate - device.old.folded ≤ MOST_JOURNAL
         → (device.new ≡ device.old) × (result ≡ Ok None) }
-    ensures due { MOST_JOURNAL < device.old.store.journal.gate - device.old.folded
-        → IfOk result (λ folding. IsSome folding) × OnOk result (device.new.folded ≡ device.new.store.journal.gate) }
+    ensures due { MOST_JOURNAL < device.old.store.events.journal.gate - device.old.folded
+        → IfOk result (λ folding. IsSome folding) × OnOk result (device.new.folded ≡ device.new.store.events.journal.gate) }
     ensures in_base { IfOk result (λ folding. folding ≡ Some Done →
-        IsKeptInBase device.new.store.machine device.new.store.journal.gate (F.told device.new.store.journal.file)) }
+        IsKeptInBase device.new.store.machine device.new.store.events.journal.gate (F.told device.new.store.events.journal.file)) }
     ensures no_room { IfOk result (λ folding. folding ≡ Some NoRoom →
-        (F.told device.old.store.journal.file).faults < (F.told device.new.store.journal.file).faults) }
+        (F.told device.old.store.events.journal.file).faults < (F.told device.new.store.events.journal.file).faults) }
     ensures unfolded { IfErr result IsUnfolded }
-    ensures any_moment { LeavesOnly (F.told device.old.store.journal.file) (F.told device.new.store.journal.file)
+    ensures any_moment { LeavesOnly (F.told device.old.store.events.journal.file) (F.told device.new.store.events.journal.file)
         (λ c. StandsFor c device.old.store.machine) }
 {
     if device.length().saturating_sub(device.folded) <= MOST_JOURNAL {

@@ -39,18 +39,18 @@ pub fn serve<R: Read, W: Write, F: StoredFile + Drop>(
     reader: &mut R,
     out: &mut W,
 ) -> Result<(), ServeFault>
-    requires kept { IsKept device.old.store.machine device.old.store.journal.gate (F.told device.old.store.journal.file) }
+    requires kept { IsKept device.old.store.machine device.old.store.events.journal.gate (F.told device.old.store.events.journal.file) }
     ensures kept { OnOk result
-        (IsKept device.new.store.machine device.new.store.journal.gate (F.told device.new.store.journal.file)) }
+        (IsKept device.new.store.machine device.new.store.events.journal.gate (F.told device.new.store.events.journal.file)) }
     ensures on_disk { IfErr result (λ why. why ≡ ServeFault.Write
-        → IsKept device.new.store.machine device.new.store.journal.gate (F.told device.new.store.journal.file)) }
-    ensures cause { BlamesDisk (F.told device.old.store.journal.file) (F.told device.new.store.journal.file) result }
+        → IsKept device.new.store.machine device.new.store.events.journal.gate (F.told device.new.store.events.journal.file)) }
+    ensures cause { BlamesDisk (F.told device.old.store.events.journal.file) (F.told device.new.store.events.journal.file) result }
     ensures served { OnOk result (ServesStream (R.remaining reader.old)
         (seen device.old.store.machine (W.contents out.old)) (seen device.new.store.machine (W.contents out.new))
-        (F.told device.old.store.journal.file) (F.told device.new.store.journal.file)) }
+        (F.told device.old.store.events.journal.file) (F.told device.new.store.events.journal.file)) }
     ensures stopped { IfErr result (StopsServing (R.remaining reader.old) (R.remaining reader.new)
         (seen device.old.store.machine (W.contents out.old)) (seen device.new.store.machine (W.contents out.new))
-        (F.told device.old.store.journal.file) (F.told device.new.store.journal.file)) }
+        (F.told device.old.store.events.journal.file) (F.told device.new.store.events.journal.file)) }
 {
     let mut session = Session::new(alloc)?;
     let mut buffer = vec![in alloc; 0u8; PIECE]?;
@@ -79,18 +79,18 @@ fn serve_pieces<R: Read, W: Write, F: StoredFile + Drop>(
 ) -> Result<(), ServeFault>
     requires fresh { session.old ≡ record { pending = []; place = 0; fault = None } }
     requires some { 0 < length buffer.old }
-    requires kept { IsKept device.old.store.machine device.old.store.journal.gate (F.told device.old.store.journal.file) }
+    requires kept { IsKept device.old.store.machine device.old.store.events.journal.gate (F.told device.old.store.events.journal.file) }
     ensures kept { OnOk result
-        (IsKept device.new.store.machine device.new.store.journal.gate (F.told device.new.store.journal.file)) }
+        (IsKept device.new.store.machine device.new.store.events.journal.gate (F.told device.new.store.events.journal.file)) }
     ensures on_disk { IfErr result (λ why. why ≡ ServeFault.Write
-        → IsKept device.new.store.machine device.new.store.journal.gate (F.told device.new.store.journal.file)) }
-    ensures cause { BlamesDisk (F.told device.old.store.journal.file) (F.told device.new.store.journal.file) result }
+        → IsKept device.new.store.machine device.new.store.events.journal.gate (F.told device.new.store.events.journal.file)) }
+    ensures cause { BlamesDisk (F.told device.old.store.events.journal.file) (F.told device.new.store.events.journal.file) result }
     ensures served { OnOk result (ServesStream (R.remaining reader.old)
         (seen device.old.store.machine (W.contents out.old)) (seen device.new.store.machine (W.contents out.new))
-        (F.told device.old.store.journal.file) (F.told device.new.store.journal.file)) }
+        (F.told device.old.store.events.journal.file) (F.told device.new.store.events.journal.file)) }
     ensures stopped { IfErr result (StopsServing (R.remaining reader.old) (R.remaining reader.new)
         (seen device.old.store.machine (W.contents out.old)) (seen device.new.store.machine (W.contents out.new))
-        (F.told device.old.store.journal.file) (F.told device.new.store.journal.file)) }
+        (F.told device.old.store.events.journal.file) (F.told device.new.store.events.journal.file)) }
 {
     for _ in 0..u64::MAX {
         let count = read(reader, buffer)?;
@@ -137,18 +137,18 @@ fn serve_piece<W: Write, F: StoredFile + Drop>(
 ) -> Result<(), ServeFault>
     requires healthy { session.old.fault ≡ None }
     requires partial { IsPartial session.old.pending }
-    requires kept { IsKept device.old.store.machine device.old.store.journal.gate (F.told device.old.store.journal.file) }
+    requires kept { IsKept device.old.store.machine device.old.store.events.journal.gate (F.told device.old.store.events.journal.file) }
     ensures kept { OnOk result
-        (IsKept device.new.store.machine device.new.store.journal.gate (F.told device.new.store.journal.file)) }
+        (IsKept device.new.store.machine device.new.store.events.journal.gate (F.told device.new.store.events.journal.file)) }
     ensures on_disk { IfErr result (λ why. why ≡ ServeFault.Write
-        → IsKept device.new.store.machine device.new.store.journal.gate (F.told device.new.store.journal.file)) }
-    ensures cause { BlamesDisk (F.told device.old.store.journal.file) (F.told device.new.store.journal.file) result }
+        → IsKept device.new.store.machine device.new.store.events.journal.gate (F.told device.new.store.events.journal.file)) }
+    ensures cause { BlamesDisk (F.told device.old.store.events.journal.file) (F.told device.new.store.events.journal.file) result }
     ensures served { OnOk result (Adds (session.old.pending ++ piece.now) session.old.place session.new.pending session.new.place
         (seen device.old.store.machine (W.contents out.old)) (seen device.new.store.machine (W.contents out.new))
-        (F.told device.old.store.journal.file) (F.told device.new.store.journal.file)) }
+        (F.told device.old.store.events.journal.file) (F.told device.new.store.events.journal.file)) }
     ensures stopped { (left : Option (List ℕ)) → IfErr result (StopsAt (session.old.pending ++ piece.now) session.old.place left
         (seen device.old.store.machine (W.contents out.old)) (seen device.new.store.machine (W.contents out.new))
-        (F.told device.old.store.journal.file) (F.told device.new.store.journal.file)) }
+        (F.told device.old.store.events.journal.file) (F.told device.new.store.events.journal.file)) }
     ensures still { OnOk result (session.new.fault ≡ None) }
     ensures partial { OnOk result (IsPartial session.new.pending) }
 {
@@ -171,21 +171,21 @@ fn serve_batch<W: Write, F: StoredFile + Drop>(
 ) -> Result<usize, ServeFault>
     requires healthy { session.old.fault ≡ None }
     requires partial { IsPartial session.old.pending }
-    requires kept { IsKept device.old.store.machine device.old.store.journal.gate (F.told device.old.store.journal.file) }
+    requires kept { IsKept device.old.store.machine device.old.store.events.journal.gate (F.told device.old.store.events.journal.file) }
     ensures kept { OnOk result
-        (IsKept device.new.store.machine device.new.store.journal.gate (F.told device.new.store.journal.file)) }
+        (IsKept device.new.store.machine device.new.store.events.journal.gate (F.told device.new.store.events.journal.file)) }
     ensures on_disk { IfErr result (λ why. why ≡ ServeFault.Write
-        → IsKept device.new.store.machine device.new.store.journal.gate (F.told device.new.store.journal.file)) }
-    ensures cause { BlamesDisk (F.told device.old.store.journal.file) (F.told device.new.store.journal.file) result }
+        → IsKept device.new.store.machine device.new.store.events.journal.gate (F.told device.new.store.events.journal.file)) }
+    ensures cause { BlamesDisk (F.told device.old.store.events.journal.file) (F.told device.new.store.events.journal.file) result }
     ensures within { IfOk result (λ count. count ≤ length rest.now) }
     ensures some { 0 < length rest.now → IfOk result (λ count. 0 < count) }
     ensures served { IfOk result (λ count. Adds (session.old.pending ++ rest.now) session.old.place
         (session.new.pending ++ drop count rest.now) session.new.place
         (seen device.old.store.machine (W.contents out.old)) (seen device.new.store.machine (W.contents out.new))
-        (F.told device.old.store.journal.file) (F.told device.new.store.journal.file)) }
+        (F.told device.old.store.events.journal.file) (F.told device.new.store.events.journal.file)) }
     ensures stopped { (left : Option (List ℕ)) → IfErr result (StopsAt (session.old.pending ++ rest.now) session.old.place left
         (seen device.old.store.machine (W.contents out.old)) (seen device.new.store.machine (W.contents out.new))
-        (F.told device.old.store.journal.file) (F.told device.new.store.journal.file)) }
+        (F.told device.old.store.events.journal.file) (F.told device.new.store.events.journal.file)) }
     ensures still { OnOk result (session.new.fault ≡ None) }
     ensures partial { OnOk result (IsPartial session.new.pending) }
 {
@@ -204,19 +204,19 @@ fn finish<W: Write, F: StoredFile + Drop>(
     answer: &mut Vec<u8>,
     out: &mut W,
 ) -> Result<(), ServeFault>
-    requires kept { IsKept device.old.store.machine device.old.store.journal.gate (F.told device.old.store.journal.file) }
+    requires kept { IsKept device.old.store.machine device.old.store.events.journal.gate (F.told device.old.store.events.journal.file) }
     ensures kept { OnOk result
-        (IsKept device.new.store.machine device.new.store.journal.gate (F.told device.new.store.journal.file)) }
+        (IsKept device.new.store.machine device.new.store.events.journal.gate (F.told device.new.store.events.journal.file)) }
     ensures on_disk { IfErr result (λ why. why ≡ ServeFault.Write
-        → IsKept device.new.store.machine device.new.store.journal.gate (F.told device.new.store.journal.file)) }
-    ensures cause { BlamesDisk (F.told device.old.store.journal.file) (F.told device.new.store.journal.file) result }
+        → IsKept device.new.store.machine device.new.store.events.journal.gate (F.told device.new.store.events.journal.file)) }
+    ensures cause { BlamesDisk (F.told device.old.store.events.journal.file) (F.told device.new.store.events.journal.file) result }
     ensures served { OnOk result (Finishes end
         (seen device.old.store.machine (W.contents out.old)) (seen device.new.store.machine (W.contents out.new))
-        (F.told device.old.store.journal.file) (F.told device.new.store.journal.file)) }
+        (F.told device.old.store.events.journal.file) (F.told device.new.store.events.journal.file)) }
     ensures sound { OnOk result (IsSound end) }
     ensures stopped { IfErr result (StopsFinishing end
         (seen device.old.store.machine (W.contents out.old)) (seen device.new.store.machine (W.contents out.new))
-        (F.told device.old.store.journal.file) (F.told device.new.store.journal.file)) }
+        (F.told device.old.store.events.journal.file) (F.told device.new.store.events.journal.file)) }
 {
     match end {
         End::Piece => Ok(()),

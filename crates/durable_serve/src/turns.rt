@@ -36,18 +36,18 @@ pub fn give_turns<W: Write, F: StoredFile + Drop>(
     answer: &mut Vec<u8>,
     out: &mut W,
 ) -> Result<u32, ServeFault>
-    requires kept { IsKept device.old.store.machine device.old.store.journal.gate (F.told device.old.store.journal.file) }
+    requires kept { IsKept device.old.store.machine device.old.store.events.journal.gate (F.told device.old.store.events.journal.file) }
     ensures kept { OnOk result
-        (IsKept device.new.store.machine device.new.store.journal.gate (F.told device.new.store.journal.file)) }
+        (IsKept device.new.store.machine device.new.store.events.journal.gate (F.told device.new.store.events.journal.file)) }
     ensures on_disk { IfErr result (λ why. why ≡ ServeFault.Write
-        → IsKept device.new.store.machine device.new.store.journal.gate (F.told device.new.store.journal.file)) }
-    ensures cause { BlamesDisk (F.told device.old.store.journal.file) (F.told device.new.store.journal.file) result }
+        → IsKept device.new.store.machine device.new.store.events.journal.gate (F.told device.new.store.events.journal.file)) }
+    ensures cause { BlamesDisk (F.told device.old.store.events.journal.file) (F.told device.new.store.events.journal.file) result }
     ensures given { IfOk result (HasGiven turns
         (seen device.old.store.machine (W.contents out.old)) (seen device.new.store.machine (W.contents out.new))
-        (F.told device.old.store.journal.file) (F.told device.new.store.journal.file)) }
+        (F.told device.old.store.events.journal.file) (F.told device.new.store.events.journal.file)) }
     ensures stopped { IfErr result (StopsGiving turns
         (seen device.old.store.machine (W.contents out.old)) (seen device.new.store.machine (W.contents out.new))
-        (F.told device.old.store.journal.file) (F.told device.new.store.journal.file)) }
+        (F.told device.old.store.events.journal.file) (F.told device.new.store.events.journal.file)) }
 {
     let mut given = 0;
     let mut idle = 0;
@@ -69,18 +69,18 @@ pub(crate) fn drain<W: Write, F: StoredFile + Drop>(
     answer: &mut Vec<u8>,
     out: &mut W,
 ) -> Result<(), ServeFault>
-    requires kept { IsKept device.old.store.machine device.old.store.journal.gate (F.told device.old.store.journal.file) }
+    requires kept { IsKept device.old.store.machine device.old.store.events.journal.gate (F.told device.old.store.events.journal.file) }
     ensures kept { OnOk result
-        (IsKept device.new.store.machine device.new.store.journal.gate (F.told device.new.store.journal.file)) }
+        (IsKept device.new.store.machine device.new.store.events.journal.gate (F.told device.new.store.events.journal.file)) }
     ensures on_disk { IfErr result (λ why. why ≡ ServeFault.Write
-        → IsKept device.new.store.machine device.new.store.journal.gate (F.told device.new.store.journal.file)) }
-    ensures cause { BlamesDisk (F.told device.old.store.journal.file) (F.told device.new.store.journal.file) result }
+        → IsKept device.new.store.machine device.new.store.events.journal.gate (F.told device.new.store.events.journal.file)) }
+    ensures cause { BlamesDisk (F.told device.old.store.events.journal.file) (F.told device.new.store.events.journal.file) result }
     ensures served { OnOk result (Finishes (Drain turns)
         (seen device.old.store.machine (W.contents out.old)) (seen device.new.store.machine (W.contents out.new))
-        (F.told device.old.store.journal.file) (F.told device.new.store.journal.file)) }
+        (F.told device.old.store.events.journal.file) (F.told device.new.store.events.journal.file)) }
     ensures stopped { IfErr result (StopsFinishing (Drain turns)
         (seen device.old.store.machine (W.contents out.old)) (seen device.new.store.machine (W.contents out.new))
-        (F.told device.old.store.journal.file) (F.told device.new.store.journal.file)) }
+        (F.told device.old.store.events.journal.file) (F.told device.new.store.events.journal.file)) }
 {
     let given = give_turns(alloc, device, turns, answer, out)?;
     answer.clear();
@@ -94,13 +94,13 @@ pub(crate) fn save<W: Write, F: StoredFile + Drop>(
     answer: &mut Vec<u8>,
     out: &mut W,
 ) -> Result<(), ServeFault>
-    requires kept { IsKept device.now.store.machine device.now.store.journal.gate (F.told device.now.store.journal.file) }
+    requires kept { IsKept device.now.store.machine device.now.store.events.journal.gate (F.told device.now.store.events.journal.file) }
     ensures served { OnOk result (Finishes Save
         (seen device.now.store.machine (W.contents out.old)) (seen device.now.store.machine (W.contents out.new))
-        (F.told device.now.store.journal.file) (F.told device.now.store.journal.file)) }
+        (F.told device.now.store.events.journal.file) (F.told device.now.store.events.journal.file)) }
     ensures stopped { IfErr result (StopsFinishing Save
         (seen device.now.store.machine (W.contents out.old)) (seen device.now.store.machine (W.contents out.new))
-        (F.told device.now.store.journal.file) (F.told device.now.store.journal.file)) }
+        (F.told device.now.store.events.journal.file) (F.told device.now.store.events.journal.file)) }
     ensures no_disk { IfErr result (λ why. why ≢ ServeFault.Disk) }
 {
     answer.clear();
@@ -159,18 +159,18 @@ fn give_round<W: Write, F: StoredFile + Drop>(
 ) -> Result<u8, ServeFault>
     requires run { run < 8 }
     requires most { count ≤ 8 }
-    requires kept { IsKept device.old.store.machine device.old.store.journal.gate (F.told device.old.store.journal.file) }
+    requires kept { IsKept device.old.store.machine device.old.store.events.journal.gate (F.told device.old.store.events.journal.file) }
     ensures kept { OnOk result
-        (IsKept device.new.store.machine device.new.store.journal.gate (F.told device.new.store.journal.file)) }
+        (IsKept device.new.store.machine device.new.store.events.journal.gate (F.told device.new.store.events.journal.file)) }
     ensures on_disk { IfErr result (λ why. why ≡ ServeFault.Write
-        → IsKept device.new.store.machine device.new.store.journal.gate (F.told device.new.store.journal.file)) }
-    ensures cause { BlamesDisk (F.told device.old.store.journal.file) (F.told device.new.store.journal.file) result }
+        → IsKept device.new.store.machine device.new.store.events.journal.gate (F.told device.new.store.events.journal.file)) }
+    ensures cause { BlamesDisk (F.told device.old.store.events.journal.file) (F.told device.new.store.events.journal.file) result }
     ensures given { IfOk result (RoundDone run count
         (seen device.old.store.machine (W.contents out.old)) (seen device.new.store.machine (W.contents out.new))
-        (F.told device.old.store.journal.file) (F.told device.new.store.journal.file)) }
+        (F.told device.old.store.events.journal.file) (F.told device.new.store.events.journal.file)) }
     ensures stopped { IfErr result (RoundFails run count
         (seen device.old.store.machine (W.contents out.old)) (seen device.new.store.machine (W.contents out.new))
-        (F.told device.old.store.journal.file) (F.told device.new.store.journal.file)) }
+        (F.told device.old.store.events.journal.file) (F.told device.new.store.events.journal.file)) }
 {
     // Brings in that the frame of a turn tells it.
     frames_tell_events();

@@ -1,6 +1,9 @@
 -- Where an address must lie, as its distance from an area's first byte.
-use Rattle.std.specs.Prelude.{ℕ, ℤ, ◌≡◌, ◌<◌, ◌≤◌, ◌^◌, ◌+ℤ◌, ◌≤ℤ◌, pos}
+use Rattle.std.specs.Prelude.{ℕ, ℤ, List, Option, Some, None, option_and_then, if◌then◌else◌, ◌==◌, ◌≡◌, ◌<◌, ◌≤◌, ◌^◌, ◌+ℤ◌, ◌≤ℤ◌, pos}
+use Rattle.instruction_set.specs.Instruction.{access_of}
+use Rattle.instruction_set.specs.Program.{instruction_at}
 use Rattle.instruction_set.specs.declared.access.Access.{Access}
+use Rattle.instruction_set.specs.declared.instruction.Instruction.{Instruction}
 use Rattle.ebpf_link.specs.declared.within.Within.{Within}
 
 -- a distance is within bounds
@@ -34,3 +37,22 @@ pub record Compares (within : Within) (low high : ℤ) : Type 0 where
       → IsWithin within (pos distance)
   pub least : (distance : ℕ) → IsWithin within (pos distance) → distance ≤ 100000 → low ≤ℤ pos distance
   pub most : (distance : ℕ) → IsWithin within (pos distance) → distance ≤ 100000 → pos distance ≤ℤ high
+
+-- an access, if it is by this register
+abbrev pub by_register : ℕ → Access → Option Access
+by_register base access = if access.base == base then Some access else None
+
+-- the access by a register at a slot, if there is one
+abbrev pub access_by : List (Option Instruction) → ℕ → ℕ → Option Access
+access_by slots slot base = option_and_then (by_register base) (option_and_then access_of (instruction_at slots slot))
+
+-- from each distance within bounds the access at a slot by a register, if there is one, lies in its area
+abbrev pub AreInsideAt : List (Option Instruction) → ℕ → ℕ → ℕ → Within → Type 0
+AreInsideAt slots slot base length narrow = (access : Access) → access_by slots slot base ≡ Some access → (distance : ℤ)
+    → IsWithin narrow distance → LieInside distance access.offset access.size length
+
+-- such bounds, of distances that were within others
+pub record AreBoundsAt (slots : List (Option Instruction)) (slot base length : ℕ) (within narrow : Within) : Type 0 where
+  pub area : narrow.area ≡ within.area
+  pub kept : (distance : ℤ) → IsWithin narrow distance → IsWithin within distance
+  pub inside : AreInsideAt slots slot base length narrow

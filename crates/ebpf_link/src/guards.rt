@@ -2,6 +2,7 @@
 //! doesn't trap without it, but for that of an emit whose address and length are both ranges: it wants room for the longest.
 
 ghost use Rattle.std.specs.Prelude.{◌≡◌, IfOk, false, if◌then◌else◌};
+ghost use Rattle.ebpf_link.specs.Bounds.{AreBoundsAt, AreInsideAt, access_by};
 ghost use Rattle.ebpf_link.specs.Deciding.{edge};
 ghost use Rattle.ebpf_link.specs.Guards.{IsGuardedBy, compare_with, guard_index, guard_word};
 ghost use Rattle.instruction_set.specs.declared.instruction.Instruction.TheVariants.{Load, StoreRegister};
@@ -15,7 +16,7 @@ use crate::layout::Layout;
 use crate::liveness::{ALL, at, bit, reads, writes};
 use crate::pieces::{compare, compute};
 use crate::scratch_words::words_stored;
-use crate::within::{Within, narrowed, whole};
+use crate::within::{Within, access_by, narrowed, whole};
 use instruction_set::{
     Access, AccessKind, Instruction, Operation, Register, Relation, Size, Source,
 };
@@ -372,27 +373,51 @@ impl Layout<'_> {
         false
     }
 
-    /// Where the accesses by a register must point that surely come from a slot on.
-    fn accessed_from(&self, slot: usize, base: Register, area: Area) -> Within {
-        let length = area.length(self.target.block.bytes() as usize);
-        let mut within = whole(area, length, 0);
-        for later in slot..self.slots.len() {
-            let Some(instruction) = self.slots.get(later) else {
+    /// The access by a register at a slot, if there is one.
+    fn access_at(&self, slot: usize, base: Register) -> Option<Access>
+        ensures { result ≡ access_by self.now.slots.now slot base }
+    {
+        match self.slots.get(slot) {
+            Some(Some(instruction)) => access_by(instruction, base),
+            _ => None,
+        }
+    }
+
+    /// Where an address in a register must point for the access by it at a slot, if there is one, besides that it did.
+    fn accessed_at(&self, slot: usize, base: Register, within: Within, length: usize) -> Within
+        ensures { AreBoundsAt self.now.slots.now slot base length within result }
+    {
+        match self.access_at(slot, base) {
+            Some(access) => narrowed(within, access, length),
+            None => within,
+        }
+    }
+
+    /// Does the row of accesses by a register end at a slot?
+    fn ends_row_at(&self, slot: usize, base: Register) -> bool {
+        match self.slots.get(slot) {
+            Some(Some(instruction)) => ends_row(instruction, base),
+            _ => false,
+        }
+    }
+
+    /// Where the accesses by a register must point that surely come from a slot on, in an area of so many bytes.
+    fn accessed_from(&self, slot: usize, base: Register, area: Area, length: usize) -> Within
+        ensures area { result.area ≡ area }
+        ensures inside { AreInsideAt self.now.slots.now slot base length result }
+    {
+        let first = self.accessed_at(slot, base, whole(area, length, 0), length);
+        if self.ends_row_at(slot, base) {
+            return first;
+        }
+        let mut within = first;
+        for later in slot.saturating_add(1)..self.slots.len() {
+            let next = self.accessed_at(later, base, within, length);
+            if next.high < next.low {
                 break;
-            };
-            let Some(instruction) = instruction else {
-                continue;
-            };
-            if let Some(access) = instruction.access() {
-                if access.base == base {
-                    let next = narrowed(within, access, length);
-                    if later != slot && next.high < next.low {
-                        break;
-                    }
-                    within = next;
-                }
             }
-            if ends_row(instruction, base) {
+            within = next;
+            if self.ends_row_at(later, base) {
                 break;
             }
         }
@@ -417,7 +442,8 @@ impl Layout<'_> {
         let Some(area) = self.open_areas(known, slot, instruction).first() else {
             return Ok(true);
         };
-        let within = self.accessed_from(slot, access.base, area);
+        let length = area.length(self.target.block.bytes() as usize);
+        let within = self.accessed_from(slot, access.base, area, length);
         self.put_within(known, Guard::Memory, slot, instruction, access.base, within)
     }
 }

@@ -1,10 +1,11 @@
 //! Where an address must lie in an area: bounds of its distance from the area's first byte.
 
-ghost use Rattle.std.specs.Prelude.{ℕ, ℤ, ◌≡◌, ◌≤◌, ◌^◌, ◌≤ℤ◌, ◌+ℤ◌, pos};
-ghost use Rattle.ebpf_link.specs.Bounds.{Compares, IsSmallLength, Narrows};
+ghost use Rattle.std.specs.Prelude.{ℕ, ℤ, option_and_then, ◌≡◌, ◌≤◌, ◌^◌, ◌≤ℤ◌, ◌+ℤ◌, pos};
+ghost use Rattle.ebpf_link.specs.Bounds.{Compares, IsSmallLength, Narrows, by_register};
+ghost use Rattle.instruction_set.specs.Instruction.{access_of};
 
 use crate::guards::Need;
-use instruction_set::Access;
+use instruction_set::{Access, Instruction, Register};
 use program_interface::Area;
 
 /// Where an address must lie, in bytes behind the first one of an area.
@@ -150,5 +151,26 @@ pub(crate) fn narrowed(within: Within, access: Access, length: usize) -> Within
         low,
         high,
         ..whole(within.area, length, bytes.max(usize::from(size)))
+    }
+}
+
+/// An access, if it is by this register.
+fn by_register(access: Access, base: Register) -> Option<Access>
+    ensures { result ≡ by_register base access }
+{
+    if access.base == base {
+        Some(access)
+    } else {
+        None
+    }
+}
+
+/// The access by a register that an instruction makes, if it makes one.
+pub(crate) fn access_by(instruction: &Instruction, base: Register) -> Option<Access>
+    ensures { result ≡ option_and_then (by_register base) (access_of instruction.now) }
+{
+    match instruction.access() {
+        Some(access) => by_register(access, base),
+        None => None,
     }
 }

@@ -1,7 +1,7 @@
 -- What is known of a file behind some calls covers what is known behind the first of them.
 use Rattle.std.proofs.Common.{ℕ, List, [], ◌∷◌, ◌++◌, ◌≤◌, inl, arith}
 use Rattle.stored_file.specs.File.{MayLeave}
-use Rattle.system_file.specs.Calls.{Call, counts_behind}
+use Rattle.stored_file.specs.Calls.{Call, counts_behind}
 use Rattle.durable_device.specs.Kept.{MayBeLeft}
 use Rattle.handed_file.specs.Handed.{told_of}
 

@@ -1,8 +1,8 @@
 -- The calls that were handed over, in order.
 use Rattle.std.proofs.Common.{◌≡◌, false, List, [], ◌∷◌, ◌++◌, map, reverse, refl, ap, sym, ◌∙◌, append_assoc}
 use Rattle.std.proofs.lemmas.List.{map-append, reverse-append}
-use Rattle.system_file.specs.Calls.{Call}
-use Rattle.system_file.specs.Calls as call
+use Rattle.stored_file.specs.Calls.{Call}
+use Rattle.stored_file.specs.Calls as call
 use Rattle.handed_file.specs.Handing.{all_done, done_call, handed, has_refused}
 use Rattle.handed_file.specs.declared.handed_file.FileCall.{FileCall}
 use Rattle.handed_file.specs.declared.handed_file.FileCall.TheVariants.{Write, Renew, Shorten, Sync, Replace, Want}

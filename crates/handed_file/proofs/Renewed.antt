@@ -2,8 +2,8 @@
 use Rattle.std.proofs.Common.{◌≡◌, ◌≤◌, ◌+◌, ℕ, true, List, ◌∷◌, length, Result, Ok, Err, OnOk, OnErr, subst, sym}
 use Rattle.stored_file.specs.File.{Follows, MayLeave, Mixed}
 use Rattle.stored_file.specs.declared.stored_file.FileError.{FileError}
-use Rattle.system_file.specs.Calls.{Call, Refused, Renewed, told_of}
-use Rattle.system_file.proofs.Opened.{refused_mixed, renewed_mixed}
+use Rattle.stored_file.specs.Calls.{Call, Refused, Renewed, told_of}
+use Rattle.stored_file.proofs.Opened.{refused_mixed, renewed_mixed}
 use Rattle.durable_device.specs.Kept.{MayBeLeft}
 
 -- each file that a crash may leave is as long

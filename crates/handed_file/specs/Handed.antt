@@ -1,8 +1,8 @@
 -- A file for which a host makes the calls, as others see it.
 use Rattle.std.specs.Prelude.{List}
 use Rattle.stored_file.specs.File.{FileState}
-use Rattle.system_file.specs.Calls as calls
-use Rattle.system_file.specs.Calls.{Call}
+use Rattle.stored_file.specs.Calls as calls
+use Rattle.stored_file.specs.Calls.{Call}
 use Rattle.durable_device.specs.Kept.{MayBeLeft}
 use Rattle.handed_file.specs.declared.handed_file.FileCall.{FileCall}
 use Rattle.handed_file.specs.declared.handed_file.HandedFile.{HandedFile}

@@ -1,7 +1,7 @@
 -- The calls that a host is to make for a file, and those that it told as made.
 use Rattle.std.specs.Prelude.{Bool, true, false, List, [], ◌∷◌, map, reverse}
-use Rattle.system_file.specs.Calls.{Call}
-use Rattle.system_file.specs.Calls as call
+use Rattle.stored_file.specs.Calls.{Call}
+use Rattle.stored_file.specs.Calls as call
 use Rattle.handed_file.specs.declared.handed_file.FileCall.{FileCall}
 use Rattle.handed_file.specs.declared.handed_file.FileCall.TheVariants.{Write, Renew, Shorten, Sync, Replace, Want}
 

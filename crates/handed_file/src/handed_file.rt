@@ -1,7 +1,7 @@
 //! The file.
 
 ghost use Rattle.std.specs.Prelude.{◌≡◌, ◌∷◌, ◌++◌, ◌<◌, ◌^◌, ◌↔◌, ◌⊎◌, List, [], length, IfSome, IsNone, IsTrue, OnOk, OnErr};
-ghost use Rattle.system_file.specs.Calls.{NotReplaced, Opened, Refused, told_of};
+ghost use Rattle.stored_file.specs.Calls.{NotReplaced, Opened, Refused, told_of};
 ghost use Rattle.durable_device.specs.Kept.{IsRestarted, MayBeLeft};
 ghost use Rattle.handed_file.specs.Handing.{all_done, done_call, handed, has_refused};
 ghost use Rattle.handed_file.specs.declared.handed_file.FileCall.{FileCall};
@@ -9,8 +9,7 @@ ghost use Rattle.handed_file.specs.declared.handed_file.FileCall.{FileCall};
 use std::alloc::Global;
 use std::collections::VecDeque;
 use std::mem;
-use stored_file::{FileError, StoredFile};
-use system_file::Record;
+use stored_file::{FileError, Record, StoredFile};
 
 /// The largest length of a file, in bytes (POSIX, `off_t`).
 const MOST_BYTES: usize = (1 << 63) - 1;
@@ -172,7 +171,7 @@ fn note(notes: &mut Record, call: &FileCall)
 }
 
 impl StoredFile for HandedFile {
-    ghost use Rattle.system_file.specs.Calls.{counts_behind};
+    ghost use Rattle.stored_file.specs.Calls.{counts_behind};
 
     ghost told = { λ file. told_of MayBeLeft file.notes.calls };
 

@@ -4,8 +4,8 @@ use Rattle.std.proofs.lemmas.List.{take_at}
 use Rattle.image_store.specs.Namespace.{ZonedNamespace}
 use Rattle.image_text.specs.Reading.{namespace_in}
 use Rattle.image_text.specs.declared.fault.LoadFault.{LoadFault}
-use Rattle.event_journal.specs.Events.{BeginsEvent, BeginsNoEvent, number_bytes, spelled}
-use Rattle.event_journal.proofs.Spelling.{begins_spelled, one_reading}
+use Rattle.durable_machine.specs.Events.{BeginsEvent, BeginsNoEvent, number_bytes, spelled}
+use Rattle.durable_machine.proofs.Spelling.{begins_spelled, one_reading}
 use Rattle.durable_machine.specs.Bases.{BeginsBase, BeginsNoBase}
 use Rattle.image_base.specs.Base.{BeginNoSections, BeginSections, IsBaseOf, IsBehindMagic, IsNoText, Told, base_with, magic}
 use Rattle.image_base.proofs.SectionLemmas.{same_events}

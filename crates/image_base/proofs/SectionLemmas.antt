@@ -4,8 +4,8 @@ use Rattle.std.specs.Prelude.{Vec}
 use Rattle.std.specs.declared.alloc.Global.{Global}
 use Rattle.std.proofs.Math.Seq.{take-suc}
 use Rattle.std.proofs.lemmas.List.{map-append, append-nil}
-use Rattle.event_journal.specs.Events.{AreSized, BeginsEvent, BeginsNoEvent, spelled}
-use Rattle.event_journal.proofs.Spelling.{begins_spelled, one_reading, sized-append, spelled-append}
+use Rattle.durable_machine.specs.Events.{AreSized, BeginsEvent, BeginsNoEvent, spelled}
+use Rattle.durable_machine.proofs.Spelling.{begins_spelled, one_reading, sized-append, spelled-append}
 use Rattle.durable_machine.specs.Batches.{bytes_of}
 use Rattle.image_base.specs.Base.{BeginNoSections, BeginSections}
 

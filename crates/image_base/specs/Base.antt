@@ -1,6 +1,6 @@
 -- The base of a device's journal: the image that the device began with, and sections for what it had beside it.
 use Rattle.std.specs.Prelude.{◌≡◌, ◌<◌, ◌^◌, ℕ, List, ◌∷◌, ◌++◌, length, codes, Ok}
-use Rattle.event_journal.specs.Events.{AreSized, spelled}
+use Rattle.durable_machine.specs.Events.{AreSized, spelled}
 use Rattle.image_store.specs.Namespace.{ZonedNamespace}
 use Rattle.image_text.specs.Reading.{namespace_in}
 use Rattle.image_base.specs.declared.sections.TheConstants.{SECTIONS}

@@ -9,7 +9,7 @@ ghost use Rattle.image_text.specs.Reading.{namespace_in};
 ghost use Rattle.image_text.specs.Text.{text};
 
 use crate::sections::{SECTIONS, add_sections, sections_in};
-use event_journal::{add_event, first_event};
+use durable_machine::{add_event, first_event};
 use image_store::Image;
 use image_text::{Buffer, ImageText, LoadFault};
 use std::alloc::{AllocError, Global};

@@ -1,11 +1,11 @@
 //! The sections of a base.
 
 ghost use Rattle.std.specs.Prelude.{◌≡◌, ◌++◌, IfOk, MatchOption, OnOk, length};
-ghost use Rattle.event_journal.specs.Events.{AreSized, spelled};
+ghost use Rattle.durable_machine.specs.Events.{AreSized, spelled};
 ghost use Rattle.durable_machine.specs.Batches.{bytes_of};
 ghost use Rattle.image_base.specs.Base.{BeginNoSections, BeginSections};
 
-use event_journal::{add_event, first_event};
+use durable_machine::{add_event, first_event};
 use std::alloc::{AllocError, Global};
 
 /// How many sections a base has (profile): one for each slot of a device, and one for each place for a run.

@@ -11,9 +11,10 @@ unlines-append (line ∷ first) later =
     ap (λ (text : List ℕ). line ++ 10 ∷ text) (unlines-append first later) ∙ sym (append_assoc line (10 ∷ unlines first) (unlines later))
 
 -- the lines of notes, one part after another
-pub unlines-parts : (a b c d e f : List (List ℕ))
-    → unlines (a ++ (b ++ (c ++ (d ++ (e ++ f))))) ≡ ((((unlines a ++ unlines b) ++ unlines c) ++ unlines d) ++ unlines e) ++ unlines f
-unlines-parts a b c d e f = simp (unlines-append, append_assoc) refl
+pub unlines-parts : (a b c d e f g : List (List ℕ))
+    → unlines (a ++ (b ++ (c ++ (d ++ (e ++ (f ++ g))))))
+    ≡ (((((unlines a ++ unlines b) ++ unlines c) ++ unlines d) ++ unlines e) ++ unlines f) ++ unlines g
+unlines-parts a b c d e f g = simp (unlines-append, append_assoc) refl
 
 abbrev pub guards_text : List GuardNote → List ℕ
 guards_text notes = unlines (map guard_line (map told_guard notes))
@@ -40,16 +41,18 @@ pub guards_added : (before text : List ℕ) (notes : List GuardNote) (i : ℕ) �
 guards_added before text notes i h so_far = so_far ∙ ap (λ ns. before ++ guards_text ns) (take_all i notes h)
 
 -- the lines of notes are added, in order
-pub notes_added : (notes : ToldNotes) (heading block emit profile guard_at all : List ℕ) → heading ≡ unlines (codes "linked 1" ∷ [])
-    → block ≡ heading ++ unlines (number_line (codes "block ") notes.block ∷ []) → emit ≡ block ++ unlines (optional_lines (codes "emit ") notes.emit)
+pub notes_added : (notes : ToldNotes) (heading sum block emit profile guard_at all : List ℕ) → heading ≡ unlines (codes "linked 1" ∷ [])
+    → sum ≡ heading ++ unlines (optional_lines (codes "sum ") notes.sum)
+    → block ≡ sum ++ unlines (number_line (codes "block ") notes.block ∷ []) → emit ≡ block ++ unlines (optional_lines (codes "emit ") notes.emit)
     → profile ≡ emit ++ unlines (number_line (codes "profile ") notes.profile ∷ [])
     → guard_at ≡ profile ++ unlines (optional_lines (codes "guard-at ") notes.guard_at)
     → all ≡ guard_at ++ unlines (map guard_line notes.guards) → all ≡ notes_text notes
-notes_added notes heading block emit profile guard_at all one two three four five six =
+notes_added notes heading sum block emit profile guard_at all one summed two three four five six =
     six ∙ ap (λ (t : List ℕ). t ++ unlines (map guard_line notes.guards))
     (five ∙ ap (λ (t : List ℕ). t ++ unlines (optional_lines (codes "guard-at ") notes.guard_at))
     (four ∙ ap (λ (t : List ℕ). t ++ unlines (number_line (codes "profile ") notes.profile ∷ []))
     (three ∙ ap (λ (t : List ℕ). t ++ unlines (optional_lines (codes "emit ") notes.emit))
-    (two ∙ ap (λ (t : List ℕ). t ++ unlines (number_line (codes "block ") notes.block ∷ [])) one))))
-    ∙ sym (unlines-parts (codes "linked 1" ∷ []) (number_line (codes "block ") notes.block ∷ []) (optional_lines (codes "emit ") notes.emit)
+    (two ∙ ap (λ (t : List ℕ). t ++ unlines (number_line (codes "block ") notes.block ∷ []))
+    (summed ∙ ap (λ (t : List ℕ). t ++ unlines (optional_lines (codes "sum ") notes.sum)) one)))))
+    ∙ sym (unlines-parts (codes "linked 1" ∷ []) (optional_lines (codes "sum ") notes.sum) (number_line (codes "block ") notes.block ∷ []) (optional_lines (codes "emit ") notes.emit)
     (number_line (codes "profile ") notes.profile ∷ []) (optional_lines (codes "guard-at ") notes.guard_at) (map guard_line notes.guards))

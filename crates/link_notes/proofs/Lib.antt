@@ -3,3 +3,4 @@ mod Ascii
 mod GuardLemmas
 mod ReadBack
 mod SpelledLines
+mod SumLemmas

@@ -17,7 +17,7 @@ use Rattle.text_lines.proofs.Proved.{number_again}
 use Rattle.link_notes.specs.Notes.{ToldGuard, ToldNotes}
 use Rattle.link_notes.specs.Text.{guard_line, notes_lines, number_line, optional_lines}
 use Rattle.link_notes.specs.Unread.{first_number, past}
-use Rattle.link_notes.specs.Reading.{ascii_of, guard_before, guard_of, guard_told, guards_from, heading_of, number_before, with_block, with_guards, with_profile}
+use Rattle.link_notes.specs.Reading.{ascii_of, guard_before, guard_of, guard_told, guards_from, heading_of, number_before, with_block, with_guards, with_profile, with_sum}
 use Rattle.link_notes.specs.Laws.{AreSpelled, IsPrintable, IsSpelledGuard, IsVisible, IsWord, PrintedNotesReadBack}
 use Rattle.link_notes.specs.declared.reading.Wanted.{Wanted}
 use Rattle.link_notes.specs.declared.reading.Wanted.TheVariants as wanted
@@ -88,7 +88,10 @@ notes_printable notes h =
     let limited = All-append P emit (number_line (codes "profile ") notes.profile ∷ (guard_at ++ map guard_line notes.guards)) (optional_printable (codes "emit ") notes.emit refl h.emit) profile in
     let limit_lines = emit ++ number_line (codes "profile ") notes.profile ∷ (guard_at ++ map guard_line notes.guards) in
     let block = All-cons P (number_line (codes "block ") notes.block) limit_lines (number_printable (codes "block ") notes.block refl h.block) limited in
-    All-cons P (codes "linked 1") (number_line (codes "block ") notes.block ∷ limit_lines) (spelled_out (codes "linked 1") refl) block
+    let block_lines = number_line (codes "block ") notes.block ∷ limit_lines in
+    let sum = optional_lines (codes "sum ") notes.sum in
+    let summed = All-append P sum block_lines (optional_printable (codes "sum ") notes.sum refl h.sum) block in
+    All-cons P (codes "linked 1") (sum ++ block_lines) (spelled_out (codes "linked 1") refl) summed
 
 -- ---- guards
 
@@ -139,12 +142,12 @@ guards_again number (guard ∷ guards) h =
 
 -- ---- the lines before those of guards
 
-all_again : (block : ℕ) (emit : Option ℕ) (profile : ℕ) (guard_at : Option ℕ) (number : ℕ) (guards : List ToldGuard) → All IsSpelledGuard guards
-    → with_guards block emit profile guard_at (number, map guard_line guards)
-    ≡ Ok (record { block = block; emit = emit; profile = profile; guard_at = guard_at; guards = guards })
-all_again block emit profile guard_at number guards h =
+all_again : (sum : Option ℕ) (block : ℕ) (emit : Option ℕ) (profile : ℕ) (guard_at : Option ℕ) (number : ℕ) (guards : List ToldGuard) → All IsSpelledGuard guards
+    → with_guards sum block emit profile guard_at (number, map guard_line guards)
+    ≡ Ok (record { sum = sum; block = block; emit = emit; profile = profile; guard_at = guard_at; guards = guards })
+all_again sum block emit profile guard_at number guards h =
     ap (λ (read : Result (List ToldGuard) (ℕ × Wanted)). read >>= λ gs.
-    Ok (record { block = block; emit = emit; profile = profile; guard_at = guard_at; guards = gs })) (guards_again number guards h)
+    Ok (record { sum = sum; block = block; emit = emit; profile = profile; guard_at = guard_at; guards = gs })) (guards_again number guards h)
 
 -- no guard's line has the key of where guards write
 no_guard_at : (number : ℕ) (guards : List ToldGuard) → first_number (codes "guard-at ") (number, map guard_line guards) ≡ None
@@ -152,51 +155,71 @@ no_guard_at number [] = refl
 no_guard_at number (guard ∷ guards) = refl
 
 -- what is read once it is known whether the first line says where guards write
-abbrev guards_by : ℕ → Option ℕ → ℕ → ℕ × List (List ℕ) → Option ℕ → Result ToldNotes (ℕ × Wanted)
-guards_by block emit profile left found = with_guards block emit profile found (cond (is_some found) (past left) left)
+abbrev guards_by : Option ℕ → ℕ → Option ℕ → ℕ → ℕ × List (List ℕ) → Option ℕ → Result ToldNotes (ℕ × Wanted)
+guards_by sum block emit profile left found = with_guards sum block emit profile found (cond (is_some found) (past left) left)
 
-after_profile : (block : ℕ) (emit : Option ℕ) (profile : ℕ) (guard_at : Option ℕ) (number : ℕ) (guards : List ToldGuard) → IfSome guard_at IsWord → All IsSpelledGuard guards
-    → guards_by block emit profile (number, optional_lines (codes "guard-at ") guard_at ++ map guard_line guards) (first_number (codes "guard-at ") (number, optional_lines (codes "guard-at ") guard_at ++ map guard_line guards))
-    ≡ Ok (record { block = block; emit = emit; profile = profile; guard_at = guard_at; guards = guards })
-after_profile block emit profile None number guards small h =
-    ap (guards_by block emit profile (number, map guard_line guards)) (no_guard_at number guards)
-    ∙ all_again block emit profile None number guards h
-after_profile block emit profile (Some at) number guards small h =
-    ap (guards_by block emit profile (number, number_line (codes "guard-at ") at ∷ map guard_line guards)) (decimal_again at small)
-    ∙ all_again block emit profile (Some at) (number + 1) guards h
+after_profile : (sum : Option ℕ) (block : ℕ) (emit : Option ℕ) (profile : ℕ) (guard_at : Option ℕ) (number : ℕ) (guards : List ToldGuard) → IfSome guard_at IsWord → All IsSpelledGuard guards
+    → guards_by sum block emit profile (number, optional_lines (codes "guard-at ") guard_at ++ map guard_line guards) (first_number (codes "guard-at ") (number, optional_lines (codes "guard-at ") guard_at ++ map guard_line guards))
+    ≡ Ok (record { sum = sum; block = block; emit = emit; profile = profile; guard_at = guard_at; guards = guards })
+after_profile sum block emit profile None number guards small h =
+    ap (guards_by sum block emit profile (number, map guard_line guards)) (no_guard_at number guards)
+    ∙ all_again sum block emit profile None number guards h
+after_profile sum block emit profile (Some at) number guards small h =
+    ap (guards_by sum block emit profile (number, number_line (codes "guard-at ") at ∷ map guard_line guards)) (decimal_again at small)
+    ∙ all_again sum block emit profile (Some at) (number + 1) guards h
 
 -- what is read after the profile
-abbrev profile_by : ℕ → Option ℕ → ℕ × List (List ℕ) → Option ℕ → Result ToldNotes (ℕ × Wanted)
-profile_by block emit left found = ok_or found (left.0, wanted.Profile) >>= λ profile.
-    guards_by block emit profile (past left) (first_number (codes "guard-at ") (past left))
+abbrev profile_by : Option ℕ → ℕ → Option ℕ → ℕ × List (List ℕ) → Option ℕ → Result ToldNotes (ℕ × Wanted)
+profile_by sum block emit left found = ok_or found (left.0, wanted.Profile) >>= λ profile.
+    guards_by sum block emit profile (past left) (first_number (codes "guard-at ") (past left))
 
-profile_again : (block : ℕ) (emit : Option ℕ) (notes : ToldNotes) (number : ℕ) → AreSpelled notes
-    → with_profile block emit (number, number_line (codes "profile ") notes.profile ∷ (optional_lines (codes "guard-at ") notes.guard_at ++ map guard_line notes.guards))
-    ≡ Ok (record { block = block; emit = emit; profile = notes.profile; guard_at = notes.guard_at; guards = notes.guards })
-profile_again block emit notes number h =
-    ap (profile_by block emit (number, number_line (codes "profile ") notes.profile ∷ (optional_lines (codes "guard-at ") notes.guard_at ++ map guard_line notes.guards))) (decimal_again notes.profile h.profile)
-    ∙ after_profile block emit notes.profile notes.guard_at (number + 1) notes.guards h.guard_at h.guards
+profile_again : (sum : Option ℕ) (block : ℕ) (emit : Option ℕ) (notes : ToldNotes) (number : ℕ) → AreSpelled notes
+    → with_profile sum block emit (number, number_line (codes "profile ") notes.profile ∷ (optional_lines (codes "guard-at ") notes.guard_at ++ map guard_line notes.guards))
+    ≡ Ok (record { sum = sum; block = block; emit = emit; profile = notes.profile; guard_at = notes.guard_at; guards = notes.guards })
+profile_again sum block emit notes number h =
+    ap (profile_by sum block emit (number, number_line (codes "profile ") notes.profile ∷ (optional_lines (codes "guard-at ") notes.guard_at ++ map guard_line notes.guards))) (decimal_again notes.profile h.profile)
+    ∙ after_profile sum block emit notes.profile notes.guard_at (number + 1) notes.guards h.guard_at h.guards
 
 -- the lines from the profile on
 abbrev profile_lines : ToldNotes → List (List ℕ)
 profile_lines notes = number_line (codes "profile ") notes.profile ∷ (optional_lines (codes "guard-at ") notes.guard_at ++ map guard_line notes.guards)
 
-abbrev limit_by : ℕ → ℕ × List (List ℕ) → Option ℕ → Result ToldNotes (ℕ × Wanted)
-limit_by block left found = with_profile block found (cond (is_some found) (past left) left)
+abbrev limit_by : Option ℕ → ℕ → ℕ × List (List ℕ) → Option ℕ → Result ToldNotes (ℕ × Wanted)
+limit_by sum block left found = with_profile sum block found (cond (is_some found) (past left) left)
 
-after_block : (block : ℕ) (emit : Option ℕ) (notes : ToldNotes) (number : ℕ) → IfSome emit IsWord → AreSpelled notes
-    → limit_by block (number, optional_lines (codes "emit ") emit ++ profile_lines notes) (first_number (codes "emit ") (number, optional_lines (codes "emit ") emit ++ profile_lines notes))
-    ≡ Ok (record { block = block; emit = emit; profile = notes.profile; guard_at = notes.guard_at; guards = notes.guards })
-after_block block None notes number small h = profile_again block None notes number h
-after_block block (Some limit) notes number small h =
-    ap (limit_by block (number, number_line (codes "emit ") limit ∷ profile_lines notes)) (decimal_again limit small)
-    ∙ profile_again block (Some limit) notes (number + 1) h
+after_block : (sum : Option ℕ) (block : ℕ) (emit : Option ℕ) (notes : ToldNotes) (number : ℕ) → IfSome emit IsWord → AreSpelled notes
+    → limit_by sum block (number, optional_lines (codes "emit ") emit ++ profile_lines notes) (first_number (codes "emit ") (number, optional_lines (codes "emit ") emit ++ profile_lines notes))
+    ≡ Ok (record { sum = sum; block = block; emit = emit; profile = notes.profile; guard_at = notes.guard_at; guards = notes.guards })
+after_block sum block None notes number small h = profile_again sum block None notes number h
+after_block sum block (Some limit) notes number small h =
+    ap (limit_by sum block (number, number_line (codes "emit ") limit ∷ profile_lines notes)) (decimal_again limit small)
+    ∙ profile_again sum block (Some limit) notes (number + 1) h
 
-abbrev block_by : ℕ × List (List ℕ) → Option ℕ → Result ToldNotes (ℕ × Wanted)
-block_by left found = ok_or found (left.0, wanted.Block) >>= λ block. limit_by block (past left) (first_number (codes "emit ") (past left))
+abbrev block_by : Option ℕ → ℕ × List (List ℕ) → Option ℕ → Result ToldNotes (ℕ × Wanted)
+block_by sum left found = ok_or found (left.0, wanted.Block) >>= λ block. limit_by sum block (past left) (first_number (codes "emit ") (past left))
+
+-- the lines from the block's size on
+abbrev pub block_lines : ToldNotes → List (List ℕ)
+block_lines notes = number_line (codes "block ") notes.block ∷ (optional_lines (codes "emit ") notes.emit ++ profile_lines notes)
+
+block_again : (sum : Option ℕ) (notes : ToldNotes) (number : ℕ) → AreSpelled notes → with_block sum (number, block_lines notes)
+    ≡ Ok (record { sum = sum; block = notes.block; emit = notes.emit; profile = notes.profile; guard_at = notes.guard_at; guards = notes.guards })
+block_again sum notes number h =
+    ap (block_by sum (number, block_lines notes)) (decimal_again notes.block h.block)
+    ∙ after_block sum notes.block notes.emit notes (number + 1) h.emit h
+
+abbrev sum_by : ℕ × List (List ℕ) → Option ℕ → Result ToldNotes (ℕ × Wanted)
+sum_by left found = with_block found (cond (is_some found) (past left) left)
+
+after_heading : (sum : Option ℕ) (notes : ToldNotes) (number : ℕ) → IfSome sum IsWord → AreSpelled notes
+    → sum_by (number, optional_lines (codes "sum ") sum ++ block_lines notes) (first_number (codes "sum ") (number, optional_lines (codes "sum ") sum ++ block_lines notes))
+    ≡ Ok (record { sum = sum; block = notes.block; emit = notes.emit; profile = notes.profile; guard_at = notes.guard_at; guards = notes.guards })
+after_heading None notes number small h = block_again None notes number h
+after_heading (Some sum) notes number small h =
+    ap (sum_by (number, number_line (codes "sum ") sum ∷ block_lines notes)) (decimal_again sum small)
+    ∙ block_again (Some sum) notes (number + 1) h
 
 pub printed_notes_read_back : PrintedNotesReadBack
 printed_notes_read_back notes h =
-    ap (λ (ls : List (List ℕ)). heading_of (1, ls) >>= with_block) (lines-unlines (notes_lines notes) (notes_printable notes h))
-    ∙ ap (block_by (2, number_line (codes "block ") notes.block ∷ (optional_lines (codes "emit ") notes.emit ++ profile_lines notes))) (decimal_again notes.block h.block)
-    ∙ after_block notes.block notes.emit notes 3 h.emit h
+    ap (λ (ls : List (List ℕ)). heading_of (1, ls) >>= with_sum) (lines-unlines (notes_lines notes) (notes_printable notes h))
+    ∙ after_heading notes.sum notes 2 h.sum h

@@ -26,6 +26,7 @@ pub record IsSpelledGuard (guard : ToldGuard) : Type 0 where
 
 -- notes whose text says them
 pub record AreSpelled (notes : ToldNotes) : Type 0 where
+  pub sum : IfSome notes.sum IsWord
   pub block : IsWord notes.block
   pub emit : IfSome notes.emit IsWord
   pub profile : IsWord notes.profile

@@ -10,8 +10,10 @@ pub record ToldGuard : Type 0 where
   pub place : List ℕ
   pub text : List ℕ
 
--- the bytes of a block, the limit of what may be emitted, the profile, where in scratch guards write, and the guards
+-- the sum of the program's bytes, the bytes of a block, the limit of what may be emitted, the profile, where in scratch guards write, and
+-- the guards
 pub record ToldNotes : Type 0 where
+  pub sum : Option ℕ
   pub block : ℕ
   pub emit : Option ℕ
   pub profile : ℕ
@@ -23,6 +25,7 @@ told_guard note = record { number = note.number; slot = note.slot; place = note.
 
 abbrev pub told_notes : LinkNotes → ToldNotes
 told_notes notes = record {
+  sum = notes.sum;
   block = notes.block;
   emit = notes.emit;
   profile = notes.profile;

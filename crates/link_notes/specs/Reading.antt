@@ -69,22 +69,26 @@ abbrev pub needed : List ℕ → Wanted → ℕ × List (List ℕ) → Result �
 needed key wanted left = ok_or (first_number key left) (left.0, wanted)
 
 -- the guards of the lines that are left, and what is read before them
-abbrev pub with_guards : ℕ → Option ℕ → ℕ → Option ℕ → ℕ × List (List ℕ) → Result ToldNotes (ℕ × Wanted)
-with_guards block emit profile guard_at left = guards_from left.0 left.1
-    >>= λ guards. Ok (record { block = block; emit = emit; profile = profile; guard_at = guard_at; guards = guards })
+abbrev pub with_guards : Option ℕ → ℕ → Option ℕ → ℕ → Option ℕ → ℕ × List (List ℕ) → Result ToldNotes (ℕ × Wanted)
+with_guards sum block emit profile guard_at left = guards_from left.0 left.1
+    >>= λ guards. Ok (record { sum = sum; block = block; emit = emit; profile = profile; guard_at = guard_at; guards = guards })
 
 -- the profile, where in scratch guards write, and the guards
-abbrev pub with_profile : ℕ → Option ℕ → ℕ × List (List ℕ) → Result ToldNotes (ℕ × Wanted)
-with_profile block emit left = needed (codes "profile ") wanted.Profile left >>= λ profile.
+abbrev pub with_profile : Option ℕ → ℕ → Option ℕ → ℕ × List (List ℕ) → Result ToldNotes (ℕ × Wanted)
+with_profile sum block emit left = needed (codes "profile ") wanted.Profile left >>= λ profile.
     let rest = past left in
-    with_guards block emit profile (first_number (codes "guard-at ") rest) (past_number (codes "guard-at ") rest)
+    with_guards sum block emit profile (first_number (codes "guard-at ") rest) (past_number (codes "guard-at ") rest)
 
 -- the bytes of a block, the limit, and so on
-abbrev pub with_block : ℕ × List (List ℕ) → Result ToldNotes (ℕ × Wanted)
-with_block left = needed (codes "block ") wanted.Block left >>= λ block.
+abbrev pub with_block : Option ℕ → ℕ × List (List ℕ) → Result ToldNotes (ℕ × Wanted)
+with_block sum left = needed (codes "block ") wanted.Block left >>= λ block.
     let rest = past left in
-    with_profile block (first_number (codes "emit ") rest) (past_number (codes "emit ") rest)
+    with_profile sum block (first_number (codes "emit ") rest) (past_number (codes "emit ") rest)
+
+-- the sum of the program's bytes, the bytes of a block, and so on
+abbrev pub with_sum : ℕ × List (List ℕ) → Result ToldNotes (ℕ × Wanted)
+with_sum left = with_block (first_number (codes "sum ") left) (past_number (codes "sum ") left)
 
 -- the notes of a text
 abbrev pub notes_in : List ℕ → Result ToldNotes (ℕ × Wanted)
-notes_in text = heading_of (1, lines text) >>= with_block
+notes_in text = heading_of (1, lines text) >>= with_sum

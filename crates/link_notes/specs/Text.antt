@@ -24,9 +24,9 @@ guard_line guard =
 -- the lines of notes, in order
 abbrev pub notes_lines : ToldNotes → List (List ℕ)
 notes_lines notes =
-    codes "linked 1" ∷ number_line (codes "block ") notes.block
-    ∷ (optional_lines (codes "emit ") notes.emit
-    ++ number_line (codes "profile ") notes.profile ∷ (optional_lines (codes "guard-at ") notes.guard_at ++ map guard_line notes.guards))
+    codes "linked 1" ∷ (optional_lines (codes "sum ") notes.sum
+    ++ number_line (codes "block ") notes.block ∷ (optional_lines (codes "emit ") notes.emit
+    ++ number_line (codes "profile ") notes.profile ∷ (optional_lines (codes "guard-at ") notes.guard_at ++ map guard_line notes.guards)))
 
 abbrev pub notes_text : ToldNotes → List ℕ
 notes_text notes = unlines (notes_lines notes)

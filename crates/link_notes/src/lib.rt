@@ -2,6 +2,7 @@
 //!
 //! ```text
 //! linked 1
+//! sum 2748361907
 //! block 4096
 //! emit 512
 //! profile 2
@@ -9,7 +10,7 @@
 //! guard 1 slot 37 filter.c:12 in either: 2 bytes aren't all within the 1024 of scratch
 //! ```
 //!
-//! `emit` and `guard-at` may be missing. There is a line `guard` for each guard, or none.
+//! `sum`, `emit` and `guard-at` may be missing. There is a line `guard` for each guard, or none.
 #![tactic(auto)]
 
 mod ended;
@@ -17,6 +18,7 @@ pub mod laws;
 mod notes;
 mod printing;
 mod reading;
+mod sum;
 mod unread;
 mod words;
 
@@ -24,3 +26,4 @@ pub use ended::{ENDED_BYTES, Ended, ended_at};
 pub use notes::{GuardNote, LinkNotes, UNKNOWN_PLACE};
 pub use printing::print;
 pub use reading::{NotesFault, Wanted, parse};
+pub use sum::program_sum;

@@ -6,6 +6,8 @@ pub const UNKNOWN_PLACE: &str = "?";
 /// What a program was linked for, and its guards.
 #[derive(Debug, Drop)]
 pub struct LinkNotes<'a> {
+    /// The sum of the program's bytes ([`crate::program_sum`]), where it is told: another program has other notes.
+    pub sum: Option<u32>,
     /// The bytes of a block.
     pub block: u32,
     /// The most bytes that may be emitted for a block, where the program was linked for such a limit.

@@ -17,6 +17,7 @@ pub fn print(alloc: Global, notes: &LinkNotes<'_>) -> Result<String, AllocError>
     ensures { IfOk result (λ text. string_bytes text ≡ notes_text (told_notes notes.now)) }
 {
     let mut text = String::from_str(alloc, "linked 1\n")?;
+    push_optional("sum ", notes.sum, &mut text)?;
     push_number("block ", notes.block, &mut text)?;
     push_optional("emit ", notes.emit, &mut text)?;
     push_number("profile ", notes.profile, &mut text)?;

@@ -65,12 +65,14 @@ pub fn parse<'a>(alloc: Global, text: &'a [u8]) -> Result<LinkNotes<'a>, NotesFa
 {
     let mut unread = Unread::new(text);
     heading(&mut unread)?;
+    let sum = unread.number(b"sum ");
     let block = required(&mut unread, b"block ", Wanted::Block)?;
     let emit = unread.number(b"emit ");
     let profile = required(&mut unread, b"profile ", Wanted::Profile)?;
     let guard_at = unread.number(b"guard-at ");
     let guards = guards(alloc, unread)?;
     Ok(LinkNotes {
+        sum,
         block,
         emit,
         profile,

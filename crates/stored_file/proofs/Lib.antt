@@ -1,4 +1,5 @@
 pub mod Changes
 pub mod Moments
+pub mod Opened
 pub mod Renewing
 mod Unsynced

@@ -6,7 +6,7 @@ use Rattle.std.specs.Option.{ok_or}
 use Rattle.common_definitions.specs.Checks.{demand, first_failed, unless_failed}
 use Rattle.common_definitions.specs.Readings.{◌>>=◌}
 use Rattle.zone_state.specs.declared.status.Status.{Status}
-use Rattle.tcp_capsules.specs.Sgl.{descriptor_in}
+use Rattle.tcp_pdus.specs.Sgl.{descriptor_in}
 use Rattle.tcp_admin.specs.declared.admin.AdminCommand.{AdminCommand}
 use Rattle.tcp_admin.specs.declared.admin.AdminCommand.TheVariants.{GetLogPage, Identify, Abort, SetFeatures, GetFeatures, AsynchronousEventRequest, KeepAlive}
 use Rattle.tcp_admin.specs.declared.answer.Answer.TheVariants.{Kept}

@@ -1,6 +1,6 @@
 -- What holds of what is given.
 use Rattle.std.specs.Prelude.{ℕ, ◌≡◌, ◌≤◌, ◌+◌, ◌-◌, ◌⊎◌, List, [], ◌∷◌, ◌++◌, length, replicate}
-use Rattle.tcp_capsules.specs.Sgl.{descriptor_in}
+use Rattle.tcp_pdus.specs.Sgl.{descriptor_in}
 use Rattle.tcp_admin.specs.declared.controller.Controller.{Controller}
 use Rattle.tcp_admin.specs.declared.identify.Structure.{Structure}
 use Rattle.tcp_admin.specs.declared.logs.LogPage.{LogPage}

@@ -2,7 +2,7 @@
 use Rattle.std.specs.Prelude.{ℕ, ◌==◌, List, Option}
 use Rattle.common_definitions.specs.Checks.{demand}
 use Rattle.zone_state.specs.declared.status.Status.{Status}
-use Rattle.tcp_capsules.specs.Sgl.{descriptor_in}
+use Rattle.tcp_pdus.specs.Sgl.{descriptor_in}
 use Rattle.tcp_admin.specs.declared.status.TheConstants.{DATA_SGL_LENGTH_INVALID}
 
 -- the check that the descriptor's length is that of the answer

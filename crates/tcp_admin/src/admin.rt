@@ -13,7 +13,7 @@ use crate::logs::log_part;
 use crate::pages::append;
 use crate::status::ASYNCHRONOUS_EVENT_REQUEST_LIMIT_EXCEEDED;
 use crate::subsystem::{NamespaceFormat, Subsystem};
-use tcp_capsules::ENTRY_BYTES;
+use tcp_pdus::ENTRY_BYTES;
 use zone_state::Status;
 
 /// The most bytes of data that an admin command gives.

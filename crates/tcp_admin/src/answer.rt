@@ -6,8 +6,8 @@ ghost use Rattle.tcp_admin.specs.Answers.{refused, succeeded, told};
 ghost use Rattle.tcp_admin.specs.Transfers.{has_length};
 
 use crate::status::DATA_SGL_LENGTH_INVALID;
-use tcp_capsules::{ENTRY_BYTES, SglDescriptor};
 use tcp_connection::Outcome;
+use tcp_pdus::{ENTRY_BYTES, SglDescriptor};
 use zone_state::Status;
 
 /// What an admin command comes to.

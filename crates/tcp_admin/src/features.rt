@@ -6,7 +6,7 @@ ghost use Rattle.tcp_admin.specs.Features.{feature_got, feature_in, feature_of, 
 use crate::answer::check_length;
 use crate::controller::Controller;
 use crate::fields::u32_at;
-use tcp_capsules::ENTRY_BYTES;
+use tcp_pdus::ENTRY_BYTES;
 use zone_state::Status;
 
 /// NSQA and NCQA, zero-based: 8 I/O queues are allocated (NVMe Base 2.0, 5.27.1.5).

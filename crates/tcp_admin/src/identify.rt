@@ -10,7 +10,7 @@ use crate::fields::u32_at;
 use crate::structures;
 use crate::structures::{Page, ZONED};
 use crate::subsystem::{NamespaceFormat, Subsystem};
-use tcp_capsules::ENTRY_BYTES;
+use tcp_pdus::ENTRY_BYTES;
 use zone_state::Status;
 
 /// The data structures that CNS and CSI name (NVMe Base 2.0, 5.17.1).

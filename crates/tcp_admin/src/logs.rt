@@ -13,7 +13,7 @@ use crate::pages::{append_part, put, put_u16, put_u32, zero_page};
 use crate::status::INVALID_LOG_PAGE;
 use crate::structures::{Page, ZONED};
 use crate::subsystem::Subsystem;
-use tcp_capsules::ENTRY_BYTES;
+use tcp_pdus::ENTRY_BYTES;
 use zone_state::Status;
 
 /// CSUPP of an entry of Commands Supported and Effects: the command is supported.

@@ -5,7 +5,7 @@ ghost use Rattle.tcp_admin.specs.Properties.{can_start, configured, got, has_com
 
 use crate::controller::{Controller, ControllerStatus};
 use crate::fields::u32_at;
-use tcp_capsules::ENTRY_BYTES;
+use tcp_pdus::ENTRY_BYTES;
 use zone_state::Status;
 
 /// CAP: MQES 127, CQR, TO 20, CSS with the NVM command set and with one or more I/O command sets (NVMe Base 2.0, 3.1.3.1).

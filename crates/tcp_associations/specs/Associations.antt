@@ -2,13 +2,13 @@
 use Rattle.std.specs.Prelude.{ℕ, Bool, true, false, map, ◌==◌, List, length, replicate, Option, Some, None, unwrap_or, Result, Ok, Err, if◌then◌else◌, slice_get, slice_set}
 use Rattle.common_definitions.specs.Bytes.{field}
 use Rattle.tcp_connection.specs.declared.queue.Outcome.{Outcome}
-use Rattle.tcp_connect.specs.declared.connected.Connected.{Connected}
-use Rattle.tcp_connect.specs.declared.connected.Controllers.{Controllers}
-use Rattle.tcp_connect.specs.declared.connected.NamedController.{NamedController}
-use Rattle.tcp_connect.specs.declared.data.Host.{Host}
-use Rattle.tcp_connect.specs.declared.request.ConnectRequest.{ConnectRequest}
-use Rattle.tcp_connect.specs.Checks.{connect_answer}
-use Rattle.tcp_connect.specs.Data.{connect_data_in}
+use Rattle.tcp_associations.specs.declared.connected.Connected.{Connected}
+use Rattle.tcp_associations.specs.declared.connected.Controllers.{Controllers}
+use Rattle.tcp_associations.specs.declared.connected.NamedController.{NamedController}
+use Rattle.tcp_associations.specs.declared.data.Host.{Host}
+use Rattle.tcp_associations.specs.declared.request.ConnectRequest.{ConnectRequest}
+use Rattle.tcp_associations.specs.Checks.{connect_answer}
+use Rattle.tcp_associations.specs.Data.{connect_data_in}
 use Rattle.tcp_associations.specs.declared.associations.Associations.{Associations}
 use Rattle.tcp_associations.specs.declared.role.Role.{Role}
 use Rattle.tcp_associations.specs.declared.role.Role.TheVariants.{Unconnected, Admin, Io, Ended}

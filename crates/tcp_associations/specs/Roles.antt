@@ -1,6 +1,6 @@
 -- What connections are for (NVMe Base 2.0, 6.3: each queue has a connection of its own).
 use Rattle.std.specs.Prelude.{ℕ, Bool, false, ◌==◌, ◌&&◌, if◌then◌else◌}
-use Rattle.tcp_connect.specs.declared.connected.Connected.{Connected}
+use Rattle.tcp_associations.specs.declared.connected.Connected.{Connected}
 use Rattle.tcp_associations.specs.declared.role.Role.{Role}
 use Rattle.tcp_associations.specs.declared.role.Role.TheVariants.{Unconnected, Admin, Io, Ended}
 

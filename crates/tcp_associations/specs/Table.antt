@@ -1,7 +1,7 @@
 -- The controllers that there are, by their identifiers, and the associations of hosts with them.
 use Rattle.std.specs.Prelude.{ℕ, Bool, false, is_none, List, [], ◌∷◌, find, Option, Some, None, slice_get}
 use Rattle.std.specs.List.{list_any}
-use Rattle.tcp_connect.specs.declared.connected.NamedController.{NamedController}
+use Rattle.tcp_associations.specs.declared.connected.NamedController.{NamedController}
 use Rattle.tcp_associations.specs.declared.role.Role.{Role}
 use Rattle.tcp_associations.specs.declared.table.Association.{Association}
 use Rattle.tcp_associations.specs.Roles.{is_queue_of}

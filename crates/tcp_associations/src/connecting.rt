@@ -1,18 +1,18 @@
 //! What a Connect makes of associations.
 
 ghost use Rattle.std.specs.Prelude.{◌≡◌, ◌<◌, IfOk, length};
-ghost use Rattle.tcp_connect.specs.Connected.{IsAllowed};
-ghost use Rattle.tcp_connect.specs.Data.{connect_data_in};
+ghost use Rattle.tcp_associations.specs.Connected.{IsAllowed};
+ghost use Rattle.tcp_associations.specs.Data.{connect_data_in};
 ghost use Rattle.tcp_associations.specs.Associations.{answer_of, controller_in, controllers_for, entered, joined, named_for};
 
 use crate::associations::Associations;
+use crate::checks::answer_connect;
+use crate::connected::{Connected, Controllers, NamedController};
+use crate::data::{CONNECT_DATA_BYTES, ConnectData, Host};
+use crate::request::ConnectRequest;
 use crate::role::{MOST_CONNECTIONS, Role};
 use crate::table::{Association, free_id, named, put};
 use byteorder::{ByteOrder, LittleEndian};
-use tcp_connect::{
-    CONNECT_DATA_BYTES, ConnectData, ConnectRequest, Connected, Controllers, Host, NamedController,
-    answer_connect,
-};
 use tcp_connection::Outcome;
 
 impl Associations {

@@ -3,7 +3,7 @@
 ghost use Rattle.std.specs.Prelude.{◌≡◌, map};
 ghost use Rattle.tcp_associations.specs.Roles.{is_queue_of, role_of, without, without_io};
 
-use tcp_connect::Connected;
+use crate::connected::Connected;
 
 /// The most connections at a time (profile): four controllers with an admin queue and 8 I/O queues, and some that begin.
 pub const MOST_CONNECTIONS: usize = 40;

@@ -3,8 +3,9 @@
 ghost use Rattle.std.specs.Prelude.{◌≡◌, slice_set};
 ghost use Rattle.tcp_associations.specs.Table.{free_id, has_connection, is_free, is_ready, named, with_id};
 
+use crate::connected::NamedController;
+use crate::data::Host;
 use crate::role::Role;
-use tcp_connect::{Host, NamedController};
 
 /// The most controllers at a time (profile); their identifiers are 1 to 4.
 pub const MOST_CONTROLLERS: usize = 4;

@@ -1,7 +1,7 @@
 -- The completion that is sent.
 use Rattle.std.proofs.Common.{◌≡◌, ℕ, List, ap, ◌∙◌}
 use Rattle.tcp_pdus.specs.Sent.{capsule_resp}
-use Rattle.tcp_capsules.specs.Answer.{answer_bytes}
+use Rattle.tcp_pdus.specs.Answer.{answer_bytes}
 use Rattle.tcp_connection.specs.declared.queue.Outcome.{Outcome}
 use Rattle.tcp_connection.specs.declared.queue.Queue.{Queue}
 use Rattle.tcp_connection.specs.Sending.{completion, told_head}

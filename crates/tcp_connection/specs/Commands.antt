@@ -1,7 +1,7 @@
 -- The commands of a connection that have no completion yet.
 use Rattle.std.specs.Prelude.{ℕ, Bool, ◌+◌, ◌==◌, ◌||◌, List, [], ◌∷◌, ◌++◌, length, Option, Some, None, is_some}
 use Rattle.std.specs.List.{list_any, position, remove}
-use Rattle.tcp_capsules.specs.Direction.{identifier_of}
+use Rattle.tcp_pdus.specs.Direction.{identifier_of}
 use Rattle.tcp_connection.specs.declared.commands.WaitingCommand.{WaitingCommand}
 
 -- the identifiers of those that are executed, and those that wait, in the order of their capsules

@@ -11,8 +11,8 @@ use Rattle.tcp_receiver.specs.declared.expected.Progress.TheVariants.{Partial, W
 use Rattle.tcp_receiver.specs.declared.receiver.TheConstants.{MOST_IN_CAPSULE}
 use Rattle.tcp_receiver.specs.Receiving.{awaiting, expecting, next}
 use Rattle.zone_state.specs.declared.status.Status.{Status}
-use Rattle.tcp_capsules.specs.Direction.{identifier_of}
-use Rattle.tcp_capsules.specs.Sgl.{wanted_checked}
+use Rattle.tcp_pdus.specs.Direction.{identifier_of}
+use Rattle.tcp_pdus.specs.Sgl.{wanted_checked}
 use Rattle.tcp_connection.specs.declared.commands.WaitingCommand.{WaitingCommand}
 use Rattle.tcp_connection.specs.declared.queue.Outcome.{Outcome}
 use Rattle.tcp_connection.specs.declared.queue.Phase.TheVariants.{Open}

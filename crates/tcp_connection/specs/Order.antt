@@ -6,8 +6,8 @@ use Rattle.tcp_receiver.specs.declared.expected.Progress.{Progress}
 use Rattle.tcp_receiver.specs.declared.expected.Progress.TheVariants.{Partial, Whole, Failed}
 use Rattle.tcp_receiver.specs.Receiving.{IsBetween}
 use Rattle.tcp_receiver.specs.Receiving as receiving
-use Rattle.tcp_capsules.specs.Direction.{identifier_of}
-use Rattle.tcp_capsules.specs.Sgl.{wanted_checked}
+use Rattle.tcp_pdus.specs.Direction.{identifier_of}
+use Rattle.tcp_pdus.specs.Sgl.{wanted_checked}
 use Rattle.tcp_connection.specs.declared.queue.Outcome.{Outcome}
 use Rattle.tcp_connection.specs.declared.queue.Queue.{Queue}
 use Rattle.tcp_connection.specs.declared.state.ConnectionState.{ConnectionState}

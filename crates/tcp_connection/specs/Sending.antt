@@ -3,7 +3,7 @@ use Rattle.std.specs.Prelude.{ℕ, ◌≡◌, ◌≤◌, ◌+◌, ◌%◌, List,
 use Rattle.std.specs.declared.alloc.Global.{Global}
 use Rattle.tcp_pdus.specs.declared.fatal_error.FatalError.{FatalError}
 use Rattle.tcp_pdus.specs.Sent.{c2h_term_req, capsule_resp}
-use Rattle.tcp_capsules.specs.Answer.{answer_bytes}
+use Rattle.tcp_pdus.specs.Answer.{answer_bytes}
 use Rattle.tcp_connection.specs.declared.queue.Outcome.{Outcome}
 use Rattle.tcp_connection.specs.declared.queue.Phase.TheVariants.{Ended}
 use Rattle.tcp_connection.specs.declared.queue.Queue.{Queue}

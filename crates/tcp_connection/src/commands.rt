@@ -2,12 +2,12 @@
 
 ghost use Rattle.std.specs.Prelude.{◌≡◌, ◌==◌, ◌<◌, ◌≤◌, ◌++◌, ◌∷◌, [], IfOk, is_some, vec_capacity, vec_len};
 ghost use Rattle.std.specs.List.{list_any};
-ghost use Rattle.tcp_capsules.specs.Direction.{identifier_of};
+ghost use Rattle.tcp_pdus.specs.Direction.{identifier_of};
 ghost use Rattle.tcp_connection.specs.Commands.{count_of, first_of, has_command, is_running, none, place_of, removed, running_with, started, waiting_with, without};
 
 use std::alloc::{AllocError, Global};
 use std::marker::Model;
-use tcp_capsules::{ENTRY_BYTES, TransferLength, identifier};
+use tcp_pdus::{ENTRY_BYTES, TransferLength, identifier};
 
 /// The most entries of a queue, and so the most commands without a completion (MQES, NVMe Base 2.0, 3.1.3.1; its value is profile).
 pub const MOST_ENTRIES: usize = 128;

@@ -15,8 +15,7 @@ use crate::queue::{Outcome, Phase, Queue, UNCONNECTED};
 use crate::state::ConnectionState;
 use std::alloc::{AllocError, Global};
 use std::marker::Model;
-use tcp_capsules::ENTRY_BYTES;
-use tcp_pdus::MOST_DATA;
+use tcp_pdus::{ENTRY_BYTES, MOST_DATA};
 use tcp_receiver::{MOST_IN_CAPSULE, Receiver};
 
 /// One connection of a host, whose bytes come in any pieces. What it sends is a function of what has come, and of what its commands

@@ -4,7 +4,7 @@ ghost use Rattle.std.specs.Prelude.{◌≡◌, ◌≤◌, ◌<◌, ◌+◌, [], 
 ghost use Rattle.tcp_pdus.specs.declared.received.HostPdu.TheVariants.{CapsuleCmd, IcReq};
 ghost use Rattle.tcp_receiver.specs.declared.expected.Progress.TheVariants.{Whole};
 ghost use Rattle.tcp_receiver.specs.Receiving.{IsBetween};
-ghost use Rattle.tcp_capsules.specs.Sgl.{wanted_checked};
+ghost use Rattle.tcp_pdus.specs.Sgl.{wanted_checked};
 ghost use Rattle.tcp_connection.specs.Commands.{count_of};
 ghost use Rattle.tcp_connection.specs.Dealing.{admitted, asked, commanded, commanded_by, dealt, initialized, joined, judged, may_come, refusal, with_next};
 ghost use Rattle.tcp_connection.specs.Sending.{Sends, answered};
@@ -12,10 +12,10 @@ ghost use Rattle.tcp_connection.specs.Sending.{Sends, answered};
 use crate::commands::{MOST_ENTRIES, WaitingCommand};
 use crate::queue::{Outcome, Phase};
 use crate::state::ConnectionState;
-use tcp_capsules::{ENTRY_BYTES, TransferLength, identifier, wanted_data};
 use tcp_pdus::{
-    COMMON_HEADER_BYTES, FatalError, HostPdu, InitializeRequest, MOST_HEADER_BYTES,
-    ReadyToTransfer, push_c2h_term_req, push_ic_resp, push_r2t,
+    COMMON_HEADER_BYTES, ENTRY_BYTES, FatalError, HostPdu, InitializeRequest, MOST_HEADER_BYTES,
+    ReadyToTransfer, TransferLength, identifier, push_c2h_term_req, push_ic_resp, push_r2t,
+    wanted_data,
 };
 use tcp_receiver::{MOST_IN_CAPSULE, Progress};
 use zone_state::Status;

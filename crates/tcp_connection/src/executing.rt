@@ -9,8 +9,7 @@ ghost use Rattle.tcp_connection.specs.Sending.{Sends};
 use crate::dealing::entry_in;
 use crate::queue::{Outcome, Phase};
 use crate::state::ConnectionState;
-use tcp_capsules::{ENTRY_BYTES, identifier};
-use tcp_pdus::{DataAlignment, HostPdu, MOST_DATA, push_c2h_data};
+use tcp_pdus::{DataAlignment, ENTRY_BYTES, HostPdu, MOST_DATA, identifier, push_c2h_data};
 use tcp_receiver::Progress;
 
 /// The most bytes that are sent before a completion's data, and with it: a C2HData's header, what aligns its data, and a CapsuleResp.

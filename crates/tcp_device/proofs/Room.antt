@@ -12,8 +12,8 @@ use Rattle.tcp_connection.specs.declared.state.ConnectionState.{ConnectionState}
 use Rattle.tcp_connection.specs.Commands.{first_of, started}
 use Rattle.tcp_connection.specs.Dealing.{asked, looked_at, transfer_of}
 use Rattle.tcp_connection.specs.Executing.{Execution, first_gone, gone, gone_by, ready}
-use Rattle.tcp_places.specs.Events.{handed_over}
-use Rattle.tcp_places.specs.Places.{PlaceState, goes_on, has_room, ready_at, vacant}
+use Rattle.tcp_queues.specs.Events.{handed_over}
+use Rattle.tcp_queues.specs.Places.{PlaceState, goes_on, has_room, ready_at, vacant}
 use Rattle.tcp_queues.specs.Commands.{handed_over_at}
 use Rattle.tcp_queues.specs.Queues.{QueuesState, place_at}
 

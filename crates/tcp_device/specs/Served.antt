@@ -8,9 +8,9 @@ use Rattle.device_meaning.specs.Events.{HasHappened}
 use Rattle.device_meaning.specs.Judging.{interval_judge}
 use Rattle.device_meaning.specs.State.{State}
 use Rattle.runner.specs.Taken.{HasTaken}
-use Rattle.tcp_capsules.specs.Direction.{identifier_of}
+use Rattle.tcp_pdus.specs.Direction.{identifier_of}
 use Rattle.tcp_connection.specs.Executing.{Execution}
-use Rattle.tcp_places.specs.Places.{has_room}
+use Rattle.tcp_queues.specs.Places.{has_room}
 use Rattle.tcp_queues.specs.Commands.{given_to_device}
 use Rattle.tcp_queues.specs.Queues.{place_at}
 use Rattle.tcp_target.specs.Commands.{served}

@@ -3,7 +3,7 @@
 ghost use Rattle.std.specs.Prelude.{◌≡◌, ◌≤◌, ◌<◌, IfSome, IsTrue, Some, is_some, length};
 ghost use Rattle.std.specs.Option.{option_map};
 ghost use Rattle.tcp_pdus.specs.declared.sent.TheConstants.{MOST_DATA};
-ghost use Rattle.tcp_places.specs.Places.{has_room, ready_at};
+ghost use Rattle.tcp_queues.specs.Places.{has_room, ready_at};
 ghost use Rattle.tcp_queues.specs.Commands.{connect_data_at, given_to_device};
 ghost use Rattle.tcp_queues.specs.Queues.{place_at};
 ghost use Rattle.tcp_target.specs.Ready.{is_ready};
@@ -16,8 +16,7 @@ use crate::pending::{PendingCommand, put_pending};
 use crate::served::ServedTarget;
 use runner::{Device, Reply};
 use tcp_associations::MOST_CONNECTIONS;
-use tcp_capsules::{ENTRY_BYTES, identifier};
-use tcp_pdus::MOST_DATA;
+use tcp_pdus::{ENTRY_BYTES, MOST_DATA, identifier};
 use tcp_queues::given_are_live;
 use tcp_target::Target;
 

@@ -1,10 +1,8 @@
--- Events of the device that wait, as the journal has them.
-use Rattle.std.proofs.Common.{◌≡◌, ◌<◌, ◌≤◌, ◌^◌, ◌&&◌, ◌⊎◌, inl, inr, ℕ, Bool, true, false, not, List, [], ◌∷◌, ◌++◌, length, refl, ap, subst, ◌∙◌, arith, length-append}
-use Rattle.stored_file.specs.File.{FileState}
+-- What the frames of events lead to that are noted.
+use Rattle.std.proofs.Common.{◌≡◌, ◌<◌, ◌≤◌, ◌^◌, ◌&&◌, ◌⊎◌, inl, inr, ℕ, Bool, true, false, not, List, length, refl, ap, subst, ◌∙◌}
 use Rattle.nvme_entry.specs.Entry.{decoded, identifier_of}
-use Rattle.event_frames.specs.Frames.{header, request_frame}
+use Rattle.event_frames.specs.Frames.{request_frame}
 use Rattle.event_frames.specs.Requests as request
-use Rattle.event_journal.specs.Events.{spelled}
 use Rattle.device_events.specs.declared.reply.Reply.{Reply}
 use Rattle.device_events.specs.declared.reply.Reply.TheVariants.{Idle}
 use Rattle.device_events.specs.ToldEvents as told
@@ -13,10 +11,8 @@ use Rattle.device_meaning.specs.State.{State}
 use Rattle.durable_device.specs.Again.{ChangesComeAgain, IsDoneAgain}
 use Rattle.durable_device.specs.Changing.{asks_change, is_idle, is_refusal, may_change}
 use Rattle.durable_device.specs.FrameEvents.{IsFrameOf}
-use Rattle.durable_device.specs.Machine.{IsDeviceBase, next_state}
-use Rattle.durable_device.specs.Kept.{IsCommittedBut}
+use Rattle.durable_device.specs.Machine.{next_state}
 use Rattle.tcp_durable.proofs.Deeds.{WasSubmitted, WasTurned}
-use Rattle.durable_machine.proofs.Waiting.{as_before, one_more}
 
 both_hold : (a b : Bool) → a ≡ true → b ≡ false → (a && not b) ≡ true
 both_hold true false first second = refl
@@ -32,8 +28,7 @@ second_lacks true true is = refl
 second_lacks false b is = refl
 second_lacks true false is = absurd (cc)
 
-module _ (again : ChangesComeAgain) (waiting : List ℕ) (old new : State) (gate : ℕ) (file : FileState) (reply : Reply)
-    (but : IsCommittedBut waiting old gate file) where
+module _ (again : ChangesComeAgain) (old new : State) (reply : Reply) where
   module _ (queue : ℕ) (entry input : List ℕ) (identified : identifier_of entry < 2 ^ 16) (was : WasSubmitted queue entry input old new reply) where
     submitted_again : IsDoneAgain (may_change (told.Submitted queue entry input) reply) (told.Submitted queue entry input) old new
     submitted_again =
@@ -42,23 +37,20 @@ module _ (again : ChangesComeAgain) (waiting : List ℕ) (old new : State) (gate
         was.taken.bytes (again (event.Submit queue entry was.taken.carried) old new was.given identified was.taken.happened))
 
     -- what only reads changes nothing,
-    pub reads : asks_change (decoded entry) ≡ false → IsCommittedBut waiting new gate file
-    reads is = as_before IsDeviceBase next_state waiting old new gate file but (submitted_again.idle (first_lacks (asks_change (decoded entry)) (is_refusal reply) is))
+    pub reads : asks_change (decoded entry) ≡ false → new ≡ old
+    reads is = submitted_again.idle (first_lacks (asks_change (decoded entry)) (is_refusal reply) is)
 
     -- and what is refused,
-    pub refused : is_refusal reply ≡ true → IsCommittedBut waiting new gate file
-    refused is = as_before IsDeviceBase next_state waiting old new gate file but (submitted_again.idle (second_lacks (asks_change (decoded entry)) (is_refusal reply) is))
+    pub refused : is_refusal reply ≡ true → new ≡ old
+    refused is = submitted_again.idle (second_lacks (asks_change (decoded entry)) (is_refusal reply) is)
 
-    -- and what else was submitted waits
+    -- and what else was submitted its frame leads to
     pub changed : asks_change (decoded entry) ≡ true → is_refusal reply ≡ false → queue < 2 ^ 16 → length entry ≡ 64 → length input ≤ 131072
-        → IsCommittedBut (waiting ++ spelled (request_frame (request.Submitted queue entry input) ∷ [])) new gate file
+        → new ≡ next_state old false (request_frame (request.Submitted queue entry input))
     changed asks taken_is numbered entry_size input_size =
         let frame = request_frame (request.Submitted queue entry input) in
         let is : IsFrameOf (told.Submitted queue entry input) frame = record { fits = (numbered, entry_size, input_size); spelled = refl } in
-        let sized : length frame < 2 ^ 64 =
-        omega (arith, length-append (header 1 0 queue 0 (length input)) (entry ++ input), length-append entry input, entry_size, input_size) in
-        one_more IsDeviceBase next_state waiting frame old new gate file but sized
-        (submitted_again.again (both_hold (asks_change (decoded entry)) (is_refusal reply) asks taken_is) frame is)
+        submitted_again.again (both_hold (asks_change (decoded entry)) (is_refusal reply) asks taken_is) frame is
 
   module _ (run : ℕ) (numbered : run < 2 ^ 8) (was : WasTurned run old new reply) where
     turned_again : IsDoneAgain (may_change (told.Turned run) reply) (told.Turned run) old new
@@ -67,24 +59,22 @@ module _ (again : ChangesComeAgain) (waiting : List ℕ) (old new : State) (gate
         (again (event.Turn run) old new was.given tt was.happened)
 
     -- where there is no run a turn changes nothing,
-    pub idled : is_idle reply ≡ true → IsCommittedBut waiting new gate file
-    idled is = as_before IsDeviceBase next_state waiting old new gate file but (turned_again.idle (ap not is))
+    pub idled : is_idle reply ≡ true → new ≡ old
+    idled is = turned_again.idle (ap not is)
 
-    -- and else it waits
-    pub turned : is_idle reply ≡ false → IsCommittedBut (waiting ++ spelled (request_frame (request.Turned run) ∷ [])) new gate file
-    turned is =
-        let frame = request_frame (request.Turned run) in
-        one_more IsDeviceBase next_state waiting frame old new gate file but (omega arith) (turned_again.again (ap not is) frame (record { fits = numbered; spelled = refl }))
+    -- and else its frame leads to what it did
+    pub turned : is_idle reply ≡ false → new ≡ next_state old false (request_frame (request.Turned run))
+    turned is = turned_again.again (ap not is) (request_frame (request.Turned run)) (record { fits = numbered; spelled = refl })
 
   -- a run was to go on of whose command no connection waits
   module _ (run : ℕ) (numbered : run < 2 ^ 8) where
     -- where there is none nothing has changed,
-    pub resumed_idle : ((new ≡ old) × (Idle ≡ reply)) ⊎ WasTurned run old new reply → is_idle reply ≡ true → IsCommittedBut waiting new gate file
-    resumed_idle (inl (same, idle)) is = as_before IsDeviceBase next_state waiting old new gate file but same
+    pub resumed_idle : ((new ≡ old) × (Idle ≡ reply)) ⊎ WasTurned run old new reply → is_idle reply ≡ true → new ≡ old
+    resumed_idle (inl (same, idle)) is = same
     resumed_idle (inr was) is = idled run numbered was is
 
-    -- and else a turn waits
+    -- and else it had a turn
     pub resumed : ((new ≡ old) × (Idle ≡ reply)) ⊎ WasTurned run old new reply → is_idle reply ≡ false
-        → IsCommittedBut (waiting ++ spelled (request_frame (request.Turned run) ∷ [])) new gate file
+        → new ≡ next_state old false (request_frame (request.Turned run))
     resumed (inl (same, idle)) is = let other : true ≡ false = ap is_idle idle ∙ is in absurd (cc)
     resumed (inr was) is = turned run numbered was is

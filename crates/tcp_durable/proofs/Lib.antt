@@ -1,3 +1,2 @@
-mod Spelled
 mod Deeds
 mod Events

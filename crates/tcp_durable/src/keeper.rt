@@ -17,13 +17,12 @@ ghost use Rattle.tcp_device.specs.Served.{can_go, next_run};
 ghost use Rattle.tcp_device.specs.State.{begun_on};
 ghost use Rattle.tcp_durable.specs.Resuming.{Resumes};
 
-use crate::frames::{add_submission, add_turn};
+use crate::frames::{note_submission, note_turn};
 use durable_device::laws::changes_come_again;
 use durable_device::{
     DurableDevice, Folding, FrameDevice, MOST_JOURNAL, asks_change, base_of, is_refusal,
 };
-use durable_machine::{Durable, commit, put_base};
-use event_journal::Journal;
+use durable_machine::{Durable, InFile, Store, put_base};
 use nvme_entry::Entry;
 use runner::Reply;
 use std::alloc::{AllocError, Global};
@@ -33,15 +32,13 @@ use tcp_associations::MOST_CONNECTIONS;
 use tcp_device::ServedTarget;
 use zone_resources::RUNS;
 
-/// The journal of what happened to the device of a target, and what waits for it. What hosts ask for is done at once, and sent to them
+/// What keeps the events of the device of a target: a journal in a file, or nothing. What hosts ask for is done at once, and sent to them
 /// once it is committed: all that was done since the last commit is on the disk then, or after a crash none of it. After an `Err` the
 /// file has to be opened again, and nothing may be sent.
 #[derive(Drop)]
-pub struct Keeper<F: StoredFile + Drop> {
-    /// The journal, which has what was committed.
-    pub journal: Journal<F>,
-    /// The events that may have changed the device since then, as the journal spells them.
-    pub waiting: Vec<u8>,
+pub struct Keeper<S: Drop> {
+    /// What keeps the events of the device.
+    pub events: S,
     /// How many bytes of the file were taken when it was made, was opened, or was to be folded last.
     pub folded: usize,
 }
@@ -56,20 +53,20 @@ pub fn target_of<F: StoredFile + Drop>(
     device: DurableDevice<F>,
     subsystem: Subsystem,
     format: NamespaceFormat,
-) -> Result<(ServedTarget, Keeper<F>), AllocError>
+) -> Result<(ServedTarget, Keeper<InFile<F>>), AllocError>
     requires format { IsFormatOf (shape device.store.machine.namespace) format }
-    requires kept { IsKept device.store.machine device.store.journal.gate (F.told device.store.journal.file) }
+    requires kept { IsKept device.store.machine device.store.events.journal.gate (F.told device.store.events.journal.file) }
     ensures served { IfOk result (λ made. made.0 ≡ begun_on device.store.machine subsystem format) }
-    ensures journal { IfOk result (λ made. made.1.journal ≡ device.store.journal) }
+    ensures journal { IfOk result (λ made. made.1.events.journal ≡ device.store.events.journal) }
     ensures kept { IfOk result (λ made.
-        IsCommittedBut made.1.waiting.items made.0.device made.1.journal.gate (F.told made.1.journal.file)) }
+        IsCommittedBut made.1.events.waiting.items made.0.device made.1.events.journal.gate (F.told made.1.events.journal.file)) }
 {
     let DurableDevice { store, folded, .. } = device;
-    let Durable {
-        machine,
+    let Durable { machine, events } = store;
+    let InFile {
         journal,
         waiting: _waiting,
-    } = store;
+    } = events;
     let served = ServedTarget::on(
         alloc,
         Box::into_inner(machine.into_device()),
@@ -81,14 +78,13 @@ pub fn target_of<F: StoredFile + Drop>(
     Ok((
         served,
         Keeper {
-            journal,
-            waiting,
+            events: InFile { journal, waiting },
             folded,
         },
     ))
 }
 
-impl<F: StoredFile + Drop> Keeper<F> {
+impl<S: Store<FrameDevice> + Drop> Keeper<S> {
     /// Does the command that is ready on a connection, and says whether there is one, as [`ServedTarget::serve`].
     ///
     /// # Errors
@@ -96,12 +92,12 @@ impl<F: StoredFile + Drop> Keeper<F> {
     /// No memory for the journal. Then the target is as it was, and nothing is noted.
     pub fn serve(&mut self, served: &mut ServedTarget, number: usize) -> Result<bool, AllocError>
         requires number { number < MOST_CONNECTIONS }
-        requires kept { IsCommittedBut self.old.waiting.items served.old.device self.old.journal.gate (F.told self.old.journal.file) }
+        requires kept { S.keeps served.old.device (S.waits self.old.events) (S.disk self.old.events) }
         ensures ready { IfOk result (λ ready. ready ≡ is_ready number served.old.target) }
         ensures done { OnOk result (Does (Served number) served.old served.new) }
         ensures refused { OnErr result (served.new ≡ served.old) }
-        ensures same { self.new.journal ≡ self.old.journal }
-        ensures kept { IsCommittedBut self.new.waiting.items served.new.device self.new.journal.gate (F.told self.new.journal.file) }
+        ensures same { S.disk self.new.events ≡ S.disk self.old.events }
+        ensures kept { S.keeps served.new.device (S.waits self.new.events) (S.disk self.new.events) }
     {
         let is_ready = served.is_ready(number);
         match served.given_to_device(number) {
@@ -122,11 +118,11 @@ impl<F: StoredFile + Drop> Keeper<F> {
     ) -> Result<(), AllocError>
         requires number { number < MOST_CONNECTIONS }
         requires given { option_map (λ execution. execution.entry) (given_to_device number served.old.target.queues) ≡ Some entry.now }
-        requires kept { IsCommittedBut self.old.waiting.items served.old.device self.old.journal.gate (F.told self.old.journal.file) }
+        requires kept { S.keeps served.old.device (S.waits self.old.events) (S.disk self.old.events) }
         ensures done { OnOk result (Does (Served number) served.old served.new) }
         ensures refused { OnErr result (served.new ≡ served.old) }
-        ensures same { self.new.journal ≡ self.old.journal }
-        ensures kept { IsCommittedBut self.new.waiting.items served.new.device self.new.journal.gate (F.told self.new.journal.file) }
+        ensures same { S.disk self.new.events ≡ S.disk self.old.events }
+        ensures kept { S.keeps served.new.device (S.waits self.new.events) (S.disk self.new.events) }
     {
         changes_come_again();
         let _identifier = Entry::cid(entry);
@@ -147,20 +143,19 @@ impl<F: StoredFile + Drop> Keeper<F> {
         requires number { number < MOST_CONNECTIONS }
         requires given { option_map (λ execution. execution.entry) (given_to_device number served.old.target.queues) ≡ Some entry.now }
         requires asks { asks_change (decoded entry.now) ≡ true }
-        requires kept { IsCommittedBut self.old.waiting.items served.old.device self.old.journal.gate (F.told self.old.journal.file) }
+        requires kept { S.keeps served.old.device (S.waits self.old.events) (S.disk self.old.events) }
         ensures done { OnOk result (Does (Served number) served.old served.new) }
         ensures refused { OnErr result (served.new ≡ served.old) }
-        ensures same { self.new.journal ≡ self.old.journal }
-        ensures kept { IsCommittedBut self.new.waiting.items served.new.device self.new.journal.gate (F.told self.new.journal.file) }
+        ensures same { S.disk self.new.events ≡ S.disk self.old.events }
+        ensures kept { S.keeps served.new.device (S.waits self.new.events) (S.disk self.new.events) }
     {
         changes_come_again();
         let _identifier = Entry::cid(entry);
-        let before = self.waiting.len();
         let input = served.given_data(number);
-        add_submission(&mut self.waiting, number as u16, entry, input)?;
+        let before = note_submission(&mut self.events, number as u16, entry, input)?;
         let reply = served.submit(number, entry);
         if is_refusal(&reply) {
-            self.waiting.truncate(before);
+            self.events.take_back(before);
         }
         Ok(())
     }
@@ -171,12 +166,12 @@ impl<F: StoredFile + Drop> Keeper<F> {
     ///
     /// No memory for the journal. Then the target is as it was, and nothing is noted.
     pub fn turn(&mut self, served: &mut ServedTarget) -> Result<bool, AllocError>
-        requires kept { IsCommittedBut self.old.waiting.items served.old.device self.old.journal.gate (F.told self.old.journal.file) }
+        requires kept { S.keeps served.old.device (S.waits self.old.events) (S.disk self.old.events) }
         ensures given { IfOk result (λ given. given ≡ is_some (next_run served.old)) }
         ensures done { OnOk result (Does Turned served.old served.new) }
         ensures refused { OnErr result (served.new ≡ served.old) }
-        ensures same { self.new.journal ≡ self.old.journal }
-        ensures kept { IsCommittedBut self.new.waiting.items served.new.device self.new.journal.gate (F.told self.new.journal.file) }
+        ensures same { S.disk self.new.events ≡ S.disk self.old.events }
+        ensures kept { S.keeps served.new.device (S.waits self.new.events) (S.disk self.new.events) }
     {
         match served.next_run() {
             Some(run) => {
@@ -192,18 +187,17 @@ impl<F: StoredFile + Drop> Keeper<F> {
         requires next { next_run served.old ≡ Some run }
         requires within { run < RUNS }
         requires goes { IsTrue (can_go served.old.target (slice_index_or served.old.pending run None)) }
-        requires kept { IsCommittedBut self.old.waiting.items served.old.device self.old.journal.gate (F.told self.old.journal.file) }
+        requires kept { S.keeps served.old.device (S.waits self.old.events) (S.disk self.old.events) }
         ensures done { OnOk result (Does Turned served.old served.new) }
         ensures refused { OnErr result (served.new ≡ served.old) }
-        ensures same { self.new.journal ≡ self.old.journal }
-        ensures kept { IsCommittedBut self.new.waiting.items served.new.device self.new.journal.gate (F.told self.new.journal.file) }
+        ensures same { S.disk self.new.events ≡ S.disk self.old.events }
+        ensures kept { S.keeps served.new.device (S.waits self.new.events) (S.disk self.new.events) }
     {
         changes_come_again();
-        let before = self.waiting.len();
-        add_turn(&mut self.waiting, run as u8)?;
+        let before = note_turn(&mut self.events, run as u8)?;
         let reply = served.give_turn(run);
         if is_idle(&reply) {
-            self.waiting.truncate(before);
+            self.events.take_back(before);
         }
         Ok(())
     }
@@ -216,18 +210,17 @@ impl<F: StoredFile + Drop> Keeper<F> {
     /// No memory for the journal. Then the target is as it was, and nothing is noted.
     pub fn resume(&mut self, served: &mut ServedTarget, run: usize) -> Result<bool, AllocError>
         requires within { run < RUNS }
-        requires kept { IsCommittedBut self.old.waiting.items served.old.device self.old.journal.gate (F.told self.old.journal.file) }
+        requires kept { S.keeps served.old.device (S.waits self.old.events) (S.disk self.old.events) }
         ensures done { IfOk result (Resumes run served.old served.new) }
         ensures refused { OnErr result (served.new ≡ served.old) }
-        ensures same { self.new.journal ≡ self.old.journal }
-        ensures kept { IsCommittedBut self.new.waiting.items served.new.device self.new.journal.gate (F.told self.new.journal.file) }
+        ensures same { S.disk self.new.events ≡ S.disk self.old.events }
+        ensures kept { S.keeps served.new.device (S.waits self.new.events) (S.disk self.new.events) }
     {
         changes_come_again();
-        let before = self.waiting.len();
-        add_turn(&mut self.waiting, run as u8)?;
+        let before = note_turn(&mut self.events, run as u8)?;
         let reply = served.resume(run);
         if is_idle(&reply) {
-            self.waiting.truncate(before);
+            self.events.take_back(before);
             return Ok(false);
         }
         Ok(true)
@@ -240,22 +233,33 @@ impl<F: StoredFile + Drop> Keeper<F> {
     ///
     /// No memory, or the disk's.
     pub fn commit(&mut self, alloc: Global, served: &ServedTarget) -> Result<(), FileError>
-        requires kept { IsCommittedBut self.old.waiting.items served.now.device self.old.journal.gate (F.told self.old.journal.file) }
-        ensures none { OnOk result (self.new.waiting.items ≡ []) }
+        requires kept { S.keeps served.now.device (S.waits self.old.events) (S.disk self.old.events) }
+        ensures none { OnOk result (S.waits self.new.events ≡ []) }
         ensures counted { self.new.folded ≡ self.old.folded }
-        ensures committed { OnOk result (IsKept served.now.device self.new.journal.gate (F.told self.new.journal.file)) }
+        ensures committed { OnOk result (S.settled served.now.device (S.disk self.new.events)) }
 
         // A crash at any moment of it leaves the device that was committed before, or the one behind all that was done since.
-        ensures any_moment { (before : State) → IsKept before self.old.journal.gate (F.told self.old.journal.file)
-            → LeavesOnly (F.told self.old.journal.file) (F.told self.new.journal.file) (IsEither before served.now.device) }
+        ensures any_moment { (before : State) → S.settled before (S.disk self.old.events)
+            → LeavesOnly (S.told (S.disk self.old.events)) (S.told (S.disk self.new.events)) (IsEither before served.now.device) }
 
         // It doesn't give up by itself.
-        ensures cause { HasCause (F.told self.old.journal.file) (F.told self.new.journal.file) result }
+        ensures cause { HasCause (S.told (S.disk self.old.events)) (S.told (S.disk self.new.events)) result }
     {
-        commit::<FrameDevice, F>(alloc, &mut self.journal, &mut self.waiting)?;
-        Ok(())
+        self.events.commit(alloc)
     }
 
+    /// Is all committed that was done with the target?
+    pub fn is_committed(&self, served: &ServedTarget) -> bool
+        requires { S.keeps served.now.device (S.waits self.now.events) (S.disk self.now.events) }
+        ensures none { IsTrue result ↔ S.waits self.now.events ≡ [] }
+        ensures kept { IsTrue result → S.settled served.now.device (S.disk self.now.events) }
+    {
+        S::rests();
+        self.events.is_committed()
+    }
+}
+
+impl<F: StoredFile + Drop> Keeper<InFile<F>> {
     /// Folds the journal where the file has grown by more than [`MOST_JOURNAL`] since it was made, opened or to be folded last, and gives
     /// what came of that; else nothing happens, and there is `None`. Without room or memory for the new file, the old one is used on, and
     /// its growth counts from now on.
@@ -268,25 +272,26 @@ impl<F: StoredFile + Drop> Keeper<F> {
         alloc: Global,
         served: &ServedTarget,
     ) -> Result<Option<Folding>, FileError>
-        requires kept { IsKept served.now.device self.old.journal.gate (F.told self.old.journal.file) }
-        ensures same { self.new.waiting ≡ self.old.waiting }
-        ensures idle { self.old.journal.gate - self.old.folded ≤ MOST_JOURNAL → (self.new ≡ self.old) × (result ≡ Ok None) }
-        ensures due { MOST_JOURNAL < self.old.journal.gate - self.old.folded
+        requires kept { IsKept served.now.device self.old.events.journal.gate (F.told self.old.events.journal.file) }
+        ensures same { self.new.events.waiting ≡ self.old.events.waiting }
+        ensures idle { self.old.events.journal.gate - self.old.folded ≤ MOST_JOURNAL → (self.new ≡ self.old) × (result ≡ Ok None) }
+        ensures due { MOST_JOURNAL < self.old.events.journal.gate - self.old.folded
             → IfOk result (λ folding. IsSome folding) }
-        ensures short { OnOk result (self.new.journal.gate - self.new.folded ≤ MOST_JOURNAL) }
+        ensures short { OnOk result (self.new.events.journal.gate - self.new.folded ≤ MOST_JOURNAL) }
         ensures untried { IfOk result (λ folding. folding ≡ None → self.new ≡ self.old) }
-        ensures tried { IfOk result (λ folding. IsSome folding → self.new.folded ≡ self.new.journal.gate) }
+        ensures tried { IfOk result (λ folding. IsSome folding → self.new.folded ≡ self.new.events.journal.gate) }
         ensures in_base { IfOk result (λ folding. folding ≡ Some Folding.Done
-            → IsKeptInBase served.now.device self.new.journal.gate (F.told self.new.journal.file)) }
+            → IsKeptInBase served.now.device self.new.events.journal.gate (F.told self.new.events.journal.file)) }
         ensures no_room { IfOk result (λ folding. folding ≡ Some Folding.NoRoom
-            → (F.told self.old.journal.file).faults < (F.told self.new.journal.file).faults) }
-        ensures kept { OnOk result (IsKept served.now.device self.new.journal.gate (F.told self.new.journal.file)) }
-        ensures any_moment { LeavesOnly (F.told self.old.journal.file) (F.told self.new.journal.file) (λ c. StandsFor c served.now.device) }
+            → (F.told self.old.events.journal.file).faults < (F.told self.new.events.journal.file).faults) }
+        ensures kept { OnOk result (IsKept served.now.device self.new.events.journal.gate (F.told self.new.events.journal.file)) }
+        ensures any_moment { LeavesOnly (F.told self.old.events.journal.file) (F.told self.new.events.journal.file)
+            (λ c. StandsFor c served.now.device) }
 
         // It doesn't give up by itself.
-        ensures cause { HasCause (F.told self.old.journal.file) (F.told self.new.journal.file) result }
+        ensures cause { HasCause (F.told self.old.events.journal.file) (F.told self.new.events.journal.file) result }
     {
-        if self.journal.gate.saturating_sub(self.folded) <= MOST_JOURNAL {
+        if self.events.journal.gate.saturating_sub(self.folded) <= MOST_JOURNAL {
             return Ok(None);
         }
         match self.fold(alloc, served) {
@@ -303,26 +308,27 @@ impl<F: StoredFile + Drop> Keeper<F> {
     ///
     /// The disk's, or no memory to hand the file over.
     pub fn fold(&mut self, alloc: Global, served: &ServedTarget) -> Result<Folding, FileError>
-        requires kept { IsKept served.now.device self.old.journal.gate (F.told self.old.journal.file) }
-        ensures same { self.new.waiting ≡ self.old.waiting }
-        ensures counted { OnOk result (self.new.folded ≡ self.new.journal.gate) }
-        ensures kept { OnOk result (IsKept served.now.device self.new.journal.gate (F.told self.new.journal.file)) }
+        requires kept { IsKept served.now.device self.old.events.journal.gate (F.told self.old.events.journal.file) }
+        ensures same { self.new.events.waiting ≡ self.old.events.waiting }
+        ensures counted { OnOk result (self.new.folded ≡ self.new.events.journal.gate) }
+        ensures kept { OnOk result (IsKept served.now.device self.new.events.journal.gate (F.told self.new.events.journal.file)) }
         ensures in_base { IfOk result (λ folding. folding ≡ Folding.Done
-            → IsKeptInBase served.now.device self.new.journal.gate (F.told self.new.journal.file)) }
-        ensures any_moment { LeavesOnly (F.told self.old.journal.file) (F.told self.new.journal.file) (λ c. StandsFor c served.now.device) }
+            → IsKeptInBase served.now.device self.new.events.journal.gate (F.told self.new.events.journal.file)) }
+        ensures any_moment { LeavesOnly (F.told self.old.events.journal.file) (F.told self.new.events.journal.file)
+            (λ c. StandsFor c served.now.device) }
 
         // It doesn't give up by itself.
-        ensures cause { HasCause (F.told self.old.journal.file) (F.told self.new.journal.file) result }
+        ensures cause { HasCause (F.told self.old.events.journal.file) (F.told self.new.events.journal.file) result }
         ensures no_room { IfOk result (λ folding. folding ≡ Folding.NoRoom
-            → (F.told self.old.journal.file).faults < (F.told self.new.journal.file).faults) }
+            → (F.told self.old.events.journal.file).faults < (F.told self.new.events.journal.file).faults) }
     {
-        self.folded = self.journal.gate;
+        self.folded = self.events.journal.gate;
         let Ok(base) = base_of(alloc, served.device()) else {
             return Ok(Folding::NoMemory);
         };
-        match put_base::<FrameDevice, F>(base, &mut self.journal.file) {
+        match put_base::<FrameDevice, F>(base, &mut self.events.journal.file) {
             Ok(gate) => {
-                self.journal.gate = gate;
+                self.events.journal.gate = gate;
                 self.folded = gate;
                 Ok(Folding::Done)
             }
@@ -330,15 +336,6 @@ impl<F: StoredFile + Drop> Keeper<F> {
             Err(FileError::Memory) => Err(FileError::Memory),
             Err(FileError::Failed) => Err(FileError::Failed),
         }
-    }
-
-    /// Is all committed that was done with the target?
-    pub fn is_committed(&self, served: &ServedTarget) -> bool
-        requires { IsCommittedBut self.now.waiting.items served.now.device self.now.journal.gate (F.told self.now.journal.file) }
-        ensures none { IsTrue result ↔ self.now.waiting.items ≡ [] }
-        ensures kept { IsTrue result → IsKept served.now.device self.now.journal.gate (F.told self.now.journal.file) }
-    {
-        self.waiting.is_empty()
     }
 }
 

@@ -9,12 +9,13 @@ use Rattle.durable_device.specs.declared.durable_device.Folding.{Folding}
 use Rattle.durable_device.specs.declared.durable_device.Folding.TheVariants.{Done, NoRoom, NoMemory}
 use Rattle.durable_device.specs.declared.durable_device.TheConstants.{MOST_JOURNAL}
 use Rattle.tcp_durable.specs.declared.keeper.Keeper.{Keeper}
+use Rattle.durable_machine.specs.declared.in_file.InFile.{InFile}
 use Rattle.tcp_library.specs.Sessions.{IsCommitted, IsNotDue, promised}
 
 -- a crash leaves the device from before, or the one that there is now
-pub committed : (old mid new : Keeper HandedFile) (device : State)
-    → ((before : State) → IsKept before old.journal.gate (promised old) → LeavesOnly (promised old) (promised mid) (λ c. StandsFor c before ⊎ StandsFor c device))
-    → LeavesOnly (promised mid) (promised new) (λ c. StandsFor c device) → IsKept device new.journal.gate (promised new) → IsNotDue old new device → IsCommitted old new device
+pub committed : (old mid new : Keeper (InFile HandedFile)) (device : State)
+    → ((before : State) → IsKept before old.events.journal.gate (promised old) → LeavesOnly (promised old) (promised mid) (λ c. StandsFor c before ⊎ StandsFor c device))
+    → LeavesOnly (promised mid) (promised new) (λ c. StandsFor c device) → IsKept device new.events.journal.gate (promised new) → IsNotDue old new device → IsCommitted old new device
 committed old mid new device first second kept not_due = record {
   kept = kept;
   not_due = not_due;
@@ -24,13 +25,13 @@ committed old mid new device first second kept not_due = record {
 }
 
 -- a journal that was to be folded isn't to be any longer
-pub not_due : (old mid new : Keeper HandedFile) (device : State) (came : Option Folding)
-    → mid.folded ≡ old.folded → (promised old).faults ≤ (promised mid).faults → new.journal.gate - new.folded ≤ MOST_JOURNAL
-    → (came ≡ None → new ≡ mid) → (IsSome came → new.folded ≡ new.journal.gate)
-    → (came ≡ Some Done → IsKeptInBase device new.journal.gate (promised new)) → (came ≡ Some NoRoom → (promised mid).faults < (promised new).faults)
+pub not_due : (old mid new : Keeper (InFile HandedFile)) (device : State) (came : Option Folding)
+    → mid.folded ≡ old.folded → (promised old).faults ≤ (promised mid).faults → new.events.journal.gate - new.folded ≤ MOST_JOURNAL
+    → (came ≡ None → new ≡ mid) → (IsSome came → new.folded ≡ new.events.journal.gate)
+    → (came ≡ Some Done → IsKeptInBase device new.events.journal.gate (promised new)) → (came ≡ Some NoRoom → (promised mid).faults < (promised new).faults)
     → IsNotDue old new device
 not_due old mid new device None counted later short untried tried in_base no_room =
-    record { short = short; counts = inl (ap (λ (k : Keeper HandedFile). k.folded) (untried refl) ∙ counted) }
+    record { short = short; counts = inl (ap (λ (k : Keeper (InFile HandedFile)). k.folded) (untried refl) ∙ counted) }
 not_due old mid new device (Some Done) counted later short untried tried in_base no_room =
     record { short = short; counts = inr (tried (search rules), (Done, in_base refl)) }
 not_due old mid new device (Some NoRoom) counted later short untried tried in_base no_room =

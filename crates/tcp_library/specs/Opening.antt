@@ -2,7 +2,7 @@
 use Rattle.std.specs.Prelude.{ℕ, ◌≡◌, ◌⊎◌, Bool, true, false, nat_eq, List, [], ◌∷◌, Option, Some, None, Ok, Err}
 use Rattle.std.specs.List.{starts_with}
 use Rattle.stored_file.specs.File.{LeavesOnly}
-use Rattle.system_file.specs.Calls.{Call, Opened}
+use Rattle.stored_file.specs.Calls.{Call, Opened}
 use Rattle.handed_file.specs.Handed.{noted, told_of}
 use Rattle.handed_file.specs.declared.handed_file.HandedFile.{HandedFile}
 use Rattle.device_meaning.specs.State.{State, new_state}
@@ -11,7 +11,7 @@ use Rattle.durable_machine.specs.declared.fault.Fault.TheVariants.{Unreadable, D
 use Rattle.durable_device.specs.Kept.{IsKept, IsKeptInBase, IsOldOrStandsFor, LeavesFound, StandsFor, StandsForIt}
 use Rattle.durable_device.specs.Machine.{IsDeviceBase, next_state}
 use Rattle.durable_machine.specs.Refused.{IsUndone}
-use Rattle.event_journal.specs.declared.journal.Journal.{Journal}
+use Rattle.durable_machine.specs.declared.journal.Journal.{Journal}
 use Rattle.image_base.specs.Base.{magic}
 use Rattle.image_store.specs.Namespace.{ZonedNamespace, shape}
 use Rattle.image_text.specs.Fault.{load_number}
@@ -23,6 +23,7 @@ use Rattle.tcp_admin.specs.declared.subsystem.Subsystem.{Subsystem}
 use Rattle.tcp_device.specs.Format.{IsFormatOf}
 use Rattle.tcp_device.specs.State.{ServedState, begun, begun_on}
 use Rattle.tcp_durable.specs.declared.keeper.Keeper.{Keeper}
+use Rattle.durable_machine.specs.declared.in_file.InFile.{InFile}
 use Rattle.tcp_library.specs.Calls.{KeepsAll}
 use Rattle.tcp_library.specs.Sessions.{IsInMemory}
 use Rattle.tcp_library.specs.declared.handle.Handle.{Handle}
@@ -69,10 +70,10 @@ pub record IsServed (device : State) (journal : Journal HandedFile) (session : S
   pub format : NamespaceFormat
   pub format_is : IsFormatOf (shape device.namespace) format
   pub begins : session.served ≡ begun_on device subsystem format
-  pub keeper : Keeper HandedFile
+  pub keeper : Keeper (InFile HandedFile)
   pub kept : session.keeper ≡ Some keeper
   pub usable : session.failed ≡ false
-  pub journal_is : keeper.journal ≡ journal
+  pub journal_is : keeper.events.journal ≡ journal
   pub is_kept : IsKept device journal.gate (told_of (noted journal.file))
 
 -- the device is the one that a file stands for which was left by these calls. While C makes those for opening it, a crash leaves what an

@@ -74,8 +74,8 @@ fn create(alloc: Global, bytes: &[u8], mut file: HandedFile) -> Result<Session, 
 
 /// A target before a device that is kept.
 fn session(alloc: Global, device: DurableDevice<HandedFile>) -> Result<Session, u32>
-    requires { IsKept device.store.machine device.store.journal.gate (told_of (noted device.store.journal.file)) }
-    ensures served { IfOk result (IsServed device.store.machine device.store.journal) }
+    requires { IsKept device.store.machine device.store.events.journal.gate (told_of (noted device.store.events.journal.file)) }
+    ensures served { IfOk result (IsServed device.store.machine device.store.events.journal) }
     ensures kept { IfOk result WillBeKept }
     ensures refused { IfErr result (λ why. why ≡ load_number Memory) }
 {
@@ -87,8 +87,8 @@ fn session(alloc: Global, device: DurableDevice<HandedFile>) -> Result<Session, 
 
 /// A target before a device that is kept.
 fn made(alloc: Global, device: DurableDevice<HandedFile>) -> Result<Session, AllocError>
-    requires { IsKept device.store.machine device.store.journal.gate (told_of (noted device.store.journal.file)) }
-    ensures served { IfOk result (IsServed device.store.machine device.store.journal) }
+    requires { IsKept device.store.machine device.store.events.journal.gate (told_of (noted device.store.events.journal.file)) }
+    ensures served { IfOk result (IsServed device.store.machine device.store.events.journal) }
     ensures kept { IfOk result WillBeKept }
 {
     let format = format_of(device.image().geometry());

@@ -9,6 +9,7 @@ ghost use Rattle.tcp_device.specs.Served.{next_run};
 ghost use Rattle.tcp_target.specs.Ready.{is_ready};
 
 use crate::handle::subsystem_with;
+use durable_machine::InFile;
 use handed_file::{FileCall, HandedFile};
 use std::alloc::Global;
 use stored_file::FileError;
@@ -23,7 +24,7 @@ pub struct Session {
     /// The target.
     pub served: ServedTarget,
     /// What keeps its device; `None` where it is in memory alone.
-    pub keeper: Option<Keeper<HandedFile>>,
+    pub keeper: Option<Keeper<InFile<HandedFile>>>,
     /// Whether the file has to be opened again: then no command is done, and nothing is sent.
     pub failed: bool,
 }
@@ -169,7 +170,7 @@ impl Session {
             _ if self.failed => false,
             None => true,
             Some(keeper) => {
-                keeper.journal.file.is_settled() && keeper.is_committed(&self.served)
+                keeper.events.journal.file.is_settled() && keeper.is_committed(&self.served)
             }
         }
     }
@@ -193,7 +194,7 @@ impl Session {
         ensures first { IfSome result (λ call. next_of self.now.failed (waiting_calls self.now) ≡ Some call.now) }
     {
         match &self.keeper {
-            Some(keeper) if !self.failed => keeper.journal.file.next(),
+            Some(keeper) if !self.failed => keeper.events.journal.file.next(),
             Some(_) | None => None,
         }
     }
@@ -205,7 +206,7 @@ impl Session {
         ensures kept { WillBeKept self.new }
     {
         if let Some(keeper) = &mut self.keeper {
-            keeper.journal.file.tell_done();
+            keeper.events.journal.file.tell_done();
         }
     }
 
@@ -234,13 +235,13 @@ pub enum Folding {
 
 /// Commits what was done, and folds the journal where it is due.
 fn commit(
-    keeper: &mut Keeper<HandedFile>,
+    keeper: &mut Keeper<InFile<HandedFile>>,
     alloc: Global,
     served: &ServedTarget,
 ) -> Result<(), FileError>
-    requires { IsCommittedBut keeper.old.waiting.items served.now.device keeper.old.journal.gate (promised keeper.old) }
+    requires { IsCommittedBut keeper.old.events.waiting.items served.now.device keeper.old.events.journal.gate (promised keeper.old) }
     ensures committed { OnOk result (IsCommitted keeper.old keeper.new served.now.device) }
-    ensures waiting { OnOk result (keeper.new.waiting.items ≡ []) }
+    ensures waiting { OnOk result (keeper.new.events.waiting.items ≡ []) }
 {
     keeper.commit(alloc, served)?;
     keeper.fold_when_due(alloc, served)?;
@@ -249,17 +250,17 @@ fn commit(
 
 /// Folds the journal into a new file of at most so many bytes.
 fn fold(
-    keeper: &mut Keeper<HandedFile>,
+    keeper: &mut Keeper<InFile<HandedFile>>,
     alloc: Global,
     served: &ServedTarget,
     room: usize,
 ) -> Result<durable_device::Folding, FileError>
-    requires { IsKept served.now.device keeper.old.journal.gate (promised keeper.old) }
+    requires { IsKept served.now.device keeper.old.events.journal.gate (promised keeper.old) }
     ensures folded { OnOk result (IsFoldedTo keeper.old keeper.new served.now.device) }
     ensures in_base { IfOk result (λ folding. folding ≡ Done
-        → IsKeptInBase served.now.device keeper.new.journal.gate (promised keeper.new)) }
-    ensures waiting { keeper.new.waiting ≡ keeper.old.waiting }
+        → IsKeptInBase served.now.device keeper.new.events.journal.gate (promised keeper.new)) }
+    ensures waiting { keeper.new.events.waiting ≡ keeper.old.events.waiting }
 {
-    keeper.journal.file.grant(room);
+    keeper.events.journal.file.grant(room);
     keeper.fold(alloc, served)
 }

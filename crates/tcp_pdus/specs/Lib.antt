@@ -5,3 +5,6 @@ pub mod Initialize
 pub mod Transfer
 pub mod Sent
 pub mod Laws
+pub mod Direction
+pub mod Sgl
+pub mod Answer

@@ -4,9 +4,9 @@ use Rattle.std.proofs.lemmas.List.{set-set}
 use Rattle.std.specs.Prelude.{slice_index_or, slice_set}
 use Rattle.tcp_receiver.specs.declared.expected.Progress.{Progress}
 use Rattle.tcp_receiver.specs.declared.expected.Progress.TheVariants.{Partial, Whole, Failed}
-use Rattle.tcp_places.specs.Events.{received}
-use Rattle.tcp_places.specs.Pieces as places
-use Rattle.tcp_places.specs.Places.{PlaceState, vacant}
+use Rattle.tcp_queues.specs.Events.{received}
+use Rattle.tcp_queues.specs.PlacePieces as places
+use Rattle.tcp_queues.specs.Places.{PlaceState, vacant}
 use Rattle.tcp_queues.specs.Pieces.{PiecesJoin, taken_at, taken_both_at}
 use Rattle.tcp_queues.specs.Queues.{QueuesState, place_at, with_place}
 
@@ -41,6 +41,6 @@ module _ (number : ℕ) (first second : List ℕ) (s : QueuesState) where
   joins_by (Whole pdu) joins = ap at_number joins
   joins_by (Failed error) joins = ap at_number joins
 
-pub pieces_join : places.PiecesJoin → PiecesJoin
+pub pieces_join : places.PlacePiecesJoin → PiecesJoin
 pieces_join law number first second s =
     let p : PlaceState = place_at number s in joins_by number first second s (places.end_of first p) (law first second p)

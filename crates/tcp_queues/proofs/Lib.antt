@@ -1,3 +1,7 @@
+mod PlaceCuts
+mod PlaceEnds
+mod Order
 mod Cuts
 mod Live
 mod Others
+pub mod Proved

@@ -3,7 +3,7 @@ use Rattle.std.proofs.Common.{◌≡◌, ℕ, Bool, true, false, not, cond, ◌&
 use Rattle.std.proofs.lemmas.Bool.{and_parts}
 use Rattle.tcp_connection.specs.Executing.{Execution, ready}
 use Rattle.tcp_associations.specs.Associations.{is_live}
-use Rattle.tcp_places.specs.Places.{PlaceState, goes_on, ready_at}
+use Rattle.tcp_queues.specs.Places.{PlaceState, goes_on, ready_at}
 use Rattle.tcp_queues.specs.Commands.{given_by, given_to_device, is_fabrics, is_for_device}
 use Rattle.tcp_queues.specs.Laws.{GivenAreLive, IsLiveAndReady}
 use Rattle.tcp_queues.specs.Queues.{QueuesState, place_at}

@@ -1,7 +1,7 @@
 -- What happens on one connection leaves all others as they were.
 use Rattle.std.proofs.Common.{refl}
 use Rattle.std.proofs.lemmas.List.{get_or-set_other}
-use Rattle.tcp_places.specs.Places.{vacant}
+use Rattle.tcp_queues.specs.Places.{vacant}
 use Rattle.tcp_queues.specs.Laws.{OthersStay, PlacesStay}
 
 pub others_stay : OthersStay

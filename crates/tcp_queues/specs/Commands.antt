@@ -3,19 +3,19 @@ use Rattle.std.specs.Prelude.{ℕ, Bool, false, not, ◌==◌, ◌&&◌, List, [
 use Rattle.zone_state.specs.declared.status.Status.{Status}
 use Rattle.zone_state.specs.declared.status.StatusType.{StatusType}
 use Rattle.zone_state.specs.declared.status.StatusType.TheVariants.{Generic, CommandSpecific, VendorSpecific}
-use Rattle.tcp_capsules.specs.declared.direction.Direction.{Direction}
-use Rattle.tcp_capsules.specs.declared.direction.Direction.TheVariants.{Neither, FromHost, ToHost}
-use Rattle.tcp_capsules.specs.Direction.{direction, identifier_of}
-use Rattle.tcp_capsules.specs.Sgl.{descriptor_in}
+use Rattle.tcp_pdus.specs.declared.direction.Direction.{Direction}
+use Rattle.tcp_pdus.specs.declared.direction.Direction.TheVariants.{Neither, FromHost, ToHost}
+use Rattle.tcp_pdus.specs.Direction.{direction, identifier_of}
+use Rattle.tcp_pdus.specs.Sgl.{descriptor_in}
 use Rattle.tcp_connection.specs.declared.queue.Outcome.{Outcome}
 use Rattle.tcp_connection.specs.Executing.{Execution, data_of, ready}
-use Rattle.tcp_connect.specs.declared.checks.TheConstants.{DATA_SGL_LENGTH_INVALID}
-use Rattle.tcp_connect.specs.declared.connected.Connected.{Connected}
-use Rattle.tcp_connect.specs.declared.request.ConnectRequest.{ConnectRequest}
-use Rattle.tcp_connect.specs.Connected.{refusal, success}
+use Rattle.tcp_associations.specs.declared.checks.TheConstants.{DATA_SGL_LENGTH_INVALID}
+use Rattle.tcp_associations.specs.declared.connected.Connected.{Connected}
+use Rattle.tcp_associations.specs.declared.request.ConnectRequest.{ConnectRequest}
+use Rattle.tcp_associations.specs.Connected.{refusal, success}
 use Rattle.tcp_associations.specs.Associations.{answer_of, is_live, joined}
-use Rattle.tcp_places.specs.Places.{PlaceState, ready_at}
-use Rattle.tcp_places.specs.Events.{answered_at, connected_at, executed, handed_over, kept}
+use Rattle.tcp_queues.specs.Places.{PlaceState, ready_at}
+use Rattle.tcp_queues.specs.Events.{answered_at, connected_at, executed, handed_over, kept}
 use Rattle.tcp_queues.specs.Queues.{QueuesState, place_at, with_place}
 
 -- a Fabrics command (NVMe Base 2.0, 6.1)

@@ -3,7 +3,7 @@ use Rattle.std.specs.Prelude.{ℕ, Bool, true, false}
 use Rattle.tcp_associations.specs.declared.role.Role.{Role}
 use Rattle.tcp_associations.specs.declared.role.Role.TheVariants.{Unconnected, Admin, Io, Ended}
 use Rattle.tcp_associations.specs.Associations.{ended, left, readied, role_at}
-use Rattle.tcp_places.specs.Events.{closed}
+use Rattle.tcp_queues.specs.Events.{closed}
 use Rattle.tcp_queues.specs.Queues.{QueuesState, place_at, with_place}
 
 -- a connection is closed: its place is free once the device has none of its commands, and a controller ends with its admin queue's

@@ -2,7 +2,7 @@
 use Rattle.std.specs.Prelude.{ℕ, ◌≡◌, ◌≢◌, Bool, true, List, Option, Some}
 use Rattle.tcp_connection.specs.declared.queue.Outcome.{Outcome}
 use Rattle.tcp_connection.specs.Executing.{Execution, ready}
-use Rattle.tcp_connect.specs.declared.request.ConnectRequest.{ConnectRequest}
+use Rattle.tcp_associations.specs.declared.request.ConnectRequest.{ConnectRequest}
 use Rattle.tcp_associations.specs.Associations.{is_live}
 use Rattle.tcp_queues.specs.Queues.{QueuesState, place_at, received_at, sent_at}
 use Rattle.tcp_queues.specs.Commands.{answered, connected, executed_at, given_to_device, handed_over_at, kept_at, run_ended_at}

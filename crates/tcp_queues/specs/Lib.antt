@@ -1,3 +1,8 @@
+pub mod Places
+pub mod Events
+pub mod Order
+pub mod PlaceLaws
+pub mod PlacePieces
 pub mod Queues
 pub mod Ends
 pub mod Commands

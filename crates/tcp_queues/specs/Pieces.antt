@@ -1,7 +1,7 @@
 -- What comes on the connections of a target, however it is cut into pieces.
 use Rattle.std.specs.Prelude.{ℕ, ◌+◌, List, ◌++◌}
-use Rattle.tcp_places.specs.Events.{received}
-use Rattle.tcp_places.specs.Pieces.{JoinsAt, end_of}
+use Rattle.tcp_queues.specs.Events.{received}
+use Rattle.tcp_queues.specs.PlacePieces.{JoinsAt, end_of}
 use Rattle.tcp_queues.specs.Queues.{QueuesState, place_at, received_at}
 
 -- the queues behind a piece of a connection's stream, and how many bytes of it are taken

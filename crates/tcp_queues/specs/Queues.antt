@@ -2,8 +2,8 @@
 use Rattle.std.specs.Prelude.{ℕ, List, position, replicate, Option, Some, None, slice_index_or, slice_set}
 use Rattle.tcp_associations.specs.declared.associations.Associations.{Associations}
 use Rattle.tcp_associations.specs.Associations.{no_associations}
-use Rattle.tcp_places.specs.Places.{PlaceState, is_free, vacant}
-use Rattle.tcp_places.specs.Events.{opened, received, sent}
+use Rattle.tcp_queues.specs.Places.{PlaceState, is_free, vacant}
+use Rattle.tcp_queues.specs.Events.{opened, received, sent}
 
 pub record QueuesState : Type 0 where
   pub places : List PlaceState

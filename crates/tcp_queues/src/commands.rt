@@ -2,16 +2,14 @@
 
 ghost use Rattle.std.specs.Prelude.{◌≡◌, ◌≤◌, ◌<◌, IsTrue, OnSome, is_some, length};
 ghost use Rattle.std.specs.Option.{option_map};
-ghost use Rattle.tcp_places.specs.Places.{ready_at};
+ghost use Rattle.tcp_queues.specs.Places.{ready_at};
 ghost use Rattle.tcp_queues.specs.Commands.{answered, connect_answer_at, connect_data_at, connected, given_to_device, handed_over_at, is_fabrics, is_for_device, kept_at};
 ghost use Rattle.tcp_queues.specs.Queues.{place_at};
 
 use crate::queues::Queues;
-use tcp_associations::MOST_CONNECTIONS;
-use tcp_capsules::ENTRY_BYTES;
-use tcp_connect::{ConnectRequest, Connected};
+use tcp_associations::{ConnectRequest, Connected, MOST_CONNECTIONS};
 use tcp_connection::Outcome;
-use tcp_pdus::MOST_DATA;
+use tcp_pdus::{ENTRY_BYTES, MOST_DATA};
 
 /// The opcode of Fabrics commands (NVMe Base 2.0, 6.1).
 const FABRICS_COMMAND: u8 = 0x7F;

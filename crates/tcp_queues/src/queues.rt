@@ -3,14 +3,14 @@
 ghost use Rattle.std.specs.Prelude.{◌≡◌, ◌≤◌, ◌<◌, IfOk, IfSome, length, position, replicate};
 ghost use Rattle.tcp_associations.specs.Associations.{role_at};
 ghost use Rattle.tcp_connection.specs.Queue.{is_ended};
-ghost use Rattle.tcp_places.specs.Events.{received};
-ghost use Rattle.tcp_places.specs.Places.{is_free, vacant};
+ghost use Rattle.tcp_queues.specs.Events.{received};
+ghost use Rattle.tcp_queues.specs.Places.{is_free, vacant};
 ghost use Rattle.tcp_queues.specs.Queues.{free_number, no_queues, opened_at, place_at, received_at, sent_at};
 
+use crate::place::Place;
 use std::alloc::{AllocError, Global};
 use std::marker::Model;
 use tcp_associations::{Associations, MOST_CONNECTIONS, Role};
-use tcp_places::Place;
 
 /// The queues of a target: a place for each connection, by its number, and what the connections are for. It takes no memory but that
 /// of [`Queues::new`].

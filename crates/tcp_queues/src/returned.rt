@@ -1,17 +1,15 @@
 //! What the device gives for commands that it has executed.
 
 ghost use Rattle.std.specs.Prelude.{◌≡◌, ◌≤◌, ◌<◌, IsTrue, length};
-ghost use Rattle.tcp_places.specs.Places.{has_room};
+ghost use Rattle.tcp_queues.specs.Places.{has_room};
 ghost use Rattle.tcp_queues.specs.Commands.{executed_at, fits, is_success, result_of, run_ended_at};
 ghost use Rattle.tcp_queues.specs.Queues.{place_at};
 
+use crate::place::MOST_KEPT;
 use crate::queues::Queues;
-use tcp_associations::MOST_CONNECTIONS;
-use tcp_capsules::{Direction, ENTRY_BYTES, SglDescriptor, identifier};
-use tcp_connect::DATA_SGL_LENGTH_INVALID;
+use tcp_associations::{DATA_SGL_LENGTH_INVALID, MOST_CONNECTIONS};
 use tcp_connection::Outcome;
-use tcp_pdus::MOST_DATA;
-use tcp_places::MOST_KEPT;
+use tcp_pdus::{Direction, ENTRY_BYTES, MOST_DATA, SglDescriptor, identifier};
 use zone_state::{Status, StatusType};
 
 /// Is it success?

@@ -1,19 +1,19 @@
 -- Each queue has a connection of its own, in every state of a target.
 use Rattle.std.proofs.Common.{◌≡◌, ℕ, ◌==◌, true, false, cond, zero, suc, List, replicate, Option, None, Some, Result, Ok, Err, refl, subst, sym}
-use Rattle.tcp_capsules.specs.Direction.{identifier_of}
+use Rattle.tcp_pdus.specs.Direction.{identifier_of}
 use Rattle.tcp_connection.specs.declared.queue.Outcome.{Outcome}
 use Rattle.tcp_admin.specs.declared.answer.Answer.{Answer}
 use Rattle.tcp_admin.specs.declared.answer.Answer.TheVariants.{Completed, Kept}
 use Rattle.tcp_admin.specs.Admin.{response}
 use Rattle.tcp_admin.specs.Properties.{is_just_ready, set_by, set_state}
 use Rattle.tcp_admin.specs.Properties as properties
-use Rattle.tcp_connect.specs.declared.connected.Connected.{Connected}
-use Rattle.tcp_connect.specs.declared.request.ConnectRequest.{ConnectRequest}
-use Rattle.tcp_connect.specs.Request.{request_in}
+use Rattle.tcp_associations.specs.declared.connected.Connected.{Connected}
+use Rattle.tcp_associations.specs.declared.request.ConnectRequest.{ConnectRequest}
+use Rattle.tcp_associations.specs.Request.{request_in}
 use Rattle.tcp_associations.specs.declared.role.Role.{Role}
 use Rattle.tcp_associations.specs.declared.role.Role.TheVariants.{Unconnected, Admin, Io, Ended}
 use Rattle.tcp_associations.specs.Associations.{no_associations, role_at}
-use Rattle.tcp_places.specs.Places.{ready_at}
+use Rattle.tcp_queues.specs.Places.{ready_at}
 use Rattle.tcp_queues.specs.Commands.{connect_answer_at, connect_data_at, connected}
 use Rattle.tcp_queues.specs.Queues.{QueuesState, free_number, opened_at, place_at, received_at, sent_at}
 use Rattle.tcp_target.specs.Apart.{AreSound, HasQueuesApart, QueuesStayApart}

@@ -1,19 +1,19 @@
 -- What happens on one connection leaves all others as they were.
 use Rattle.std.proofs.Common.{ℕ, ◌==◌, true, false, cond, List, Result, Ok, Err, refl, subst, sym}
 use Rattle.std.proofs.lemmas.List.{get_or-set_other}
-use Rattle.tcp_capsules.specs.Direction.{identifier_of}
+use Rattle.tcp_pdus.specs.Direction.{identifier_of}
 use Rattle.tcp_connection.specs.declared.queue.Outcome.{Outcome}
 use Rattle.tcp_admin.specs.declared.answer.Answer.{Answer}
 use Rattle.tcp_admin.specs.declared.answer.Answer.TheVariants.{Completed, Kept}
 use Rattle.tcp_admin.specs.Admin.{response}
 use Rattle.tcp_admin.specs.Properties as properties
-use Rattle.tcp_connect.specs.declared.connected.Connected.{Connected}
-use Rattle.tcp_connect.specs.declared.request.ConnectRequest.{ConnectRequest}
-use Rattle.tcp_connect.specs.Request.{request_in}
+use Rattle.tcp_associations.specs.declared.connected.Connected.{Connected}
+use Rattle.tcp_associations.specs.declared.request.ConnectRequest.{ConnectRequest}
+use Rattle.tcp_associations.specs.Request.{request_in}
 use Rattle.tcp_associations.specs.declared.role.Role.{Role}
 use Rattle.tcp_associations.specs.declared.role.Role.TheVariants.{Unconnected, Admin, Io, Ended}
 use Rattle.tcp_associations.specs.Associations.{role_at}
-use Rattle.tcp_places.specs.Places.{ready_at, vacant}
+use Rattle.tcp_queues.specs.Places.{ready_at, vacant}
 use Rattle.tcp_queues.specs.Commands.{connect_answer_at, connected}
 use Rattle.tcp_queues.specs.Laws.{OthersAreSame}
 use Rattle.tcp_queues.specs.Queues.{QueuesState, place_at, received_at, sent_at}

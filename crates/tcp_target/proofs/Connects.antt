@@ -5,14 +5,14 @@ use Rattle.std.proofs.lemmas.Bool.{and_parts, not-true}
 use Rattle.common_definitions.specs.Bytes.{field}
 use Rattle.common_definitions.specs.Checks.{first_failed}
 use Rattle.common_definitions.proofs.Proved.{demanded, none_failed, passed, value_given}
-use Rattle.tcp_connect.specs.declared.checks.TheConstants.{CONNECT_CONTROLLER_BUSY, DATA_SGL_LENGTH_INVALID}
-use Rattle.tcp_connect.specs.declared.connected.Connected.{Connected}
-use Rattle.tcp_connect.specs.declared.connected.Controllers.{Controllers}
-use Rattle.tcp_connect.specs.declared.connected.NamedController.{NamedController}
-use Rattle.tcp_connect.specs.declared.request.ConnectRequest.{ConnectRequest}
-use Rattle.tcp_connect.specs.Checks.{connect_checks, controller_of, has_queue, has_room, is_free}
-use Rattle.tcp_connect.specs.Connected.{connected, invalid_in_entry, refusal}
-use Rattle.tcp_connect.specs.Data.{connect_data_in}
+use Rattle.tcp_associations.specs.declared.checks.TheConstants.{CONNECT_CONTROLLER_BUSY, DATA_SGL_LENGTH_INVALID}
+use Rattle.tcp_associations.specs.declared.connected.Connected.{Connected}
+use Rattle.tcp_associations.specs.declared.connected.Controllers.{Controllers}
+use Rattle.tcp_associations.specs.declared.connected.NamedController.{NamedController}
+use Rattle.tcp_associations.specs.declared.request.ConnectRequest.{ConnectRequest}
+use Rattle.tcp_associations.specs.Checks.{connect_checks, controller_of, has_queue, has_room, is_free}
+use Rattle.tcp_associations.specs.Connected.{connected, invalid_in_entry, refusal}
+use Rattle.tcp_associations.specs.Data.{connect_data_in}
 use Rattle.tcp_associations.specs.declared.associations.Associations.{Associations}
 use Rattle.tcp_associations.specs.declared.role.Role.{Role}
 use Rattle.tcp_associations.specs.declared.table.Association.{Association}

@@ -8,7 +8,7 @@ use Rattle.tcp_receiver.specs.declared.expected.Progress.TheVariants.{Partial, W
 use Rattle.tcp_associations.specs.declared.role.Role.{Role}
 use Rattle.tcp_associations.specs.declared.role.Role.TheVariants.{Unconnected, Admin, Io, Ended}
 use Rattle.tcp_associations.specs.Associations.{role_at}
-use Rattle.tcp_places.specs.Pieces.{JoinsAt, end_of}
+use Rattle.tcp_queues.specs.PlacePieces.{JoinsAt, end_of}
 use Rattle.tcp_queues.specs.Pieces.{taken_at, taken_both_at}
 use Rattle.tcp_queues.specs.Pieces as queues
 use Rattle.tcp_queues.specs.Queues.{QueuesState, place_at}

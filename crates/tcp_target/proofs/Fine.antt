@@ -8,8 +8,8 @@ use Rattle.tcp_connection.proofs.Proved.{IsSettled}
 use Rattle.tcp_associations.specs.declared.role.Role.{Role}
 use Rattle.tcp_associations.specs.declared.role.Role.TheVariants.{Unconnected, Io}
 use Rattle.tcp_associations.specs.Associations.{role_at}
-use Rattle.tcp_places.specs.Places.{PlaceState, vacant}
-use Rattle.tcp_places.proofs.Proved.{PlaceMoves}
+use Rattle.tcp_queues.specs.Places.{PlaceState, vacant}
+use Rattle.tcp_queues.proofs.Proved.{PlaceMoves}
 use Rattle.tcp_queues.specs.Queues.{QueuesState, no_queues, place_at, with_place}
 use Rattle.tcp_target.proofs.Roles.{role_in}
 

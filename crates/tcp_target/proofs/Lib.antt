@@ -1,5 +1,4 @@
 mod Served
-mod Mapped
 mod Counted
 pub mod Ticking
 mod ConnectionsStay

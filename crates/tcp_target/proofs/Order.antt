@@ -3,21 +3,21 @@ use Rattle.std.proofs.Common.{◌≡◌, ℕ, ◌<◌, ◌==◌, Bool, true, fal
 use Rattle.std.specs.Prelude.{slice_index_or}
 use Rattle.std.proofs.lemmas.Bool.{cases_lt}
 use Rattle.std.proofs.lemmas.List.{get_or_past, get_or-set_same}
-use Rattle.tcp_capsules.specs.Direction.{identifier_of}
+use Rattle.tcp_pdus.specs.Direction.{identifier_of}
 use Rattle.tcp_connection.specs.declared.queue.Outcome.{Outcome}
 use Rattle.tcp_connection.specs.Connection.{taken}
 use Rattle.tcp_connection.specs.Executing.{Execution}
 use Rattle.tcp_connection.specs.Order.{entry_of}
 use Rattle.tcp_connection.proofs.Proved.{stays}
-use Rattle.tcp_connect.specs.Connected.{refusal}
+use Rattle.tcp_associations.specs.Connected.{refusal}
 use Rattle.tcp_associations.specs.declared.role.Role.{Role}
 use Rattle.tcp_associations.specs.declared.role.Role.TheVariants.{Unconnected, Admin, Io, Ended}
 use Rattle.tcp_associations.specs.Associations.{role_at}
-use Rattle.tcp_places.specs.Places.{PlaceState, goes_on, ready_at, vacant}
-use Rattle.tcp_places.specs.Events.{answered_at, completed_at, executed, handed_over, returned, stepped}
-use Rattle.tcp_places.specs.Events as places
-use Rattle.tcp_places.specs.Order.{brought_at}
-use Rattle.tcp_places.proofs.Proved.{PlaceMoves, answer_moves, execute_moves, go_moves, receive_moves}
+use Rattle.tcp_queues.specs.Places.{PlaceState, goes_on, ready_at, vacant}
+use Rattle.tcp_queues.specs.Events.{answered_at, completed_at, executed, handed_over, returned, stepped}
+use Rattle.tcp_queues.specs.Events as places
+use Rattle.tcp_queues.specs.Order.{brought_at}
+use Rattle.tcp_queues.proofs.Proved.{PlaceMoves, answer_moves, execute_moves, go_moves, receive_moves}
 use Rattle.tcp_queues.specs.Commands.{given_by, given_to_device, is_fabrics, is_for_device, result_of}
 use Rattle.tcp_queues.specs.Queues.{QueuesState, place_at, received_at, sent_at, with_place}
 use Rattle.zone_state.specs.declared.status.Status.{Status}

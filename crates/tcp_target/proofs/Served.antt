@@ -4,7 +4,7 @@ use Rattle.std.specs.Prelude.{slice_index}
 use Rattle.zone_state.specs.declared.status.Status.{Status}
 use Rattle.zone_state.specs.declared.status.TheConstants.Status.{INVALID_COMMAND_OPCODE}
 use Rattle.tcp_connection.specs.Executing.{Execution}
-use Rattle.tcp_connect.specs.Request.{request_in}
+use Rattle.tcp_associations.specs.Request.{request_in}
 use Rattle.tcp_associations.specs.declared.role.Role.{Role}
 use Rattle.tcp_associations.specs.declared.role.Role.TheVariants.{Unconnected, Admin, Io, Ended}
 use Rattle.tcp_associations.specs.Associations.{role_at}

@@ -7,7 +7,7 @@ use Rattle.std.proofs.lemmas.List.Quantifiers.{position-Some}
 use Rattle.common_definitions.specs.Checks.{first_failed}
 use Rattle.common_definitions.proofs.Proved.{value_given}
 use Rattle.tcp_pdus.specs.declared.received.Awaits.TheVariants.{Commands}
-use Rattle.tcp_capsules.specs.Direction.{identifier_of}
+use Rattle.tcp_pdus.specs.Direction.{identifier_of}
 use Rattle.tcp_connection.specs.declared.queue.Outcome.{Outcome}
 use Rattle.tcp_connection.specs.Connection.{taken}
 use Rattle.tcp_connection.specs.Executing.{Execution, ready}
@@ -18,22 +18,22 @@ use Rattle.tcp_admin.specs.declared.answer.Answer.TheVariants as answer
 use Rattle.tcp_admin.specs.Admin.{response}
 use Rattle.tcp_admin.specs.Properties.{got, is_just_ready, set_by, set_result, set_state}
 use Rattle.tcp_admin.specs.Properties as properties
-use Rattle.tcp_connect.specs.declared.connected.Connected.{Connected}
-use Rattle.tcp_connect.specs.declared.request.ConnectRequest.{ConnectRequest}
-use Rattle.tcp_connect.specs.Checks.{connect_checks, controller_of}
-use Rattle.tcp_connect.specs.Connected.{connected, refusal, success}
-use Rattle.tcp_connect.specs.Data.{connect_data_in}
-use Rattle.tcp_connect.specs.Request.{request_in}
+use Rattle.tcp_associations.specs.declared.connected.Connected.{Connected}
+use Rattle.tcp_associations.specs.declared.request.ConnectRequest.{ConnectRequest}
+use Rattle.tcp_associations.specs.Checks.{connect_checks, controller_of}
+use Rattle.tcp_associations.specs.Connected.{connected, refusal, success}
+use Rattle.tcp_associations.specs.Data.{connect_data_in}
+use Rattle.tcp_associations.specs.Request.{request_in}
 use Rattle.tcp_associations.specs.declared.associations.Associations.{Associations}
 use Rattle.tcp_associations.specs.declared.role.Role.{Role}
 use Rattle.tcp_associations.specs.declared.role.Role.TheVariants.{Unconnected, Admin, Io, Ended}
 use Rattle.tcp_associations.specs.Associations.{answer_of, controllers_for, ended, ended_with, role_at, roles_with}
 use Rattle.tcp_associations.specs.Roles.{role_of, without, without_io}
-use Rattle.tcp_places.specs.Places.{PlaceState, goes_on, is_free, ready_at, vacant}
-use Rattle.tcp_places.specs.Events.{answered_at, closed, completed_at, connected_at, executed, handed_over, joined, kept, opened, returned, stepped}
-use Rattle.tcp_places.specs.Events as places
-use Rattle.tcp_places.specs.Order.{brought_at}
-use Rattle.tcp_places.proofs.Proved.{answer_moves, execute_moves, go_moves, receive_moves}
+use Rattle.tcp_queues.specs.Places.{PlaceState, goes_on, is_free, ready_at, vacant}
+use Rattle.tcp_queues.specs.Events.{answered_at, closed, completed_at, connected_at, executed, handed_over, joined, kept, opened, returned, stepped}
+use Rattle.tcp_queues.specs.Events as places
+use Rattle.tcp_queues.specs.Order.{brought_at}
+use Rattle.tcp_queues.proofs.Proved.{answer_moves, execute_moves, go_moves, receive_moves}
 use Rattle.tcp_queues.specs.Commands.{connect_answer_at, connect_data_at, connected_by, result_of}
 use Rattle.tcp_queues.specs.Commands as queues
 use Rattle.tcp_queues.specs.Ends.{closed_at, controller_ended}

@@ -2,7 +2,7 @@
 use Rattle.std.specs.Prelude.{ℕ, Bool, ◌^◌, ◌/◌, ◌%◌, ◌==◌, ◌&&◌, List, [], Option, Some, None, Result, Ok, Err, if◌then◌else◌, slice_index}
 use Rattle.zone_state.specs.declared.status.Status.{Status}
 use Rattle.zone_state.specs.declared.status.TheConstants.Status.{INVALID_COMMAND_OPCODE, SUCCESS}
-use Rattle.tcp_capsules.specs.Direction.{identifier_of}
+use Rattle.tcp_pdus.specs.Direction.{identifier_of}
 use Rattle.tcp_connection.specs.declared.queue.Outcome.{Outcome}
 use Rattle.tcp_connection.specs.Executing.{Execution}
 use Rattle.tcp_admin.specs.declared.answer.Answer.{Answer}
@@ -11,14 +11,14 @@ use Rattle.tcp_admin.specs.declared.controller.Controller.{Controller}
 use Rattle.tcp_admin.specs.Admin.{response}
 use Rattle.tcp_admin.specs.Properties.{got, is_just_ready, set_by, set_result, set_state}
 use Rattle.tcp_admin.specs.Properties as properties
-use Rattle.tcp_connect.specs.declared.connected.Connected.{Connected}
-use Rattle.tcp_connect.specs.declared.request.ConnectRequest.{ConnectRequest}
-use Rattle.tcp_connect.specs.Connected.{refusal}
-use Rattle.tcp_connect.specs.Request.{request_in}
+use Rattle.tcp_associations.specs.declared.connected.Connected.{Connected}
+use Rattle.tcp_associations.specs.declared.request.ConnectRequest.{ConnectRequest}
+use Rattle.tcp_associations.specs.Connected.{refusal}
+use Rattle.tcp_associations.specs.Request.{request_in}
 use Rattle.tcp_associations.specs.declared.role.Role.{Role}
 use Rattle.tcp_associations.specs.declared.role.Role.TheVariants.{Unconnected, Admin, Io, Ended}
 use Rattle.tcp_associations.specs.Associations.{role_at}
-use Rattle.tcp_places.specs.Places.{ready_at}
+use Rattle.tcp_queues.specs.Places.{ready_at}
 use Rattle.tcp_queues.specs.Commands.{answered, connect_answer_at, connected, is_fabrics, is_for_device, kept_at}
 use Rattle.tcp_queues.specs.Ends.{readied_at}
 use Rattle.tcp_queues.specs.Queues.{QueuesState, place_at}

@@ -4,7 +4,7 @@ use Rattle.tcp_associations.specs.declared.role.Role.{Role}
 use Rattle.tcp_associations.specs.declared.role.Role.TheVariants.{Unconnected, Admin, Io, Ended}
 use Rattle.tcp_associations.specs.Associations.{role_at}
 use Rattle.tcp_connection.specs.declared.queue.Outcome.{Outcome}
-use Rattle.tcp_places.specs.Events as places
+use Rattle.tcp_queues.specs.Events as places
 use Rattle.tcp_queues.specs.Commands.{executed_at, handed_over_at, run_ended_at}
 use Rattle.tcp_queues.specs.Ends.{closed_at}
 use Rattle.tcp_queues.specs.Queues.{free_number, opened_at, place_at, received_at, sent_at}

@@ -2,7 +2,7 @@
 
 ghost use Rattle.std.specs.Prelude.{◌≡◌, ◌≤◌, ◌<◌, [], IsTrue, is_some, length, vec_capacity};
 ghost use Rattle.tcp_admin.specs.Admin.{response};
-ghost use Rattle.tcp_places.specs.Places.{ready_at};
+ghost use Rattle.tcp_queues.specs.Places.{ready_at};
 ghost use Rattle.tcp_queues.specs.Commands.{is_fabrics};
 ghost use Rattle.tcp_queues.specs.Queues.{place_at};
 ghost use Rattle.tcp_target.specs.Commands.{answered_with, completed_by, refused_with, served, served_admin, served_as, served_command, served_fabrics, served_get, served_io, served_set, with_set};
@@ -11,8 +11,8 @@ use crate::outcomes::{COMMAND_SEQUENCE_ERROR, refusal, set_outcome, value_outcom
 use crate::target::Target;
 use tcp_admin::{Answer, Controller, MOST_ADMIN_DATA, NamespaceFormat, Subsystem};
 use tcp_associations::{MOST_CONNECTIONS, Role};
-use tcp_capsules::{ENTRY_BYTES, identifier};
 use tcp_connection::Outcome;
+use tcp_pdus::{ENTRY_BYTES, identifier};
 use tcp_queues::Queues;
 use zone_state::Status;
 

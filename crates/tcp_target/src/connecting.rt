@@ -1,8 +1,8 @@
 //! Commands before Connect, and Connect.
 
 ghost use Rattle.std.specs.Prelude.{◌≡◌, ◌<◌, IsTrue, is_some};
-ghost use Rattle.tcp_connect.specs.Request.{request_in};
-ghost use Rattle.tcp_places.specs.Places.{ready_at};
+ghost use Rattle.tcp_associations.specs.Request.{request_in};
+ghost use Rattle.tcp_queues.specs.Places.{ready_at};
 ghost use Rattle.tcp_queues.specs.Queues.{place_at};
 ghost use Rattle.tcp_target.specs.Commands.{connected_with, is_connect, served_unconnected, with_made};
 
@@ -10,10 +10,9 @@ use crate::admin::is_fabrics;
 use crate::outcomes::COMMAND_SEQUENCE_ERROR;
 use crate::target::Target;
 use tcp_admin::Controller;
-use tcp_associations::MOST_CONNECTIONS;
-use tcp_capsules::{ENTRY_BYTES, identifier};
-use tcp_connect::{ConnectRequest, Connected};
+use tcp_associations::{ConnectRequest, Connected, MOST_CONNECTIONS};
 use tcp_connection::Outcome;
+use tcp_pdus::{ENTRY_BYTES, identifier};
 
 /// Is it a Connect?
 fn is_connect(entry: &[u8; ENTRY_BYTES]) -> bool

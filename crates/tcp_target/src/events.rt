@@ -3,7 +3,7 @@
 ghost use Rattle.std.specs.Prelude.{◌≡◌, ◌≤◌, ◌<◌, IfSome, IsTrue, OnSome, is_some, length};
 ghost use Rattle.std.specs.Option.{option_map};
 ghost use Rattle.tcp_connection.specs.Queue.{is_ended};
-ghost use Rattle.tcp_places.specs.Places.{has_room, ready_at};
+ghost use Rattle.tcp_queues.specs.Places.{has_room, ready_at};
 ghost use Rattle.tcp_queues.specs.Commands.{connect_data_at, given_to_device};
 ghost use Rattle.tcp_queues.specs.Queues.{free_number, place_at};
 ghost use Rattle.tcp_target.specs.Events.{closed, count_of, executed, handed_over, heard_at, heard_on, opened, received, run_ended, sent, taken_by_host};
@@ -11,10 +11,9 @@ ghost use Rattle.tcp_target.specs.Events.{closed, count_of, executed, handed_ove
 use crate::clocks::ConnectionClock;
 use crate::target::Target;
 use tcp_associations::{MOST_CONNECTIONS, Role};
-use tcp_capsules::ENTRY_BYTES;
 use tcp_connection::Outcome;
-use tcp_pdus::MOST_DATA;
-use tcp_places::MOST_KEPT;
+use tcp_pdus::{ENTRY_BYTES, MOST_DATA};
+use tcp_queues::MOST_KEPT;
 
 impl Target {
     /// Begins a connection, and gives its number: the lowest that no connection has, and under which the device has no command of

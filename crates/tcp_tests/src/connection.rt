@@ -2,10 +2,11 @@
 
 ghost use Rattle.std.specs.Prelude.{◌≡◌, ◌<◌, ◌≤◌, ◌+◌, length};
 
+use crate::load::{LOAD, LOAD_DATA};
 use std::alloc::Global;
 use std::test::*;
-use tcp_capsules::identifier;
 use tcp_connection::{Connection, MOST_ENTRIES, Outcome, Queue};
+use tcp_pdus::identifier;
 use zone_state::Status;
 
 /// The capsule of Connect to queue 1, but for its 1024 bytes of data: identifier 0, SQSIZE 127, all data in the capsule.
@@ -13,19 +14,6 @@ const CONNECT: [u8; 72] = [
     0x04, 0, 72, 72, 0x48, 4, 0, 0, 0x7F, 0x40, 0, 0, 0x01, 0, 0, 0, 0, 0, 0, 0, 0, 0, 0, 0, 0, 0,
     0, 0, 0, 0, 0, 0, 0, 0, 0, 0, 0, 0, 0, 0, 0, 4, 0, 0, 0, 0, 0, 0x01, 0, 0, 1, 0, 127, 0, 0, 0,
     0, 0, 0, 0, 0, 0, 0, 0, 0, 0, 0, 0, 0, 0, 0, 0,
-];
-
-/// The capsule of a Load of 7 bytes into slot 1: identifier 0069h, an SGL of type 5Ah.
-const LOAD: [u8; 72] = [
-    0x04, 0, 72, 0, 72, 0, 0, 0, 0xC1, 0x40, 0x69, 0, 1, 0, 0, 0, 0, 0, 0, 0, 0, 0, 0, 0, 0, 0, 0,
-    0, 0, 0, 0, 0, 0, 0, 0, 0, 0, 0, 0, 0, 7, 0, 0, 0, 0, 0, 0, 0x5A, 1, 0, 0, 0, 0x42, 0, 0, 0, 7,
-    0, 0, 0, 0, 0, 0, 0, 0, 0, 0, 0, 0, 0, 0, 0,
-];
-
-/// Its data in an H2CData.
-const LOAD_DATA: [u8; 31] = [
-    0x06, 4, 24, 24, 31, 0, 0, 0, 0x69, 0, 0, 0, 0, 0, 0, 0, 7, 0, 0, 0, 0, 0, 0, 0, 1, 2, 3, 4, 5,
-    6, 7,
 ];
 
 /// The capsule of a Result that takes 8 bytes: identifier 006Bh, of slot 0.

@@ -1,8 +1,7 @@
 //! Connects of Linux, and what completes them.
 
 use std::test::*;
-use tcp_associations::{Associations, Role};
-use tcp_connect::{ConnectRequest, Connected};
+use tcp_associations::{Associations, ConnectRequest, Connected, Role};
 use tcp_connection::Outcome;
 
 /// The name of the target.

@@ -9,6 +9,8 @@ mod connection;
 #[cfg(test)]
 mod connects;
 #[cfg(test)]
+mod load;
+#[cfg(test)]
 mod receiver;
 #[cfg(test)]
 mod target;

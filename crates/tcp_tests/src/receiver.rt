@@ -3,6 +3,7 @@
 ghost use Rattle.std.specs.Prelude.{◌≡◌, ◌<◌};
 ghost use Rattle.tcp_receiver.specs.declared.expected.Progress.TheVariants.{Whole};
 
+use crate::load::{LOAD, LOAD_DATA};
 use std::alloc::Global;
 use std::test::*;
 use tcp_pdus::{HostPdu, ReadyToTransfer};
@@ -13,19 +14,6 @@ const STREAM_BYTES: usize = 231;
 
 /// Where the H2CData begins.
 const DATA: usize = 200;
-
-/// The capsule of a Load with identifier 0069h: C1h, SGLs, namespace 1, an SGL of type 5Ah of 7 bytes, slot 1, EMIT 42h.
-const LOAD_CAPSULE: [u8; 72] = [
-    0x04, 0, 72, 0, 72, 0, 0, 0, 0xC1, 0x40, 0x69, 0, 1, 0, 0, 0, 0, 0, 0, 0, 0, 0, 0, 0, 0, 0, 0,
-    0, 0, 0, 0, 0, 0, 0, 0, 0, 0, 0, 0, 0, 7, 0, 0, 0, 0, 0, 0, 0x5A, 1, 0, 0, 0, 0x42, 0, 0, 0, 7,
-    0, 0, 0, 0, 0, 0, 0, 0, 0, 0, 0, 0, 0, 0, 0,
-];
-
-/// The H2CData with the 7 bytes: LAST, PLEN 31, PDO 24, CCCID 0069h, TTAG 0, DATAO 0, DATAL 7.
-const LOAD_DATA: [u8; 31] = [
-    0x06, 4, 24, 24, 31, 0, 0, 0, 0x69, 0, 0, 0, 0, 0, 0, 0, 7, 0, 0, 0, 0, 0, 0, 0, 1, 2, 3, 4, 5,
-    6, 7,
-];
 
 /// The R2T that the host answers.
 const WANTED: ReadyToTransfer = ReadyToTransfer {
@@ -42,7 +30,7 @@ fn stream(alloc: Global) -> Result<Vec<u8>, Fail> {
     ic_req[2] = 128;
     ic_req[4] = 128;
     bytes.extend_from_slice(&ic_req)?;
-    bytes.extend_from_slice(&LOAD_CAPSULE)?;
+    bytes.extend_from_slice(&LOAD)?;
     bytes.extend_from_slice(&LOAD_DATA)?;
     Ok(bytes)
 }

@@ -5,7 +5,7 @@ use Rattle.command_durable.proofs.opening.make_durable.Goals as goal
 pub returns-in-Ok-clause-opened : goal.returns-in-Ok-clause-opened
 returns-in-Ok-clause-opened g c = λ contents found.
     let told = g.S.StoredFile.told in
-    made_durable told contents c.args.file (told c.image_in.new.file) (told c.in-Ok.device.store.journal.file) c.in_ok-image.image c.in_ok-image.ensures.image
+    made_durable told contents c.args.file (told c.image_in.new.file) (told c.in-Ok.device.store.events.journal.file) c.in_ok-image.image c.in_ok-image.ensures.image
     c.image_in.ensures.same c.image_in.ensures.any_moment c.in-Ok.ensures.any_moment found c.in-Ok.device.store.machine c.in-Ok.ensures.new
 
 pub returns-in_err-image-clause-failed : goal.returns-in_err-image-clause-failed

@@ -4,7 +4,7 @@ use Rattle.command_durable.proofs.opening.reopen.Goals as goal
 pub returns-in-Ok-clause-opened : goal.returns-in-Ok-clause-opened
 returns-in-Ok-clause-opened g c = λ contents found.
     let told = g.S.StoredFile.told in
-    reopened told contents c.args.file (told c.in-Ok.device.store.journal.file) c.in-Ok.device.store.machine found c.in-Ok.ensures.state c.in-Ok.ensures.any_moment
+    reopened told contents c.args.file (told c.in-Ok.device.store.events.journal.file) c.in-Ok.device.store.machine found c.in-Ok.ensures.state c.in-Ok.ensures.any_moment
 
 pub returns-in-Err-clause-failed : goal.returns-in-Err-clause-failed
 returns-in-Err-clause-failed g c = λ contents found.

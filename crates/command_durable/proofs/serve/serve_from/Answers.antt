@@ -30,10 +30,10 @@ returns-in-Err-clause-stopped g c =
     (g.O.Write.contents c.args.out.now) (g.O.Write.contents c.serve_and_end-served.new.out))
     c.failure_of.result c.failure_of.ensures (record {
       first = c.in_ok-device.device.store.machine;
-      opened = c.in_ok-device.device.store.journal.file;
+      opened = c.in_ok-device.device.store.events.journal.file;
       opens = c.in_ok-device.ensures.opened;
       last = c.serve_and_end-served.new.device.store.machine;
-      file = c.serve_and_end-served.new.device.store.journal.file;
+      file = c.serve_and_end-served.new.device.store.events.journal.file;
       stops = c.in-Err.ensures.stopped;
       has = subst (λ f. AreAsTold now (told f).seen) c.into_file.ensures c.in_ok-keep.ensures.bytes;
     })))

@@ -2,7 +2,7 @@ use Rattle.std.proofs.Common.{rules, ◌≡◌, length}
 use Rattle.std.proofs.lemmas.List.{nil_from_length}
 use Rattle.std.proofs.lemmas.Result.{on_ok_weaker}
 use Rattle.stored_file.proofs.Moments.{weaken}
-use Rattle.event_journal.specs.Events.{spelled}
+use Rattle.durable_machine.specs.Events.{spelled}
 use Rattle.durable_machine.proofs.Waiting.{is_committed, is_durable, is_either_of, stays}
 use Rattle.durable_machine.proofs.committing.commit.Goals as goal
 

@@ -1,6 +1,6 @@
 use Rattle.std.proofs.Common.{rules, ◌<◌, ◌≤◌, ◌+◌, ◌-◌, ℕ, List, length, take, drop, subst}
-use Rattle.event_journal.specs.Journal.{BeginsOpen, IsEnd}
-use Rattle.event_journal.proofs.ReadFrames.{rest_of}
+use Rattle.durable_machine.specs.Journal.{BeginsOpen, IsEnd}
+use Rattle.durable_machine.proofs.ReadFrames.{rest_of}
 use Rattle.durable_machine.specs.Bases.{BeginsBase}
 use Rattle.durable_machine.specs.Replay.{AreAllDone, IsIdleAt}
 use Rattle.durable_machine.specs.Refused.{IsDamaged}

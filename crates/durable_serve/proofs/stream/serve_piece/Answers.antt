@@ -9,8 +9,8 @@ use Rattle.durable_serve.proofs.stream.serve_piece.Goals as goal
 
 pub loop-rest-init : goal.loop-rest-init
 loop-rest-init g c = record {
-  adds = none_added (seen c.args.device.now.store.machine (g.W.Write.contents c.args.out.now)) c.args.device.now.store.journal.gate
-      (g.F.StoredFile.told c.args.device.now.store.journal.file) (c.args.session.now.pending ++ c.args.piece.now) c.args.session.now.place c.requires.kept;
+  adds = none_added (seen c.args.device.now.store.machine (g.W.Write.contents c.args.out.now)) c.args.device.now.store.events.journal.gate
+      (g.F.StoredFile.told c.args.device.now.store.events.journal.file) (c.args.session.now.pending ++ c.args.piece.now) c.args.session.now.place c.requires.kept;
   still = c.requires.healthy;
   partial = c.requires.partial;
   kept = c.requires.kept;
@@ -23,7 +23,7 @@ loop-rest-preserved g c = record {
       (subst (λ (rest : List ℕ). Adds (c.loop-rest.session.pending ++ c.loop-rest.rest.now) c.loop-rest.session.place (c.serve_batch.new.session.pending ++ rest)
       c.serve_batch.new.session.place (seen c.loop-rest.device.store.machine (g.W.Write.contents c.loop-rest.out))
       (seen c.serve_batch.new.device.store.machine (g.W.Write.contents c.serve_batch.new.out))
-      (g.F.StoredFile.told c.loop-rest.device.store.journal.file) (g.F.StoredFile.told c.serve_batch.new.device.store.journal.file))
+      (g.F.StoredFile.told c.loop-rest.device.store.events.journal.file) (g.F.StoredFile.told c.serve_batch.new.device.store.events.journal.file))
       (grind (arith, common_steps)) c.in_ok-count.ensures.served);
   still = c.in_ok-count.ensures.still;
   partial = c.in_ok-count.ensures.partial;
@@ -36,7 +36,7 @@ returns-clause-served g c =
     let none = nil_from_length c.loop-rest.rest.now (eqb-true (length c.loop-rest.rest.now) 0 (sym c.is_empty.ensures ∙ c.loop-rest-test.false)) in
     subst (λ (held : List ℕ). Adds (c.args.session.now.pending ++ c.args.piece.now) c.args.session.now.place held c.loop-rest.session.place
     (seen c.args.device.now.store.machine (g.W.Write.contents c.args.out.now)) (seen c.loop-rest.device.store.machine (g.W.Write.contents c.loop-rest.out))
-    (g.F.StoredFile.told c.args.device.now.store.journal.file) (g.F.StoredFile.told c.loop-rest.device.store.journal.file))
+    (g.F.StoredFile.told c.args.device.now.store.events.journal.file) (g.F.StoredFile.told c.loop-rest.device.store.events.journal.file))
     (ap (λ (rest : List ℕ). c.loop-rest.session.pending ++ rest) none ∙ append-nil c.loop-rest.session.pending)
     c.loop-rest.invariant.adds
 

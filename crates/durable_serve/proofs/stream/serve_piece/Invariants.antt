@@ -8,11 +8,11 @@ abbrev pub invariant-loop-rest : goal.invariant-loop-rest
 invariant-loop-rest g l = record {
   adds : Adds (l.fn.session.pending ++ l.piece) l.fn.session.place (l.session.pending ++ l.rest) l.session.place
       (seen l.fn.device.store.machine (g.W.Write.contents l.fn.out)) (seen l.device.store.machine (g.W.Write.contents l.out))
-      (g.F.StoredFile.told l.fn.device.store.journal.file) (g.F.StoredFile.told l.device.store.journal.file);
+      (g.F.StoredFile.told l.fn.device.store.events.journal.file) (g.F.StoredFile.told l.device.store.events.journal.file);
   still : l.session.fault ≡ None;
   partial : IsPartial l.session.pending;
-  kept : IsKept l.device.store.machine l.device.store.journal.gate (g.F.StoredFile.told l.device.store.journal.file);
-  faults : (g.F.StoredFile.told l.fn.device.store.journal.file).faults ≤ (g.F.StoredFile.told l.device.store.journal.file).faults;
+  kept : IsKept l.device.store.machine l.device.store.events.journal.gate (g.F.StoredFile.told l.device.store.events.journal.file);
+  faults : (g.F.StoredFile.told l.fn.device.store.events.journal.file).faults ≤ (g.F.StoredFile.told l.device.store.events.journal.file).faults;
 }
 
 abbrev pub decreases-loop-rest : goal.decreases-loop-rest

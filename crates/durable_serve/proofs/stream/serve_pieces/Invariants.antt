@@ -9,9 +9,9 @@ abbrev pub invariant-loop : goal.invariant-loop
 invariant-loop g l = record {
   so_far : ReadSoFar (g.R.Read.remaining l.fn.reader) (g.R.Read.remaining l.reader) l.session.pending l.session.place
       (seen l.fn.device.store.machine (g.W.Write.contents l.fn.out)) (seen l.device.store.machine (g.W.Write.contents l.out))
-      (g.F.StoredFile.told l.fn.device.store.journal.file) (g.F.StoredFile.told l.device.store.journal.file);
+      (g.F.StoredFile.told l.fn.device.store.events.journal.file) (g.F.StoredFile.told l.device.store.events.journal.file);
   still : l.session.fault ≡ None;
   partial : IsPartial l.session.pending;
-  kept : IsKept l.device.store.machine l.device.store.journal.gate (g.F.StoredFile.told l.device.store.journal.file);
-  faults : (g.F.StoredFile.told l.fn.device.store.journal.file).faults ≤ (g.F.StoredFile.told l.device.store.journal.file).faults;
+  kept : IsKept l.device.store.machine l.device.store.events.journal.gate (g.F.StoredFile.told l.device.store.events.journal.file);
+  faults : (g.F.StoredFile.told l.fn.device.store.events.journal.file).faults ≤ (g.F.StoredFile.told l.device.store.events.journal.file).faults;
 }

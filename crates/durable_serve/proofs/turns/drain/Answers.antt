@@ -12,7 +12,7 @@ returns-in_err-given-clause-stopped g c =
     let p = err_from_is_err_and c.from_residual.result c.from_residual.ensures.1 in
     rw (p.1, p.2) (turns_stop c.args.turns (seen c.args.device.now.store.machine (g.W.Write.contents c.args.out.now))
     (seen c.give_turns.new.device.store.machine (g.W.Write.contents c.give_turns.new.out))
-    (g.F.StoredFile.told c.args.device.now.store.journal.file) (g.F.StoredFile.told c.give_turns.new.device.store.journal.file)
+    (g.F.StoredFile.told c.args.device.now.store.events.journal.file) (g.F.StoredFile.told c.give_turns.new.device.store.events.journal.file)
     c.in_err-given.field-0.0 c.in_err-given.ensures.stopped)
 
 pub returns-in_err-push_drained-clause-stopped : goal.returns-in_err-push_drained-clause-stopped
@@ -20,8 +20,8 @@ returns-in_err-push_drained-clause-stopped g c =
     let p = err_from_is_err_and c.from_residual-in_err-push_drained.result c.from_residual-in_err-push_drained.ensures.1 in
     rw (p.1, p.2) (drain_untold c.args.turns (seen c.args.device.now.store.machine (g.W.Write.contents c.args.out.now))
     (seen c.give_turns.new.device.store.machine (g.W.Write.contents c.give_turns.new.out))
-    (g.F.StoredFile.told c.args.device.now.store.journal.file) (g.F.StoredFile.told c.give_turns.new.device.store.journal.file)
-    c.in_ok-given.given c.give_turns.new.device.store.journal.gate (seen c.give_turns.new.device.store.machine (g.W.Write.contents c.give_turns.new.out)) Memory
+    (g.F.StoredFile.told c.args.device.now.store.events.journal.file) (g.F.StoredFile.told c.give_turns.new.device.store.events.journal.file)
+    c.in_ok-given.given c.give_turns.new.device.store.events.journal.gate (seen c.give_turns.new.device.store.machine (g.W.Write.contents c.give_turns.new.out)) Memory
     c.in_ok-given.ensures.given c.in_ok-given.ensures.kept refl refl)
 
 pub returns-clause-served : goal.returns-clause-served
@@ -29,7 +29,7 @@ returns-clause-served g c =
     on_ok_weaker c.write.result
     (λ wrote. finish_drain c.args.turns (seen c.args.device.now.store.machine (g.W.Write.contents c.args.out.now))
     (seen c.give_turns.new.device.store.machine (g.W.Write.contents c.give_turns.new.out))
-    (g.F.StoredFile.told c.args.device.now.store.journal.file) (g.F.StoredFile.told c.give_turns.new.device.store.journal.file)
+    (g.F.StoredFile.told c.args.device.now.store.events.journal.file) (g.F.StoredFile.told c.give_turns.new.device.store.events.journal.file)
     c.in_ok-given.given (seen c.give_turns.new.device.store.machine (g.W.Write.contents c.write.new.out)) c.in_ok-given.ensures.given refl
     (framed (g.W.Write.contents c.give_turns.new.out) (g.W.Write.contents c.write.new.out) c.as_slice.result.now c.push_drained.new.frame.items
     c.clear.new.self.items (drained_frame c.in_ok-given.given) c.clear.ensures.items c.in_ok-push_drained.ensures c.as_slice.ensures.value wrote))
@@ -40,7 +40,7 @@ returns-clause-stopped g c =
     IfErr-weaker c.write.result IsUnwritten _
     (λ why is. drain_untold c.args.turns (seen c.args.device.now.store.machine (g.W.Write.contents c.args.out.now))
     (seen c.give_turns.new.device.store.machine (g.W.Write.contents c.give_turns.new.out))
-    (g.F.StoredFile.told c.args.device.now.store.journal.file) (g.F.StoredFile.told c.give_turns.new.device.store.journal.file)
-    c.in_ok-given.given c.give_turns.new.device.store.journal.gate (seen c.give_turns.new.device.store.machine (g.W.Write.contents c.write.new.out)) why
+    (g.F.StoredFile.told c.args.device.now.store.events.journal.file) (g.F.StoredFile.told c.give_turns.new.device.store.events.journal.file)
+    c.in_ok-given.given c.give_turns.new.device.store.events.journal.gate (seen c.give_turns.new.device.store.machine (g.W.Write.contents c.write.new.out)) why
     c.in_ok-given.ensures.given c.in_ok-given.ensures.kept refl (unwritten_unanswered why _ _ is))
     c.write.ensures.unwritten

@@ -12,22 +12,22 @@ use Rattle.durable_serve.proofs.turns.give_round.Goals as goal
 pub returns-in_err-frames-clause-stopped : goal.returns-in_err-frames-clause-stopped
 returns-in_err-frames-clause-stopped g c =
     let p = err_from_is_err_and c.from_residual.result c.from_residual.ensures.1 in
-    rw (p.1, p.2) (Starved refl refl (quiet c.args.device.now.store.machine c.args.device.now.store.journal.gate
-    (g.F.StoredFile.told c.args.device.now.store.journal.file) c.requires.kept))
+    rw (p.1, p.2) (Starved refl refl (quiet c.args.device.now.store.machine c.args.device.now.store.events.journal.gate
+    (g.F.StoredFile.told c.args.device.now.store.events.journal.file) c.requires.kept))
 
 pub returns-in_err-given-clause-stopped : goal.returns-in_err-given-clause-stopped
 returns-in_err-given-clause-stopped g c =
     let p = err_from_is_err_and c.from_residual-in_err-given.result c.from_residual-in_err-given.ensures.1 in
     rw (p.1, p.2) (round_fails c.args.run c.args.count (bytes_of c.as_slice.result.now)
     (seen c.args.device.now.store.machine (g.W.Write.contents c.args.out.now)) (seen c.perform.new.device.store.machine (g.W.Write.contents c.perform.new.out))
-    (g.F.StoredFile.told c.args.device.now.store.journal.file) (g.F.StoredFile.told c.perform.new.device.store.journal.file)
+    (g.F.StoredFile.told c.args.device.now.store.events.journal.file) (g.F.StoredFile.told c.perform.new.device.store.events.journal.file)
     c.in_err-given.field-0.0 (ap bytes_of c.as_slice.ensures.value ∙ c.in_ok-frames.ensures) c.in_err-given.ensures.failed c.perform.ensures.any_moment)
 
 pub returns-clause-given : goal.returns-clause-given
 returns-clause-given g c =
     round_done c.frames_tell_events.ensures c.args.run c.args.count c.runs_in.result (bytes_of c.as_slice.result.now)
     (seen c.args.device.now.store.machine (g.W.Write.contents c.args.out.now)) (seen c.perform.new.device.store.machine (g.W.Write.contents c.perform.new.out))
-    c.in_ok-given.given.items (g.F.StoredFile.told c.args.device.now.store.journal.file) (g.F.StoredFile.told c.perform.new.device.store.journal.file)
+    c.in_ok-given.given.items (g.F.StoredFile.told c.args.device.now.store.events.journal.file) (g.F.StoredFile.told c.perform.new.device.store.events.journal.file)
     (ap bytes_of c.as_slice.ensures.value ∙ c.in_ok-frames.ensures) c.in_ok-given.ensures.done (c.runs_in.ensures ∙ ap (λ (l : List (Option Given)). length (of_runs (replies_in l))) c.as_slice-2.ensures.value) c.perform.ensures.any_moment
 
 pub overflow_cast-result : goal.overflow_cast-result

@@ -6,11 +6,11 @@ use Rattle.durable_serve.proofs.turns.give_turns.Given as goal
 
 abbrev pub invariant-loop-given : goal.invariant-loop-given
 invariant-loop-given g l = record {
-  kept : IsKept l.device.store.machine l.device.store.journal.gate (g.F.StoredFile.told l.device.store.journal.file);
-  faults : (g.F.StoredFile.told l.fn.device.store.journal.file).faults ≤ (g.F.StoredFile.told l.device.store.journal.file).faults;
+  kept : IsKept l.device.store.machine l.device.store.events.journal.gate (g.F.StoredFile.told l.device.store.events.journal.file);
+  faults : (g.F.StoredFile.told l.fn.device.store.events.journal.file).faults ≤ (g.F.StoredFile.told l.device.store.events.journal.file).faults;
   goes : GoesRound l.turns l.given l.idle l.run
       (seen l.fn.device.store.machine (g.W.Write.contents l.fn.out)) (seen l.device.store.machine (g.W.Write.contents l.out))
-      (g.F.StoredFile.told l.fn.device.store.journal.file) (g.F.StoredFile.told l.device.store.journal.file);
+      (g.F.StoredFile.told l.fn.device.store.events.journal.file) (g.F.StoredFile.told l.device.store.events.journal.file);
 }
 
 abbrev pub decreases-loop-given : goal.decreases-loop-given

@@ -11,13 +11,13 @@ pub returns-in_err-push_saved-clause-stopped : goal.returns-in_err-push_saved-cl
 returns-in_err-push_saved-clause-stopped g c =
     let p = err_from_is_err_and c.from_residual.result c.from_residual.ensures.1 in
     rw (p.1, p.2) (save_stops (seen c.args.device.now.store.machine (g.W.Write.contents c.args.out.now)) (seen c.args.device.now.store.machine (g.W.Write.contents c.args.out.now))
-    c.args.device.now.store.journal.gate (g.F.StoredFile.told c.args.device.now.store.journal.file) c.requires.kept refl Memory refl)
+    c.args.device.now.store.events.journal.gate (g.F.StoredFile.told c.args.device.now.store.events.journal.file) c.requires.kept refl Memory refl)
 
 pub returns-clause-served : goal.returns-clause-served
 returns-clause-served g c =
     on_ok_weaker c.write.result
     (λ wrote. finish_save (seen c.args.device.now.store.machine (g.W.Write.contents c.args.out.now)) (seen c.args.device.now.store.machine (g.W.Write.contents c.write.new.out))
-    c.args.device.now.store.journal.gate (g.F.StoredFile.told c.args.device.now.store.journal.file) c.requires.kept refl
+    c.args.device.now.store.events.journal.gate (g.F.StoredFile.told c.args.device.now.store.events.journal.file) c.requires.kept refl
     (framed (g.W.Write.contents c.args.out.now) (g.W.Write.contents c.write.new.out) c.as_slice.result.now c.push_saved.new.frame.items c.clear.new.self.items saved_frame
     c.clear.ensures.items c.in_ok-push_saved.ensures c.as_slice.ensures.value wrote))
     c.write.ensures.written
@@ -26,5 +26,5 @@ pub returns-clause-stopped : goal.returns-clause-stopped
 returns-clause-stopped g c =
     IfErr-weaker c.write.result IsUnwritten _
     (λ why is. save_stops (seen c.args.device.now.store.machine (g.W.Write.contents c.args.out.now)) (seen c.args.device.now.store.machine (g.W.Write.contents c.write.new.out))
-    c.args.device.now.store.journal.gate (g.F.StoredFile.told c.args.device.now.store.journal.file) c.requires.kept refl why (unwritten_unanswered why _ _ is))
+    c.args.device.now.store.events.journal.gate (g.F.StoredFile.told c.args.device.now.store.events.journal.file) c.requires.kept refl why (unwritten_unanswered why _ _ is))
     c.write.ensures.unwritten

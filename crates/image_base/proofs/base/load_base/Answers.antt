@@ -1,5 +1,5 @@
 use Rattle.std.proofs.Common.{rules, ◌≡◌, Ok, refl}
-use Rattle.event_journal.specs.Events.{BeginsEvent}
+use Rattle.durable_machine.specs.Events.{BeginsEvent}
 use Rattle.durable_machine.specs.Batches.{bytes_of}
 use Rattle.image_text.specs.Reading.{namespace_in}
 use Rattle.image_base.specs.Base.{BeginNoSections, IsBehindMagic, IsNoText}

@@ -1,6 +1,6 @@
 use Rattle.std.proofs.Common.{rules, ◌≡◌, ◌<◌, ◌^◌, ◌++◌, [], ◌∷◌, length, sym, ◌∙◌, ap, subst, List, ℕ, append_assoc}
-use Rattle.event_journal.specs.Events.{spelled}
-use Rattle.event_journal.proofs.Spelling.{spelled-append}
+use Rattle.durable_machine.specs.Events.{spelled}
+use Rattle.durable_machine.proofs.Spelling.{spelled-append}
 use Rattle.durable_machine.specs.Batches.{bytes_of}
 use Rattle.image_text.specs.Text.{text}
 use Rattle.image_text.proofs.Proved.{saved_texts_load}

@@ -1,5 +1,5 @@
 use Rattle.std.proofs.Common.{IsTrue, sym, subst, arith}
-use Rattle.tcp_places.specs.Places.{has_room}
+use Rattle.tcp_queues.specs.Places.{has_room}
 use Rattle.tcp_queues.specs.Commands.{connect_data_at}
 use Rattle.tcp_queues.specs.Queues.{place_at}
 use Rattle.tcp_target.specs.Target.{TargetState}

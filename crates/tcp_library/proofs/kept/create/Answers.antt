@@ -3,7 +3,7 @@ use Rattle.std.specs.Prelude.{Ok}
 use Rattle.std.proofs.lemmas.Result.{IfOk-weaker}
 use Rattle.handed_file.specs.Handed.{noted, told_of}
 use Rattle.stored_file.specs.File.{LeavesOnly}
-use Rattle.system_file.specs.Calls.{Call}
+use Rattle.stored_file.specs.Calls.{Call}
 use Rattle.durable_device.specs.Kept.{IsKeptInBase, IsOldOrStandsFor}
 use Rattle.image_text.specs.Reading.{namespace_in}
 use Rattle.device_meaning.specs.State.{State, new_state}
@@ -14,7 +14,7 @@ use Rattle.tcp_library.proofs.kept.create.Goals as goal
 pub returns-in-Ok-create-clause-opened : goal.returns-in-Ok-create-clause-opened
 returns-in-Ok-create-clause-opened c =
     let device = c.in-Ok-create.device.store.machine in
-    let journal = c.in-Ok-create.device.store.journal in
+    let journal = c.in-Ok-create.device.store.events.journal in
     let told : namespace_in c.args.bytes.now ≡ Ok c.in-Ok.image = search rules in
     IfOk-weaker c.session.result (IsServed device journal) (IsCreated c.args.bytes.now (noted c.args.file))
     (λ (session : Session) (served : IsServed device journal session). record {

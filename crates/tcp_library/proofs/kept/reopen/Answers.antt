@@ -8,7 +8,7 @@ use Rattle.tcp_library.proofs.kept.reopen.Goals as goal
 pub returns-in-Ok-clause-opened : goal.returns-in-Ok-clause-opened
 returns-in-Ok-clause-opened c =
     let device = c.in-Ok.device.store.machine in
-    let journal = c.in-Ok.device.store.journal in
+    let journal = c.in-Ok.device.store.events.journal in
     IfOk-weaker c.session.result (IsServed device journal) (IsReopened (noted c.args.file))
     (λ (session : Session) (served : IsServed device journal session). record {
       device = device;

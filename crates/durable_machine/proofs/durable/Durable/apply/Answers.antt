@@ -1,25 +1,23 @@
 use Rattle.std.proofs.Common.{rules, ◌≡◌, ℕ, List, true, false, length, subst, sym, ◌∙◌}
 use Rattle.durable_machine.specs.Applied.{HasApplied}
-use Rattle.durable_machine.specs.Waiting.{IsCommittedBut}
-use Rattle.durable_machine.proofs.Waiting.{as_before, one_more, taken_back}
+use Rattle.durable_machine.proofs.Spelling.{alone}
 use Rattle.durable_machine.proofs.durable.Durable.apply.Goals as goal
 
 pub returns-then-done-clause-kept : goal.returns-then-done-clause-kept
 returns-then-done-clause-kept g c =
+    let store = g.S.Store in
     let applied : HasApplied g.M.Machine.next g.M.Machine.replies c.args.event.now c.args.self.now.machine c.in-Ok.done c.apply-result.new.self = search rules in
     let changes : c.in-Ok.done.changes ≡ true = search rules in
-    subst (λ (w : List ℕ). IsCommittedBut g.M.Machine.loads g.M.Machine.next w c.apply-result.new.self c.args.self.now.journal.gate (g.F.StoredFile.told c.args.self.now.journal.file))
-    (sym c.in_ok-add_event.ensures.added)
-    (one_more g.M.Machine.loads g.M.Machine.next _ _ _ _ _ _ c.requires.kept c.in_ok-add_event.ensures.sized (applied.again changes))
+    subst (λ s. store.keeps s (store.waits c.note.new.self) (store.disk c.note.new.self)) (sym (applied.again changes))
+    (c.in_ok-before.ensures.noted c.args.self.now.machine c.args.event.now (sym (alone c.args.event.now)) c.requires.kept)
 
 pub returns-else-done-clause-kept : goal.returns-else-done-clause-kept
 returns-else-done-clause-kept g c =
+    let store = g.S.Store in
     let applied : HasApplied g.M.Machine.next g.M.Machine.replies c.args.event.now c.args.self.now.machine c.in-Ok.done c.apply-result.new.self = search rules in
     let idle : c.in-Ok.done.changes ≡ false = search rules in
-    let waiting = c.args.self.now.waiting.items in
-    let count : c.len-before.result ≡ length waiting = search rules in
-    let back : c.truncate.new.self.items ≡ waiting =
-    c.truncate.ensures.items ∙ taken_back c.add_event.new.events.items waiting _ c.len-before.result c.in_ok-add_event.ensures.added count in
-    subst (λ (w : List ℕ). IsCommittedBut g.M.Machine.loads g.M.Machine.next w c.apply-result.new.self c.args.self.now.journal.gate (g.F.StoredFile.told c.args.self.now.journal.file))
-    (sym back)
-    (as_before g.M.Machine.loads g.M.Machine.next _ _ _ _ _ c.requires.kept (applied.idle idle))
+    let back : store.waits c.take_back.new.self ≡ store.waits c.args.self.now.events = search rules in
+    let same : store.disk c.take_back.new.self ≡ store.disk c.args.self.now.events = search rules in
+    subst (λ s. store.keeps s (store.waits c.take_back.new.self) (store.disk c.take_back.new.self)) (sym (applied.idle idle))
+    (subst (λ w. store.keeps c.args.self.now.machine w (store.disk c.take_back.new.self)) (sym back)
+    (subst (λ d. store.keeps c.args.self.now.machine (store.waits c.args.self.now.events) d) (sym same) c.requires.kept))

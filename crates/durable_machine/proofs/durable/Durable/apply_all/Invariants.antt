@@ -1,10 +1,9 @@
 use Rattle.std.proofs.Common.{◌≡◌, take}
 use Rattle.durable_machine.specs.Batches.{HasServed, bytes_of}
-use Rattle.durable_machine.specs.Waiting.{IsCommittedBut}
 use Rattle.durable_machine.proofs.durable.Durable.apply_all.Given as goal
 
 abbrev pub invariant-loop-event : goal.invariant-loop-event
 invariant-loop-event g l =
     HasServed g.M.Machine.next g.M.Machine.replies (bytes_of (take l.event-index l.events)) l.fn.self.machine l.self.machine l.replies.items
-    × IsCommittedBut g.M.Machine.loads g.M.Machine.next l.self.waiting.items l.self.machine l.self.journal.gate (g.F.StoredFile.told l.self.journal.file)
-    × (l.self.journal ≡ l.fn.self.journal)
+    × g.S.Store.keeps l.self.machine (g.S.Store.waits l.self.events) (g.S.Store.disk l.self.events)
+    × (g.S.Store.disk l.self.events ≡ g.S.Store.disk l.fn.self.events)

@@ -1,6 +1,6 @@
 use Rattle.std.proofs.Common.{List, subst, sym}
-use Rattle.system_file.specs.Calls.{Call, told_of}
-use Rattle.system_file.proofs.Opened.{opened_leaves}
+use Rattle.stored_file.specs.Calls.{Call, told_of}
+use Rattle.stored_file.proofs.Opened.{opened_leaves}
 use Rattle.durable_device.specs.Kept.{IsRestarted, MayBeLeft}
 use Rattle.handed_file.proofs.handed_file.HandedFile.new.Goals as goal
 

@@ -1,7 +1,7 @@
 use Rattle.std.proofs.Common.{rules, ◌≡◌, ℕ, List, subst, sym}
 use Rattle.stored_file.specs.File.{Follows, Mixed}
-use Rattle.system_file.specs.Calls.{Call, told_of}
-use Rattle.system_file.proofs.Opened.{refused_mixed}
+use Rattle.stored_file.specs.Calls.{Call, told_of}
+use Rattle.stored_file.proofs.Opened.{refused_mixed}
 use Rattle.durable_device.specs.Kept.{MayBeLeft}
 use Rattle.handed_file.proofs.Renewed.{IsLong, handed_mixed}
 use Rattle.handed_file.proofs.handed_file.HandedFileStoredFile.renew.Goals as goal

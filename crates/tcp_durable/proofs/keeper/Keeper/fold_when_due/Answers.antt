@@ -4,4 +4,4 @@ use Rattle.tcp_durable.proofs.keeper.Keeper.fold_when_due.Goals as goal
 
 pub returns-then-saturating_sub-le-MOST_JOURNAL-clause-any_moment : goal.returns-then-saturating_sub-le-MOST_JOURNAL-clause-any_moment
 returns-then-saturating_sub-le-MOST_JOURNAL-clause-any_moment g c =
-    nothing_done IsDeviceBase next_state c.args.served.now.device c.args.self.now.journal.gate _ c.requires.kept _ (λ file is. is)
+    nothing_done IsDeviceBase next_state c.args.served.now.device c.args.self.now.events.journal.gate _ c.requires.kept _ (λ file is. is)

@@ -1,5 +1,0 @@
-use Rattle.std.proofs.Common.{append_assoc, refl}
-use Rattle.command_files.proofs.lines.of_emit.Goals as goal
-
-pub returns : goal.returns
-returns c = simp append_assoc refl

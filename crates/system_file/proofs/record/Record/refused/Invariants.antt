@@ -1,6 +1,0 @@
-use Rattle.std.proofs.Common.{◌∷◌}
-use Rattle.system_file.specs.Calls.{Refused}
-use Rattle.system_file.proofs.record.Record.refused.Given as goal
-
-abbrev pub ghost-note : goal.ghost-note
-ghost-note a = Refused ∷ a.self.now.calls

@@ -1,6 +1,0 @@
-use Rattle.std.proofs.Common.{◌∷◌}
-use Rattle.system_file.specs.Calls.{Synced}
-use Rattle.system_file.proofs.record.Record.synced.Given as goal
-
-abbrev pub ghost-note : goal.ghost-note
-ghost-note a = Synced a._done ∷ a.self.now.calls

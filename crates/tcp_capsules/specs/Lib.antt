@@ -1,3 +1,0 @@
-pub mod Direction
-pub mod Sgl
-pub mod Answer

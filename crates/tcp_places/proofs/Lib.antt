@@ -1,4 +1,0 @@
-mod Cuts
-mod Ends
-mod Order
-pub mod Proved

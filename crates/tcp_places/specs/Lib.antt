@@ -1,6 +1,0 @@
-pub mod Places
-pub mod Events
-pub mod Laws
-pub mod Pieces
-pub mod Order
-pub mod steps
