@@ -7,7 +7,7 @@ use clap::ArgMatches;
 use command_explain::{push_answer, push_command};
 use command_files::{Counted, Failure, printed};
 use command_words::{Argument, Takes, Words};
-use device_events::{Event, Reply};
+use device_events::{CompletionEntry, Event, Reply};
 use image_store::{Geometry, Image, Limits};
 use interval_domain::Intervals;
 use nvme_entry::{Completion, Entry, MOST_TRANSFER, Status};
@@ -127,7 +127,7 @@ fn push_reply(
         (Reply::Complete { entry, length, .. }, _) => {
             let data = data.get(..length).unwrap_or(data);
             push_completion(alloc, event, &entry, data, out)?;
-            push_bytes(alloc, hex, &entry, out)
+            push_bytes(alloc, hex, &entry.bytes(), out)
         }
         (Reply::Pending { run }, Event::Submit { .. }) => writeln!(out, "  admitted as run {run}"),
         (Reply::Pending { .. }, _) => out.push_str("  done for one block; more are left\n"),
@@ -141,13 +141,11 @@ fn push_reply(
 fn push_completion(
     alloc: Global,
     event: &Event,
-    entry: &[u8; 16],
+    entry: &CompletionEntry,
     data: &[u8],
     out: &mut String,
 ) -> Result<(), AllocError> {
-    let Some(completion) = Completion::decode(entry) else {
-        return Ok(());
-    };
+    let completion = entry.completion();
     if completion.status != Status::SUCCESS {
         return push_refusal(alloc, completion.status, out);
     }

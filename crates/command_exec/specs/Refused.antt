@@ -1,6 +1,6 @@
 -- The commands of a command file that the device refused, of which `exec` tells (profile).
 use Rattle.std.specs.Prelude.{◌≡◌, ◌==◌, ◌-◌, ◌/◌, ◌%◌, ◌^◌, ℕ, min, Bool, true, false, not, bytes_eq, codes, count_by, List, [], ◌∷◌, ◌++◌, get_or, length, position, Option, Some, option_map}
-use Rattle.nvme_entry.specs.Dwords.{dword}
+use Rattle.device_events.specs.CompletionEntries.{tells_success}
 use Rattle.device_events.specs.Replies.{ReplyWithData}
 use Rattle.device_events.specs.declared.reply.Reply.{Reply}
 use Rattle.device_events.specs.declared.reply.Reply.TheVariants.{Complete}
@@ -19,14 +19,9 @@ asks_fail matches = bytes_eq (value_of matches FAIL.now) (codes "true")
 abbrev pub asks_stop : ArgMatches → Bool
 asks_stop matches = bytes_eq (value_of matches STOP.now) (codes "true")
 
--- the command was refused of which these 16 bytes are the completion: its status code and status code type, in bits 24:17 and 27:25 of
--- Dword 3, aren't both 0 (NVMe Base 2.0, 3.3.3.2)
-abbrev pub is_refused : List ℕ → Bool
-is_refused entry = not (dword entry 3 / 2 ^ 17 % 2 ^ 11 == 0)
-
 -- a reply is the completion of a command that was refused
 abbrev pub tells_refusal : Reply → Bool
-tells_refusal (Complete queue entry length) = is_refused entry
+tells_refusal (Complete queue entry length) = not (tells_success entry)
 tells_refusal _ = false
 
 -- the same of one with its data

@@ -3,10 +3,9 @@
 ghost use Rattle.std.specs.Prelude.{◌≡◌};
 ghost use Rattle.std.proofs.Common.{◌∙◌, ap, refl, sym};
 ghost use Rattle.std.proofs.lemmas.List.Sums.{fold-append};
-ghost use Rattle.command_exec.specs.Refused.{is_refusal, is_refused, tells_refusal};
+ghost use Rattle.command_exec.specs.Refused.{is_refusal, tells_refusal};
 ghost use Rattle.command_exec.specs.steps.Tallied.{Watches, none_tallied, noted, tallied};
 
-use byteorder::{ByteOrder, LittleEndian};
 use device_events::{NotTaken, Out, Reply};
 
 /// Replies that were taken, counted, and the refusals among them.
@@ -113,15 +112,7 @@ fn is_refusal(reply: &Reply) -> bool
     ensures { result ≡ tells_refusal reply.now }
 {
     match reply {
-        Reply::Complete { entry, .. } => is_refused(entry),
+        Reply::Complete { entry, .. } => !entry.is_success(),
         Reply::Pending { .. } | Reply::Idle | Reply::FaultTaken | Reply::FaultRefused => false,
     }
-}
-
-/// Was the command refused of which this is the completion? Its status code or status code type isn't 0 then (NVMe Base 2.0, 3.3.3.2).
-fn is_refused(entry: &[u8; 16]) -> bool
-    ensures { result ≡ is_refused entry.now }
-{
-    let dword = LittleEndian::read_u32(&entry[12..]);
-    (dword >> 17) % 0x800 != 0
 }

@@ -15,8 +15,8 @@ use command_files::{
     push_damage, push_others, read, read_or_none,
 };
 use command_words::{Argument, Takes, Words};
-use device_events::Reply;
-use event_text::{RepliesFault, ToldReply, event_lines, parse, replies};
+use device_events::{CompletionEntry, Reply};
+use event_text::{RepliesFault, Told, ToldReply, event_lines, parse, replies};
 use link_notes::{LinkNotes, NotesFault};
 use nvme_entry::Completion;
 use std::alloc::{AllocError, Global};
@@ -273,7 +273,11 @@ fn push_replies(
     out: &mut String,
 ) -> Result<(), AllocError> {
     for told in replies {
-        push_reply(told.reply, told.bytes.as_slice(), pairing, notes, form, out)?;
+        let data = told.bytes.as_slice();
+        match told.told {
+            Told::Reply(reply) => push_reply(reply, data, pairing, notes, form, out)?,
+            Told::Unknown { queue, .. } => push_unknown(queue, form, out)?,
+        }
     }
     Ok(())
 }
@@ -354,8 +358,8 @@ fn push_pending(run: u8, form: Form, out: &mut String) -> Result<(), AllocError>
 }
 
 /// The completion that an entry of this queue is, if it is one.
-pub(crate) fn completion_from(queue: u16, entry: &[u8; 16]) -> Option<Completion> {
-    let completion = Completion::decode(entry)?;
+pub(crate) fn completion_from(queue: u16, entry: &CompletionEntry) -> Option<Completion> {
+    let completion = entry.completion();
     if completion.queue == queue {
         Some(completion)
     } else {

@@ -5,11 +5,11 @@ ghost use Rattle.std.specs.List.{filter_map};
 ghost use Rattle.std.specs.HashMap.{get};
 ghost use Rattle.command_explain.specs.declared.submissions.Identity.{Identity};
 ghost use Rattle.command_explain.specs.steps.Submissions.{same_identity};
-ghost use Rattle.command_explain.specs.steps.Uses.{AreCounted, completion_in, count_of, doubt_at, ends_in_run, run_in};
+ghost use Rattle.command_explain.specs.steps.Uses.{AreCounted, completion_in, count_of, doubt_at, ends_in_run, identity_in, run_in};
 
 use crate::submissions::{Identity, Submission, is_run};
 use device_events::Reply;
-use event_text::ToldReply;
+use event_text::{Told, ToldReply};
 use std::alloc::{AllocError, Global};
 use std::collections::HashMap;
 
@@ -138,12 +138,22 @@ fn completions(alloc: Global, replies: &[ToldReply]) -> Result<Vec<Identity>, Al
 fn completion_in(told: &ToldReply) -> Option<Identity>
     ensures { result ≡ completion_in told.now }
 {
-    match &told.reply {
-        Reply::Complete { queue, entry, .. } => {
-            let cid = u16::from(entry[12]) + 0x100 * u16::from(entry[13]);
-            Some(Identity { queue: *queue, cid })
-        }
-        Reply::Pending { .. } | Reply::Idle | Reply::FaultTaken | Reply::FaultRefused => None,
+    match told.told {
+        Told::Reply(Reply::Complete { queue, entry, .. }) => Some(identity_in(queue, &entry.bytes())),
+        Told::Unknown { queue, entry, .. } => Some(identity_in(queue, &entry)),
+        Told::Reply(
+            Reply::Pending { .. } | Reply::Idle | Reply::FaultTaken | Reply::FaultRefused,
+        ) => None,
+    }
+}
+
+/// The identity that the bytes of a completion tell.
+fn identity_in(queue: u16, entry: &[u8; 16]) -> Identity
+    ensures { result ≡ identity_in queue entry.now }
+{
+    Identity {
+        queue,
+        cid: u16::from(entry[12]) + 0x100 * u16::from(entry[13]),
     }
 }
 

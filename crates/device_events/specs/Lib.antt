@@ -1,3 +1,4 @@
+pub mod CompletionEntries
 pub mod Replies
 pub mod Printed
 pub mod ToldEvents

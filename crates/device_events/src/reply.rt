@@ -3,6 +3,8 @@
 ghost use Rattle.std.specs.Prelude.{◌≡◌};
 ghost use Rattle.device_events.specs.Replies.{data_length};
 
+use crate::completion_entry::CompletionEntry;
+
 /// The reply to an event.
 #[derive(Clone, Copy, Debug, PartialEq, Eq)]
 pub enum Reply {
@@ -10,8 +12,8 @@ pub enum Reply {
     Complete {
         /// The queue that the command came from.
         queue: u16,
-        /// The completion's bytes (NVMe Base 2.0, 3.3.3.2).
-        entry: [u8; 16],
+        /// The completion (NVMe Base 2.0, 3.3.3.2).
+        entry: CompletionEntry,
         /// How many bytes of data go with it.
         length: usize,
     },

@@ -144,7 +144,7 @@ fn head_of(reply: Reply) -> ReplyHead
         } => ReplyHead {
             length,
             number: u32::from(queue),
-            completion: entry,
+            completion: entry.bytes(),
         },
         Reply::Pending { run } => ReplyHead {
             length: 0,

@@ -29,7 +29,8 @@ use Rattle.device_meaning.specs.Outcome.{Ending}
 use Rattle.device_meaning.specs.State.{Place, State, holds_at, loaded_at, with_namespace}
 use Rattle.device_meaning.proofs.Proved.{of_turn}
 use Rattle.pushdown.proofs.Proved.{refused_leaves_state}
-use Rattle.durable_device.specs.Changing.{HasIdentifier, asks_change, is_change, is_idle, is_refusal, is_taken, is_want_of_memory, may_change, tells_success, tells_want}
+use Rattle.durable_device.specs.Changing.{HasIdentifier, asks_change, is_change, is_idle, is_refusal, is_taken, is_want_of_memory, may_change}
+use Rattle.device_events.specs.CompletionEntries.{tells_success, tells_want}
 
 -- ---- what completions tell
 

@@ -1,11 +1,12 @@
 -- Which events may have changed a device, by their replies.
-use Rattle.std.specs.Prelude.{ℕ, Bool, true, false, not, ◌<◌, ◌^◌, ◌==◌, ◌&&◌, List, slice_index, Result, Ok, Err}
+use Rattle.std.specs.Prelude.{ℕ, Bool, true, false, not, ◌<◌, ◌^◌, ◌&&◌, Result, Ok, Err}
 use Rattle.zone_state.specs.declared.status.Status.{Status}
 use Rattle.nvme_entry.specs.Entry.{decoded, identifier_of}
 use Rattle.nvme_entry.specs.declared.command.Command.{Command}
 use Rattle.nvme_entry.specs.declared.command.Command.TheVariants.{Standard, Load, Run, Result as GiveResult}
 use Rattle.zns_commands.specs.Change.{Change, Nothing, Writing, Moving}
 use Rattle.zns_commands.specs.Meaning.{change_of}
+use Rattle.device_events.specs.CompletionEntries.{tells_success, tells_want}
 use Rattle.device_events.specs.ToldEvents.{ToldEvent, Submitted, Turned, Faulted}
 use Rattle.device_events.specs.declared.reply.Reply.{Reply}
 use Rattle.device_events.specs.declared.reply.Reply.TheVariants.{Complete, Pending, Idle, FaultTaken, FaultRefused}
@@ -24,10 +25,6 @@ asks_change (Ok (Load load)) = true
 asks_change (Ok (Run command)) = true
 asks_change (Ok (GiveResult slot)) = false
 
--- does a completion tell success? Its status is 0 then, in bits 31:17 of Dword 3 (NVMe Base 2.0, 3.3.3.2)
-abbrev pub tells_success : List ℕ → Bool
-tells_success entry = slice_index entry 14 == 0 && slice_index entry 15 == 0
-
 -- is a reply a completion whose status isn't success?
 abbrev pub is_refusal : Reply → Bool
 is_refusal (Complete queue entry length) = not (tells_success entry)
@@ -35,10 +32,6 @@ is_refusal (Pending run) = false
 is_refusal Idle = false
 is_refusal FaultTaken = false
 is_refusal FaultRefused = false
-
--- does a completion tell want of memory? Its status code type is 7h then and its status code C7h (profile)
-abbrev pub tells_want : List ℕ → Bool
-tells_want entry = slice_index entry 14 == 142 && slice_index entry 15 == 15
 
 -- is a reply such a completion?
 abbrev pub is_want_of_memory : Reply → Bool

@@ -10,10 +10,6 @@ use crate::frame_event::FrameEvent;
 use device_events::Reply;
 use nvme_entry::{Command, Entry, StandardCommand};
 
-/// The last two bytes of a completion that says that memory was wanting: status code type 7h, status code C7h (profile; NVMe Base 2.0,
-/// 3.3.3.2.1).
-const WANT_OF_MEMORY: [u8; 2] = [0x8e, 0x0f];
-
 /// Whether an event with this reply may have changed the device. A refused one hasn't, whatever it was refused for, nor has one
 /// that only reads.
 pub(crate) fn may_change(event: &FrameEvent<'_>, reply: &Reply) -> bool
@@ -61,7 +57,7 @@ pub fn is_refusal(reply: &Reply) -> bool
     ensures { result ≡ is_refusal reply.now }
 {
     match reply {
-        Reply::Complete { entry, .. } => !(entry[14] == 0 && entry[15] == 0),
+        Reply::Complete { entry, .. } => !entry.is_success(),
         Reply::Pending { .. } => false,
         Reply::Idle => false,
         Reply::FaultTaken => false,
@@ -74,8 +70,7 @@ pub(crate) fn is_want_of_memory(reply: &Reply) -> bool
     ensures { result ≡ is_want_of_memory reply.now }
 {
     match reply {
-        Reply::Complete { entry, .. } => entry[14] == WANT_OF_MEMORY[0]
-            && entry[15] == WANT_OF_MEMORY[1],
+        Reply::Complete { entry, .. } => entry.is_want_of_memory(),
         Reply::Pending { .. } => false,
         Reply::Idle => false,
         Reply::FaultTaken => false,

@@ -124,7 +124,7 @@ pub fn push_reply(frame: &mut Vec<u8>, reply: Reply, bytes: &[u8]) -> Result<(),
 {
     frame.extend_from_slice(&reply_header(reply, bytes.len() as u32))?;
     match reply {
-        Reply::Complete { entry, .. } => frame.extend_from_slice(&entry)?,
+        Reply::Complete { entry, .. } => frame.extend_from_slice(&entry.bytes())?,
         Reply::Pending { .. } | Reply::Idle | Reply::FaultTaken | Reply::FaultRefused => {}
     }
     frame.extend_from_slice(bytes)?;

@@ -5,7 +5,7 @@ use Rattle.std.proofs.lemmas.List.Elements.{All-push}
 use Rattle.std.specs.List.{All, AllPass}
 use Rattle.std.specs.Str.Lines.{lines}
 use Rattle.event_text.specs.declared.reply_file.ToldReply.{ToldReply}
-use Rattle.event_text.specs.ReplyFile.{HasItsData, can_be_given, told_text}
+use Rattle.event_text.specs.ReplyFile.{HasItsData, can_be_given, reply_of, told_text}
 
 -- one more reply
 pub reply_read : (all rest behind : List (List ℕ)) (before : List ToldReply) (told : ToldReply) (line : List ℕ) → all ≡ map told_text before ++ rest → rest ≡ line ∷ behind → line ≡ told_text told
@@ -26,6 +26,6 @@ pub one_more_whole : (before : List ToldReply) (told : ToldReply) → All HasIts
 one_more_whole before told whole has = All-push HasItsData before told whole has
 
 -- one more reply can be given
-pub one_more_given : (before : List ToldReply) (told : ToldReply) → AllPass (λ given. can_be_given given.reply) before → can_be_given told.reply ≡ true
-    → AllPass (λ given. can_be_given given.reply) (before ++ told ∷ [])
-one_more_given before told given is = All-push (λ given. can_be_given given.reply ≡ true) before told given is
+pub one_more_given : (before : List ToldReply) (told : ToldReply) → AllPass (λ given. can_be_given (reply_of given)) before → can_be_given (reply_of told) ≡ true
+    → AllPass (λ given. can_be_given (reply_of given)) (before ++ told ∷ [])
+one_more_given before told given is = All-push (λ given. can_be_given (reply_of given) ≡ true) before told given is

@@ -12,9 +12,13 @@ use Rattle.event_text.specs.declared.lines.Lines.{Lines}
 abbrev pub data_text : List ℕ → List ℕ
 data_text bytes = if length bytes == 0 then [] else 32 ∷ encode_lower bytes
 
+-- a completion of these bytes, with its data
+abbrev pub completion_text : ℕ → List ℕ → List ℕ → List ℕ
+completion_text queue entry bytes = codes "cpl " ++ decimal queue ++ codes " " ++ encode_lower entry ++ data_text bytes
+
 -- a reply without the end of its line
 abbrev pub reply_text : Reply → List ℕ → List ℕ
-reply_text (Complete queue entry length) bytes = codes "cpl " ++ decimal queue ++ codes " " ++ encode_lower entry ++ data_text bytes
+reply_text (Complete queue entry length) bytes = completion_text queue entry bytes
 reply_text (Pending run) bytes = codes "pending " ++ decimal run
 reply_text Idle bytes = codes "idle"
 reply_text FaultTaken bytes = codes "done"

@@ -15,5 +15,5 @@ pub use command_file::{EventFault, ParseFault, event_of, parse};
 pub use fault::LineFault;
 pub use lines::{LineRoom, Lines};
 pub use positions::event_lines;
-pub use reply_file::{RepliesFault, ToldReply, replies};
+pub use reply_file::{RepliesFault, Told, ToldReply, replies};
 pub use submission::submission_line;

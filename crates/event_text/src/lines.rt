@@ -6,7 +6,7 @@ ghost use Rattle.std.specs.Io.KnownBytes.{Appends, Keeps};
 ghost use Rattle.hex.specs.Hex.{encode_lower};
 ghost use Rattle.common_definitions.specs.Failures.{CountsFailure};
 ghost use Rattle.device_events.proofs.Proved.{prints_in_parts, prints_none};
-ghost use Rattle.event_text.specs.Lines.{Took, data_text, printed_by, reply_line, line_text, reply_text};
+ghost use Rattle.event_text.specs.Lines.{Took, completion_text, data_text, printed_by, reply_line, line_text, reply_text};
 
 use device_events::{NotTaken, Out, Reply};
 use nvme_entry::MOST_TRANSFER;
@@ -140,15 +140,28 @@ pub(crate) fn push_reply(line: &mut Vec<u8>, reply: Reply, bytes: &[u8]) -> io::
 {
     match reply {
         Reply::Complete { queue, entry, .. } => {
-            write!(line, "cpl {queue} ")?;
-            push_hex(line, &entry)?;
-            push_data(line, bytes)?;
+            push_completion(line, queue, &entry.bytes(), bytes)?;
         }
         Reply::Pending { run } => write!(line, "pending {run}")?,
         Reply::Idle => write!(line, "idle")?,
         Reply::FaultTaken => write!(line, "done")?,
         Reply::FaultRefused => write!(line, "refused")?,
     }
+    Ok(())
+}
+
+/// Adds a completion of these bytes, with its data.
+pub(crate) fn push_completion(
+    line: &mut Vec<u8>,
+    queue: u16,
+    entry: &[u8; 16],
+    bytes: &[u8],
+) -> io::Result<()>
+    ensures { OnOk result (line.new.items ≡ line.old.items ++ completion_text queue entry.now bytes.now) }
+{
+    write!(line, "cpl {queue} ")?;
+    push_hex(line, entry)?;
+    push_data(line, bytes)?;
     Ok(())
 }
 

@@ -1,16 +1,20 @@
 //! Files of replies: the lines that they were printed as, read back.
 
-ghost use Rattle.std.specs.Prelude.{◌≡◌, map, IfOk, true};
+ghost use Rattle.std.specs.Prelude.{◌≡◌, ◌++◌, OnOk, map, IfOk, true};
 ghost use Rattle.std.specs.Str.Lines.{lines};
 ghost use Rattle.std.specs.List.{All, AllPass};
 ghost use Rattle.device_events.specs.Replies.{data_length};
-ghost use Rattle.event_text.specs.ReplyFile.{HasItsData, can_be_given, tells_success, told_text};
+ghost use Rattle.event_text.specs.ReplyFile.{HasItsData, can_be_given, reply_of, reply_told, told_text};
+ghost use Rattle.event_text.specs.Lines.{reply_text};
+ghost use Rattle.device_events.specs.CompletionEntries.{tells_success};
 
 use crate::command_file::{queue_number, run_number};
-use crate::lines::push_reply;
-use device_events::Reply;
+use crate::lines::{push_completion, push_reply};
+use device_events::{CompletionEntry, Reply};
 use hex::{FromHex, FromHexError};
+use nvme_entry::Completion;
 use std::alloc::{AllocFailed, Global};
+use std::io;
 use text_lines::{cut, first_line};
 use thiserror::Error;
 use zone_resources::RUNS;
@@ -36,11 +40,27 @@ enum ReplyFault {
     Memory,
 }
 
-/// A reply that a line tells, with the bytes of its data.
+/// What a line tells.
+#[derive(Clone, Copy, Debug, PartialEq, Eq)]
+pub enum Told {
+    /// A reply.
+    Reply(Reply),
+    /// A completion whose 16 bytes no device gives: a field that is 0 there isn't, or its status has another type.
+    Unknown {
+        /// The queue that the line names.
+        queue: u16,
+        /// The bytes.
+        entry: [u8; 16],
+        /// How many bytes of data go with it.
+        length: usize,
+    },
+}
+
+/// What a line tells, with the bytes of its data.
 #[derive(Debug, PartialEq, Eq, Drop)]
 pub struct ToldReply {
-    /// The reply.
-    pub reply: Reply,
+    /// What it tells.
+    pub told: Told,
     /// Its data, in bytes; none where it has none.
     pub bytes: Vec<u8>,
 }
@@ -55,7 +75,7 @@ pub struct ToldReply {
 pub fn replies(alloc: Global, file: &[u8]) -> Result<Vec<ToldReply>, RepliesFault>
     ensures spelled { IfOk result (λ told. lines file.now ≡ map told_text told.items) }
     ensures whole { IfOk result (λ told. All HasItsData told.items) }
-    ensures given { IfOk result (λ told. AllPass (λ told. can_be_given told.reply) told.items) }
+    ensures given { IfOk result (λ told. AllPass (λ told. can_be_given (reply_of told)) told.items) }
 {
     let mut told = Vec::new(alloc);
     let mut rest = file;
@@ -77,28 +97,39 @@ pub fn replies(alloc: Global, file: &[u8]) -> Result<Vec<ToldReply>, RepliesFaul
 fn told_by(alloc: Global, line: &[u8]) -> Result<ToldReply, ReplyFault>
     ensures spelled { IfOk result (λ told. line.now ≡ told_text told) }
     ensures whole { IfOk result HasItsData }
-    ensures given { IfOk result (λ told. can_be_given told.reply ≡ true) }
+    ensures given { IfOk result (λ told. can_be_given (reply_of told) ≡ true) }
 {
     let told = candidate(alloc, line)?;
-    if !can_be_given(told.reply) {
+    if !can_be_given(told.told) {
         return Err(ReplyFault::Refused);
     }
     let mut again = Vec::new(alloc);
-    match push_reply(&mut again, told.reply, told.bytes.as_slice()) {
+    match push_told(&mut again, told.told, told.bytes.as_slice()) {
         Ok(()) if again.as_slice() == line => Ok(told),
         Ok(()) => Err(ReplyFault::Refused),
         Err(_) => Err(ReplyFault::Memory),
     }
 }
 
-/// Can a device give such a reply? A command that it refuses gives no data, and a run that goes on has one of the places for runs.
-fn can_be_given(reply: Reply) -> bool
-    ensures { result ≡ can_be_given reply }
+/// Adds what a line tells, without its end.
+fn push_told(line: &mut Vec<u8>, told: Told, bytes: &[u8]) -> io::Result<()>
+    ensures { OnOk result (line.new.items ≡ line.old.items ++ reply_text (reply_told told) bytes.now) }
 {
-    match reply {
-        Reply::Complete { entry, length, .. } => length == 0 || tells_success(&entry),
-        Reply::Pending { run } => usize::from(run) < RUNS,
-        Reply::Idle | Reply::FaultTaken | Reply::FaultRefused => true,
+    match told {
+        Told::Reply(reply) => push_reply(line, reply, bytes),
+        Told::Unknown { queue, entry, .. } => push_completion(line, queue, &entry, bytes),
+    }
+}
+
+/// Can a device give such a reply? A command that it refuses gives no data, and a run that goes on has one of the places for runs.
+fn can_be_given(told: Told) -> bool
+    ensures { result ≡ can_be_given (reply_told told) }
+{
+    match told {
+        Told::Reply(Reply::Complete { entry, length, .. }) => length == 0 || entry.is_success(),
+        Told::Reply(Reply::Pending { run }) => usize::from(run) < RUNS,
+        Told::Reply(Reply::Idle | Reply::FaultTaken | Reply::FaultRefused) => true,
+        Told::Unknown { entry, length, .. } => length == 0 || tells_success(&entry),
     }
 }
 
@@ -132,7 +163,7 @@ fn without_data(alloc: Global, reply: Reply) -> ToldReply
     ensures { HasItsData result }
 {
     ToldReply {
-        reply,
+        told: Told::Reply(reply),
         bytes: Vec::new(alloc),
     }
 }
@@ -155,15 +186,26 @@ fn complete(alloc: Global, words: &[u8]) -> Result<ToldReply, ReplyFault>
     let queue = queue_number(queue).ok_or(ReplyFault::Refused)?;
     let entry = <[u8; 16]>::from_hex(entry)?;
     let bytes = hex::decode(alloc, behind.strip_prefix(b" ").unwrap_or(&[]))?;
-    let length = bytes.len();
-    Ok(ToldReply {
-        reply: Reply::Complete {
+    let told = completion_told(queue, entry, bytes.len());
+    Ok(ToldReply { told, bytes })
+}
+
+/// A completion of these bytes, with so many bytes of data.
+fn completion_told(queue: u16, entry: [u8; 16], length: usize) -> Told
+    ensures { data_length (reply_told result) ≡ length }
+{
+    match Completion::decode(&entry) {
+        Some(completion) => Told::Reply(Reply::Complete {
+            queue,
+            entry: CompletionEntry::new(completion),
+            length,
+        }),
+        None => Told::Unknown {
             queue,
             entry,
             length,
         },
-        bytes,
-    })
+    }
 }
 
 impl From<FromHexError> for ReplyFault {

@@ -3,7 +3,7 @@
 ghost use Rattle.std.specs.Prelude.{◌≡◌};
 ghost use Rattle.runner.specs.steps.Answered.{complete_reply};
 
-use device_events::Reply;
+use device_events::{CompletionEntry, Reply};
 use nvme_entry::Completion;
 use zns_commands::Answer;
 
@@ -20,7 +20,7 @@ pub fn complete(queue: u16, cid: u16, answer: Answer) -> Reply
     };
     Reply::Complete {
         queue,
-        entry: completion.encode(),
+        entry: CompletionEntry::new(completion),
         length: answer.length,
     }
 }

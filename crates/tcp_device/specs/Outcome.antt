@@ -3,17 +3,18 @@ use Rattle.std.specs.Prelude.{ℕ, ◌≡◌, ◌/◌, ◌%◌, ◌^◌, List, O
 use Rattle.zone_state.specs.Status.{type_of}
 use Rattle.zone_state.specs.declared.status.Status.{Status}
 use Rattle.zone_state.specs.declared.status.StatusType.{StatusType}
+use Rattle.zone_state.specs.declared.status.StatusType.TheVariants.{Generic}
 use Rattle.nvme_entry.specs.Completion.{completion_bytes}
 use Rattle.nvme_entry.specs.CompletionFields.{AreCompletionFields}
 use Rattle.nvme_entry.specs.Dwords.{dword}
 use Rattle.nvme_entry.specs.declared.completion.Completion.{Completion}
 use Rattle.tcp_connection.specs.declared.queue.Outcome.{Outcome}
-use Rattle.tcp_device.specs.declared.outcome.TheConstants.{INTERNAL_ERROR}
 
--- a completion has the status code type in bits 27:25 of Dword 3, and the status code in bits 24:17 (NVMe Base 2.0, 3.3.3.2)
+-- a completion has the status code type in bits 27:25 of Dword 3, and the status code in bits 24:17; of another type, which no completion
+-- of the device has, it stands for an internal error (NVMe Base 2.0, 3.3.3.2)
 abbrev pub status_by : Option StatusType → ℕ → Status
 status_by (Some kind) code = record { kind = kind; code = code }
-status_by None code = INTERNAL_ERROR
+status_by None code = record { kind = Generic; code = 6 }
 
 abbrev pub status_in : List ℕ → Status
 status_in entry = status_by (type_of (dword entry 3 / 2 ^ 25 % 2 ^ 3)) (dword entry 3 / 2 ^ 17 % 2 ^ 8)

@@ -10,6 +10,5 @@ mod serve;
 mod served;
 mod turns;
 
-pub use outcome::INTERNAL_ERROR;
 pub use pieces::pieces_join;
 pub use served::ServedTarget;

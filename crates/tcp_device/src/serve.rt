@@ -116,7 +116,7 @@ fn complete(
         Reply::Complete {
             entry: completion,
             ..
-        } => target.execute(number, entry, outcome_in(&completion), bytes),
+        } => target.execute(number, entry, outcome_in(completion), bytes),
         Reply::Pending { .. } | Reply::Idle | Reply::FaultTaken | Reply::FaultRefused => {}
     }
 }

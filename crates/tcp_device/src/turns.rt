@@ -7,6 +7,7 @@ ghost use Rattle.tcp_device.specs.Served.{can_go, ended_by, ended_with, freed_by
 use crate::outcome::outcome_in;
 use crate::pending::{PendingCommand, can_go, next_run, put_pending};
 use crate::served::ServedTarget;
+use device_events::CompletionEntry;
 use runner::{Event, Reply};
 use tcp_target::Target;
 use zone_resources::RUNS;
@@ -73,15 +74,15 @@ fn end(target: &mut Target, command: Option<PendingCommand>, reply: Reply)
     ensures { target.new ≡ ended_by reply command target.old }
 {
     match reply {
-        Reply::Complete { entry, .. } => end_with(target, command, &entry),
+        Reply::Complete { entry, .. } => end_with(target, command, entry),
         Reply::Pending { .. } | Reply::Idle | Reply::FaultTaken | Reply::FaultRefused => {}
     }
 }
 
 /// Completes the command of a run with what the device's completion tells.
-fn end_with(target: &mut Target, command: Option<PendingCommand>, completion: &[u8; 16])
+fn end_with(target: &mut Target, command: Option<PendingCommand>, completion: CompletionEntry)
     requires { IsTrue (can_go target.old command) }
-    ensures { target.new ≡ ended_with command completion.now target.old }
+    ensures { target.new ≡ ended_with command completion target.old }
 {
     if let Some(command) = command {
         target.end_run(

@@ -4,6 +4,7 @@ use Rattle.std.specs.List.{filter_map}
 use Rattle.std.specs.HashMap.{get}
 use Rattle.device_events.specs.declared.reply.Reply.{Reply}
 use Rattle.device_events.specs.declared.reply.Reply.TheVariants as reply
+use Rattle.event_text.specs.ReplyFile.{reply_of}
 use Rattle.event_text.specs.declared.reply_file.ToldReply.{ToldReply}
 use Rattle.command_explain.specs.declared.submissions.Identity.{Identity}
 use Rattle.command_explain.specs.declared.submissions.Submission.{Submission}
@@ -21,8 +22,11 @@ abbrev pub run_in : Submission → Option Identity
 run_in submission = if is_run submission.entry then Some submission.identity else None
 
 -- the identity of a completion, whose bytes 12 and 13 have the command identifier (NVMe Base 2.0, 3.3.3.2)
+abbrev pub identity_in : ℕ → List ℕ → Identity
+identity_in queue entry = record { queue = queue; cid = slice_index entry 12 + 256 * slice_index entry 13 }
+
 abbrev pub completion_of : Reply → Option Identity
-completion_of (reply.Complete queue entry length) = Some (record { queue = queue; cid = slice_index entry 12 + 256 * slice_index entry 13 })
+completion_of (reply.Complete queue entry length) = Some (identity_in queue entry)
 completion_of (reply.Pending run) = None
 completion_of reply.Idle = None
 completion_of reply.FaultTaken = None
@@ -30,7 +34,7 @@ completion_of reply.FaultRefused = None
 
 -- the identity of a reply that is one
 abbrev pub completion_in : ToldReply → Option Identity
-completion_in told = completion_of told.reply
+completion_in told = completion_of (reply_of told)
 
 -- is the last submission that has an identity a Run? None where no submission has it
 abbrev pub ends_in_run : Identity → List Submission → Option Bool

@@ -3,6 +3,7 @@
 use byteorder::{ByteOrder, LittleEndian};
 use ebpf_asm::assemble;
 use nvme_entry::{Completion, Status};
+use device_events::CompletionEntry;
 use runner::{Event, Reply};
 use std::alloc::Global;
 use std::test::Fail;
@@ -183,7 +184,7 @@ fn complete(cid: u16, dwords: [u32; 2], status: Status, length: usize) -> Reply 
     };
     Reply::Complete {
         queue: QUEUE,
-        entry: completion.encode(),
+        entry: CompletionEntry::new(completion),
         length,
     }
 }
