@@ -1,7 +1,8 @@
 -- What a device may begin with: a namespace, and programs and runs that a device kept.
-use Rattle.std.specs.Prelude.{true, ℕ, ◌≡◌, ◌≢◌, ◌<◌, ◌≤◌, ◌+◌, ◌-◌, List, length, map, get_or, Option, Some, None, Ok, is_some, ◌⊎◌}
+use Rattle.std.specs.Prelude.{true, ℕ, ◌≡◌, ◌≢◌, ◌<◌, ◌≤◌, ◌+◌, ◌-◌, ◌*◌, List, length, map, get_or, Option, Some, None, Ok, is_some, ◌⊎◌}
 use Rattle.common_definitions.specs.Bytes.{AreBytes}
 use Rattle.zone_state.specs.State.{is_open}
+use Rattle.program_interface.specs.declared.block_size.TheConstants.{LARGEST_BLOCK}
 use Rattle.zone_resources.specs.declared.holds.TheConstants.{RUNS}
 use Rattle.nvme_entry.specs.declared.program_slot.TheConstants.{PROGRAM_SLOTS}
 use Rattle.image_store.specs.Namespace.{IsNamespace, ZoneWithBlocks, ZonedNamespace, zone_at}
@@ -15,7 +16,8 @@ use Rattle.device_meaning.specs.State.{State, loaded_at}
 use Rattle.device_meaning.specs.View.{Active, place_of, seen}
 
 -- A run that was begun and isn't ended: its program is loaded; a source block is still to come, and all are written, in another zone than
--- it appends to; it has scratch bytes, and of a block that isn't appended yet no more than one has.
+-- it appends to; it has scratch bytes, and of a block that isn't appended yet no more than one has. It counts no more frames and blocks
+-- than its blocks so far can give: so what its completion says of them is less than 2^32, and nothing of it is cut off.
 pub record WasBegun (ns : ZonedNamespace) (slots : List (Option Loaded)) (a : Active) : Type 0 where
   pub loaded : is_some (get_or slots a.command.slot None) ≡ true
   pub left : a.so_far.index < a.command.blocks
@@ -24,6 +26,8 @@ pub record WasBegun (ns : ZonedNamespace) (slots : List (Option Loaded)) (a : Ac
   pub scratch : AreScratch a.so_far.scratch
   pub pending : length a.so_far.pending ≤ ns.block
   pub bytes : AreBytes a.so_far.pending
+  pub frames : a.so_far.frames ≤ a.so_far.index * LARGEST_BLOCK
+  pub appended : a.so_far.appended ≤ a.so_far.index
 
 -- the zone that a run appends to
 abbrev pub destination_in : ZonedNamespace → Active → ZoneWithBlocks

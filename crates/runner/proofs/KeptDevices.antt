@@ -62,14 +62,14 @@ module _ {D : Type 0} {domain : Ghosts D} (ns : ZonedNamespace) (slots : List (O
           scratch = bytes.scratch;
           pending = omega (arith, bytes.pending, fits.packer);
           bytes = bytes.bytes;
+          frames = fits.frames;
+          appended = fits.appended;
         };
         room = subst (λ (s : Sizes). length (zone_at ns (destination_zone ns a.command)).blocks + need_behind (length a.packer.pending) (a.command.blocks - a.index) s ≤ ns.capacity)
             (sym (ap (sizes_in ns) slot))
             (subst (λ (z : ℕ). length (zone_at ns z).blocks
             + need_behind (length a.packer.pending) (a.command.blocks - a.index) (granted_sizes ns (sizes_of is.program.prepared).limit) ≤ ns.capacity) fits.destination is.left);
         opened = room.opened;
-        frames = fits.frames;
-        appended = fits.appended;
       }
 
   destination_of : (k : ℕ) (a : Active) (is : IsThere runs k a) → is.active.destination ≡ destination_zone ns a.command

@@ -89,8 +89,8 @@ module _ {D : Type 0} {domain : Ghosts D} (ns : ZonedNamespace) (slots : List (O
   pub counts_of : (block : ℕ) → block ≡ ns.block → CanGoOn ns (map loaded_slot slots) a → CountsFit block a
   counts_of block same can = record {
     left = can.begun.left;
-    frames = can.frames;
-    appended = can.appended;
+    frames = can.begun.frames;
+    appended = can.begun.appended;
     pending = omega (arith, same, can.begun.pending);
   }
 
@@ -139,6 +139,8 @@ module _ {D : Type 0} {domain : Ghosts D} (ns : ZonedNamespace) (slots : List (O
           scratch = passed.scratch;
           pending = passed.counts.pending;
           bytes = passed.bytes;
+          frames = passed.counts.frames;
+          appended = passed.counts.appended;
         };
         room = subst (λ (z : ℕ). length (zone_at ns z).blocks
             + need_behind (length a.so_far.pending) (a.command.blocks - a.so_far.index) (sizes_in ns (get_or (map loaded_slot slots) a.command.slot None)) ≤ ns.capacity)
@@ -147,8 +149,6 @@ module _ {D : Type 0} {domain : Ghosts D} (ns : ZonedNamespace) (slots : List (O
             + need_behind (length a.so_far.pending) (a.command.blocks - a.so_far.index) s ≤ ns.capacity)
             (sym (granted ns slots a p passed.loaded passed.accepted)) passed.room);
         opened = subst (IsOpened ns) passed.destination_is.is passed.destination_is.opened;
-        frames = passed.counts.frames;
-        appended = passed.counts.appended;
       }
 
   pub is_again : IsAgain ns slots a active

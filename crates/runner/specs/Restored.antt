@@ -1,9 +1,8 @@
 -- What a device is restored to, of what was kept of programs and runs.
-use Rattle.std.specs.Prelude.{true, ℕ, ◌≡◌, ◌<◌, ◌≤◌, ◌+◌, ◌-◌, ◌*◌, List, length, map, get_or, Option, Some, None, ◌⊎◌}
+use Rattle.std.specs.Prelude.{true, ℕ, ◌≡◌, ◌<◌, ◌≤◌, ◌+◌, ◌-◌, List, length, map, get_or, Option, Some, None, ◌⊎◌}
 use Rattle.common_definitions.specs.Bytes.{AreBytes}
 use Rattle.zone_state.specs.State.{is_open}
 use Rattle.zone_resources.specs.declared.holds.TheConstants.{RUNS}
-use Rattle.program_interface.specs.declared.block_size.TheConstants.{LARGEST_BLOCK}
 use Rattle.nvme_entry.specs.declared.program_slot.TheConstants.{PROGRAM_SLOTS}
 use Rattle.image_store.specs.Namespace.{IsNamespace, ZonedNamespace}
 use Rattle.emit_append.specs.Need.{need_behind}
@@ -17,14 +16,12 @@ use Rattle.kept_device.specs.Kept.{SavedProgram}
 use Rattle.runner.specs.Keeping.{slot_again}
 
 -- A run that was kept can go on: what is left of it fits into its destination, however long the groups of its program are, so that this
--- is told without running it; and it counts no more frames and blocks than its blocks so far can give.
+-- is known without running it.
 pub record CanGoOn (ns : ZonedNamespace) (slots : List (Option Loaded)) (a : Active) : Type 0 where
   pub begun : WasBegun ns slots a
   pub room : length (destination_in ns a).blocks
       + need_behind (length a.so_far.pending) (a.command.blocks - a.so_far.index) (sizes_in ns (get_or slots a.command.slot None)) ≤ ns.capacity
   pub opened : (is_open (destination_in ns a).state ≡ true) ⊎ (length (destination_in ns a).blocks ≡ ns.capacity)
-  pub frames : a.so_far.frames ≤ a.so_far.index * LARGEST_BLOCK
-  pub appended : a.so_far.appended ≤ a.so_far.index
 
 -- all of the runs can, and no two append to one zone
 pub record CanAllGoOn (ns : ZonedNamespace) (slots : List (Option Loaded)) (runs : List (Option Active)) : Type 0 where
