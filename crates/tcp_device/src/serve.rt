@@ -73,7 +73,7 @@ impl ServedTarget {
         given_are_live();
         let output = self.output.as_mut_slice();
         let reply = hand(&mut self.device, &mut self.target, number, entry, output);
-        keep(&mut self.pending, number, entry, reply);
+        keep(&mut self.pending, number, entry, &reply);
         reply
     }
 }
@@ -116,7 +116,7 @@ fn complete(
         Reply::Complete {
             entry: completion,
             ..
-        } => target.execute(number, entry, outcome_in(completion), bytes),
+        } => target.execute(number, entry, outcome_in(&completion), bytes),
         Reply::Pending { .. } | Reply::Idle | Reply::FaultTaken | Reply::FaultRefused => {}
     }
 }
@@ -126,15 +126,15 @@ fn keep(
     pending: &mut [Option<PendingCommand>],
     number: usize,
     entry: &[u8; ENTRY_BYTES],
-    reply: Reply,
+    reply: &Reply,
 )
     requires { number < MOST_CONNECTIONS }
-    ensures { pending.new ≡ kept_by reply number entry.now pending.old }
+    ensures { pending.new ≡ kept_by reply.now number entry.now pending.old }
 {
     match reply {
         Reply::Pending { run } => {
             let command = PendingCommand::new(number, identifier(entry));
-            put_pending(pending, usize::from(run), Some(command));
+            put_pending(pending, usize::from(*run), Some(command));
         }
         Reply::Complete { .. } | Reply::Idle | Reply::FaultTaken | Reply::FaultRefused => {}
     }

@@ -47,8 +47,8 @@ impl ServedTarget {
         let command = self.pending[run];
         let output = self.output.as_mut_slice();
         let reply = self.device.apply(&Event::Turn { run: run as u8 }, output);
-        end(&mut self.target, command, reply);
-        free(&mut self.pending, run, reply);
+        end(&mut self.target, command, &reply);
+        free(&mut self.pending, run, &reply);
         self.next = (run + 1) % RUNS;
         reply
     }
@@ -69,9 +69,9 @@ impl ServedTarget {
 }
 
 /// Completes the command of a run that the turn has ended.
-fn end(target: &mut Target, command: Option<PendingCommand>, reply: Reply)
+fn end(target: &mut Target, command: Option<PendingCommand>, reply: &Reply)
     requires { IsTrue (can_go target.old command) }
-    ensures { target.new ≡ ended_by reply command target.old }
+    ensures { target.new ≡ ended_by reply.now command target.old }
 {
     match reply {
         Reply::Complete { entry, .. } => end_with(target, command, entry),
@@ -80,9 +80,9 @@ fn end(target: &mut Target, command: Option<PendingCommand>, reply: Reply)
 }
 
 /// Completes the command of a run with what the device's completion tells.
-fn end_with(target: &mut Target, command: Option<PendingCommand>, completion: CompletionEntry)
+fn end_with(target: &mut Target, command: Option<PendingCommand>, completion: &CompletionEntry)
     requires { IsTrue (can_go target.old command) }
-    ensures { target.new ≡ ended_with command completion target.old }
+    ensures { target.new ≡ ended_with command completion.now target.old }
 {
     if let Some(command) = command {
         target.end_run(
@@ -94,8 +94,8 @@ fn end_with(target: &mut Target, command: Option<PendingCommand>, completion: Co
 }
 
 /// Lets another run have the number of one that the turn has ended.
-fn free(pending: &mut [Option<PendingCommand>], run: usize, reply: Reply)
-    ensures { pending.new ≡ freed_by reply run pending.old }
+fn free(pending: &mut [Option<PendingCommand>], run: usize, reply: &Reply)
+    ensures { pending.new ≡ freed_by reply.now run pending.old }
 {
     match reply {
         Reply::Complete { .. } => put_pending(pending, run, None),
