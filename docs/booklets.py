@@ -22,12 +22,14 @@ ROOTS: List[Key] = [
     (MEANING + "Draining.antt", "HasDrained"),
     (MEANING + "Draining.antt", "HasStoppedDraining"),
     ("device_events/specs/Replies.antt", "data_length"),
+    ("common_definitions/specs/Failures.antt", "CountsFailure"),
     (MEANING + "Laws.antt", "StatesAreSound"),
     (MEANING + "Laws.antt", "NoReplyIsTrapped"),
     ("device_laws/specs/Witness.antt", "PushdownIsMet"),
     (MEANING + "Judging.antt", "interval_judge"),
     ("ebpf_decode/specs/Laws.antt", "SpelledIsDecoded"),
     ("ebpf_decode/specs/Laws.antt", "DecodedIsSpelled"),
+    ("ebpf_decode/specs/Laws.antt", "BytesHaveOneProgram"),
     ("ebpf_decode/specs/Laws.antt", "FaultIsFirst"),
     ("accepted_programs/specs/Laws.antt", "AcceptedNeverTraps"),
     ("accepted_programs/specs/Laws.antt", "RefusalIsFirst"),
@@ -37,6 +39,33 @@ ROOTS: List[Key] = [
 CUT: Dict[Key, str] = {
     ("accepted_programs/specs/Facts.antt", "facts_at"): "what the verifier knows at a slot; None: no way leads there",
     ("interval_domain/specs/Intervals.antt", "intervals"): "the operations on facts that are intervals, by which the device judges",
+}
+
+# what some names are, where their own comment needs the one above it
+SAID: Dict[str, str] = {
+    "append_checks": "the checks of a Zone Append, in order",
+    "append_effect": "the effect of a Zone Append: the data is written, and the completion says where",
+    "AreScratch": "these are as many bytes as a scratch area has",
+    "completion_bytes": "the bytes of a completion: its four dwords, of each the lowest byte first",
+    "counted_zones": "all zones of a namespace, of each its state and the number of its written blocks",
+    "destination_zone": "the zone that a run appends to",
+    "frames_of": "the number of frames of some block runs",
+    "identifier_of": "the command identifier of an entry: Command Dword 0, bits 31:16",
+    "idle": "what a turn comes to whose number no run has: Idle, and nothing changes",
+    "is_destination": "does an active run append to this zone?",
+    "is_held": "does an active run read from this zone or append to it?",
+    "LARGEST_BLOCK": "the largest size of a block, in bytes",
+    "load_of": "the Load that the bytes of an entry name, if each field has a value that it may have",
+    "outcome": "the turns of a run, of its task and its source blocks",
+    "refused": "what a refused entry comes to: its completion, and nothing changes",
+    "refuses": "do active runs hold this zone against the action?",
+    "result_of": "the Result that the bytes of an entry name, if its field has a value that it may have",
+    "run_command_of": "the Run that the bytes of an entry name, if each field has a value that it may have",
+    "seen": "the place of a run that a device keeps: its queue, its zones, and the turns that are left of it",
+    "why_not_run": "why a Run is refused, if it is: the status of the first check that fails",
+    "with_place": "the state with this run at a place, or with none",
+    "zone_number": "the number of the zone that contains a logical block",
+    "zone_offset": "how many blocks a logical block lies after the lowest of its zone",
 }
 
 
@@ -149,7 +178,7 @@ DEVICE = Booklet(
         Section("The state of a device", r"device_meaning/specs/State\."),
         Section("Events and replies", r"device_events/|device_meaning/specs/EventReplies\."),
         Section("What events do", r"device_meaning/specs/Happenings\."),
-        Section("Lists of events", r"device_meaning/specs/(Events|Draining)\."),
+        Section("Lists of events", r"device_meaning/specs/(Events|Draining)\.|common_definitions/specs/Failures"),
         Section(
             "Where a device begins",
             r"program_interface/(specs|src)/(BlockSize|block_size)\.|device_meaning/specs/(Beginning|Reached)\.|device_laws/specs/Laws\.",
@@ -176,7 +205,7 @@ ACCEPTANCE = Booklet(
             r"instruction_set/specs/Spelling\.",
             {
                 "instruction_set/src/fields.rt": "*",
-                "instruction_set/specs/Program.antt": "is_wide slots_of IsProgram",
+                "instruction_set/specs/Program.antt": "slots_of slots_taken IsProgram",
                 "program_interface/src/lib.rt": "MOST_SLOTS",
             },
         ),

@@ -17,9 +17,10 @@ type of Rust stands in definitions under its name: a struct as the record of its
 fields in order, numbers as ℕ, or ℤ where they are signed, arrays as lists, and a type with a `Model` as that `Value`. Each file comes
 after those of this booklet that it uses.
 
-A mark before each comment says whose a definition is. `[S]`: a standard has it, in a section that its comment or the head of its file
-names; compare the two. `[SP]`: a standard has it and leaves a choice, which this device makes. `[P]`: this device's own (its
-*profile*). `[-]`: nothing to compare, a word by which others are put, or what is claimed.
+A mark before each comment says whose a definition is. `[S]`: a standard has it, in the section that the comment, the mark or the head of
+the file names; compare the two. `[SP]`: a standard has it and leaves a choice, which this device makes. `[P]`: this device's own (its
+*profile*), the order of checks too. `[-]`: nothing to compare, a word by which others are put, or what is claimed. A claim is proved
+where a function's contract names it; [proved.md](../proved.md) has these functions.
 
 """
 
@@ -47,8 +48,9 @@ there is a Run of which it speaks (`device_laws/src/laws.rt`):
 {device_laws}
 The code is tied to the definitions by the contracts of `Device` (`runner/src/device.rt`). Its type names the domain whose facts it judges
 by: `Device` alone is `Device<Intervals>`, whose `operations` are `intervals`, so that `judge_by D.operations` is `interval_judge`.
-`x.old` and `x.new` are what a `&mut` leads to, before and after the call; `x.now` is what a `&` leads to. `OnOk r p`: if r is `Ok`, p.
-`IfErr r p`, `IfOk r p`: if r is an `Err` or an `Ok`, p holds of what is in it.
+`x.old` and `x.new` are what a `&mut` leads to, before and after the call; `x.now` is what a `&` leads to. `OnOk r p`, `OnErr r p`: if r
+is `Ok`, or an `Err`, p. `IfOk r p`, `IfErr r p`: if r is one, p holds of what is in it. A `Stopped` has the number of events that are
+`done`.
 
 {device}
 `serve` and `drain` hand each reply to an `Out` (`device_events/src/out.rt`), whose `took` says which replies it took:
@@ -57,15 +59,15 @@ by: `Device` alone is `Device<Intervals>`, whose `operations` are `intervals`, s
 ### Why no view need be trusted
 
 A clause sees a `Device` as a `State`, and an `Image` as a `ZonedNamespace`, by a `view` that the code's author wrote. No booklet has
-these views, and a reader need not: they stand only in the middle. A device begins with an image that comes of numbers or of bytes
-(`image_store/src/image.rt`, `image_text/src/image.rt`):
+these views, and a reader need not read them: they stand only in the middle. A device begins with an image that is made of numbers (the
+shape that `Geometry::new` is given) or of the bytes of a file:
 
 {image}
-and `new`, `serve` and `drain` say that the replies, which are numbers and bytes, are those of the definitions from the state
-`new_state` of that namespace. Joined, these clauses have a geometry or the bytes of a file on the one side, entries and replies on the
-other, and a view on neither. A view that forgot something, or took it for something else, would leave one of these clauses unproved; so
-each view that is left gives the same replies. What is seen of a completion in a `Reply` is its 16 bytes, which are also what
-`CompletionEntry::bytes` hands out.
+From there on `new`, `serve` and `drain` say that the replies are those of the definitions from the state `new_state` of that namespace,
+as far as the `Out` says what it took. Joined, these clauses have numbers or the bytes of a file on the one side, events and replies on
+the other, and a view on neither: the state that one call leaves, by whatever view, is the one that the next begins with. So what they
+say of replies is the same with each view with which they are proved. A completion in a `Reply` is seen as its 16 bytes, and
+`CompletionEntry::bytes`, by whose contract the result is what is seen, hands out the same.
 
 {named}
 

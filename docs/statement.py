@@ -16,7 +16,7 @@ from typing import Callable, Dict, Iterator, List, Set, Tuple
 
 import antt
 import headline
-from booklets import BOOKLETS, CUT, DEVICE, LAW, ROOTS, At, Booklet, place_of
+from booklets import BOOKLETS, CUT, DEVICE, LAW, ROOTS, SAID, At, Booklet, place_of
 from closure import Closure, Item
 from declared import Declared, Key
 from statement_marks import mark_of, marked_names, section_of
@@ -190,8 +190,14 @@ def first_sentence(comment: str) -> str:
     'A slot, one of `SLOTS`'
     """
     text = re.sub(r"\[(`\w+`)\]", r"\1", comment)
-    found = re.match(r"(.*?[^.])(\.|:)(?= [A-Z]|$)", text)
+    found = re.match(r"(.*?[^.])\.(?= [A-Z]|$)", text)
     return (found[1] if found else text).replace(" (profile)", "")
+
+
+def meaning_in(closure: Closure, key: Key) -> str:
+    """What an item is, in one line; a constant of a type is named with that."""
+    said = SAID.get(str(key[-1])) or first_sentence(plain(closure.items[key].comment))
+    return f"{key[2]}: {said}" if len(key) == 4 and key[2] else said
 
 
 def names_table(meanings: Dict[str, Set[str]]) -> str:
@@ -210,8 +216,8 @@ def interface(pages: Pages, booklet: int) -> str:
                 if target in CUT:
                     cut[str(target[-1])] = {f"{CUT[target]} (`{target[0]}`)"}
                 elif pages.at[target][0] != booklet:
-                    meaning = first_sentence(plain(pages.closure.items[target].comment))
-                    taken.setdefault(pages.at[target][0], {}).setdefault(str(target[-1]), set()).add(meaning)
+                    meanings = taken.setdefault(pages.at[target][0], {}).setdefault(str(target[-1]), set())
+                    meanings.add(meaning_in(pages.closure, target))
     text = "## What it takes from the other booklets\n\n"
     for number in sorted(taken):
         text += f"From {link(BOOKLETS[number])}:\n\n" + names_table(taken[number])

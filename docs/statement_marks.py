@@ -153,7 +153,7 @@ MARKS: Dict[str, str] = {
     "device_events/src/event.rt": "P: Event",
     "device_events/src/reply.rt": "P: Reply",
     "device_meaning/specs/EventReplies.antt": (
-        "S: IsCompletionOf completed completion_reply completion is_completion; P: refused idle; -: Happening "
+        "S: IsCompletionOf completed completion_reply completion; P: refused idle; -: Happening is_completion "
         "CompletesOnlyWith Submission submission_of"
     ),
     "device_meaning/specs/State.antt": (
@@ -196,7 +196,7 @@ MARKS: Dict[str, str] = {
     "common_definitions/specs/FirstCheck.antt": "-: NoneFails FailsFirst",
     "ebpf_decode/specs/Fault.antt": "P: fault_number",
     "ebpf_decode/specs/FirstFault.antt": "-: slot_checks IsTold Begins IsOfLength IsOfSlot IsBehindLength IsFirstFault",
-    "ebpf_decode/specs/Laws.antt": "-: SpelledIsDecoded DecodedIsSpelled FaultIsFirst",
+    "ebpf_decode/specs/Laws.antt": "-: SpelledIsDecoded BytesHaveOneProgram DecodedIsSpelled FaultIsFirst",
     "ebpf_decode/specs/Opcodes.antt": (
         "S: operand_of load_immediate_opcode load_opcode store_immediate_opcode store_register_opcode arithmetic_opcode "
         "branch_opcode jump_opcode jump_long_opcode classes opcode_named fields_used uses; -: is_immediate is_register"
@@ -222,12 +222,13 @@ MARKS: Dict[str, str] = {
     "word_domain/specs/Domain.antt": "-: Operations",
     "word_domain/src/bounds.rt": "-: Bounds",
     "word_domain/src/offsets.rt": "-: Offsets",
+    "common_definitions/specs/Failures.antt": "-: CountsFailure",
 }
 
 # the sections of a standard that comments don't name, by their files and names
 SECTIONS: Dict[str, Dict[str, str]] = {
     "device_meaning/specs/EventReplies.antt": {
-        "completion_reply completion is_completion": "NVMe Base 2.0, 3.3.3.2",
+        "completion_reply completion": "NVMe Base 2.0, 3.3.3.2",
     },
     "ebpf_decode/specs/Opcodes.antt": {
         "fields_used uses": "RFC 9669, 4 and 5",
