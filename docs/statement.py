@@ -158,8 +158,9 @@ class Pages:
         item = self.closure.items[key]
         mark, section = mark_of(item.file, str(key[-1])), section_of(item.file, str(key[-1]))
         outer = item.owner_comment if isinstance(item, Declared) else []
-        if "S" in mark and not section and not STANDARDS.search(plain([*item.comment, *item.lines, *outer, *self.closure.head(item.file)])):
-            raise LookupError(f"{item.file}: no section of a standard is named for {key[-1]}, neither there nor in docs/statement_marks.py")
+        near = plain([*item.comment, *item.lines, *outer, *self.closure.head(item.file)])
+        if "S" in mark and not section and not STANDARDS.search(near):
+            raise LookupError(f"{item.file}: {key[-1]} is a standard's, of which no section is named there or in docs/statement_marks.py")
         return f"{mark}: {section}" if section else mark
 
     def lines_in(self, booklet: int) -> int:
