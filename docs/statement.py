@@ -149,7 +149,7 @@ class Pages:
         notes = list(self.other_names(part))
         text = wrapped(f"`{part[1]}`: {head}") + (wrapped(f"Here {'; '.join(notes)}.") if notes else "")
         links = [link(BOOKLETS[number]) for number in sorted(self.elsewhere(part))]
-        text += wrapped(f"Other definitions of this file stand in {' and '.join(links)}.") if links else ""
+        text += wrapped(f"Other definitions of this file are in {' and '.join(links)}.") if links else ""
         items = [(self.sign(key), self.closure.items[key]) for key in self.parts[part]]
         return text + "\n".join(shown(items)).rstrip() + "\n\n"
 

@@ -63,7 +63,7 @@ MEANINGS: Dict[str, str] = {
     "List": "`List X`: lists of values of X",
     "[]": "the list without elements",
     "◌∷◌": "`x ∷ xs`: x in front of xs",
-    "◌++◌": "`xs ++ ys`: xs, and ys behind it",
+    "◌++◌": "`xs ++ ys`: the elements of xs, then those of ys",
     "map": "`map f xs`: what f makes of each element of xs",
     "length": "`length xs`: the number of its elements",
     "take": "`take n xs`: the first n elements, or all where there are fewer",
