@@ -194,7 +194,7 @@ module _ (judge : Judge) (sound : IsSoundJudge judge) (block : ℕ) where
     ready =
         let slot = loaded_at s command.slot in
         slot_ready s.namespace slot command h.is h.size (all_at SlotIsFine s.slots command.slot None h.slots tt)
-        (demanded (is_some slot) NO_SUCH_PROGRAM (passed checks 2 none))
+        (demanded (is_some slot) NO_SUCH_PROGRAM (passed checks 1 none))
 
     -- each of its block runs ends by EXIT, with a group of whole frames, and scratch bytes for the next
     pub block_runs_all_done : AllByRecursion (IsDone task) block_runs
@@ -213,7 +213,7 @@ module _ (judge : Judge) (sound : IsSoundJudge judge) (block : ℕ) where
     written =
         let blocks = (zone_at s.namespace (command.lba / s.namespace.size)).blocks in
         let at = command.lba % s.namespace.size in
-        leb-true (at + command.blocks) (length blocks) (demanded (nat_le (at + command.blocks) (length blocks)) SOURCE_NOT_WRITTEN (passed checks 10 none))
+        leb-true (at + command.blocks) (length blocks) (demanded (nat_le (at + command.blocks) (length blocks)) SOURCE_NOT_WRITTEN (passed checks 9 none))
 
     some_source : 1 ≤ command.blocks → 1 ≤ length source
     some_source some =
@@ -252,10 +252,10 @@ module _ (judge : Judge) (sound : IsSoundJudge judge) (block : ℕ) where
     admitted_room =
         let zone = zone_at s.namespace (admitted_place sub s command).destination in
         let most = length zone.blocks + need command.blocks task.sizes in
-        let fits = leb-true most s.namespace.capacity (demanded (nat_le most s.namespace.capacity) DESTINATION_LACKS_ROOM (passed checks 13 none)) in
+        let fits = leb-true most s.namespace.capacity (demanded (nat_le most s.namespace.capacity) DESTINATION_LACKS_ROOM (passed checks 12 none)) in
         record {
           room = omega (arith, few_blocks, fits);
-          opened = inl (demanded (is_open zone.state) DESTINATION_NOT_OPEN (passed checks 12 none));
+          opened = inl (demanded (is_open zone.state) DESTINATION_NOT_OPEN (passed checks 11 none));
         }
 
   start_rooms : (sub : Submission) (s : State) (command : RunCommand) (run : ℕ) → IsFine s → why_not_run sub s command ≡ None

@@ -26,13 +26,12 @@ use Rattle.nvme_entry.specs.declared.command.TheConstants.{MOST_TRANSFER}
 use Rattle.common_definitions.specs.Checks.{demand, first_failed, unless_failed}
 use Rattle.common_definitions.proofs.Proved.{all_append}
 use Rattle.image_store.specs.Namespace.{ZonedNamespace, zone_at, counted_zones}
-use Rattle.zns_commands.specs.Address.{counted_zone_at, zone_number, block_total, address_check, lowest_checks, range_checks}
+use Rattle.zns_commands.specs.Address.{counted_zone_at, zone_number, block_total}
 use Rattle.zns_commands.specs.Laws.{IsStandardStatus}
 use Rattle.zns_commands.specs.Read.{read_refusal}
-use Rattle.zns_commands.specs.Resources.{room_by}
+use Rattle.zns_commands.specs.steps.Plans.{room_by}
 use Rattle.zns_commands.specs.Send.{all_checks, all_fit, held_among, room_of, zone_checks}
-use Rattle.zns_commands.specs.Transfer.{transfer_checks}
-use Rattle.zns_commands.specs.Write.{zone_write_checks}
+use Rattle.zns_commands.specs.steps.Checks.{address_check, lowest_checks, range_checks, transfer_checks, zone_write_checks}
 
 abbrev pub is_of_standards : StatusType → Bool
 is_of_standards Generic = true
@@ -142,9 +141,12 @@ room_fails ns holds a state = refl
 
 -- ---- lists of checks, of which those of commands are made
 
+pub data_fails : (beside : ℕ) (input : List ℕ) → Fails (demand (nat_eq (length input) beside) INVALID_FIELD_IN_COMMAND)
+data_fails beside input = demand_fails (nat_eq (length input) beside) INVALID_FIELD_IN_COMMAND refl
+
 pub transfer_fails : (bytes beside : ℕ) (input : List ℕ) → AllByRecursion Fails (transfer_checks bytes beside input)
 transfer_fails bytes beside input =
-    (demand_fails (nat_le bytes MOST_TRANSFER) INVALID_FIELD_IN_COMMAND refl, (demand_fails (nat_eq (length input) beside) INVALID_FIELD_IN_COMMAND refl, tt))
+    (demand_fails (nat_le bytes MOST_TRANSFER) INVALID_FIELD_IN_COMMAND refl, (data_fails beside input, tt))
 
 pub address_fails : (ns : ZonedNamespace) (lba : ℕ) → Fails (address_check ns lba)
 address_fails ns lba = demand_fails (nat_lt lba (block_total ns)) LBA_OUT_OF_RANGE refl
