@@ -170,7 +170,7 @@ module _ (judge : Judge) (sound : IsSoundJudge judge) (block : ℕ) where
   slot_ready ns None command is size h some = cc
   slot_ready ns (Some loaded) command is size h some = record {
     never = subst (λ (n : ℕ). NeverTraps loaded.program loaded.limit n) (sym size)
-        (sound h.bytes (granted loaded.limit) loaded.program h.are h.sizes h.accepted).never_traps;
+        (sound h.bytes (granted loaded.limit) loaded.program h.are h.sizes h.accepted);
     sizes = record { block_size = is.shape.block_size; fits = subst (λ (n : ℕ). loaded.limit ≤ n) (sym size) h.sizes.fits };
     small = omega (arith, block_most is.shape);
   }
@@ -348,7 +348,7 @@ module _ (judge : Judge) (sound : IsSoundJudge judge) (block : ℕ) where
         are = fine.are;
         accepted = accepted;
         limit = fits;
-        safe = sound fine.bytes (sizes_in s.namespace (Some loaded)) loaded.program fine.are
+        never_traps = sound fine.bytes (sizes_in s.namespace (Some loaded)) loaded.program fine.are
             (record { block_size = h.is.shape.block_size; fits = fits }) accepted;
       }
 
