@@ -92,9 +92,8 @@ MARKS: Dict[str, str] = {
     "program_meaning/src/area_offset.rt": "-: AreaOffset",
     "program_meaning/specs/BlockRun.antt": "P: continued block_run_of; -: BlockRun ran state_after_steps",
     "program_meaning/specs/Cause.antt": (
-        "S: is_exit next_slot; SP: hinders; P: cause_number is_nowhere is_unwritable hinders_load hinders_store accessed "
-        "loads_outside stores_outside calls_unknown emits_outside emits_badly causes_of_effect causes least_cause; -: "
-        "slot_in is_inside_wide"
+        "S: is_exit next_slot; SP: hinders; P: cause_number is_nowhere accessed loads_outside "
+        "stores_outside calls_unknown emits_outside emits_badly causes least_cause; -: slot_in is_load"
     ),
     "program_meaning/specs/Effect.antt": (
         "S: operand sign_extended effect; SP: address_from with_frame; P: emitted; -: register put with_memory bytes_at"
