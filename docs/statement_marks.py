@@ -24,8 +24,7 @@ MARKS: Dict[str, str] = {
         "PROGRAM_TRAPPED SOURCE_IS_DESTINATION PROGRAM_IN_USE"
     ),
     "zone_resources/specs/Admission.antt": (
-        "S: wanted_of IsWithin; SP: may_close admission open_admission; P: zone_to_close; -: is_implicitly_opened "
-        "closing_or_refusal"
+        "S: wanted_of IsWithin; SP: may_close admission open_admission; P: zone_to_close; -: is_implicitly_opened"
     ),
     "zone_resources/specs/Counts.antt": "S: open_count active_count; -: count_in",
     "zone_resources/src/admission.rt": "S: Limits; -: Wanted",

@@ -1,6 +1,6 @@
 -- What a check tells that fails: no success, and a status of the standards or Zone Held.
 use Rattle.std.proofs.Common.{◌≡◌, ◌≢◌, ℕ, ◌+◌, ◌%◌, ◌≤◌, Bool, true, false, cond, List, [], ◌∷◌, length, Option, Some, None, Result, Ok, Err, refl, ap, inl, inr, arith}
-use Rattle.std.specs.Prelude.{◌⊎◌, ◌&&◌, ◌||◌, nat_lt, nat_le, nat_eq, not}
+use Rattle.std.specs.Prelude.{◌⊎◌, ◌&&◌, ◌||◌, nat_lt, nat_le, nat_eq, not, ok_or, option_map}
 use Rattle.std.specs.List.{AllByRecursion}
 use Rattle.std.specs.Option.{option_map_or}
 use Rattle.std.specs.Result.{result_err}
@@ -15,7 +15,7 @@ use Rattle.zone_state.specs.declared.status.Status.{Status}
 use Rattle.zone_state.specs.declared.status.StatusType.{StatusType}
 use Rattle.zone_state.specs.declared.status.StatusType.TheVariants.{Generic, CommandSpecific, VendorSpecific}
 use Rattle.zone_state.specs.declared.status.TheConstants.Status.{SUCCESS, INVALID_FIELD_IN_COMMAND, LBA_OUT_OF_RANGE, ZONE_BOUNDARY_ERROR, ZONE_INVALID_WRITE, ZONE_HELD, TOO_MANY_OPEN_ZONES, TOO_MANY_ACTIVE_ZONES}
-use Rattle.zone_resources.specs.Admission.{open_admission, closing_or_refusal, zone_to_close, wanted_of}
+use Rattle.zone_resources.specs.Admission.{open_admission, zone_to_close, wanted_of}
 use Rattle.zone_resources.specs.Counts.{open_count, active_count}
 use Rattle.zone_resources.specs.Holds.{is_destination, refuses}
 use Rattle.zone_resources.specs.declared.admission.Limits.{Limits}
@@ -107,13 +107,13 @@ write_check_fails z at n =
       ),
     ))
 
-closing_fails : (found : Option ℕ) → Fails (result_err (closing_or_refusal found))
+closing_fails : (found : Option ℕ) → Fails (result_err (ok_or (option_map Some found) TOO_MANY_OPEN_ZONES))
 closing_fails None = refl
 closing_fails (Some k) = refl
 
 open_fails : (zones : List CountedZone) (limits : Limits) (holds : Holds) → Fails (result_err (open_admission zones limits holds))
 open_fails zones limits holds =
-    cond_fails (nat_lt (open_count zones) limits.open_limit) (Ok None) (closing_or_refusal (zone_to_close holds zones))
+    cond_fails (nat_lt (open_count zones) limits.open_limit) (Ok None) (ok_or (option_map Some (zone_to_close holds zones)) TOO_MANY_OPEN_ZONES)
     refl (closing_fails (zone_to_close holds zones))
 
 wanted_fails : (ns : ZonedNamespace) (holds : Holds) (wanted : Option Wanted) → Fails (result_err (room_by ns holds wanted))
