@@ -56,7 +56,8 @@ module _ {D : Type 0} (operations : Operations D) where
 
   -- the bytes spell what it accepts,
   pub judged_is_spelled : JudgedIsSpelled operations
-  judged_is_spelled bytes sizes program are made = decoded_is_spelled bytes program are (judged_is_unrefused bytes sizes program made).decoded
+  judged_is_spelled bytes sizes program are made =
+      decoded_is_spelled bytes program are (judged_is_unrefused bytes sizes program made).decoded
 
   -- which never traps where the domain is sound
   pub domains_judge_soundly : AcceptedNeverTraps operations → IsSoundJudge (judge_by operations)

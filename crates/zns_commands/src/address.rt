@@ -32,8 +32,9 @@ pub fn zone_block(image: &Image, lba: u64) -> Result<ZoneBlock, Status>
 /// [`Status::LBA_OUT_OF_RANGE`] for a block that the namespace doesn't have, [`Status::INVALID_FIELD_IN_COMMAND`] for one
 /// that isn't the lowest of its zone.
 pub fn lowest(image: &Image, lba: u64) -> Result<u32, Status>
-    ensures value { let lowest = demand (zone_offset image.now lba == 0) INVALID_FIELD_IN_COMMAND in
-        result ≡ unless_failed (first_failed (demand (nat_lt lba (block_total image.now)) LBA_OUT_OF_RANGE ∷ lowest ∷ [])) (zone_number image.now lba) }
+    ensures value { let inside = demand (nat_lt lba (block_total image.now)) LBA_OUT_OF_RANGE in
+        let first = demand (zone_offset image.now lba == 0) INVALID_FIELD_IN_COMMAND in
+        result ≡ unless_failed (first_failed (inside ∷ first ∷ [])) (zone_number image.now lba) }
     ensures block { IfOk result (λ zone. IsZoneBlock image.now lba (record { zone = zone; offset = 0 })) }
 {
     let block = zone_block(image, lba)?;
@@ -49,7 +50,8 @@ pub fn lowest(image: &Image, lba: u64) -> Result<u32, Status>
 ///
 /// [`Status::LBA_OUT_OF_RANGE`] where the namespace doesn't have all of them.
 pub fn first_block(image: &Image, lba: u64, blocks: BlockCount) -> Result<ZoneBlock, Status>
-    ensures value { result ≡ unless_failed (demand (nat_le (lba + blocks) (block_total image.now)) LBA_OUT_OF_RANGE) (zone_block_in image.now lba) }
+    ensures value { let inside = demand (nat_le (lba + blocks) (block_total image.now)) LBA_OUT_OF_RANGE in
+        result ≡ unless_failed inside (zone_block_in image.now lba) }
     ensures block { IfOk result (IsZoneBlock image.now lba) }
 {
     let block = zone_block(image, lba)?;
