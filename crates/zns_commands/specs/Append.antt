@@ -16,7 +16,8 @@ use Rattle.zns_commands.specs.Effect.{Effect, success_effect}
 use Rattle.zns_commands.specs.Resources.{room_for}
 use Rattle.zns_commands.specs.Write.{with_written}
 
--- the checks, in order (the order is profile): the transfer, the address; of the zone those of a Write, from its write pointer on
+-- the checks, in order (the order is profile):
+-- the transfer, the address; of the zone those of a Write, from its write pointer on
 abbrev pub append_checks : ZonedNamespace → Holds → ℕ → ℕ → List ℕ → List (Option Status)
 append_checks ns holds lba blocks input =
     let z = zone_number ns lba in

@@ -17,8 +17,9 @@ use Rattle.zns_commands.specs.Resources.{room_for, gives_way, closed}
 abbrev pub with_written : ZonedNamespace → Holds → ℕ → List ℕ → ZonedNamespace
 with_written ns holds z input = appended (closed ns (gives_way ns holds (zone_at ns z).state)) z input
 
--- the checks of a Write, in order (the order is profile): the transfer, the range; of the zone the holds, then its state, its write
--- pointer and its capacity, then the limits, which are tested also where one command fills an Empty zone (profile)
+-- the checks of a Write, in order (the order is profile):
+-- the transfer, the range; of the zone the holds, then its state, its write pointer and its capacity, then the limits, which are
+-- tested also where one command fills an Empty zone (profile)
 abbrev pub write_checks : ZonedNamespace → Holds → ℕ → ℕ → List ℕ → List (Option Status)
 write_checks ns holds lba blocks input =
     let z = zone_number ns lba in
