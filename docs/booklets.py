@@ -28,6 +28,7 @@ ROOTS: List[Key] = [
     (MEANING + "Laws.antt", "NoReplyIsTrapped"),
     ("device_laws/specs/Witness.antt", "PushdownIsMet"),
     (MEANING + "Judging.antt", "interval_judge"),
+    (MEANING + "Judging.antt", "JudgedIsSpelled"),
     ("ebpf_decode/specs/Laws.antt", "SpelledIsDecoded"),
     ("ebpf_decode/specs/Laws.antt", "DecodedIsSpelled"),
     ("ebpf_decode/specs/Laws.antt", "BytesHaveOneProgram"),
@@ -215,7 +216,7 @@ ACCEPTANCE = Booklet(
             "",
             {
                 "program_meaning/specs/TrapFree.antt": "Exits NeverTraps",
-                MEANING + "Judging.antt": "ProgramRefused Judge IsSafeProgram IsSoundJudge",
+                MEANING + "Judging.antt": "ProgramRefused Judge IsSoundJudge",
             },
         ),
         Section(

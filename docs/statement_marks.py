@@ -24,8 +24,7 @@ MARKS: Dict[str, str] = {
         "PROGRAM_TRAPPED SOURCE_IS_DESTINATION PROGRAM_IN_USE"
     ),
     "zone_resources/specs/Admission.antt": (
-        "S: wanted_of IsWithin; SP: may_close admission open_admission; P: zone_to_close; -: is_implicitly_opened "
-        "closing_or_refusal"
+        "S: wanted_of IsWithin; SP: may_close admission open_admission; P: zone_to_close; -: is_implicitly_opened"
     ),
     "zone_resources/specs/Counts.antt": "S: open_count active_count; -: count_in",
     "zone_resources/src/admission.rt": "S: Limits; -: Wanted",
@@ -52,21 +51,19 @@ MARKS: Dict[str, str] = {
     "nvme_entry/src/descriptor.rt": "S: DESCRIPTOR_BYTES; SP: ZoneDescriptor",
     "nvme_entry/src/report.rt": "S: REPORT_HEADER_BYTES",
     "zns_commands/specs/Address.antt": (
-        "S: write_pointer address_check lowest_check range_check boundary_check; P: lowest_checks range_checks; -: "
-        "block_total zone_block_in zone_number zone_offset counted_zone_at"
+        "S: write_pointer; -: block_total zone_block_in zone_number zone_offset counted_zone_at"
     ),
-    "zns_commands/specs/Append.antt": "S: assigned_lba append_effect; P: append_address_checks append_checks; -: TakesBlocks",
+    "zns_commands/specs/Append.antt": "S: assigned_lba append_effect; SP: append_checks; -: TakesBlocks",
     "zns_commands/specs/Effect.antt": "-: Effect refused_effect success_effect concluded",
     "zns_commands/specs/Meaning.antt": "-: checks_of refusal_of effect_of meaning",
-    "zns_commands/specs/Read.antt": "S: read_refusal read_effect; SP: blocks_read; P: read_checks",
-    "zns_commands/specs/Receive.antt": "S: receive_effect; P: receive_checks",
-    "zns_commands/specs/Resources.antt": "-: room_by room_for closing_of gives_way closed",
+    "zns_commands/specs/Read.antt": "S: read_refusal read_effect; SP: blocks_read read_checks",
+    "zns_commands/specs/Receive.antt": "S: receive_effect; SP: receive_checks",
+    "zns_commands/specs/Resources.antt": "-: room_for gives_way closed",
     "zns_commands/specs/Send.antt": (
-        "S: room_of zone_effect takes swept all_effect send_effect; P: held_among send_checks zone_checks all_fit "
+        "S: room_of zone_effect takes swept all_effect send_effect; SP: zone_checks; P: held_among send_checks all_fit "
         "all_checks; -: led_to gives_way_to taken_among"
     ),
-    "zns_commands/specs/Transfer.antt": "SP: transfer_checks",
-    "zns_commands/specs/Write.antt": "S: with_written write_effect; P: write_address_checks write_checks zone_write_checks",
+    "zns_commands/specs/Write.antt": "S: with_written write_effect; SP: write_checks",
     "instruction_set/specs/Codes.antt": (
         "S: size_with signed_size_with operation_with swap_with swap_size_with relations relation_with has_variants "
         "plain_operations variant_with extension_with; -: width_eq"
@@ -94,9 +91,8 @@ MARKS: Dict[str, str] = {
     "program_meaning/src/area_offset.rt": "-: AreaOffset",
     "program_meaning/specs/BlockRun.antt": "P: continued block_run_of; -: BlockRun ran state_after_steps",
     "program_meaning/specs/Cause.antt": (
-        "S: is_exit next_slot; SP: hinders; P: cause_number is_nowhere is_unwritable hinders_load hinders_store accessed "
-        "loads_outside stores_outside calls_unknown emits_outside emits_badly causes_of_effect causes least_cause; -: "
-        "slot_in is_inside_wide"
+        "S: is_exit next_slot; SP: hinders; P: cause_number is_nowhere accessed loads_outside "
+        "stores_outside calls_unknown emits_outside emits_badly causes least_cause; -: slot_in is_load"
     ),
     "program_meaning/specs/Effect.antt": (
         "S: operand sign_extended effect; SP: address_from with_frame; P: emitted; -: register put with_memory bytes_at"
@@ -128,8 +124,8 @@ MARKS: Dict[str, str] = {
     "emit_append/specs/Need.antt": "P: need",
     "emit_append/specs/Packing.antt": "P: Layout behind beginning laid_out block_fillings packed all_but_last released",
     "device_meaning/specs/Admission.antt": (
-        "P: Loaded program_in limit_in SameProgram granted_sizes sizes_in source_zone destination_zone address_checks "
-        "source_checks destination_checks admission_checks run_refusal written_from source_blocks task_by task_of"
+        "P: Loaded program_in limit_in SameProgram granted_sizes sizes_in source_zone destination_zone "
+        "admission_checks run_refusal written_from source_blocks task_by task_of"
     ),
     "zone_resources/specs/Holds.antt": "S: forgets; P: names is_source is_destination is_held refuses no_holds",
     "zone_resources/src/holds.rt": "P: RUNS Holds",
@@ -191,7 +187,7 @@ MARKS: Dict[str, str] = {
     "program_interface/src/lib.rt": "P: MOST_SLOTS",
     "device_meaning/specs/Judging.antt": (
         "P: ProgramRefused refused_for_fault refused_for_reason accepted_unless judged_by judge_by interval_judge; -: "
-        "IsSafeProgram Judge IsSoundJudge"
+        "Judge IsSoundJudge JudgedIsSpelled"
     ),
     "common_definitions/specs/FirstCheck.antt": "-: NoneFails FailsFirst",
     "ebpf_decode/specs/Fault.antt": "P: fault_number",
@@ -273,13 +269,20 @@ SECTIONS: Dict[str, Dict[str, str]] = {
     "program_meaning/specs/Step.antt": {
         "after": "RFC 9669, 4 and 5",
     },
-    "zns_commands/specs/Address.antt": {
-        "address_check range_check": "NVMe Base 2.0, 3.3.3.2",
-        "lowest_check": "ZNS 1.1, 3.4.1 and 3.4.3",
-        "boundary_check": "ZNS 1.1, 3.3.2",
+    "zns_commands/specs/Append.antt": {
+        "append_checks": "NVMe Base 2.0, 3.3.3.2 and 5.17; ZNS 1.1, 3.4.1",
     },
-    "zns_commands/specs/Transfer.antt": {
-        "transfer_checks": "NVMe Base 2.0, 5.17",
+    "zns_commands/specs/Read.antt": {
+        "read_checks": "NVMe Base 2.0, 3.3.3.2 and 5.17; ZNS 1.1, 3.3.2",
+    },
+    "zns_commands/specs/Receive.antt": {
+        "receive_checks": "NVMe Base 2.0, 3.3.3.2 and 5.17",
+    },
+    "zns_commands/specs/Send.antt": {
+        "zone_checks": "NVMe Base 2.0, 3.3.3.2; ZNS 1.1, 3.4.3",
+    },
+    "zns_commands/specs/Write.antt": {
+        "write_checks": "NVMe Base 2.0, 3.3.3.2 and 5.17; ZNS 1.1, 3.3.2",
     },
     "zone_resources/specs/Admission.antt": {
         "open_admission IsWithin": "ZNS 1.1, 2.1.1",

@@ -18,7 +18,8 @@ use Rattle.instruction_set.specs.declared.operation.Size.{Size}
 use Rattle.instruction_set.specs.declared.operation.Size.TheVariants.{Byte, HalfWord, Word, DoubleWord}
 use Rattle.instruction_set.specs.declared.operation.Width.{Width}
 use Rattle.program_meaning.proofs.Proved.{loads_fit}
-use Rattle.program_meaning.specs.Cause.{is_exit, is_unwritable, next_slot}
+use Rattle.program_meaning.specs.Cause.{is_exit, next_slot}
+use Rattle.program_meaning.specs.steps.Causes.{is_unwritable}
 use Rattle.program_meaning.specs.Effect.{address_from, bytes_at, emitted, operand, put, register}
 use Rattle.program_meaning.specs.Laws.{changes}
 use Rattle.program_meaning.specs.Memory.{Memory, bytes_from, lies_in, loaded, area_offset_of, stored}

@@ -15,7 +15,8 @@ use Rattle.instruction_set.specs.declared.operation.SignedSize.TheVariants as si
 use Rattle.instruction_set.specs.declared.operation.Size.{Size}
 use Rattle.instruction_set.specs.declared.operation.Size.TheVariants.{Byte, HalfWord, Word, DoubleWord}
 use Rattle.program_meaning.specs.Cause as machine
-use Rattle.program_meaning.specs.Cause.{causes, emits_badly, emits_outside, hinders, is_inside_wide, is_nowhere, is_unwritable, is_unwritable_at, least_cause, slot_in}
+use Rattle.program_meaning.specs.Cause.{causes, emits_badly, emits_outside, hinders, is_nowhere, least_cause, slot_in}
+use Rattle.program_meaning.specs.steps.Causes.{is_inside_wide, is_unwritable, is_unwritable_at}
 use Rattle.program_meaning.specs.Effect.{address_from, operand, register}
 use Rattle.program_meaning.specs.Memory.{lies_in, area_offset_of}
 use Rattle.program_interface.specs.Area.{address_of, length_of}

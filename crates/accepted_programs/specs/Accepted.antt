@@ -1,16 +1,16 @@
 -- Which programs are accepted, and why others aren't (profile).
 use Rattle.std.specs.Prelude.{ℕ, ℤ, zero, suc, Bool, true, false, not, is_some, is_none, ◌+◌, ◌^◌, ◌==◌, ◌&&◌, ◌||◌, nat_lt, nat_le, List, [], ◌∷◌, length, find, Option, Some, None, if◌then◌else◌, pos, int_le, int_lt}
-use Rattle.std.specs.Option.{option_flatten, option_map, option_or}
+use Rattle.std.specs.Option.{option_flatten, option_map, option_map_or, option_or}
 use Rattle.instruction_set.specs.Instruction.{access_of, distance_of, is_emit, target, writes}
 use Rattle.instruction_set.specs.Program.{instruction_at}
 use Rattle.instruction_set.specs.declared.access.Access.{Access}
 use Rattle.instruction_set.specs.declared.instruction.Instruction.{Instruction}
 use Rattle.instruction_set.specs.declared.instruction.Instruction.TheVariants.{Jump, JumpLong, Exit}
-use Rattle.program_meaning.specs.Cause.{calls_unknown, hinders_load, hinders_store, slot_in}
+use Rattle.program_meaning.specs.Cause.{calls_unknown, is_load, slot_in}
 use Rattle.program_interface.specs.declared.area.Area.{Area}
 use Rattle.program_interface.specs.declared.frame.TheConstants.{FRAME_LENGTH_BYTES}
 use Rattle.program_interface.specs.RunSizes.{Sizes}
-use Rattle.program_interface.specs.Area.{address_of, length_of}
+use Rattle.program_interface.specs.Area.{address_of, is_writable, length_of}
 use Rattle.word_domain.specs.Domain.{Operations}
 use Rattle.word_domain.specs.declared.offsets.Offsets.{Offsets}
 use Rattle.accepted_programs.specs.Facts.{area_of, fact, facts_at, greatest, greatest_length, least_length, slot_behind}
@@ -79,12 +79,13 @@ module _ {D : Type 0} (operations : Operations D) where
 
   -- may a load, if this is one, have bytes that do not all lie in one area?
   abbrev pub loads_outside : ℕ → Facts D → Option Access → Bool
-  loads_outside block facts (Some access) = hinders_load access.kind (area_accessed block facts access)
+  loads_outside block facts (Some access) = is_load access.kind && is_none (area_accessed block facts access)
   loads_outside block facts None = false
 
   -- may a store, if this is one, have bytes that do not all lie in one area that can be written?
   abbrev pub stores_outside : ℕ → Facts D → Option Access → Bool
-  stores_outside block facts (Some access) = hinders_store access.kind (area_accessed block facts access)
+  stores_outside block facts (Some access) =
+      not (is_load access.kind) && not (option_map_or is_writable (area_accessed block facts access) false)
   stores_outside block facts None = false
 
   -- the sum of address and length of a record, R1 and R2, is known not to wrap, and to be at most the end of the address's area

@@ -22,7 +22,8 @@ use Rattle.zns_commands.specs.Address.{zone_number}
 use Rattle.zns_commands.specs.Effect.{Effect, concluded}
 use Rattle.zns_commands.specs.Fault.{faulted, faulted_by, zone_fault_refusal}
 use Rattle.zns_commands.specs.Meaning.{effect_of, meaning, refusal_of}
-use Rattle.zns_commands.specs.Resources.{closed, closing_of, gives_way, room_by}
+use Rattle.zns_commands.specs.Resources.{closed, gives_way}
+use Rattle.zns_commands.specs.steps.Plans.{closing_of, room_by}
 use Rattle.zns_commands.specs.Send.{gives_way_to, led_to, zone_effect}
 use Rattle.zns_commands.specs.Write.{with_written}
 use Rattle.device_laws.specs.Tenants.{KeepsBlocks, Tenant, names_own_zone}

@@ -14,7 +14,7 @@ use Rattle.image_store.specs.Geometry.{Shape}
 use Rattle.image_store.specs.Namespace.{ZoneWithBlocks, ZonedNamespace, shape, zone_at}
 use Rattle.zns_commands.specs.Effect.{Effect, concluded, success_effect}
 use Rattle.zns_commands.specs.Read.{blocks_read, read_refusal}
-use Rattle.zns_commands.specs.Transfer.{transfer_checks}
+use Rattle.zns_commands.specs.steps.Checks.{transfer_checks}
 use Rattle.device_meaning.specs.Admission.{Loaded}
 use Rattle.device_meaning.specs.EventReplies.{Submission, completion, submission_of}
 use Rattle.device_meaning.specs.Events.{Occurrence, state_after}

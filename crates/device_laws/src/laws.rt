@@ -4,7 +4,8 @@
 //! and that there is a Run of which the pushdown theorem speaks. The others are those laws of `pushdown` that a device's user asks
 //! for, of intervals; the rest hold of a device too, by the trait `Domain`.
 
-ghost use Rattle.device_meaning.specs.Judging.{IsSoundJudge, interval_judge};
+ghost use Rattle.device_meaning.specs.Judging.{IsSoundJudge, JudgedIsSpelled, interval_judge};
+ghost use Rattle.interval_domain.specs.Intervals.{intervals};
 ghost use Rattle.pushdown.specs.AnyOrder.{TurnsInAnyOrder};
 ghost use Rattle.device_meaning.specs.Completions.{EachIsCompletedOnce, NoCompletionIsLost};
 ghost use Rattle.device_meaning.specs.Laws.{DrainingEnds, NoReplyIsTrapped, StatesAreSound};
@@ -28,9 +29,10 @@ pub fn loaded_is_reached()
     ensures { LoadedIsReached }
 {}
 
-/// A device judges soundly: the bytes of a Load spell each program that it accepts, and that program never traps.
+/// A device judges soundly: each program that it accepts never traps; and the bytes of its Load spell it.
 pub fn judges_soundly()
-    ensures { IsSoundJudge interval_judge }
+    ensures safe { IsSoundJudge interval_judge }
+    ensures spelled { JudgedIsSpelled intervals }
 {}
 
 /// From each state that events leave, events lead to another.

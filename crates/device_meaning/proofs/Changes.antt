@@ -17,7 +17,7 @@ use Rattle.common_definitions.specs.Bytes.{AreBytes}
 use Rattle.zns_commands.specs.Left as kept
 use Rattle.zns_commands.specs.Laws.{Commanded, Faulted, IsSpelled, NamespaceEvent, after}
 use Rattle.zns_commands.specs.Meaning.{meaning}
-use Rattle.zns_commands.specs.Transfer.{transfer_checks}
+use Rattle.zns_commands.specs.steps.Checks.{transfer_checks}
 use Rattle.device_meaning.specs.Admission.{Loaded, admission_checks}
 use Rattle.device_meaning.specs.EventReplies.{Happening, Submission, completed, idle, submission_of}
 use Rattle.device_meaning.specs.Happenings.{admitted_place, commanded, happens, just_loaded, loading, result_by, start_by, submitted, take_turn, turn_state, turned, turned_at, why_not_run}
@@ -83,7 +83,7 @@ module _ (judge : Judge) (P : Happening → Type 0) (sub : Submission) (s : Stat
     of_run (Some status) free command asked is at = holds.unchanged status [] (failed_other status (subst FailsOther is (run_other sub s command)))
     of_run None None command asked is at =
         let checks = admission_checks s.namespace (holds_at s) (is_some (free_place s)) (loaded_at s command.slot) command sub.input in
-        let there = demanded (is_some (free_place s)) NO_RUN_FREE (passed checks 7 is) in
+        let there = demanded (is_some (free_place s)) NO_RUN_FREE (passed checks 6 is) in
         let nowhere = ap is_some at in
         absurd cc
     of_run None (Some run) command asked is at = holds.start command run asked is at

@@ -12,7 +12,7 @@ use Rattle.word_domain.specs.Domain.{Operations}
 use Rattle.accepted_programs.specs.Accepted.{refusal}
 use Rattle.accepted_programs.specs.Laws.{AcceptedNeverTraps, RefusalIsFirst}
 use Rattle.accepted_programs.specs.declared.reason.Refusal.{Refusal}
-use Rattle.device_meaning.specs.Judging.{IsSoundJudge, IsUnrefused, JudgedIsFirst, JudgedIsUnrefused, ProgramRefused, TellsFirstFault, TellsFirstRefusal, accepted_unless, judge_by, judged_by, refused_for_fault, refused_for_reason}
+use Rattle.device_meaning.specs.Judging.{IsSoundJudge, IsUnrefused, JudgedIsFirst, JudgedIsSpelled, JudgedIsUnrefused, ProgramRefused, TellsFirstFault, TellsFirstRefusal, accepted_unless, judge_by, judged_by, refused_for_fault, refused_for_reason}
 
 module _ {D : Type 0} (operations : Operations D) (bytes : List ℕ) (sizes : Sizes) where
   -- ---- what is accepted
@@ -54,9 +54,13 @@ module _ {D : Type 0} (operations : Operations D) where
   judged_is_first faults refusals bytes sizes told are made =
       judged_tells operations bytes sizes faults refusals are (decoded_program bytes) told refl made
 
-  -- the bytes spell what it accepts, which never traps where the domain is sound
+  -- the bytes spell what it accepts,
+  pub judged_is_spelled : JudgedIsSpelled operations
+  judged_is_spelled bytes sizes program are made =
+      decoded_is_spelled bytes program are (judged_is_unrefused bytes sizes program made).decoded
+
+  -- which never traps where the domain is sound
   pub domains_judge_soundly : AcceptedNeverTraps operations → IsSoundJudge (judge_by operations)
   domains_judge_soundly never bytes sizes program are fit made =
       let is = judged_is_unrefused bytes sizes program made in
-      let spelled = decoded_is_spelled bytes program are is.decoded in
-      record { is_program = spelled.0; spelled = spelled.1; never_traps = never program spelled.0 sizes fit is.unrefused }
+      never program (judged_is_spelled bytes sizes program are made).0 sizes fit is.unrefused

@@ -72,7 +72,7 @@ admitted_free sub s command none =
     let holds = holds_at s in
     let z = destination_zone s.namespace command in
     let checks = admission_checks s.namespace holds (is_some (free_place s)) (loaded_at s command.slot) command sub.input in
-    not-true (is_destination holds z) (demanded (not (is_destination holds z)) ZONE_HELD (passed checks 11 none))
+    not-true (is_destination holds z) (demanded (not (is_destination holds z)) ZONE_HELD (passed checks 10 none))
 
 -- a run to a zone that no other has
 module _ (places : List (Option Place)) (run : ℕ) (new : Place) (h : AreApart places)

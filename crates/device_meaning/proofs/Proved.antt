@@ -18,7 +18,7 @@ use Rattle.device_meaning.proofs.Completions as completions
 use Rattle.device_meaning.proofs.Drained as drained
 use Rattle.device_meaning.proofs.JoinedEvents as joined
 use Rattle.device_meaning.proofs.KeptForRuns as kept
-pub use Rattle.device_meaning.proofs.Judging.{domains_judge_soundly, judged_is_unrefused}
+pub use Rattle.device_meaning.proofs.Judging.{domains_judge_soundly, judged_is_spelled, judged_is_unrefused}
 pub use Rattle.device_meaning.proofs.KeptForRuns.{left_program, not_loaded, same_program}
 pub use Rattle.device_meaning.proofs.GrantedAreas.{IsGrantedRun}
 pub use Rattle.device_meaning.proofs.Loads.{IsLoad, is_pending}

@@ -170,7 +170,7 @@ module _ (judge : Judge) (sound : IsSoundJudge judge) (block : ℕ) where
   slot_ready ns None command is size h some = cc
   slot_ready ns (Some loaded) command is size h some = record {
     never = subst (λ (n : ℕ). NeverTraps loaded.program loaded.limit n) (sym size)
-        (sound h.bytes (granted loaded.limit) loaded.program h.are h.sizes h.accepted).never_traps;
+        (sound h.bytes (granted loaded.limit) loaded.program h.are h.sizes h.accepted);
     sizes = record { block_size = is.shape.block_size; fits = subst (λ (n : ℕ). loaded.limit ≤ n) (sym size) h.sizes.fits };
     small = omega (arith, block_most is.shape);
   }
@@ -194,7 +194,7 @@ module _ (judge : Judge) (sound : IsSoundJudge judge) (block : ℕ) where
     ready =
         let slot = loaded_at s command.slot in
         slot_ready s.namespace slot command h.is h.size (all_at SlotIsFine s.slots command.slot None h.slots tt)
-        (demanded (is_some slot) NO_SUCH_PROGRAM (passed checks 2 none))
+        (demanded (is_some slot) NO_SUCH_PROGRAM (passed checks 1 none))
 
     -- each of its block runs ends by EXIT, with a group of whole frames, and scratch bytes for the next
     pub block_runs_all_done : AllByRecursion (IsDone task) block_runs
@@ -213,7 +213,7 @@ module _ (judge : Judge) (sound : IsSoundJudge judge) (block : ℕ) where
     written =
         let blocks = (zone_at s.namespace (command.lba / s.namespace.size)).blocks in
         let at = command.lba % s.namespace.size in
-        leb-true (at + command.blocks) (length blocks) (demanded (nat_le (at + command.blocks) (length blocks)) SOURCE_NOT_WRITTEN (passed checks 10 none))
+        leb-true (at + command.blocks) (length blocks) (demanded (nat_le (at + command.blocks) (length blocks)) SOURCE_NOT_WRITTEN (passed checks 9 none))
 
     some_source : 1 ≤ command.blocks → 1 ≤ length source
     some_source some =
@@ -252,10 +252,10 @@ module _ (judge : Judge) (sound : IsSoundJudge judge) (block : ℕ) where
     admitted_room =
         let zone = zone_at s.namespace (admitted_place sub s command).destination in
         let most = length zone.blocks + need command.blocks task.sizes in
-        let fits = leb-true most s.namespace.capacity (demanded (nat_le most s.namespace.capacity) DESTINATION_LACKS_ROOM (passed checks 13 none)) in
+        let fits = leb-true most s.namespace.capacity (demanded (nat_le most s.namespace.capacity) DESTINATION_LACKS_ROOM (passed checks 12 none)) in
         record {
           room = omega (arith, few_blocks, fits);
-          opened = inl (demanded (is_open zone.state) DESTINATION_NOT_OPEN (passed checks 12 none));
+          opened = inl (demanded (is_open zone.state) DESTINATION_NOT_OPEN (passed checks 11 none));
         }
 
   start_rooms : (sub : Submission) (s : State) (command : RunCommand) (run : ℕ) → IsFine s → why_not_run sub s command ≡ None
@@ -348,7 +348,7 @@ module _ (judge : Judge) (sound : IsSoundJudge judge) (block : ℕ) where
         are = fine.are;
         accepted = accepted;
         limit = fits;
-        safe = sound fine.bytes (sizes_in s.namespace (Some loaded)) loaded.program fine.are
+        never_traps = sound fine.bytes (sizes_in s.namespace (Some loaded)) loaded.program fine.are
             (record { block_size = h.is.shape.block_size; fits = fits }) accepted;
       }
 

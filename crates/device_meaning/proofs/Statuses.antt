@@ -17,13 +17,14 @@ use Rattle.nvme_entry.specs.declared.command.LoadCommand.{LoadCommand}
 use Rattle.nvme_entry.specs.declared.command.RunCommand.{RunCommand}
 use Rattle.zns_commands.specs.Laws.{IsStandardStatus}
 use Rattle.zns_commands.specs.Read.{read_refusal}
-use Rattle.zns_commands.specs.Transfer.{transfer_checks}
+use Rattle.zns_commands.specs.steps.Checks.{transfer_checks}
 use Rattle.image_store.specs.Namespace.{ZonedNamespace, zone_at}
 use Rattle.image_store.specs.declared.geometry.ZoneBlock.{ZoneBlock}
 use Rattle.emit_append.specs.Need.{need}
 use Rattle.zone_resources.specs.declared.holds.Holds.{Holds}
 use Rattle.zns_commands.specs.Address.{zone_block_in}
-use Rattle.device_meaning.specs.Admission.{address_checks, admission_checks, destination_checks, destination_zone, sizes_in, source_checks}
+use Rattle.device_meaning.specs.Admission.{admission_checks, destination_zone, sizes_in}
+use Rattle.device_meaning.specs.steps.Checks.{address_checks, destination_checks, source_checks}
 use Rattle.device_meaning.specs.EventReplies.{Submission}
 use Rattle.device_meaning.specs.Happenings.{load_checks, why_not_run}
 use Rattle.device_meaning.specs.State.{State, free_place, holds_at, loaded_at}
@@ -126,9 +127,9 @@ run_other sub s command =
     let slot = loaded_at s command.slot in
     let checks = admission_checks ns (holds_at s) (is_some (free_place s)) slot command sub.input in
     let destination = destination_others ns (holds_at s) (destination_zone ns command) (need command.blocks (sizes_in ns slot)) in
-    let source = source_others ns (zone_block_in ns command.lba) command.blocks (drop 11 checks) destination in
-    let address = address_others ns command (drop 7 checks) (demand_other _ _ refl, source) in
-    some_other checks (transfer_others 0 0 sub.input (drop 2 checks) (demand_other _ _ refl, address))
+    let source = source_others ns (zone_block_in ns command.lba) command.blocks (drop 10 checks) destination in
+    let address = address_others ns command (drop 6 checks) (demand_other _ _ refl, source) in
+    some_other checks (demand_other _ _ refl, (demand_other _ _ refl, address))
 
 pub standard_other : (status : Status) → IsStandardStatus status → IsOther status
 standard_other status h = record {

@@ -1,9 +1,9 @@
 -- Whether a run is admitted (profile).
-use Rattle.std.specs.Prelude.{ℕ, Bool, ◌≡◌, ◌+◌, ◌==◌, not, nat_le, List, [], ◌∷◌, ◌++◌, length, take, drop, Option, is_some}
+use Rattle.std.specs.Prelude.{ℕ, Bool, ◌≡◌, ◌+◌, ◌==◌, not, nat_le, nat_lt, List, [], ◌∷◌, length, take, drop, Option, is_some}
 use Rattle.std.specs.Option.{option_map_or}
 use Rattle.zone_state.specs.State.{is_open}
 use Rattle.zone_state.specs.declared.status.Status.{Status}
-use Rattle.zone_state.specs.declared.status.TheConstants.Status.{ZONE_HELD, NO_SUCH_PROGRAM, NO_RUN_FREE, SOURCE_NOT_WRITTEN, DESTINATION_NOT_OPEN, DESTINATION_LACKS_ROOM, SOURCE_IS_DESTINATION}
+use Rattle.zone_state.specs.declared.status.TheConstants.Status.{INVALID_FIELD_IN_COMMAND, LBA_OUT_OF_RANGE, ZONE_BOUNDARY_ERROR, ZONE_HELD, NO_SUCH_PROGRAM, NO_RUN_FREE, SOURCE_NOT_WRITTEN, DESTINATION_NOT_OPEN, DESTINATION_LACKS_ROOM, SOURCE_IS_DESTINATION}
 use Rattle.zone_resources.specs.Holds.{is_destination}
 use Rattle.zone_resources.specs.declared.holds.Holds.{Holds}
 use Rattle.common_definitions.specs.Checks.{demand, first_failed}
@@ -11,10 +11,8 @@ use Rattle.nvme_entry.specs.declared.command.RunCommand.{RunCommand}
 use Rattle.instruction_set.specs.declared.instruction.Instruction.{Instruction}
 use Rattle.program_interface.specs.RunSizes.{Sizes}
 use Rattle.image_store.specs.Namespace.{ZonedNamespace, zone_at}
-use Rattle.image_store.specs.declared.geometry.ZoneBlock.{ZoneBlock}
-use Rattle.zns_commands.specs.Address.{zone_number, zone_offset, zone_block_in, address_check, boundary_check, lowest_check, range_check}
+use Rattle.zns_commands.specs.Address.{block_total, zone_number, zone_offset}
 use Rattle.zns_commands.specs.Read.{read_refusal}
-use Rattle.zns_commands.specs.Transfer.{transfer_checks}
 use Rattle.emit_append.specs.Need.{need}
 use Rattle.device_meaning.specs.BlockRuns.{Task}
 
@@ -55,41 +53,27 @@ source_zone ns command = zone_number ns command.lba
 abbrev pub destination_zone : ZonedNamespace → RunCommand → ℕ
 destination_zone ns command = zone_number ns command.destination
 
--- the checks of the addresses
-abbrev pub address_checks : ZonedNamespace → RunCommand → List (Option Status)
-address_checks ns command =
-    range_check ns command.lba command.blocks
-    ∷ address_check ns command.destination
-    ∷ lowest_check ns command.destination
-    ∷ demand (not (source_zone ns command == destination_zone ns command)) SOURCE_IS_DESTINATION
-    ∷ []
-
--- the checks of the source, of which so many blocks from this one on are to be read
-abbrev pub source_checks : ZonedNamespace → ZoneBlock → ℕ → List (Option Status)
-source_checks ns first blocks =
-    boundary_check ns first blocks
-    ∷ read_refusal (zone_at ns first.zone).state
-    ∷ demand (nat_le (first.offset + blocks) (length (zone_at ns first.zone).blocks)) SOURCE_NOT_WRITTEN
-    ∷ []
-
--- the checks of the destination, to which so many blocks may come
-abbrev pub destination_checks : ZonedNamespace → Holds → ℕ → ℕ → List (Option Status)
-destination_checks ns holds z blocks =
-    demand (not (is_destination holds z)) ZONE_HELD
-    ∷ demand (is_open (zone_at ns z).state) DESTINATION_NOT_OPEN
-    ∷ demand (nat_le (length (zone_at ns z).blocks + blocks) ns.capacity) DESTINATION_LACKS_ROOM
-    ∷ []
-
 -- The checks, in order: the data beside the entry; the program; the addresses; the places for runs; the
 -- source; the destination. Each later one is meant where those before it pass.
 abbrev pub admission_checks : ZonedNamespace → Holds → Bool → Option Loaded → RunCommand → List ℕ → List (Option Status)
 admission_checks ns holds place_free slot command input =
-    transfer_checks 0 0 input
-    ++ demand (is_some slot) NO_SUCH_PROGRAM
-    ∷ address_checks ns command
-    ++ demand place_free NO_RUN_FREE
-    ∷ source_checks ns (zone_block_in ns command.lba) command.blocks
-    ++ destination_checks ns holds (destination_zone ns command) (need command.blocks (sizes_in ns slot))
+    let end = zone_offset ns command.lba + command.blocks in
+    let source = zone_at ns (source_zone ns command) in
+    let destination = zone_at ns (destination_zone ns command) in
+    demand (length input == 0) INVALID_FIELD_IN_COMMAND
+    ∷ demand (is_some slot) NO_SUCH_PROGRAM
+    ∷ demand (nat_le (command.lba + command.blocks) (block_total ns)) LBA_OUT_OF_RANGE
+    ∷ demand (nat_lt command.destination (block_total ns)) LBA_OUT_OF_RANGE
+    ∷ demand (zone_offset ns command.destination == 0) INVALID_FIELD_IN_COMMAND
+    ∷ demand (not (source_zone ns command == destination_zone ns command)) SOURCE_IS_DESTINATION
+    ∷ demand place_free NO_RUN_FREE
+    ∷ demand (nat_le end ns.size) ZONE_BOUNDARY_ERROR
+    ∷ read_refusal source.state
+    ∷ demand (nat_le end (length source.blocks)) SOURCE_NOT_WRITTEN
+    ∷ demand (not (is_destination holds (destination_zone ns command))) ZONE_HELD
+    ∷ demand (is_open destination.state) DESTINATION_NOT_OPEN
+    ∷ demand (nat_le (length destination.blocks + need command.blocks (sizes_in ns slot)) ns.capacity) DESTINATION_LACKS_ROOM
+    ∷ []
 
 -- the status of the first check that fails
 abbrev pub run_refusal : ZonedNamespace → Holds → Bool → Option Loaded → RunCommand → List ℕ → Option Status

@@ -1,5 +1,5 @@
 -- What an event does to a state, and the reply to it (profile).
-use Rattle.std.specs.Prelude.{ℕ, Bool, true, false, not, nat_le, List, [], ◌∷◌, ◌++◌, set, is_some, Option, Some, None, Result, Ok, Err}
+use Rattle.std.specs.Prelude.{ℕ, Bool, true, false, ◌==◌, not, nat_le, List, [], ◌∷◌, length, set, is_some, Option, Some, None, Result, Ok, Err}
 use Rattle.zone_state.specs.declared.state.FaultState.{FaultState}
 use Rattle.zone_state.specs.declared.status.Status.{Status}
 use Rattle.zone_state.specs.declared.status.TheConstants.Status.{SUCCESS, INVALID_FIELD_IN_COMMAND, NO_SUCH_PROGRAM, PROGRAM_REFUSED, PROGRAM_IN_USE, WANT_OF_MEMORY}
@@ -10,13 +10,13 @@ use Rattle.nvme_entry.specs.declared.command.Command.{Command}
 use Rattle.nvme_entry.specs.declared.command.Command.TheVariants as commands
 use Rattle.nvme_entry.specs.declared.command.LoadCommand.{LoadCommand}
 use Rattle.nvme_entry.specs.declared.command.RunCommand.{RunCommand}
+use Rattle.nvme_entry.specs.declared.command.TheConstants.{MOST_TRANSFER}
 use Rattle.instruction_set.specs.declared.instruction.Instruction.{Instruction}
 use Rattle.program_interface.specs.RunSizes.{Sizes}
 use Rattle.image_store.specs.Namespace.{ZonedNamespace, grown_at}
 use Rattle.zns_commands.specs.Effect.{Effect}
 use Rattle.zns_commands.specs.Fault.{zone_fault_refusal, faulted}
 use Rattle.zns_commands.specs.Meaning.{meaning}
-use Rattle.zns_commands.specs.Transfer.{transfer_checks}
 use Rattle.device_meaning.specs.Admission.{Loaded, run_refusal, granted_sizes, source_blocks, task_of, source_zone, destination_zone}
 use Rattle.device_events.specs.Replies.{ReplyWithData, without_data}
 use Rattle.device_meaning.specs.EventReplies.{Happening, Submission, completion, completed, refused, idle, submission_of}
@@ -34,8 +34,9 @@ use Rattle.device_events.specs.declared.reply.Reply.TheVariants as reply
 -- the checks, in order: the data beside the entry, the limit, and that no active run uses the slot
 abbrev pub load_checks : State → LoadCommand → List ℕ → List (Option Status)
 load_checks s load input =
-    transfer_checks load.bytes load.bytes input
-    ++ demand (nat_le load.limit s.namespace.block) INVALID_FIELD_IN_COMMAND
+    demand (nat_le load.bytes MOST_TRANSFER) INVALID_FIELD_IN_COMMAND
+    ∷ demand (length input == load.bytes) INVALID_FIELD_IN_COMMAND
+    ∷ demand (nat_le load.limit s.namespace.block) INVALID_FIELD_IN_COMMAND
     ∷ demand (not (in_use s load.slot)) PROGRAM_IN_USE
     ∷ []
 
@@ -71,9 +72,10 @@ result_by slot (Some status) sub s = refused sub status s
 result_by None None sub s = refused sub NO_SUCH_PROGRAM s
 result_by (Some loaded) None sub s = completed sub SUCCESS 0 0 loaded.result s
 
--- what a Result of a slot comes to
+-- what a Result of a slot comes to; its one check is that no data stands beside the entry
 abbrev pub giving_result : Submission → State → ℕ → Happening
-giving_result sub s slot = result_by (loaded_at s slot) (first_failed (transfer_checks 0 0 sub.input)) sub s
+giving_result sub s slot =
+    result_by (loaded_at s slot) (first_failed (demand (length sub.input == 0) INVALID_FIELD_IN_COMMAND ∷ [])) sub s
 
 -- ---- Run
 

@@ -27,17 +27,11 @@ Judge = List ℕ → Sizes → Result (List (Option Instruction)) ProgramRefused
 
 -- ---- sound judges
 
--- the bytes spell the program (RFC 9669, 3), as they do no other; and over blocks of these sizes it never traps
-pub record IsSafeProgram (bytes : List ℕ) (sizes : Sizes) (program : List (Option Instruction)) : Type 0 where
-  pub is_program : IsProgram program
-  pub spelled : bytes ≡ program_bytes program
-  pub never_traps : NeverTraps program sizes.limit sizes.block
-
--- each program that it makes of bytes is such a program; so all that a sound judge chooses is whether it accepts what they spell
+-- each program that it makes of bytes never traps over blocks of these sizes
 abbrev pub IsSoundJudge : Judge → Type 0
 IsSoundJudge judge =
     (bytes : List ℕ) (sizes : Sizes) (program : List (Option Instruction)) → AreBytes bytes → AreSizes sizes
-    → judge bytes sizes ≡ Ok program → IsSafeProgram bytes sizes program
+    → judge bytes sizes ≡ Ok program → NeverTraps program sizes.limit sizes.block
 
 -- ---- judges by facts
 
@@ -89,6 +83,13 @@ module _ {D : Type 0} (operations : Operations D) where
     pub found : Refusal
     pub first : IsFirstRefusal operations program sizes found
     pub told : why ≡ refused_for_reason found
+
+-- the bytes spell the program that the judge by the facts of a domain accepts (RFC 9669, 3), as they do no other: all that it chooses
+-- is whether it accepts what they spell
+abbrev pub JudgedIsSpelled : {D : Type 0} → Operations D → Type 0
+JudgedIsSpelled operations =
+    (bytes : List ℕ) (sizes : Sizes) (program : List (Option Instruction)) → AreBytes bytes → judge_by operations bytes sizes ≡ Ok program
+    → IsProgram program × (bytes ≡ program_bytes program)
 
 -- what the judge by the facts of a domain accepts decodes, and no reason refuses it
 abbrev pub JudgedIsUnrefused : {D : Type 0} → Operations D → Type 0

@@ -9,7 +9,7 @@ use Rattle.zone_state.specs.declared.status.TheConstants.Status.{SUCCESS, PROGRA
 use Rattle.zone_resources.specs.Holds.{no_holds}
 use Rattle.nvme_entry.specs.Entry.{identifier_of}
 use Rattle.program_meaning.specs.BlockRun.{BlockRun}
-use Rattle.program_meaning.specs.TrapFree.{IsExit}
+use Rattle.program_meaning.specs.TrapFree.{IsExit, NeverTraps}
 use Rattle.emit_append.specs.Packing.{packed, pending_of, released}
 use Rattle.image_store.specs.Namespace.{ZoneWithBlocks, ZonedNamespace, zone_at, shape, IsNamespace}
 use Rattle.zns_commands.specs.Append.{TakesBlocks, append_checks, append_effect}
@@ -20,7 +20,7 @@ use Rattle.device_meaning.specs.BlockRuns.{Task, block_run, block_runs_of, goes_
 use Rattle.device_meaning.specs.Draining.{Drains, turns_left}
 use Rattle.device_meaning.specs.Events.{Occurrence}
 use Rattle.device_meaning.specs.Happenings.{added, happens, turned}
-use Rattle.device_meaning.specs.Judging.{IsSafeProgram, Judge}
+use Rattle.device_meaning.specs.Judging.{Judge}
 use Rattle.device_meaning.specs.Outcome.{Ending, EndsWithLast, Progress, Turn, appended_by, at_admission, ending_of, last_turn, outcome, emitted_by, rest, success_of}
 use Rattle.device_meaning.specs.Reached.{IsReached}
 use Rattle.device_meaning.specs.State.{Place, State, loaded_at, place_at}
@@ -116,14 +116,14 @@ pub record IsAppended (ns : ZonedNamespace) (z : ℕ) (blocks : List (List ℕ))
   pub effect : added ns z blocks ≡ (append_effect ns no_holds (z * ns.size) (concat blocks)).namespace
 
 module _ (judge : Judge) where
-  -- the program of a slot is what the judge made of some bytes, for the sizes that it has there: such a program as a sound judge
-  -- accepts, whose limit is at most a block
+  -- the program of a slot is what the judge made of some bytes, for the sizes that it has there, of which the limit is at most a
+  -- block: it never traps over these
   pub record IsAcceptedIn (ns : ZonedNamespace) (loaded : Loaded) : Type 0 where
     pub bytes : List ℕ
     pub are : AreBytes bytes
     pub accepted : judge bytes (sizes_in ns (Some loaded)) ≡ Ok loaded.program
     pub limit : loaded.limit ≤ ns.block
-    pub safe : IsSafeProgram bytes (sizes_in ns (Some loaded)) loaded.program
+    pub never_traps : NeverTraps loaded.program loaded.limit ns.block
 
   -- in each state that events leave, the namespace is sound, each loaded program is accepted, what is left of
   -- each run fits, what its next turn appends is appended, and the last of its turns ends it with success

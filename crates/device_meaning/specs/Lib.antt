@@ -14,3 +14,4 @@ pub mod WantOfMemory
 pub mod JoinedEvents
 pub mod Completions
 pub mod Laws
+pub mod steps

@@ -3,7 +3,7 @@
 ghost use Rattle.device_meaning.specs.Beginning.{LeftIsWithinNeed};
 ghost use Rattle.device_meaning.specs.Completions.{EachIsCompletedOnce, NoCompletionIsLost};
 ghost use Rattle.device_meaning.specs.JoinedEvents.{DrainedByTurns, DrainedInOneWay, EventsInParts, EventsJoin, OneReplyEach, ServedAndDrained, ServedInParts};
-ghost use Rattle.device_meaning.specs.Judging.{IsSoundJudge, JudgedIsFirst, JudgedIsUnrefused, judge_by};
+ghost use Rattle.device_meaning.specs.Judging.{IsSoundJudge, JudgedIsFirst, JudgedIsSpelled, JudgedIsUnrefused, judge_by};
 ghost use Rattle.device_meaning.specs.Laws.{BlocksLeaveOthers, DrainingEnds, EventsKeepForRuns, NoReplyIsTrapped, OutcomeIsPacked, RestAtAdmission, RestEnds, RestGoesOn, RestIsFew, RoomIsOpen, RoomStays, StatesAreSound, TurnsLeaveFewer};
 ghost use Rattle.device_meaning.specs.Reached.{BeginningIsReached, EventsKeepReached, NewIsReached, TurnsKeepReached};
 ghost use Rattle.device_meaning.specs.View.{SeenAtAdmission, SeenStays};
@@ -14,12 +14,17 @@ use device_events::Out;
 use ebpf_decode::laws::fault_is_first;
 use word_domain::Domain;
 
-/// A domain judges soundly: the bytes spell each program that no reason by its facts refuses, and that program never traps.
+/// A domain judges soundly: no program that its facts give no reason to refuse ever traps.
 pub fn domains_judge_soundly<D: Domain>()
     ensures { IsSoundJudge (judge_by D.operations) }
 {
     accepted_never_traps::<D>();
 }
+
+/// The bytes spell each program that is accepted by the facts of a domain, as RFC 9669 spells programs, and they spell no other.
+pub fn judged_is_spelled<D: Domain>()
+    ensures { JudgedIsSpelled D.operations }
+{}
 
 /// What is accepted by the facts of a domain is what the bytes decode to, and no reason refuses it. Of what is refused the first
 /// fault is told, or where the bytes decode the first refusal.

@@ -24,7 +24,8 @@ use Rattle.program_interface.specs.Area.{address_of}
 use Rattle.program_interface.specs.declared.area.Area.TheVariants.{Context, Scratch}
 use Rattle.program_meaning.proofs.Proved.{areas_are_apart, loads_fit}
 use Rattle.program_meaning.specs.BlockRun.{BlockRun, block_run_of, continued, ran}
-use Rattle.program_meaning.specs.Cause.{causes, causes_of_effect, hinders, is_exit, least_cause, next_slot}
+use Rattle.program_meaning.specs.Cause.{causes, hinders, is_exit, least_cause, next_slot}
+use Rattle.program_meaning.specs.steps.Causes.{causes_of_effect}
 use Rattle.program_meaning.specs.Effect.{address_from, effect, register}
 use Rattle.program_meaning.specs.Memory.{area_offset_of, lies_in, loaded, stored_at}
 use Rattle.program_meaning.specs.State.{IsState, State}

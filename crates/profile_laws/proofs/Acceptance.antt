@@ -13,7 +13,7 @@ use Rattle.instruction_set.specs.declared.operation.Size.{Size}
 use Rattle.instruction_set.specs.declared.operation.Size.TheVariants.{Byte, DoubleWord}
 use Rattle.instruction_set.specs.declared.operation.Width.{Width}
 use Rattle.instruction_set.specs.declared.operation.Width.TheVariants.{Bits32, Bits64}
-use Rattle.program_meaning.specs.Cause.{hinders_store, hinders_load}
+use Rattle.program_meaning.specs.steps.Causes.{hinders_store, hinders_load}
 use Rattle.program_meaning.specs.Word.{low_bits}
 use Rattle.program_interface.specs.declared.area.Area.TheVariants.{Context, Block, Stack, Scratch}
 use Rattle.word_domain.specs.Domain.{Operations}

@@ -14,7 +14,8 @@ use Rattle.instruction_set.specs.declared.operation.SignedSize.{SignedSize}
 use Rattle.instruction_set.specs.declared.operation.SignedSize.TheVariants as signed
 use Rattle.instruction_set.specs.declared.operation.Size.{Size}
 use Rattle.instruction_set.specs.declared.operation.Size.TheVariants.{Byte, HalfWord, Word, DoubleWord}
-use Rattle.program_meaning.specs.Cause.{calls_unknown, emits_badly, emits_outside, is_unwritable_at, loads_outside, next_slot, stores_outside}
+use Rattle.program_meaning.specs.Cause.{calls_unknown, emits_badly, emits_outside, loads_outside, next_slot, stores_outside}
+use Rattle.program_meaning.specs.steps.Causes.{is_unwritable_at}
 use Rattle.program_meaning.specs.Effect.{address_from, bytes_at, effect, put, register, sign_extended, with_frame}
 use Rattle.program_meaning.specs.Granted.{FlatState, flat_after, flat_bytes, flat_effect, flat_memory, flat_state, with_flat_bytes}
 use Rattle.program_meaning.specs.Laws.{HasBytes, is_within}

@@ -9,3 +9,4 @@ pub mod TrapFree
 pub mod Places
 pub mod Laws
 pub mod Granted
+pub mod steps

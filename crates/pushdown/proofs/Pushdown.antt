@@ -76,7 +76,7 @@ module _ (judge : Judge) (s : State) (queue : ℕ) (entry input : List ℕ) (com
   destination_on admitted =
       let checks = admission_checks s.namespace (holds_at s) (is_some (free_place s)) (loaded_at s command.slot) command sub.input in
       let state = (zone_at s.namespace place.destination).state in
-      open_on state (demanded (is_open state) DESTINATION_NOT_OPEN (passed checks 12 admitted.passed))
+      open_on state (demanded (is_open state) DESTINATION_NOT_OPEN (passed checks 11 admitted.passed))
 
   module _ (apart : AreApart s.places) (starved : Bool) (admitted : IsAdmitted s sub command run) (ends : EndsWithLast place.turns) (events : List Occurrence)
       (within : own_turns run events < length place.turns) where

@@ -14,7 +14,7 @@ use Rattle.device_meaning.specs.Judging.{IsSoundJudge, Judge}
 use Rattle.accepted_programs.proofs.Proved.{set_some}
 use Rattle.program_meaning.specs.BlockRun.{BlockRun}
 use Rattle.zns_commands.specs.Effect.{success_effect}
-use Rattle.zns_commands.specs.Transfer.{transfer_checks}
+use Rattle.zns_commands.specs.steps.Checks.{transfer_checks}
 use Rattle.zone_resources.proofs.Proved.{there}
 use Rattle.device_meaning.specs.Admission.{Loaded, admission_checks}
 use Rattle.device_meaning.specs.BlockRuns.{Task, last_scratch}
@@ -163,7 +163,7 @@ module _ (judge : Judge) (sound : IsSoundJudge judge) (s : State) (reached : IsR
         let checks = admission_checks s.namespace (holds_at s) (is_some (free_place s)) (loaded_at s command.slot) command sub.input in
         let asked : Occurrence = record { event = told.Submitted queue entry input; starved = starved } in
         events_leave_some judge (asked ∷ events) s command.slot
-        (demanded (is_some (loaded_at s command.slot)) NO_SUCH_PROGRAM (passed checks 2 admitted.passed))
+        (demanded (is_some (loaded_at s command.slot)) NO_SUCH_PROGRAM (passed checks 1 admitted.passed))
 
     leaves_result : own_turns run events + 1 ≡ length here.turns → HasResult then command.slot (last_scratch all_block_runs)
     leaves_result last =

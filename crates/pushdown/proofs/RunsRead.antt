@@ -35,7 +35,7 @@ admitted_bytes : (s : State) (sub : Submission) (command : RunCommand) (run : �
 admitted_bytes s sub command run admitted =
     let checks = admission_checks s.namespace (holds_at s) (is_some (free_place s)) (loaded_at s command.slot) command sub.input in
     let test = nat_eq (length sub.input) 0 in
-    subst AreBytes (sym (nil_from_length sub.input (eqb-true (length sub.input) 0 (demanded test INVALID_FIELD_IN_COMMAND (passed checks 1 admitted.passed))))) no_bytes
+    subst AreBytes (sym (nil_from_length sub.input (eqb-true (length sub.input) 0 (demanded test INVALID_FIELD_IN_COMMAND (passed checks 0 admitted.passed))))) no_bytes
 
 module _ (judge : Judge) (sound : IsSoundJudge judge) (s : State) (reached : IsReached judge s)
     (queue : ℕ) (entry input : List ℕ) (starved : Bool) (command : RunCommand) (run : ℕ) (events later : List Occurrence) where

@@ -16,7 +16,8 @@ use Rattle.emit_append.specs.Need.{need}
 use Rattle.word_domain.specs.declared.domain.Domain.{Ghosts}
 use Rattle.verifier.specs.Verified.{sizes_of}
 use Rattle.zns_commands.specs.Address.{zone_block_in}
-use Rattle.device_meaning.specs.Admission.{Loaded, address_checks, destination_checks, destination_zone, granted_sizes, run_refusal, sizes_in, source_checks}
+use Rattle.device_meaning.specs.Admission.{Loaded, destination_zone, granted_sizes, run_refusal, sizes_in}
+use Rattle.device_meaning.specs.steps.Checks.{address_checks, destination_checks, source_checks}
 use Rattle.device_meaning.specs.State.{State, free_place, holds_at, loaded_at}
 use Rattle.runner.specs.steps.Admitting.{AreZonesOf, refusal_by, sizes_at}
 use Rattle.runner.specs.DeviceState.{loaded_slot, device_state}

@@ -5,7 +5,7 @@ ghost use Rattle.std.specs.Result.{result_err};
 ghost use Rattle.common_definitions.specs.Checks.{first_failed};
 ghost use Rattle.zone_resources.specs.Holds.{is_destination};
 ghost use Rattle.image_store.specs.Namespace.{zone_at};
-ghost use Rattle.device_meaning.specs.Admission.{address_checks, destination_checks, source_checks};
+ghost use Rattle.device_meaning.specs.steps.Checks.{address_checks, destination_checks, source_checks};
 ghost use Rattle.runner.specs.steps.Admitting.{AreZonesOf, IsAdmission, refusal_by};
 ghost use Rattle.runner.specs.steps.Answered.{Refuses, Starts};
 ghost use Rattle.runner.specs.steps.Ready.{AreWritten};

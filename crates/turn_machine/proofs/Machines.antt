@@ -8,7 +8,7 @@ use Rattle.nvme_entry.specs.declared.command.Command.{Command}
 use Rattle.nvme_entry.specs.declared.command.Command.TheVariants as commands
 use Rattle.accepted_programs.proofs.Proved.{none_known}
 use Rattle.image_store.specs.Namespace.{ZonedNamespace}
-use Rattle.zns_commands.specs.Transfer.{transfer_checks}
+use Rattle.zns_commands.specs.steps.Checks.{transfer_checks}
 use Rattle.device_meaning.specs.EventReplies.{Happening, Submission, idle, submission_of}
 use Rattle.device_meaning.specs.Events.{Occurrence, replies_to, state_after}
 use Rattle.device_meaning.specs.Happenings.{faulting, happens, submitted, turned, turned_at}

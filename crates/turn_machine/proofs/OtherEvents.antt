@@ -50,8 +50,8 @@ module _ (m : Machine) (under : AreUnderWay m) where
       let checks = admission_checks m.namespace (holds_at s) (is_some (free_place s)) (loaded_at s command.slot) command sub.input in
       record {
         left = omega (arith, some);
-        inside = leb-true end m.namespace.size (demanded (nat_le end m.namespace.size) ZONE_BOUNDARY_ERROR (passed checks 8 none));
-        written = leb-true end (length blocks) (demanded (nat_le end (length blocks)) SOURCE_NOT_WRITTEN (passed checks 10 none));
+        inside = leb-true end m.namespace.size (demanded (nat_le end m.namespace.size) ZONE_BOUNDARY_ERROR (passed checks 7 none));
+        written = leb-true end (length blocks) (demanded (nat_le end (length blocks)) SOURCE_NOT_WRITTEN (passed checks 9 none));
       }
 
   module _ (sub : Submission) (command : RunCommand) (some : 1 ≤ command.blocks) where

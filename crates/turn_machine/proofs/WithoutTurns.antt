@@ -15,7 +15,7 @@ use Rattle.instruction_set.specs.declared.instruction.Instruction.{Instruction}
 use Rattle.zns_commands.specs.Effect.{Effect}
 use Rattle.zns_commands.specs.Fault.{faulted, zone_fault_refusal}
 use Rattle.zns_commands.specs.Meaning.{meaning}
-use Rattle.zns_commands.specs.Transfer.{transfer_checks}
+use Rattle.zns_commands.specs.steps.Checks.{transfer_checks}
 use Rattle.device_meaning.specs.Admission.{Loaded, run_refusal}
 use Rattle.device_meaning.specs.EventReplies.{Happening, Submission, refused}
 use Rattle.device_meaning.specs.Happenings.{commanded, fault_reply, faulting, judged, load_checks, load_unless, loading, result_by, sizes_for, why_not_run}

@@ -2,7 +2,8 @@
 
 ghost use Rattle.std.specs.Prelude.{◌≡◌, ◌<◌, ◌&&◌, int_le, nat_le, pos, Some};
 ghost use Rattle.instruction_set.specs.Instruction.{access_of};
-ghost use Rattle.program_meaning.specs.Cause.{calls_unknown as instruction_calls_unknown, is_unwritable as area_is_unwritable};
+ghost use Rattle.program_meaning.specs.Cause.{calls_unknown as instruction_calls_unknown};
+ghost use Rattle.program_meaning.specs.steps.Causes.{is_unwritable as area_is_unwritable};
 ghost use Rattle.accepted_programs.specs.Accepted.{area_accessed as area_of_access, begins_at, emits_amiss as facts_emit_amiss, emits_from_nowhere as facts_emit_from_nowhere, ends_inside as sum_ends_inside, falls_off as instruction_falls_off, fits_by_sum as record_fits_by_sum, goes_back as distance_goes_back, is_record as fit_is_record, leads_nowhere as distance_leads_nowhere, loads_outside as access_loads_outside, passes_limit as facts_pass_limit, reason_of, record_fits as facts_record_fits, stores_outside as access_stores_outside, turns_away as instruction_turns_away};
 ghost use Rattle.accepted_programs.specs.Facts.{area_of, least_length, slot_behind as instruction_slot_behind};
 

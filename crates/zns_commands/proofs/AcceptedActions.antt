@@ -13,12 +13,12 @@ use Rattle.common_definitions.specs.Checks.{demand, unless_failed, first_failed}
 use Rattle.common_definitions.proofs.Proved.{demanded, passed}
 use Rattle.image_store.specs.Namespace.{ZonedNamespace, zone_at, IsNamespace}
 use Rattle.zns_commands.specs.Address.{zone_number, block_total}
-use Rattle.zns_commands.specs.Resources.{room_for, closing_of}
+use Rattle.zns_commands.specs.Resources.{room_for}
 use Rattle.zns_commands.specs.steps.Accepted.{CanGiveWay}
 use Rattle.zns_commands.specs.Send.{room_of, zone_checks}
 use Rattle.zns_commands.specs.steps.Accepted.{CanMove}
 use Rattle.zns_commands.specs.declared.send.ZonePlan.{ZonePlan}
-use Rattle.zns_commands.specs.steps.Plans.{zone_plan}
+use Rattle.zns_commands.specs.steps.Plans.{closing_of, zone_plan}
 use Rattle.zns_commands.proofs.FittingZones.{action_fits}
 use Rattle.zns_commands.proofs.GivenWay.{has_room, no_one_gives_way}
 use Rattle.zns_commands.proofs.MovedZones.{moved_sound}

@@ -10,16 +10,13 @@ use Rattle.nvme_entry.specs.declared.command.StandardCommand.TheVariants.{Write,
 use Rattle.common_definitions.specs.Checks.{demand, first_failed}
 use Rattle.common_definitions.proofs.Proved.{all_append}
 use Rattle.image_store.specs.Namespace.{ZonedNamespace, zone_at}
-use Rattle.zns_commands.specs.Address.{address_check, lowest_checks, range_checks, zone_number, zone_offset}
-use Rattle.zns_commands.specs.Append.{append_address_checks}
+use Rattle.zns_commands.specs.Address.{zone_number, zone_offset}
 use Rattle.zns_commands.specs.Change.{changed}
 use Rattle.zns_commands.specs.Held.{is_held_against}
 use Rattle.zns_commands.specs.Read.{read_refusal}
-use Rattle.zns_commands.specs.Send.{all_checks, zone_checks}
-use Rattle.zns_commands.specs.Transfer.{transfer_checks}
-use Rattle.zns_commands.specs.Write.{write_address_checks, zone_write_checks}
+use Rattle.zns_commands.specs.steps.Checks.{address_check, lowest_checks, range_checks, transfer_checks, zone_write_checks}
 use Rattle.zns_commands.specs.Meaning.{change_of, checks_before_holds, checks_of, effect_of}
-use Rattle.zns_commands.proofs.FailedChecks.{Fails, address_fails, all_fails, lowest_fails, range_fails, read_refusal_fails, transfer_fails, zone_fails, zone_write_fails}
+use Rattle.zns_commands.proofs.FailedChecks.{Fails, address_fails, all_fails, data_fails, lowest_fails, range_fails, read_refusal_fails, transfer_fails, zone_fails, zone_write_fails}
 use Rattle.zns_commands.proofs.PassedChecks.{IsPassed, append_writes, write_writes}
 
 -- a command that is not refused succeeds,
@@ -46,13 +43,13 @@ pub checks_fail : (ns : ZonedNamespace) (holds : Holds) (command : StandardComma
 checks_fail ns holds (Write lba blocks) input =
     let bytes = blocks * ns.block in
     let offset = zone_offset ns lba in
-    all_append Fails (write_address_checks ns lba blocks input) (zone_write_checks ns holds (zone_number ns lba) offset blocks)
+    all_append Fails (transfer_checks bytes bytes input ++ range_checks ns lba blocks) (zone_write_checks ns holds (zone_number ns lba) offset blocks)
     (all_append Fails (transfer_checks bytes bytes input) (range_checks ns lba blocks) (transfer_fails bytes bytes input) (range_fails ns lba blocks))
     (zone_write_fails ns holds (zone_number ns lba) offset blocks)
 checks_fail ns holds (Append lba blocks) input =
     let bytes = blocks * ns.block in
     let written = length (zone_at ns (zone_number ns lba)).blocks in
-    all_append Fails (append_address_checks ns lba blocks input) (zone_write_checks ns holds (zone_number ns lba) written blocks)
+    all_append Fails (transfer_checks bytes bytes input ++ lowest_checks ns lba) (zone_write_checks ns holds (zone_number ns lba) written blocks)
     (all_append Fails (transfer_checks bytes bytes input) (lowest_checks ns lba) (transfer_fails bytes bytes input) (lowest_fails ns lba))
     (zone_write_fails ns holds (zone_number ns lba) written blocks)
 checks_fail ns holds (Read lba blocks) input =
@@ -63,9 +60,9 @@ checks_fail ns holds (Read lba blocks) input =
 checks_fail ns holds (Receive lba dwords filter partial) input =
     all_append Fails (transfer_checks (4 * dwords) 0 input) (address_check ns lba ∷ []) (transfer_fails (4 * dwords) 0 input) (address_fails ns lba, tt)
 checks_fail ns holds (Send lba a true) input =
-    all_append Fails (transfer_checks 0 0 input) (all_checks ns holds a) (transfer_fails 0 0 input) (all_fails ns holds a)
+    (data_fails 0 input, all_fails ns holds a)
 checks_fail ns holds (Send lba a false) input =
-    all_append Fails (transfer_checks 0 0 input) (zone_checks ns holds lba a) (transfer_fails 0 0 input) (zone_fails ns holds lba a)
+    (data_fails 0 input, zone_fails ns holds lba a)
 
 -- the check of the holds stands behind those before it, and before others
 pub record TestsHolds (ns : ZonedNamespace) (holds : Holds) (command : StandardCommand) (input : List ℕ) : Type 0 where
@@ -77,6 +74,6 @@ pub tests_holds : (ns : ZonedNamespace) (holds : Holds) (command : StandardComma
     → TestsHolds ns holds command input
 tests_holds ns holds (Write lba blocks) input held = record { others = drop 5 (checks_of ns holds (Write lba blocks) input); is = refl }
 tests_holds ns holds (Append lba blocks) input held = record { others = drop 5 (checks_of ns holds (Append lba blocks) input); is = refl }
-tests_holds ns holds (Send lba a true) input held = record { others = drop 3 (checks_of ns holds (Send lba a true) input); is = refl }
-tests_holds ns holds (Send lba a false) input held = record { others = drop 5 (checks_of ns holds (Send lba a false) input); is = refl }
+tests_holds ns holds (Send lba a true) input held = record { others = drop 2 (checks_of ns holds (Send lba a true) input); is = refl }
+tests_holds ns holds (Send lba a false) input held = record { others = drop 4 (checks_of ns holds (Send lba a false) input); is = refl }
 tests_holds ns holds command input held = cc

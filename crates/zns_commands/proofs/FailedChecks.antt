@@ -1,6 +1,6 @@
 -- What a check tells that fails: no success, and a status of the standards or Zone Held.
 use Rattle.std.proofs.Common.{◌≡◌, ◌≢◌, ℕ, ◌+◌, ◌%◌, ◌≤◌, Bool, true, false, cond, List, [], ◌∷◌, length, Option, Some, None, Result, Ok, Err, refl, ap, inl, inr, arith}
-use Rattle.std.specs.Prelude.{◌⊎◌, ◌&&◌, ◌||◌, nat_lt, nat_le, nat_eq, not}
+use Rattle.std.specs.Prelude.{◌⊎◌, ◌&&◌, ◌||◌, nat_lt, nat_le, nat_eq, not, ok_or, option_map}
 use Rattle.std.specs.List.{AllByRecursion}
 use Rattle.std.specs.Option.{option_map_or}
 use Rattle.std.specs.Result.{result_err}
@@ -15,7 +15,7 @@ use Rattle.zone_state.specs.declared.status.Status.{Status}
 use Rattle.zone_state.specs.declared.status.StatusType.{StatusType}
 use Rattle.zone_state.specs.declared.status.StatusType.TheVariants.{Generic, CommandSpecific, VendorSpecific}
 use Rattle.zone_state.specs.declared.status.TheConstants.Status.{SUCCESS, INVALID_FIELD_IN_COMMAND, LBA_OUT_OF_RANGE, ZONE_BOUNDARY_ERROR, ZONE_INVALID_WRITE, ZONE_HELD, TOO_MANY_OPEN_ZONES, TOO_MANY_ACTIVE_ZONES}
-use Rattle.zone_resources.specs.Admission.{open_admission, closing_or_refusal, zone_to_close, wanted_of}
+use Rattle.zone_resources.specs.Admission.{open_admission, zone_to_close, wanted_of}
 use Rattle.zone_resources.specs.Counts.{open_count, active_count}
 use Rattle.zone_resources.specs.Holds.{is_destination, refuses}
 use Rattle.zone_resources.specs.declared.admission.Limits.{Limits}
@@ -26,13 +26,12 @@ use Rattle.nvme_entry.specs.declared.command.TheConstants.{MOST_TRANSFER}
 use Rattle.common_definitions.specs.Checks.{demand, first_failed, unless_failed}
 use Rattle.common_definitions.proofs.Proved.{all_append}
 use Rattle.image_store.specs.Namespace.{ZonedNamespace, zone_at, counted_zones}
-use Rattle.zns_commands.specs.Address.{counted_zone_at, zone_number, block_total, address_check, lowest_checks, range_checks}
+use Rattle.zns_commands.specs.Address.{counted_zone_at, zone_number, block_total}
 use Rattle.zns_commands.specs.Laws.{IsStandardStatus}
 use Rattle.zns_commands.specs.Read.{read_refusal}
-use Rattle.zns_commands.specs.Resources.{room_by}
+use Rattle.zns_commands.specs.steps.Plans.{room_by}
 use Rattle.zns_commands.specs.Send.{all_checks, all_fit, held_among, room_of, zone_checks}
-use Rattle.zns_commands.specs.Transfer.{transfer_checks}
-use Rattle.zns_commands.specs.Write.{zone_write_checks}
+use Rattle.zns_commands.specs.steps.Checks.{address_check, lowest_checks, range_checks, transfer_checks, zone_write_checks}
 
 abbrev pub is_of_standards : StatusType → Bool
 is_of_standards Generic = true
@@ -108,13 +107,13 @@ write_check_fails z at n =
       ),
     ))
 
-closing_fails : (found : Option ℕ) → Fails (result_err (closing_or_refusal found))
+closing_fails : (found : Option ℕ) → Fails (result_err (ok_or (option_map Some found) TOO_MANY_OPEN_ZONES))
 closing_fails None = refl
 closing_fails (Some k) = refl
 
 open_fails : (zones : List CountedZone) (limits : Limits) (holds : Holds) → Fails (result_err (open_admission zones limits holds))
 open_fails zones limits holds =
-    cond_fails (nat_lt (open_count zones) limits.open_limit) (Ok None) (closing_or_refusal (zone_to_close holds zones))
+    cond_fails (nat_lt (open_count zones) limits.open_limit) (Ok None) (ok_or (option_map Some (zone_to_close holds zones)) TOO_MANY_OPEN_ZONES)
     refl (closing_fails (zone_to_close holds zones))
 
 wanted_fails : (ns : ZonedNamespace) (holds : Holds) (wanted : Option Wanted) → Fails (result_err (room_by ns holds wanted))
@@ -142,9 +141,12 @@ room_fails ns holds a state = refl
 
 -- ---- lists of checks, of which those of commands are made
 
+pub data_fails : (beside : ℕ) (input : List ℕ) → Fails (demand (nat_eq (length input) beside) INVALID_FIELD_IN_COMMAND)
+data_fails beside input = demand_fails (nat_eq (length input) beside) INVALID_FIELD_IN_COMMAND refl
+
 pub transfer_fails : (bytes beside : ℕ) (input : List ℕ) → AllByRecursion Fails (transfer_checks bytes beside input)
 transfer_fails bytes beside input =
-    (demand_fails (nat_le bytes MOST_TRANSFER) INVALID_FIELD_IN_COMMAND refl, (demand_fails (nat_eq (length input) beside) INVALID_FIELD_IN_COMMAND refl, tt))
+    (demand_fails (nat_le bytes MOST_TRANSFER) INVALID_FIELD_IN_COMMAND refl, (data_fails beside input, tt))
 
 pub address_fails : (ns : ZonedNamespace) (lba : ℕ) → Fails (address_check ns lba)
 address_fails ns lba = demand_fails (nat_lt lba (block_total ns)) LBA_OUT_OF_RANGE refl

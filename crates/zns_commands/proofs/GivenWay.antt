@@ -14,9 +14,9 @@ use Rattle.zone_resources.proofs.Proved.{admission_keeps_limits, admitted_closab
 use Rattle.image_store.specs.Blocks.{as_blocks}
 use Rattle.image_store.specs.Namespace.{ZoneWithBlocks, ZonedNamespace, no_zone, zone_at, with_zone, counted, grown, counted_zones, IsNamespace, IsWithinLimits, arrived, with_state}
 use Rattle.zns_commands.specs.Address.{counted_zone_at}
-use Rattle.zns_commands.specs.Resources.{room_by, room_for, closed}
+use Rattle.zns_commands.specs.Resources.{room_for, closed}
 use Rattle.zns_commands.specs.steps.Accepted.{CanGiveWay}
-use Rattle.zns_commands.specs.steps.Plans.{written_by}
+use Rattle.zns_commands.specs.steps.Plans.{room_by, written_by}
 use Rattle.zns_commands.proofs.ClosableZones.{closable_zone, closable_state, other_zone}
 use Rattle.zns_commands.proofs.FittingZones.{FitsIn, action_fits, set_namespace, counted_zone_there, counted_zones_with, one_within, open_holds}
 

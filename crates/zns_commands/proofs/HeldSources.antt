@@ -86,7 +86,7 @@ module _ (ns : ZonedNamespace) (holds : Holds) (d : ℕ) (held : is_source holds
       (λ same.
       let here = subst (λ (n : ℕ). refuses holds a n ≡ false) same free in
       leads_to a from (forgets_none (is_destination holds d) (forgets a) (is_source holds d) held here)
-      (passed (send_checks ns holds lba a false input) 5 none))
+      (passed (send_checks ns holds lba a false input) 4 none))
 
   all_kept : (lba : ℕ) (a : Action) (input : List ℕ) (forgetting : Bool) → forgets a ≡ forgetting
       → first_failed (send_checks ns holds lba a true input) ≡ None → Kept (send_effect ns holds lba a true)

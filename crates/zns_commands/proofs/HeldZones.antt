@@ -23,9 +23,9 @@ use Rattle.zns_commands.specs.Meaning.{change_of}
 use Rattle.zns_commands.specs.Fault.{zone_fault_refusal}
 use Rattle.zns_commands.specs.Left.{is_either, reaches, HeldDestinationsAreLeft}
 use Rattle.zns_commands.specs.Laws.{Commanded, Faulted}
-use Rattle.zns_commands.specs.Resources.{room_by, room_for, closing_of, gives_way}
+use Rattle.zns_commands.specs.Resources.{room_for, gives_way}
 use Rattle.zns_commands.specs.Send.{send_checks, room_of, takes, held_among}
-use Rattle.zns_commands.specs.steps.Plans.{zone_plan}
+use Rattle.zns_commands.specs.steps.Plans.{room_by, closing_of, zone_plan}
 use Rattle.zns_commands.proofs.Meanings.{after_command}
 use Rattle.zns_commands.proofs.PassedChecks.{IsPassed, Writes, taken_fault, unrefused}
 use Rattle.zns_commands.proofs.Sweeps.{none_offline}
@@ -80,7 +80,7 @@ pub not_taken : (ns : ZonedNamespace) (holds : Holds) (lba : ℕ) (a : Action) (
 not_taken ns holds lba a input z none held =
     held_is_left ns holds a z
     (not-true (held_among (counted_zones ns) holds a)
-    (demanded (not (held_among (counted_zones ns) holds a)) ZONE_HELD (passed (send_checks ns holds lba a true input) 2 none)))
+    (demanded (not (held_among (counted_zones ns) holds a)) ZONE_HELD (passed (send_checks ns holds lba a true input) 1 none)))
     held
 
 -- an action on one zone is on one that isn't held against it
@@ -88,7 +88,7 @@ pub not_refused : (ns : ZonedNamespace) (holds : Holds) (lba : ℕ) (a : Action)
     → first_failed (send_checks ns holds lba a false input) ≡ None → refuses holds a (zone_number ns lba) ≡ false
 not_refused ns holds lba a input none =
     let z = zone_number ns lba in
-    not-true (refuses holds a z) (demanded (not (refuses holds a z)) ZONE_HELD (passed (send_checks ns holds lba a false input) 4 none))
+    not-true (refuses holds a z) (demanded (not (refuses holds a z)) ZONE_HELD (passed (send_checks ns holds lba a false input) 3 none))
 
 module _ (ns : ZonedNamespace) (holds : Holds) (d : ℕ) (held : is_destination holds d ≡ true) where
   -- a zone that is no destination is another
@@ -123,7 +123,7 @@ module _ (ns : ZonedNamespace) (holds : Holds) (d : ℕ) (held : is_destination 
       let state = (zone_at ns z).state in
       let free = or_parts (is_destination holds z) (forgets a && is_source holds z) (not_refused ns holds lba a input none) in
       neither_is plan.zone plan.closing free.0
-      (room_closable ns holds a state (unrefused (room_of ns holds a state) None (passed (send_checks ns holds lba a false input) 6 none)))
+      (room_closable ns holds a state (unrefused (room_of ns holds a state) None (passed (send_checks ns holds lba a false input) 5 none)))
 
   free : (change : Change) (input : List ℕ) → IsPassed ns holds change input → reaches ns holds change d ≡ false
   free (Writing lba blocks) input passes = written_free (zone_number ns lba) blocks input passes

@@ -15,7 +15,8 @@ use Rattle.zone_resources.proofs.Proved.{idle_holds_no_more}
 use Rattle.image_store.specs.Namespace.{ZoneWithBlocks, ZonedNamespace, zone_at, IsNamespace, arrived, with_state}
 use Rattle.image_store.proofs.Proved.{written_is_within}
 use Rattle.zns_commands.specs.Fault.{zone_fault_refusal, faulted_by, faulted}
-use Rattle.zns_commands.specs.Resources.{room_by, closed}
+use Rattle.zns_commands.specs.Resources.{closed}
+use Rattle.zns_commands.specs.steps.Plans.{room_by}
 use Rattle.zns_commands.specs.Send.{room_of, led_to}
 use Rattle.zns_commands.proofs.FittingZones.{FitsIn, action_fits, no_bytes, zone_fits, one_sound}
 use Rattle.zns_commands.proofs.GivenWay.{has_room, room_sound, moved_is}

@@ -24,10 +24,9 @@ use Rattle.zns_commands.specs.Address.{counted_zone_at, zone_number}
 use Rattle.zns_commands.specs.Append.{TakesBlocks, append_checks, append_effect}
 use Rattle.zns_commands.specs.Effect.{concluded}
 use Rattle.zns_commands.specs.Laws.{AddedBlocksAreAppended, AddedBlocksKeepNamespacesSound}
-use Rattle.zns_commands.specs.Resources.{room_by, closing_of}
-use Rattle.zns_commands.specs.Write.{zone_write_checks}
+use Rattle.zns_commands.specs.steps.Checks.{zone_write_checks}
 use Rattle.zns_commands.specs.declared.write.WritePlan.{WritePlan}
-use Rattle.zns_commands.specs.steps.Plans.{write_plan, written_by}
+use Rattle.zns_commands.specs.steps.Plans.{room_by, closing_of, write_plan, written_by}
 use Rattle.zns_commands.proofs.FittingZones.{one_within, open_holds}
 use Rattle.zns_commands.proofs.PassedChecks.{lowest_of}
 use Rattle.zns_commands.proofs.WrittenZones.{written_sound}

@@ -19,7 +19,8 @@ use Rattle.zns_commands.specs.Address.{counted_zone_at, zone_number, block_total
 use Rattle.zns_commands.specs.Change.{Change, Writing, Moving}
 use Rattle.zns_commands.specs.Append.{append_checks}
 use Rattle.zns_commands.specs.Fault.{zone_fault_refusal}
-use Rattle.zns_commands.specs.Resources.{room_for, closing_of}
+use Rattle.zns_commands.specs.Resources.{room_for}
+use Rattle.zns_commands.specs.steps.Plans.{closing_of}
 use Rattle.zns_commands.specs.Send.{send_checks}
 use Rattle.zns_commands.specs.Write.{write_checks}
 

@@ -19,7 +19,8 @@ use Rattle.image_store.specs.Namespace.{ZoneWithBlocks, ZonedNamespace, no_zone,
 use Rattle.zns_commands.specs.Address.{block_total, counted_zone_at}
 use Rattle.zns_commands.specs.Effect.{Effect, concluded, success_effect}
 use Rattle.zns_commands.specs.Laws.{Commanded}
-use Rattle.zns_commands.specs.Resources.{closed, closing_of, room_for}
+use Rattle.zns_commands.specs.Resources.{closed, room_for}
+use Rattle.zns_commands.specs.steps.Plans.{closing_of}
 use Rattle.zns_commands.specs.SelectAll.{EachHasRoom, NoneIsHeld, SelectAllIsEachAlone, SelectAllIsRefusedByHoldsAndLimits, TakenZonesMove, sent_to_all, sent_to_one}
 use Rattle.zns_commands.specs.Send.{all_effect, all_fit, gives_way_to, held_among, led_to, room_of, swept, taken_among, takes}
 use Rattle.nvme_entry.specs.declared.command.StandardCommand.TheVariants.{Send}

@@ -21,7 +21,8 @@ use Rattle.image_store.proofs.Proved.{resized}
 use Rattle.zns_commands.specs.Address.{zone_number, block_total}
 use Rattle.zns_commands.specs.Change.{CanBeAsked, Change, Nothing, Writing, Moving, changed}
 use Rattle.zns_commands.specs.Meaning.{change_of}
-use Rattle.zns_commands.specs.Resources.{closing_of, gives_way}
+use Rattle.zns_commands.specs.Resources.{gives_way}
+use Rattle.zns_commands.specs.steps.Plans.{closing_of}
 use Rattle.zns_commands.specs.Send.{send_checks, send_effect, all_fit, room_of}
 use Rattle.zns_commands.specs.Write.{with_written}
 use Rattle.zns_commands.specs.Laws.{NamespaceEvent, Commanded, Faulted, after, IsSpelled, EventsKeepNamespacesSound, EmptyIsNamespace}
@@ -41,13 +42,13 @@ written ns holds z blocks input sound asked writes =
 send_sound : (ns : ZonedNamespace) (holds : Holds) (lba : ℕ) (a : Action) (select_all : Bool) (input : List ℕ) → IsNamespace ns
     → first_failed (send_checks ns holds lba a select_all input) ≡ None → IsNamespace (send_effect ns holds lba a select_all)
 send_sound ns holds lba a true input sound none =
-    all_sound ns a sound (demanded (all_fit ns a) _ (passed (send_checks ns holds lba a true input) 3 none))
+    all_sound ns a sound (demanded (all_fit ns a) _ (passed (send_checks ns holds lba a true input) 2 none))
 send_sound ns holds lba a false input sound none =
     let checks = send_checks ns holds lba a false input in
     let z = zone_number ns lba in
     let room = room_of ns holds a (zone_at ns z).state in
-    let start = ltb-true lba (block_total ns) (demanded (nat_lt lba (block_total ns)) _ (passed checks 2 none)) in
-    moved_sound ns holds z a (closing_of room) sound (zone_inside ns lba sound start) (unrefused room None (passed checks 6 none))
+    let start = ltb-true lba (block_total ns) (demanded (nat_lt lba (block_total ns)) _ (passed checks 1 none)) in
+    moved_sound ns holds z a (closing_of room) sound (zone_inside ns lba sound start) (unrefused room None (passed checks 5 none))
 
 change_sound : (ns : ZonedNamespace) (holds : Holds) (change : Change) (input : List ℕ) → IsNamespace ns → CanBeAsked change input
     → IsPassed ns holds change input → IsNamespace (changed ns holds change input)

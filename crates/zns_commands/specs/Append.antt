@@ -1,26 +1,34 @@
 -- Zone Append (ZNS 1.1, 3.4.1).
-use Rattle.std.specs.Prelude.{ℕ, true, ◌≡◌, ◌≤◌, ◌+◌, ◌*◌, ◌++◌, List, [], length, Option}
+use Rattle.std.specs.Prelude.{ℕ, true, ◌≡◌, ◌≤◌, ◌+◌, ◌*◌, ◌==◌, nat_le, nat_lt, not, List, [], ◌∷◌, length, Option}
+use Rattle.std.specs.Result.{result_err}
 use Rattle.zone_state.specs.State.{is_open}
+use Rattle.zone_state.specs.Zone.{write_check}
 use Rattle.zone_state.specs.declared.status.Status.{Status}
+use Rattle.zone_state.specs.declared.status.TheConstants.Status.{INVALID_FIELD_IN_COMMAND, LBA_OUT_OF_RANGE, ZONE_HELD}
+use Rattle.zone_resources.specs.Holds.{is_destination}
 use Rattle.zone_resources.specs.declared.holds.Holds.{Holds}
+use Rattle.nvme_entry.specs.declared.command.TheConstants.{MOST_TRANSFER}
+use Rattle.common_definitions.specs.Checks.{demand}
 use Rattle.image_store.specs.Blocks.{block_count}
 use Rattle.image_store.specs.Namespace.{ZonedNamespace, zone_at}
-use Rattle.zns_commands.specs.Address.{zone_number, write_pointer, lowest_checks}
+use Rattle.zns_commands.specs.Address.{block_total, counted_zone_at, zone_number, zone_offset, write_pointer}
 use Rattle.zns_commands.specs.Effect.{Effect, success_effect}
-use Rattle.zns_commands.specs.Transfer.{transfer_checks}
-use Rattle.zns_commands.specs.Write.{zone_write_checks, with_written}
+use Rattle.zns_commands.specs.Resources.{room_for}
+use Rattle.zns_commands.specs.Write.{with_written}
 
--- the checks that need no zone: the transfer, the address
-abbrev pub append_address_checks : ZonedNamespace → ℕ → ℕ → List ℕ → List (Option Status)
-append_address_checks ns lba blocks input = transfer_checks (blocks * ns.block) (blocks * ns.block) input ++ lowest_checks ns lba
-
--- the checks, in order (the order is profile): those, and then those of the zone, which is written from its
--- write pointer on
+-- the checks, in order (the order is profile):
+-- the transfer, the address; of the zone those of a Write, from its write pointer on
 abbrev pub append_checks : ZonedNamespace → Holds → ℕ → ℕ → List ℕ → List (Option Status)
 append_checks ns holds lba blocks input =
     let z = zone_number ns lba in
-    append_address_checks ns lba blocks input
-    ++ zone_write_checks ns holds z (length (zone_at ns z).blocks) blocks
+    demand (nat_le (blocks * ns.block) MOST_TRANSFER) INVALID_FIELD_IN_COMMAND
+    ∷ demand (length input == blocks * ns.block) INVALID_FIELD_IN_COMMAND
+    ∷ demand (nat_lt lba (block_total ns)) LBA_OUT_OF_RANGE
+    ∷ demand (zone_offset ns lba == 0) INVALID_FIELD_IN_COMMAND
+    ∷ demand (not (is_destination holds z)) ZONE_HELD
+    ∷ result_err (write_check (counted_zone_at ns z) (length (zone_at ns z).blocks) blocks)
+    ∷ result_err (room_for ns holds (zone_at ns z).state)
+    ∷ []
 
 -- the logical block that an Append's first block goes to
 abbrev pub assigned_lba : ZonedNamespace → ℕ → ℕ

@@ -2,7 +2,6 @@ pub mod Address
 pub mod Answer
 pub mod Effect
 pub mod Resources
-pub mod Transfer
 pub mod Read
 pub mod Write
 pub mod Append

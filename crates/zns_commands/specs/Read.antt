@@ -1,14 +1,15 @@
 -- Read (NVM Command Set 1.0, 3.2.4; ZNS 1.1, 3.3.2).
-use Rattle.std.specs.Prelude.{ℕ, ◌*◌, ◌++◌, List, [], ◌∷◌, take, drop, replicate, Option, Some, None}
+use Rattle.std.specs.Prelude.{ℕ, ◌+◌, ◌*◌, ◌++◌, ◌==◌, nat_le, List, [], ◌∷◌, length, take, drop, replicate, Option, Some, None}
 use Rattle.std.specs.List.{concat}
 use Rattle.zone_state.specs.declared.state.ZoneState.{ZoneState}
 use Rattle.zone_state.specs.declared.state.ZoneState.TheVariants.{Offline}
 use Rattle.zone_state.specs.declared.status.Status.{Status}
-use Rattle.zone_state.specs.declared.status.TheConstants.Status.{ZONE_IS_OFFLINE}
+use Rattle.zone_state.specs.declared.status.TheConstants.Status.{INVALID_FIELD_IN_COMMAND, LBA_OUT_OF_RANGE, ZONE_BOUNDARY_ERROR, ZONE_IS_OFFLINE}
+use Rattle.nvme_entry.specs.declared.command.TheConstants.{MOST_TRANSFER}
+use Rattle.common_definitions.specs.Checks.{demand}
 use Rattle.image_store.specs.Namespace.{ZonedNamespace, zone_at}
-use Rattle.zns_commands.specs.Address.{zone_number, zone_offset, range_checks}
+use Rattle.zns_commands.specs.Address.{block_total, zone_number, zone_offset}
 use Rattle.zns_commands.specs.Effect.{Effect, success_effect}
-use Rattle.zns_commands.specs.Transfer.{transfer_checks}
 
 -- why a zone in this state gives no blocks
 abbrev pub read_refusal : ZoneState → Option Status
@@ -22,9 +23,11 @@ blocks_read block written first count = take count (drop first written ++ replic
 -- the checks, in order (the order is profile): the transfer, the range, the zone
 abbrev pub read_checks : ZonedNamespace → ℕ → ℕ → List ℕ → List (Option Status)
 read_checks ns lba blocks input =
-    transfer_checks (blocks * ns.block) 0 input
-    ++ range_checks ns lba blocks
-    ++ read_refusal (zone_at ns (zone_number ns lba)).state
+    demand (nat_le (blocks * ns.block) MOST_TRANSFER) INVALID_FIELD_IN_COMMAND
+    ∷ demand (length input == 0) INVALID_FIELD_IN_COMMAND
+    ∷ demand (nat_le (lba + blocks) (block_total ns)) LBA_OUT_OF_RANGE
+    ∷ demand (nat_le (zone_offset ns lba + blocks) ns.size) ZONE_BOUNDARY_ERROR
+    ∷ read_refusal (zone_at ns (zone_number ns lba)).state
     ∷ []
 
 -- the blocks are given, and nothing changes

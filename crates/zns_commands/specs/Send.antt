@@ -1,5 +1,5 @@
 -- Zone Management Send (ZNS 1.1, 3.4.3).
-use Rattle.std.specs.Prelude.{ℕ, Bool, true, false, ◌+◌, ◌++◌, ◌&&◌, not, nat_le, List, [], ◌∷◌, map, Option, None, Result, Ok, if◌then◌else◌}
+use Rattle.std.specs.Prelude.{ℕ, Bool, true, false, ◌+◌, ◌==◌, ◌&&◌, not, nat_le, nat_lt, List, [], ◌∷◌, length, map, Option, None, Result, Ok, if◌then◌else◌}
 use Rattle.std.specs.List.{enumerate_from, list_any}
 use Rattle.std.specs.Result.{result_err, result_unwrap_or}
 use Rattle.zone_state.specs.State.{is_open, is_active}
@@ -10,15 +10,14 @@ use Rattle.zone_state.specs.declared.action.Action.TheVariants as action
 use Rattle.zone_state.specs.declared.state.ZoneState.{ZoneState}
 use Rattle.zone_state.specs.declared.state.ZoneState.TheVariants.{Closed, ReadOnly, Full}
 use Rattle.zone_state.specs.declared.status.Status.{Status}
-use Rattle.zone_state.specs.declared.status.TheConstants.Status.{TOO_MANY_OPEN_ZONES, ZONE_HELD}
+use Rattle.zone_state.specs.declared.status.TheConstants.Status.{INVALID_FIELD_IN_COMMAND, LBA_OUT_OF_RANGE, TOO_MANY_OPEN_ZONES, ZONE_HELD}
 use Rattle.zone_resources.specs.Counts.{count_in, open_count}
 use Rattle.zone_resources.specs.Holds.{refuses}
 use Rattle.zone_resources.specs.declared.holds.Holds.{Holds}
 use Rattle.common_definitions.specs.Checks.{demand}
 use Rattle.image_store.specs.Namespace.{ZoneWithBlocks, ZonedNamespace, zone_at, counted_zones, arrived, with_state}
-use Rattle.zns_commands.specs.Address.{zone_number, lowest_checks}
-use Rattle.zns_commands.specs.Resources.{room_for, closing_of, closed}
-use Rattle.zns_commands.specs.Transfer.{transfer_checks}
+use Rattle.zns_commands.specs.Address.{block_total, zone_number, zone_offset}
+use Rattle.zns_commands.specs.Resources.{room_for, closed}
 
 -- the zone to be closed so that the action can be taken on one of this state, if one has to be, or why there is no room: only
 -- Open takes resources
@@ -30,8 +29,9 @@ room_of ns holds _ state = Ok None
 abbrev pub zone_checks : ZonedNamespace → Holds → ℕ → Action → List (Option Status)
 zone_checks ns holds lba action =
     let z = zone_number ns lba in
-    lowest_checks ns lba
-    ++ demand (not (refuses holds action z)) ZONE_HELD
+    demand (nat_lt lba (block_total ns)) LBA_OUT_OF_RANGE
+    ∷ demand (zone_offset ns lba == 0) INVALID_FIELD_IN_COMMAND
+    ∷ demand (not (refuses holds action z)) ZONE_HELD
     ∷ result_err (transition action (zone_at ns z).state)
     ∷ result_err (room_of ns holds action (zone_at ns z).state)
     ∷ []
@@ -42,7 +42,7 @@ led_to action from = result_unwrap_or (transition action from) from
 
 -- the zone that gives way to one of this state that the action opens, if one does
 abbrev pub gives_way_to : ZonedNamespace → Holds → Action → ZoneState → Option ℕ
-gives_way_to ns holds action state = closing_of (room_of ns holds action state)
+gives_way_to ns holds action state = result_unwrap_or (room_of ns holds action state) None
 
 -- the zone comes into the state that the action leads to; the one that gives way is closed first
 abbrev pub zone_effect : ZonedNamespace → Holds → ℕ → Action → ZonedNamespace
@@ -93,7 +93,8 @@ all_effect ns action = record ns { zones = map (swept action) ns.zones }
 -- the checks, in order: the data, and those of all zones or of the one that is named
 abbrev pub send_checks : ZonedNamespace → Holds → ℕ → Action → Bool → List ℕ → List (Option Status)
 send_checks ns holds lba action select_all input =
-    transfer_checks 0 0 input ++ (if select_all then all_checks ns holds action else zone_checks ns holds lba action)
+    demand (length input == 0) INVALID_FIELD_IN_COMMAND
+    ∷ (if select_all then all_checks ns holds action else zone_checks ns holds lba action)
 
 -- all zones that Select All takes have moved, or the one that is named
 abbrev pub send_effect : ZonedNamespace → Holds → ℕ → Action → Bool → ZonedNamespace

@@ -1,3 +1,4 @@
 -- What private functions hand on to each other; no public contract speaks of it.
+pub mod Checks
 pub mod Plans
 pub mod Accepted

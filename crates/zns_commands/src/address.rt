@@ -1,9 +1,11 @@
 //! Logical blocks and the zones that contain them.
 
-ghost use Rattle.std.specs.Prelude.{◌≡◌, IfOk};
+ghost use Rattle.std.specs.Prelude.{◌≡◌, ◌+◌, ◌==◌, nat_le, nat_lt, [], ◌∷◌, IfOk};
 ghost use Rattle.std.specs.Result.{result_err};
-ghost use Rattle.common_definitions.specs.Checks.{first_failed, unless_failed};
-ghost use Rattle.zns_commands.specs.Address.{address_check, boundary_check, lowest_checks, range_check, range_checks, zone_number, zone_block_in, IsZoneBlock};
+ghost use Rattle.common_definitions.specs.Checks.{demand, first_failed, unless_failed};
+ghost use Rattle.zone_state.specs.declared.status.TheConstants.Status.{INVALID_FIELD_IN_COMMAND, LBA_OUT_OF_RANGE, ZONE_BOUNDARY_ERROR};
+ghost use Rattle.zns_commands.specs.Address.{block_total, zone_number, zone_block_in, zone_offset, IsZoneBlock};
+ghost use Rattle.zns_commands.specs.steps.Checks.{address_check, range_checks};
 
 use image_store::{Image, ZoneBlock};
 use nvme_entry::{BlockCount, Status};
@@ -30,7 +32,9 @@ pub fn zone_block(image: &Image, lba: u64) -> Result<ZoneBlock, Status>
 /// [`Status::LBA_OUT_OF_RANGE`] for a block that the namespace doesn't have, [`Status::INVALID_FIELD_IN_COMMAND`] for one
 /// that isn't the lowest of its zone.
 pub fn lowest(image: &Image, lba: u64) -> Result<u32, Status>
-    ensures value { result ≡ unless_failed (first_failed (lowest_checks image.now lba)) (zone_number image.now lba) }
+    ensures value { let inside = demand (nat_lt lba (block_total image.now)) LBA_OUT_OF_RANGE in
+        let first = demand (zone_offset image.now lba == 0) INVALID_FIELD_IN_COMMAND in
+        result ≡ unless_failed (first_failed (inside ∷ first ∷ [])) (zone_number image.now lba) }
     ensures block { IfOk result (λ zone. IsZoneBlock image.now lba (record { zone = zone; offset = 0 })) }
 {
     let block = zone_block(image, lba)?;
@@ -46,7 +50,8 @@ pub fn lowest(image: &Image, lba: u64) -> Result<u32, Status>
 ///
 /// [`Status::LBA_OUT_OF_RANGE`] where the namespace doesn't have all of them.
 pub fn first_block(image: &Image, lba: u64, blocks: BlockCount) -> Result<ZoneBlock, Status>
-    ensures value { result ≡ unless_failed (range_check image.now lba blocks) (zone_block_in image.now lba) }
+    ensures value { let inside = demand (nat_le (lba + blocks) (block_total image.now)) LBA_OUT_OF_RANGE in
+        result ≡ unless_failed inside (zone_block_in image.now lba) }
     ensures block { IfOk result (IsZoneBlock image.now lba) }
 {
     let block = zone_block(image, lba)?;
@@ -62,7 +67,7 @@ pub fn first_block(image: &Image, lba: u64, blocks: BlockCount) -> Result<ZoneBl
 ///
 /// [`Status::ZONE_BOUNDARY_ERROR`] where they go on into another zone.
 pub fn check_within_zone(image: &Image, first: ZoneBlock, blocks: BlockCount) -> Result<(), Status>
-    ensures { result_err result ≡ boundary_check image.now first blocks }
+    ensures { result_err result ≡ demand (nat_le (first.offset + blocks) image.now.size) ZONE_BOUNDARY_ERROR }
 {
     if u64::from(first.offset) + u64::from(blocks.get()) > u64::from(image.geometry().size()) {
         return Err(Status::ZONE_BOUNDARY_ERROR);

@@ -1,8 +1,8 @@
 //! The checks of a command's data.
 
-ghost use Rattle.std.specs.Prelude.{◌≡◌, ◌≤◌, ◌*◌, length, OnOk};
-ghost use Rattle.common_definitions.specs.Checks.{first_failed, unless_failed};
-ghost use Rattle.zns_commands.specs.Transfer.{transfer_checks};
+ghost use Rattle.std.specs.Prelude.{◌≡◌, ◌≤◌, ◌*◌, ◌==◌, nat_le, [], ◌∷◌, length, OnOk};
+ghost use Rattle.common_definitions.specs.Checks.{demand, first_failed, unless_failed};
+ghost use Rattle.zone_state.specs.declared.status.TheConstants.Status.{INVALID_FIELD_IN_COMMAND};
 
 use image_store::Image;
 use nvme_entry::{BlockCount, MOST_TRANSFER, Status};
@@ -21,7 +21,8 @@ pub fn bytes_of_blocks(image: &Image, blocks: BlockCount) -> u64
 ///
 /// [`Status::INVALID_FIELD_IN_COMMAND`] for more bytes than a transfer may have, and where others stand beside the entry.
 pub fn check_transfer(bytes: u64, beside: u64, input: &[u8]) -> Result<(), Status>
-    ensures value { result ≡ unless_failed (first_failed (transfer_checks bytes beside input.now)) tt }
+    ensures value { let given = demand (length input.now == beside) INVALID_FIELD_IN_COMMAND in
+        result ≡ unless_failed (first_failed (demand (nat_le bytes MOST_TRANSFER) INVALID_FIELD_IN_COMMAND ∷ given ∷ [])) tt }
     ensures whole { OnOk result (length input.now ≡ beside) }
     ensures most { OnOk result (bytes ≤ MOST_TRANSFER) }
 {

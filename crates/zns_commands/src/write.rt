@@ -7,9 +7,9 @@ ghost use Rattle.common_definitions.specs.Checks.{first_failed, unless_failed};
 ghost use Rattle.zns_commands.specs.Address.{zone_number};
 ghost use Rattle.zns_commands.specs.Effect.{Tells};
 ghost use Rattle.zns_commands.specs.Meaning.{meaning, refusal_of};
-ghost use Rattle.zns_commands.specs.Transfer.{transfer_checks};
-ghost use Rattle.zns_commands.specs.Write.{zone_write_checks, with_written};
+ghost use Rattle.zns_commands.specs.Write.{with_written};
 ghost use Rattle.zns_commands.specs.steps.Accepted.{CanWrite, IsWhole};
+ghost use Rattle.zns_commands.specs.steps.Checks.{transfer_checks, zone_write_checks};
 ghost use Rattle.zns_commands.specs.steps.Plans.{write_plan, written_by};
 
 use crate::address::range;

@@ -1,7 +1,7 @@
 -- Admission, and a zone that comes to hold no more, keep zones within their limits.
 use Rattle.std.proofs.Common.{◌≡◌, ◌≢◌, ℕ, ◌+◌, ◌<◌, ◌≤◌, Bool, true, false, cond, List, length, arith, Option, Some, None, Ok, refl, sym, subst, ◌∙◌}
 use Rattle.std.specs.Option.{ForSome}
-use Rattle.std.specs.Prelude.{nat_lt, slice_get, slice_set}
+use Rattle.std.specs.Prelude.{nat_lt, ok_or, option_map, slice_get, slice_set}
 use Rattle.std.proofs.lemmas.Bool.{ltb-true}
 use Rattle.std.proofs.lemmas.List.{length-set, get_or-set_other}
 use Rattle.std.proofs.lemmas.Option.{slice_get_within, get_or_from_slice_get, slice_get_read}
@@ -9,11 +9,11 @@ use Rattle.zone_state.specs.State.{is_open, is_active}
 use Rattle.zone_state.specs.Zone.{CountedZone, in_state}
 use Rattle.zone_state.specs.declared.state.ZoneState.{ZoneState}
 use Rattle.zone_state.specs.declared.state.ZoneState.TheVariants.{Empty, ImplicitlyOpened, ExplicitlyOpened, Closed, ReadOnly, Full, Offline}
-use Rattle.zone_state.specs.declared.status.TheConstants.Status.{TOO_MANY_ACTIVE_ZONES}
+use Rattle.zone_state.specs.declared.status.TheConstants.Status.{TOO_MANY_ACTIVE_ZONES, TOO_MANY_OPEN_ZONES}
 use Rattle.common_definitions.proofs.Proved.{guarded}
 use Rattle.zone_resources.proofs.AdmissionLemmas.{closes_at}
 use Rattle.zone_resources.proofs.CountLemmas.{counts_follow_one}
-use Rattle.zone_resources.specs.Admission.{admission, open_admission, closing_or_refusal, zone_to_close, wanted_of, IsClosable, IsWithin, after_closing, AdmissionKeepsLimits, ReleaseKeepsLimits, IdleHoldsNoMore}
+use Rattle.zone_resources.specs.Admission.{admission, open_admission, zone_to_close, wanted_of, IsClosable, IsWithin, after_closing, AdmissionKeepsLimits, ReleaseKeepsLimits, IdleHoldsNoMore}
 use Rattle.zone_resources.specs.Counts.{open_count, active_count, one_if}
 use Rattle.zone_resources.specs.declared.admission.Limits.{Limits}
 use Rattle.zone_resources.specs.declared.admission.Wanted.{Wanted}
@@ -60,7 +60,7 @@ record CanOpen (zones : List CountedZone) (limits : Limits) (holds : Holds) (clo
 
 can_open : (zones : List CountedZone) (limits : Limits) (holds : Holds) (closed : Option ℕ) (free : Bool) (found : Option ℕ)
     → nat_lt (open_count zones) limits.open_limit ≡ free → zone_to_close holds zones ≡ found
-    → cond free (Ok None) (closing_or_refusal found) ≡ Ok closed → CanOpen zones limits holds closed
+    → cond free (Ok None) (ok_or (option_map Some found) TOO_MANY_OPEN_ZONES) ≡ Ok closed → CanOpen zones limits holds closed
 can_open zones limits holds closed true found is_free is_found admitted = record { free = λ none. ltb-true _ _ is_free; closable = λ k is. cc }
 can_open zones limits holds closed false None is_free is_found admitted = cc
 can_open zones limits holds closed false (Some k) is_free is_found admitted =

@@ -1,5 +1,5 @@
 -- Whether a zone may take resources, and which zone gives way to it.
-use Rattle.std.specs.Prelude.{ℕ, Bool, true, false, Option, Some, None, Result, Ok, Err, List, ◌≡◌, ◌<◌, ◌≤◌, ◌&&◌, not, nat_lt, if◌then◌else◌, position, slice_get, slice_set, MatchOption}
+use Rattle.std.specs.Prelude.{ℕ, Bool, true, false, Option, Some, None, Result, Ok, Err, List, ◌≡◌, ◌<◌, ◌≤◌, ◌&&◌, not, nat_lt, if◌then◌else◌, ok_or, option_map, position, slice_get, slice_set, MatchOption}
 use Rattle.std.specs.List.{enumerate_from}
 use Rattle.zone_resources.specs.Counts.{open_count, active_count, one_if}
 use Rattle.zone_resources.specs.Holds.{is_destination}
@@ -34,18 +34,14 @@ may_close holds number zone = is_implicitly_opened zone.state && not (is_destina
 abbrev pub zone_to_close : Holds → List CountedZone → Option ℕ
 zone_to_close holds zones = position (λ p. may_close holds p.0 p.1) (enumerate_from 0 zones)
 
--- the zone to be closed, where there is one, or why no open resource can be had
-abbrev pub closing_or_refusal : Option ℕ → Result (Option ℕ) Status
-closing_or_refusal None = Err TOO_MANY_OPEN_ZONES
-closing_or_refusal (Some number) = Ok (Some number)
-
--- whether an open resource can be had, and the zone to be closed for it, if one has to be
+-- the zone to be closed for an open resource, if one has to be, or the status that says that none can be had
 abbrev pub open_admission : List CountedZone → Limits → Holds → Result (Option ℕ) Status
 open_admission zones limits holds =
-    if nat_lt (open_count zones) limits.open_limit then Ok None else closing_or_refusal (zone_to_close holds zones)
+    if nat_lt (open_count zones) limits.open_limit
+    then Ok None
+    else ok_or (option_map Some (zone_to_close holds zones)) TOO_MANY_OPEN_ZONES
 
--- whether what is wanted can be had: an active resource first (ZNS 1.1, 2.1.1;
--- the order: profile)
+-- the same for what is wanted, which is an active resource first (ZNS 1.1, 2.1.1; the order: profile)
 abbrev pub admission : List CountedZone → Limits → Holds → Wanted → Result (Option ℕ) Status
 admission zones limits holds OpenOnly = open_admission zones limits holds
 admission zones limits holds OpenAndActive =

@@ -6,9 +6,10 @@ use Rattle.zone_resources.specs.Holds.{refuses}
 use Rattle.common_definitions.specs.Checks.{first_failed}
 use Rattle.common_definitions.proofs.Proved.{value_given}
 use Rattle.image_store.specs.Namespace.{zone_at}
-use Rattle.zns_commands.specs.Address.{zone_number, address_check, lowest_check, lowest_checks}
+use Rattle.zns_commands.specs.Address.{zone_number}
 use Rattle.zns_commands.specs.Send.{room_of, zone_checks}
 use Rattle.zns_commands.specs.steps.Accepted.{CanMove}
+use Rattle.zns_commands.specs.steps.Checks.{address_check, lowest_check, lowest_checks}
 use Rattle.zns_commands.specs.declared.send.ZonePlan.{ZonePlan}
 use Rattle.zns_commands.specs.steps.Plans.{zone_plan}
 use Rattle.zns_commands.proofs.AcceptedActions.{zone_checked, if_allowed, can_move}

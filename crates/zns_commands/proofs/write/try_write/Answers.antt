@@ -1,8 +1,8 @@
 use Rattle.std.proofs.Common.{ap, ◌∙◌}
 use Rattle.common_definitions.specs.Checks.{first_failed}
 use Rattle.image_store.specs.declared.geometry.ZoneBlock.{ZoneBlock}
-use Rattle.zns_commands.specs.Address.{range_checks, zone_block_in}
-use Rattle.zns_commands.specs.Write.{zone_write_checks}
+use Rattle.zns_commands.specs.Address.{zone_block_in}
+use Rattle.zns_commands.specs.steps.Checks.{range_checks, zone_write_checks}
 use Rattle.zns_commands.specs.declared.write.WritePlan.{WritePlan}
 use Rattle.zns_commands.specs.steps.Plans.{write_plan, written_by}
 use Rattle.common_definitions.proofs.Proved.{value_given}

@@ -1,0 +1,2 @@
+-- Words of proofs, and of what private functions hand on to each other; no public contract speaks of it.
+pub mod Causes
