@@ -7,6 +7,7 @@ use Rattle.command_files.specs.declared.file_cause.FileCause.TheVariants.{Other}
 use Rattle.command_files.specs.declared.files.FileFault.{FileFault}
 use Rattle.command_files.specs.declared.files.FileFault.TheVariants.{Failed, Memory}
 
+-- the cause that a file's fault has; want of memory has none
 abbrev pub cause_told : FileFault → FileCause
 cause_told (Failed cause) = cause
 cause_told Memory = Other
