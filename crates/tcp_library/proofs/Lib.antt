@@ -1,3 +1,0 @@
-mod Calling
-mod Committing
-mod Reopening
