@@ -1,5 +1,5 @@
 -- A file for which C makes the calls, as it is asked about and told, of a device and of a target alike.
-use Rattle.std.specs.Prelude.{ℕ, Bool, true, false, ◌≡◌, ◌×◌, List, [], ◌∷◌, length, drop, Option, Some, None}
+use Rattle.std.specs.Prelude.{ℕ, Bool, true, false, ◌≡◌, List, [], ◌∷◌, length, drop, Option, Some, None}
 use Rattle.std.specs.Option.{option_map_or}
 use Rattle.stored_file.specs.File.{FileState}
 use Rattle.handed_file.specs.Handed.{made_calls, noted, told_of, waiting}

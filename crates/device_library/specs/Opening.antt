@@ -1,5 +1,5 @@
 -- What opening a handle comes to, by each door.
-use Rattle.std.specs.Prelude.{ℕ, ◌≡◌, ◌⊎◌, ◌×◌, Bool, true, false, nat_eq, List, [], ◌∷◌, Option, Some, None, Ok, Err, IsOk}
+use Rattle.std.specs.Prelude.{ℕ, ◌≡◌, ◌⊎◌, Bool, true, false, nat_eq, List, [], ◌∷◌, Option, Some, None, Ok, Err, IsOk}
 use Rattle.std.specs.List.{starts_with}
 use Rattle.stored_file.specs.File.{LeavesOnly}
 use Rattle.system_file.specs.Calls.{Call, Opened}
