@@ -53,7 +53,7 @@ pub fn make(alloc: Global, door: u32, bytes: &[u8]) -> Handle
     }
 }
 
-/// What is opened by a door.
+/// What is opened by a door. Each has a function that isn't inlined, since a device takes much of the stack on its way.
 ///
 /// # Errors
 ///
@@ -73,6 +73,7 @@ fn open(alloc: Global, door: Option<Door>, bytes: &[u8]) -> Result<Session, u32>
 }
 
 /// A device in memory.
+#[inline(never)]
 fn in_memory(alloc: Global, bytes: &[u8]) -> Result<Session, u32>
     ensures opened { IfOk result (IsOpenedBy (Some Door.Memory) bytes.now) }
     ensures kept { IfOk result KeepsSession }
@@ -85,6 +86,7 @@ fn in_memory(alloc: Global, bytes: &[u8]) -> Result<Session, u32>
 }
 
 /// A device in a file.
+#[inline(never)]
 fn in_file(alloc: Global, bytes: &[u8]) -> Result<Session, u32>
     ensures opened { IfOk result (IsOpenedBy (Some Door.File) bytes.now) }
     ensures kept { IfOk result KeepsSession }
@@ -97,6 +99,7 @@ fn in_file(alloc: Global, bytes: &[u8]) -> Result<Session, u32>
 }
 
 /// A target before a device in memory.
+#[inline(never)]
 fn target(alloc: Global, bytes: &[u8]) -> Result<Session, u32>
     ensures opened { IfOk result (IsOpenedBy (Some Door.Target) bytes.now) }
     ensures kept { IfOk result KeepsSession }
@@ -109,6 +112,7 @@ fn target(alloc: Global, bytes: &[u8]) -> Result<Session, u32>
 }
 
 /// A target before a device in a file.
+#[inline(never)]
 fn target_in_file(alloc: Global, bytes: &[u8]) -> Result<Session, u32>
     ensures opened { IfOk result (IsOpenedBy (Some Door.TargetFile) bytes.now) }
     ensures kept { IfOk result KeepsSession }
