@@ -79,7 +79,7 @@ complete -c zscli -n '__zscli_begins link' -l profile -x -d 'The profile that ac
 complete -c zscli -n '__zscli_begins link' -s o -l output -r -F -d 'The program that is written'
 complete -c zscli -n '__zscli_begins link' -l function -x -d 'The function to start with'
 complete -c zscli -n '__zscli_begins link' -l cut-loops -d 'Give loops as many rounds as there are slots for, and list those that have more'
-complete -c zscli -n '__zscli_begins link' -l strict -d 'Refuse a program with a guard that may end a run'
+complete -c zscli -n '__zscli_begins link' -l strict -d 'Refuse a program with a guard that may end a run, or a loop that is cut'
 complete -c zscli -n '__zscli_begins link' -l guard-at -x -d 'The byte of scratch from which on guards write, a multiple of 8 up to 1008'
 complete -c zscli -n '__zscli_begins link' -l silent-guards -d 'Let guards write nothing to scratch'
 complete -c zscli -n '__zscli_begins link' -l verbose -d 'Print how many slots the program has, and how many compares were put in'

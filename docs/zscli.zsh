@@ -139,7 +139,7 @@ _zscli_link() {
         '-o[The program that is written]:PROGRAM:_files' '--output[The program that is written]:PROGRAM:_files' \
         '--function[The function to start with]:NAME: ' \
         '--cut-loops[Give loops as many rounds as there are slots for, and list those that have more]' \
-        '--strict[Refuse a program with a guard that may end a run]' \
+        '--strict[Refuse a program with a guard that may end a run, or a loop that is cut]' \
         '--guard-at[The byte of scratch from which on guards write, a multiple of 8 up to 1008]:OFFSET: ' \
         '--silent-guards[Let guards write nothing to scratch]' \
         '--verbose[Print how many slots the program has, and how many compares were put in]' \

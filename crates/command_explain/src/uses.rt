@@ -139,7 +139,10 @@ fn completion_in(told: &ToldReply) -> Option<Identity>
     ensures { result ≡ completion_in told.now }
 {
     match told.told {
-        Told::Reply(Reply::Complete { queue, entry, .. }) => Some(identity_in(queue, &entry.bytes())),
+        Told::Reply(Reply::Complete { queue, entry, .. }) => Some(identity_in(
+            queue,
+            &entry.bytes(),
+        )),
         Told::Unknown { queue, entry, .. } => Some(identity_in(queue, &entry)),
         Told::Reply(
             Reply::Pending { .. } | Reply::Idle | Reply::FaultTaken | Reply::FaultRefused,

@@ -41,7 +41,14 @@ impl CompletionEntry {
         ensures { result ≡ completion_bytes completion }
     {
         let Status { kind, code } = completion.status;
-        read_back(completion.dw0, completion.dw1, completion.queue, completion.cid, kind, code);
+        read_back(
+            completion.dw0,
+            completion.dw1,
+            completion.queue,
+            completion.cid,
+            kind,
+            code,
+        );
         CompletionEntry { completion }
     }
 

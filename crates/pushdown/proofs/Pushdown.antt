@@ -1,6 +1,7 @@
 -- The pushdown theorem, and what an admitted Run leaves.
-use Rattle.std.proofs.Common.{◌≡◌, ◌≢◌, ℕ, ◌/◌, ◌<◌, ◌≤◌, Bool, List, length, set, get_or, Option, Some, None, refl, ap, sym, subst, ◌∙◌, arith, get_or-set_other, get_or-set_same}
-use Rattle.std.specs.Prelude.{is_some}
+use Rattle.std.proofs.Common.{◌≡◌, ◌≢◌, ℕ, zero, suc, ◌+◌, ◌/◌, ◌<◌, ◌≤◌, Bool, List, [], ◌∷◌, slice_get, length, set, get_or, Option, Some, None, refl, ap, sym, subst, ◌∙◌, arith, get_or-set_other, get_or-set_same}
+use Rattle.std.specs.Prelude.{IfSome, is_some}
+use Rattle.std.specs.List.{AllByRecursion}
 use Rattle.std.proofs.lemmas.Nat.{mul-le}
 use Rattle.zone_state.specs.State.{is_open}
 use Rattle.zone_state.specs.declared.state.ZoneState.TheVariants.{Offline}
@@ -10,14 +11,20 @@ use Rattle.common_definitions.proofs.Proved.{demanded, passed}
 use Rattle.nvme_entry.specs.declared.command.Command.TheVariants as commands
 use Rattle.nvme_entry.specs.declared.command.RunCommand.{RunCommand}
 use Rattle.instruction_set.specs.Program.{instruction_count}
-use Rattle.program_meaning.specs.BlockRun.{BlockRun}
+use Rattle.instruction_set.specs.declared.instruction.Instruction.{Instruction}
+use Rattle.program_meaning.proofs.Proved.{more_fuel_is_the_same}
+use Rattle.program_meaning.specs.BlockRun.{BlockRun, block_run_of}
+use Rattle.program_meaning.specs.State as machine
+use Rattle.program_meaning.specs.TrapFree.{IsExit}
+use Rattle.program_meaning.specs.declared.end.End.{End}
+use Rattle.program_meaning.specs.declared.end.End.TheVariants.{OutOfFuel}
 use Rattle.device_meaning.specs.Judging.{IsSoundJudge, Judge}
 use Rattle.image_store.specs.Namespace.{ZonedNamespace, shape, zone_at}
 use Rattle.image_store.proofs.Proved.{blocks_lie_in_zones, written_is_within, zone_room_is_bounded}
 use Rattle.device_meaning.specs.Admission.{admission_checks, source_blocks, task_of}
 use Rattle.device_meaning.specs.EventReplies.{Happening, Submission, submission_of}
 use Rattle.device_events.specs.Replies.{without_data}
-use Rattle.device_meaning.specs.BlockRuns.{block_runs_of, no_scratch}
+use Rattle.device_meaning.specs.BlockRuns.{block_runs_of, no_scratch, start_of}
 use Rattle.device_meaning.specs.Events.{Occurrence, state_after}
 use Rattle.pushdown.specs.Laws.{AdmittedStarts, StartsRun}
 use Rattle.device_meaning.specs.Happenings.{admitted_place, happens, start_by, submitted}
@@ -131,6 +138,30 @@ module _ (judge : Judge) where
   pub admitted_starts : AdmittedStarts judge
   admitted_starts s starved queue entry input command run admitted = starts judge s queue entry input command run starved admitted
 
+-- ---- steps
+
+-- of block runs that all end by EXIT, the one at an index does
+exits_at : (runs : List BlockRun) (index : ℕ) → AllByRecursion (λ r. IsExit r.end) runs → IfSome (slice_get runs index) (λ r. IsExit r.end)
+exits_at [] index all = tt
+exits_at (r ∷ runs) zero all = all.0
+exits_at (r ∷ runs) (suc index) all = exits_at runs index all.1
+
+-- what ends by EXIT isn't out of fuel
+not_out : (e : End) → IsExit e → e ≢ OutOfFuel
+not_out e exit same = subst IsExit same exit
+
+-- a block run that ends by EXIT is the same with more fuel
+module _ (program : List (Option Instruction)) (limit more : ℕ) (start : machine.State) where
+  abbrev with_fuel : ℕ → BlockRun
+  with_fuel fuel = block_run_of program limit fuel 0 start
+
+  with_more : (run : Option BlockRun) → IfSome run (λ r. IsExit r.end) → run ≡ Some (with_fuel (instruction_count program))
+      → run ≡ Some (with_fuel (instruction_count program + more))
+  with_more run exit same =
+      let exits = subst (λ (o : Option BlockRun). IfSome o (λ r. IsExit r.end)) same exit in
+      same ∙ ap Some (sym (more_fuel_is_the_same program limit (instruction_count program) more 0 start
+      (not_out (with_fuel (instruction_count program)).end exits)))
+
 -- ---- the theorem
 
 module _ (judge : Judge) (sound : IsSoundJudge judge) (block : ℕ) (s : State) (fine : IsFine judge sound block s)
@@ -174,10 +205,15 @@ pushdown judge sound s reached queue entry input starved command run after admit
     let none = admitted.passed in
     let done = block_runs_all_done judge sound block sub s command fine none in
     let granted = all_granted judge sound block sub s command fine none in
+    let exits = all_exit judge sound block sub s command fine none in
     let ends = (turns_are judge sound block sub s command fine none (decoded_has entry (commands.Run command) admitted.asked)).ends in
     record {
-      no_turn_traps = record { exits = all_exit judge sound block sub s command fine none; ends = ends };
-      few_steps = all_from (IsDone task) (λ (r : BlockRun). r.steps ≤ instruction_count task.program) (λ r h. h.exits.steps) block_runs done;
+      no_turn_traps = record { exits = exits; ends = ends };
+      few_steps = record {
+        few = all_from (IsDone task) (λ (r : BlockRun). r.steps ≤ instruction_count task.program) (λ r h. h.exits.steps) block_runs done;
+        not_cut_off = λ more index below. with_more task.program task.sizes.limit more (start_of task (source_blocks s.namespace command) index)
+            (slice_get block_runs index) (exits_at block_runs index exits) (granted index below).from_start;
+      };
       stays_in_granted_areas = record {
         from_start = λ index below. (granted index below).from_start;
         keeps = λ index below. (granted index below).keeps;

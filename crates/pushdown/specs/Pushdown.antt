@@ -100,9 +100,12 @@ module _ (judge : Judge) where
       pub exits : AllByRecursion (λ r. IsExit r.end) block_runs
       pub ends : EndsWithLast place.turns
 
-    -- 2. Each turn takes at most as many steps as the program has instructions.
-    abbrev pub FewSteps : Type 0
-    FewSteps = AllByRecursion (λ r. r.steps ≤ instruction_count task.program) block_runs
+    -- 2. Each turn takes at most as many steps as the program has instructions. It isn't cut off there: each block run is the same, however
+    -- many more steps it may take.
+    pub record FewSteps : Type 0 where
+      pub few : AllByRecursion (λ r. r.steps ≤ instruction_count task.program) block_runs
+      pub not_cut_off : (more index : ℕ) → index < length block_runs → slice_get block_runs index
+          ≡ Some (block_run_of task.program task.sizes.limit (instruction_count task.program + more) 0 (start_of task source index))
 
     -- 3. Within memory: each block run, begun on its source block with the scratch bytes that the one before it left, keeps to
     -- the granted areas. Whatever stands outside of them, a machine that checks no access comes to the same states, and

@@ -1,9 +1,9 @@
 //! What happens to a device, as data: steps, each with the reply that it has to get.
 
 use byteorder::{ByteOrder, LittleEndian};
+use device_events::CompletionEntry;
 use ebpf_asm::assemble;
 use nvme_entry::{Completion, Status};
-use device_events::CompletionEntry;
 use runner::{Event, Reply};
 use std::alloc::Global;
 use std::test::Fail;
