@@ -46,8 +46,8 @@ pub fn event(
         return why;
     }
     let told = happen(device, kind, number, entry, input, output);
-    *reply = head_of(told);
-    reply_number(told)
+    *reply = head_of(&told);
+    reply_number(&told)
 }
 
 /// Why nothing can happen that is asked for.
@@ -129,8 +129,8 @@ fn turn_or_fault(kind: usize, number: usize) -> Event
 }
 
 /// What is told of a reply beside its data.
-fn head_of(reply: Reply) -> ReplyHead
-    ensures { result ≡ head_of reply }
+fn head_of(reply: &Reply) -> ReplyHead
+    ensures { result ≡ head_of reply.now }
 {
     match reply {
         Reply::Complete {
@@ -138,13 +138,13 @@ fn head_of(reply: Reply) -> ReplyHead
             entry,
             length,
         } => ReplyHead {
-            length,
-            number: u32::from(queue),
+            length: *length,
+            number: u32::from(*queue),
             completion: entry.bytes(),
         },
         Reply::Pending { run } => ReplyHead {
             length: 0,
-            number: u32::from(run),
+            number: u32::from(*run),
             completion: [0; 16],
         },
         Reply::Idle | Reply::FaultTaken | Reply::FaultRefused => ReplyHead {
@@ -156,8 +156,8 @@ fn head_of(reply: Reply) -> ReplyHead
 }
 
 /// The number of a reply.
-fn reply_number(reply: Reply) -> usize
-    ensures { result ≡ reply_number reply }
+fn reply_number(reply: &Reply) -> usize
+    ensures { result ≡ reply_number reply.now }
 {
     match reply {
         Reply::Complete { .. } => COMPLETION,

@@ -47,8 +47,8 @@ impl ServedTarget {
         let command = self.pending[run];
         let output = self.output.as_mut_slice();
         let reply = self.device.apply(&Event::Turn { run: run as u8 }, output);
-        end(&mut self.target, command, reply);
-        free(&mut self.pending, run, reply);
+        end(&mut self.target, command, &reply);
+        free(&mut self.pending, run, &reply);
         self.next = (run + 1) % RUNS;
         reply
     }
@@ -69,12 +69,12 @@ impl ServedTarget {
 }
 
 /// Completes the command of a run that the turn has ended.
-fn end(target: &mut Target, command: Option<PendingCommand>, reply: Reply)
+fn end(target: &mut Target, command: Option<PendingCommand>, reply: &Reply)
     requires { IsTrue (can_go target.old command) }
-    ensures { target.new ≡ ended_by reply command target.old }
+    ensures { target.new ≡ ended_by reply.now command target.old }
 {
     match reply {
-        Reply::Complete { entry, .. } => end_with(target, command, entry),
+        Reply::Complete { entry, .. } => end_with(target, command, *entry),
         Reply::Pending { .. } | Reply::Idle | Reply::FaultTaken | Reply::FaultRefused => {}
     }
 }
@@ -94,8 +94,8 @@ fn end_with(target: &mut Target, command: Option<PendingCommand>, completion: Co
 }
 
 /// Lets another run have the number of one that the turn has ended.
-fn free(pending: &mut [Option<PendingCommand>], run: usize, reply: Reply)
-    ensures { pending.new ≡ freed_by reply run pending.old }
+fn free(pending: &mut [Option<PendingCommand>], run: usize, reply: &Reply)
+    ensures { pending.new ≡ freed_by reply.now run pending.old }
 {
     match reply {
         Reply::Complete { .. } => put_pending(pending, run, None),
