@@ -1,8 +1,8 @@
 #!/usr/bin/env python3
 """Looks whether the pages still say what stands elsewhere, prints what doesn't, and then ends with status 1.
 
-Each link of README.md and docs/*.md leads to a file that there is, and to a heading of it where it names one. What docs/tour.md
-quotes of a file stands so in that file, and the theorem in README.md is that of docs/theorem.md.
+Each link of README.md, docs/*.md and docs/statement/*.md leads to a file that there is, and to a heading of it where it names one. What
+docs/tour.md quotes of a file stands so in that file, and the theorem in README.md is that of docs/theorem.md.
 """
 
 import re
@@ -49,7 +49,7 @@ def theorems() -> Set[str]:
 def main() -> int:
     """Prints what is wrong."""
     wrong: List[str] = []
-    for page in [ROOT / "README.md", *sorted((ROOT / "docs").glob("*.md"))]:
+    for page in [ROOT / "README.md", *sorted((ROOT / "docs").glob("*.md")), *sorted((ROOT / "docs" / "statement").glob("*.md"))]:
         wrong += broken_links(page)
     wrong += changed_quotes(ROOT / "docs" / "tour.md")
     if len(theorems()) != 1 or "" in theorems():

@@ -3,17 +3,21 @@
 import re
 from dataclasses import dataclass, field
 from pathlib import Path
-from typing import Dict, Iterator, List, Tuple
+from typing import Dict, Iterator, List, Tuple, Union
 
 DECLARES = r"^( *)(?:pub(?:\(\w+\))? )?(?:{kinds}) {name}\b"
 IMPL = re.compile(r"impl(?:<[^>]*>)? (\w+) \{$")
 NUMBER = re.compile(r"[\d_]+|0x[\da-fA-F_]+")
+# the last number of a list that is a constant, as another constant
+LAST = re.compile(r"([A-Z][A-Z\d_]*)\[\1\.len\(\) - 1\](?: as \w+)?")
 
 # types of the language and of its library, which are read as the page's head says
 KNOWN_TYPES = {"Option", "Result", "Vec", "Box", "String", "Self"}
 
 # where something is declared: the crate, the module, the type to which a constant belongs or nothing, and the name
 Place = Tuple[str, str, str, str]
+# a definition, by its file and its name, or a declaration, by its place
+Key = Union[Tuple[str, str], Place]
 
 
 @dataclass
@@ -26,7 +30,7 @@ class Declared:
     owner_comment: List[str]
     comment: List[str]
     lines: List[str]
-    names: List[Place] = field(default_factory=list)
+    names: List[Key] = field(default_factory=list)
 
 
 def comment_above(lines: List[str], at: int) -> List[str]:
@@ -94,10 +98,21 @@ class Sources:
         found = re.search(rf"const {name}: \w+ = ([^;]+);", self.text(crate, module))
         if not found:
             raise LookupError(f"{self.file(crate, module)}: {name} isn't a number")
+        last = LAST.fullmatch(found[1])
+        if last:
+            return self.last_number(self.locate(crate, module, last[1]))
         value = re.sub(r"[A-Z][A-Z\d_]*", lambda match: str(self.number(self.locate(crate, module, match[0]))), found[1])
         if not re.fullmatch(r"[\da-fx_ +*/()-]+", value):
             raise LookupError(f"{self.file(crate, module)}: {name} can't be worked out: {found[1]}")
         return int(eval(value.replace("/", "//")))  # digits, operators and brackets alone
+
+    def last_number(self, place: Place) -> int:
+        """The last number of a constant that is a list of numbers."""
+        crate, module, _, name = place
+        found = re.search(rf"const {name}: \[[^=]*\] = \[(?:[^;]*, )?([\d_]+),?\s*\];", self.text(crate, module))
+        if not found:
+            raise LookupError(f"{self.file(crate, module)}: {name} is no list of numbers")
+        return int(found[1])
 
     def find(self, place: Place) -> Declared:
         """What is declared at a place."""
@@ -128,7 +143,8 @@ class Sources:
             if re.search(r": \w+ =", code) and not NUMBER.fullmatch(value) and "{" not in value:
                 found.lines[0] += f" // {self.number(place)}"
         else:
-            found.lines += self.model(crate, module, name)
+            lines, found.names = self.model(crate, module, name)
+            found.lines += lines
         if owner:
             found.lines = ["    " + found.lines[0]]
         named = re.sub(rf"(?:struct|enum|const) {name}|^    [A-Z]\w*|::\w+|//.*", "", code, flags=re.M)
@@ -137,12 +153,19 @@ class Sources:
                 found.names.append(self.locate(crate, module, word))
         return found
 
-    def model(self, crate: str, module: str, name: str) -> List[str]:
-        """Of a type that definitions see as another: its `Value`."""
+    def model(self, crate: str, module: str, name: str) -> Tuple[List[str], List[Key]]:
+        """Of a type that definitions see as another: its `Value`, and of one that isn't a number its `view`, with what that names."""
         text = self.text(crate, module)
-        found = re.search(rf"^impl(?:<[^>]*>)? Model for {name}\b.*?^    (ghost Value = \{{ ([^\n]*) \}};)$", text, re.M | re.S)
-        if not found:
-            return []
-        if found[2] != "ℕ":
-            raise LookupError(f"{self.file(crate, module)}: the model of {name} isn't a number, and is not shown")
-        return [f"impl Model for {name} {{", f"    {found[1]}", "}"]
+        block = re.search(rf"^impl(?:<[^>]*>)? Model for {name}\b.*?^\}}$", text, re.M | re.S)
+        if not block:
+            return [], []
+        members = dict(re.findall(r"^    ghost (\w+) = (\{ [^\n]* \};)$", block[0], re.M))
+        if members.get("Value") not in ("{ ℕ };", "{ List ℕ };"):
+            raise LookupError(f"{self.file(crate, module)}: the model of {name} is neither a number nor bytes, and is not shown")
+        shown = ["Value"] if members["Value"] == "{ ℕ };" else ["Value", "view"]
+        named: List[Key] = []
+        for module_of, words in re.findall(r"^    ghost use Rattle\.(\w+\.specs\.[\w.]+)\.\{(.*)\};$", block[0], re.M):
+            path = module_of.replace(".", "/") + ".antt"
+            if "view" in shown and (self.crates / path).exists():
+                named += [(path, word) for word in words.split(", ") if re.search(rf"\b{word}\b", members["view"])]
+        return [f"impl Model for {name} {{", *(f"    ghost {kind} = {members[kind]}" for kind in shown), "}"], named

@@ -1,4 +1,4 @@
-"""The head of docs/statement.md: how it is read, the theorem's law, and what ties the code to it."""
+"""How a booklet of docs/statement/ is read, and the part of one on the theorem's law and the code's contracts."""
 
 import re
 import textwrap
@@ -6,71 +6,69 @@ from pathlib import Path
 from typing import Dict, List, Set, Tuple
 
 import antt
+from booklets import DEVICE, LAW
 from declared import comment_above
 
-HEAD = """# The statement
+READING = """## How to read it
 
-Made by `docs/make.sh`: the pushdown theorem, every definition that its statement mentions, those that these mention, and so on.
-So it is what has to be read to know what is proved; [theorem.md](theorem.md) explains it, clause by clause. Behind the theorem
-itself each file comes after those that it uses, and at the end what the library's words mean.
+Made by `docs/make.sh`. Of the clauses of a definition the first that fits counts, and `_` fits everything. What stands in a
+`module _ .. where` takes what that names before its own arguments. [theorem.md](../theorem.md#how-to-read-it) has the other signs. A
+type of Rust stands in definitions under its name: a struct as the record of its fields, an enum by its variants, which take their
+fields in order, numbers as ℕ, or ℤ where they are signed, arrays as lists, and a type with a `Model` as that `Value`. Each file comes
+after those of this booklet that it uses.
 
-Of the clauses of a definition the first that fits counts, and `_` fits everything. What stands in a `module _ .. where` takes
-what that names before its own arguments. [theorem.md](theorem.md#how-to-read-it) has the other signs. A type of Rust stands in
-definitions under its name: a struct as the record of its fields, an enum by its variants, which take their fields in order,
-numbers as ℕ, or ℤ where they are signed, arrays as lists, and a type with a `Model` as that `Value`.
-
-A mark before each comment says whose a definition is, as its comment says or else the head of its file. `[S]`: a standard's, of
-which a section is named (RFC 9669, BPF ABI 1.0, NVMe Base 2.0, NVM Command Set 1.0, ZNS 1.1). `[P]`: the profile's, a choice of
-this device. `[SP]`: a standard's, with a choice of the profile. `[-]`: neither is named; most are words by which others are put.
+A mark before each comment says whose a definition is. `[S]`: a standard has it, in the section that the comment, the mark or the head of
+the file names; compare the two. `[SP]`: a standard has it and leaves a choice, which this device makes. `[P]`: this device's own (its
+*profile*), the order of checks too. `[-]`: nothing to compare, a word by which others are put, or what is claimed. A claim is proved
+where a function's contract names it; [proved.md](../proved.md) has these functions.
 
 """
 
 THEOREM = ("pushdown/specs/Pushdown.antt", "Pushdown")
-# the law, whose premise is to be read too
-LAW = (THEOREM[0], "SoundJudgesPushDown")
-HAPPENED = ("device_meaning/specs/Events.antt", "HasHappened")
-TOLD = ("device_events/specs/ToldEvents.antt", "told_of")
-JUDGING = "device_meaning/specs/Judging.antt"
 FILES = (
     "pushdown/src/laws.rt",
     "device_laws/src/laws.rt",
-    "runner/src/device_state.rt",
     "runner/src/device.rt",
-    "device_events/src/event.rt",
+    "device_events/src/out.rt",
+    "image_store/src/image.rt",
+    "image_text/src/image.rt",
 )
 
 CODE = """## The theorem and what ties the code to it
 
-`pushdown/specs/Pushdown.antt`, which stands whole [at the end](#14-the-theorem):
+The theorem is `Pushdown` of `pushdown/specs/Pushdown.antt`, which stands whole [below](#{number}-the-theorem):
 
 {theorem}
-A judge says what a Load makes of a program's bytes. The theorem holds of every sound one, by a law of `pushdown/src/laws.rt`, a
-function that does nothing: what it ensures is proved.
+It holds for every sound judge, by a law of `pushdown/src/laws.rt`. A law is a function that does nothing: what it ensures is proved.
 
 {law}
-So of how programs are read and judged nothing has to be read to know what is proved of runs, but what a sound judge is,
-`{judging}`:
-
-{sound}
-The device's judge decodes the bytes and looks for a reason to refuse the program, by what intervals tell of its words (the same file),
-
-{judge}
-and it is sound, so that the theorem holds of the device (`device_laws/src/laws.rt`):
+The device judges by `interval_judge`, which is sound; [Acceptance](acceptance.md) has both. So the theorem holds of the device, and
+there is a Run of which it speaks (`device_laws/src/laws.rt`):
 
 {device_laws}
-A device is always in a state that events leave, and does what the definitions say, `runner/src/device.rt`. Its type names the domain
-whose facts it judges by: `Device` alone is `Device<Intervals>`, whose `operations` are `intervals`. A clause sees it as a `State`,
-that of its `DeviceState` (`runner/src/device_state.rt`), whose `view` gives it of the namespace, slots and runs:
+The code is tied to the definitions by the contracts of `Device` (`runner/src/device.rt`). Its type names the domain whose facts it judges
+by: `Device` alone is `Device<Intervals>`, whose `operations` are `intervals`, so that `judge_by D.operations` is `interval_judge`.
+`x.old` and `x.new` are what a `&mut` leads to, before and after the call; `x.now` is what a `&` leads to. `OnOk r p`, `OnErr r p`: if r
+is `Ok`, or an `Err`, p. `IfOk r p`, `IfErr r p`: if r is one, p holds of what is in it. A `Stopped` has the number of events that are
+`done`.
 
 {device}
-where, in `device_meaning/specs/Events.antt`:
+`serve` and `drain` hand each reply to an `Out` (`device_events/src/out.rt`), whose `took` says which replies it took:
 
-{happened}
-and, in `device_events/specs/ToldEvents.antt`, what an event of the code tells (`device_events/src/event.rt`). `event.` stands before
-a variant of `Event`, and `input.items` is the list of the elements of a `Vec`:
+{out}
+### Why no view need be trusted
 
-{told}
-{event}
+A clause sees a `Device` as a `State`, and an `Image` as a `ZonedNamespace`, by a `view` that the code's author wrote. No booklet has
+these views, and a reader need not read them: they stand only in the middle. A device begins with an image that is made of numbers (the
+shape that `Geometry::new` is given) or of the bytes of a file:
+
+{image}
+From there on `new`, `serve` and `drain` say that the replies are those of the definitions from the state `new_state` of that namespace,
+as far as the `Out` says what it took. Joined, these clauses have numbers or the bytes of a file on the one side, events and replies on
+the other, and a view on neither: the state that one call leaves, by whatever view, is the one that the next begins with. So what they
+say of replies is the same with each view with which they are proved. A completion in a `Reply` is seen as its 16 bytes, and
+`CompletionEntry::bytes`, by whose contract the result is what is seen, hands out the same.
+
 {named}
 
 """
@@ -101,7 +99,7 @@ def members(lines: List[str], begins: str, names: Set[str]) -> List[str]:
     for at in range(first + 1, lines.index("}", first)):
         match = re.match(r"    ghost (\w+)(:| =) \{", lines[at])
         if match and match[1] in names:
-            found += comment_above(lines, at) + [lines[at]]
+            found += comment_above(lines, at) + [lines[at], ""]
     return found
 
 
@@ -116,17 +114,17 @@ def brought_in(lines: List[str]) -> Dict[str, str]:
 
 
 def not_below(crates: Path, excerpts: List[Tuple[List[str], List[str]]], below: Set[str]) -> str:
-    """A line on the definitions that excerpts name, each of the lines of a file, and that the page doesn't have."""
+    """A line on the definitions that excerpts name, each of the lines of a file, and that no booklet has."""
     named: Dict[str, str] = {}
     for excerpt, lines in excerpts:
         modules = brought_in(lines)
         for word in re.findall(r"[\w']+", "\n".join(line for line in excerpt if "///" not in line)):
             module = modules.get(word, "")
             is_ours = re.match(r"Rattle\.\w+\.specs\.(?!declared)", module) and (crates / module.split(".")[1]).is_dir()
-            if is_ours and word not in below and word not in (HAPPENED[1], TOLD[1]):
+            if is_ours and word not in below:
                 named[word] = module.replace("Rattle.", "", 1).replace(".", "/")
     words = ", ".join(f"`{name}` (`{file}.antt`)" for name, file in sorted(named.items()))
-    line = f"Of what these lines name the theorem doesn't mention {words}, which [definitions.md](definitions.md) has."
+    line = f"Of what these contracts name, no booklet has {words}: [definitions.md](../definitions.md) does."
     return textwrap.fill(line, 130, break_long_words=False, break_on_hyphens=False)
 
 
@@ -137,38 +135,26 @@ def definition(crates: Path, path: str, name: str) -> str:
     return indented(blocks + found.comment + found.lines)
 
 
-def enumeration(lines: List[str], name: str) -> List[str]:
-    """An enum with its comment and its variants."""
-    at = next((at for at, line in enumerate(lines) if re.match(rf"pub enum {name}\b", line)), None)
-    if at is None:
-        raise LookupError(f"there is no enum {name}")
-    return comment_above(lines, at) + lines[at : lines.index("}", at) + 1]
+def functions(lines: List[str], names: List[str]) -> List[str]:
+    """Functions without their bodies, a blank line after each."""
+    return [line for name in names for line in [*function(lines, name), ""]]
 
 
 def text(crates: Path, below: Set[str]) -> str:
-    """The part of the page on the theorem, its law, and the code's contracts. `below` are the names of what the page has."""
-    laws, device_laws, states, devices, events = ((crates / file).read_text().splitlines() for file in FILES)
-    judging = (crates / JUDGING).read_text().splitlines()
-    sound = "\n".join(definition(crates, JUDGING, name) for name in ("IsSafeProgram", "IsSoundJudge"))
-    judge = "\n".join(definition(crates, JUDGING, name) for name in ("judged_by", "judge_by", "interval_judge"))
-    device_law = [*function(device_laws, "judges_soundly"), "", *function(device_laws, "pushdown")]
-    state = members(states, r"impl<D: Domain> Model for DeviceState<D> ", {"Value", "view"}) + ["}", ""]
-    model = members(devices, r"impl<D: Domain> Model for Device<D> ", {"Value", "view"}) + ["}", ""]
-    device = model + ["impl<D: Domain> Device<D> {", *function(devices, "image"), "", *function(devices, "apply"), "}"]
+    """The part of the page on the theorem, its law, and the code's contracts. `below` are the names of what the booklets have."""
+    laws, device_laws, devices, outs, images, texts = ((crates / file).read_text().splitlines() for file in FILES)
+    device_law = functions(device_laws, ["judges_soundly", "pushdown", "pushdown_is_met", "states_are_sound", "no_reply_is_trapped"])
+    device = ["impl<D: Domain> Device<D> {", *functions(devices, ["new", "image", "apply", "serve", "drain"])[:-1], "}"]
+    out = [*members(outs, "pub trait Out ", {"took", "refusals"}), *function(outs, "take"), "}"]
+    begin = functions(images, ["empty"])
+    load = function(texts, "load")
     return CODE.format(
+        number=[section.title for section in DEVICE.sections].index("The theorem") + 1,
         theorem=definition(crates, *THEOREM),
         law=indented(function(laws, "sound_judges_push_down")) + "\n" + definition(crates, *LAW),
-        judging=JUDGING,
-        sound=sound,
-        judge=judge,
-        device_laws=indented(device_law),
-        device=indented(state + device),
-        happened=definition(crates, *HAPPENED),
-        told=definition(crates, *TOLD),
-        event=indented(enumeration(events, "Event")),
-        named=not_below(
-            crates,
-            [((sound + judge).split("\n"), judging), (device_law, device_laws), (state, states), (device, devices)],
-            below,
-        ),
+        device_laws=indented(device_law[:-1]),
+        device=indented(device),
+        out=indented(out),
+        image=indented(begin + load),
+        named=not_below(crates, [(device_law, device_laws), (device, devices), (out, outs), (begin, images), (load, texts)], below),
     )

@@ -1,5 +1,5 @@
 #!/bin/sh
-# Makes docs/proved.md, docs/definitions.md and docs/statement.md of the sources of the crates, and of the help texts the manual page
+# Makes docs/proved.md, docs/definitions.md and docs/statement/ of the sources of the crates, and of the help texts the manual page
 # docs/zscli.1 and the completions for shells, docs/zscli.bash, zscli.zsh and zscli.fish. With --check it compares them, and looks at the
 # links and quotes of the other pages; it prints what is wrong, and ends with status 1 then.
 here=$(dirname "$0")

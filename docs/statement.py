@@ -1,9 +1,10 @@
 #!/usr/bin/env python3
-"""Makes docs/statement.md of the sources: the headline theorem, and every definition that its statement mentions.
+"""Makes the booklets of docs/statement/ of the sources: every definition that the headline theorem and its contracts mention.
 
-It begins at the theorem, and goes from each definition to those that its text names: definitions of specs/*.antt, and types and
-constants of src/*.rt. What they name of the library is a glossary at the end, from statement_words.py. It writes the page, or
-with --check compares it, and ends with status 1 where it differs or where a name can't be found.
+It begins at the roots of booklets.py, and goes from each definition to those that its text names: definitions of specs/*.antt, and
+types and constants of src/*.rt. Each stands once, in the booklet of its field; what a booklet takes from the others, and what it names
+of the library, is listed in it. What stands above the line MADE of a booklet is written by hand and left as it is. It writes the
+pages, or with --check compares them, and ends with status 1 where one differs or where a name can't be found.
 """
 
 import re
@@ -11,115 +12,27 @@ import sys
 import textwrap
 from collections import Counter
 from pathlib import Path
-from typing import Dict, Iterator, List, Set, Tuple, Union
+from typing import Callable, Dict, Iterator, List, Set, Tuple
 
 import antt
 import headline
-from declared import Declared, Place, Sources
-from statement_words import BUILT_IN, SECTIONS, meaning_of
+from booklets import BOOKLETS, CUT, DEVICE, LAW, ROOTS, SAID, At, Booklet, place_of
+from closure import Closure, Item
+from declared import Declared, Key
+from statement_marks import mark_of, marked_names, section_of
+from statement_words import meaning_of
 
 ROOT = Path(__file__).resolve().parent.parent
 CRATES = ROOT / "crates"
 DOCS = ROOT / "docs"
-# the words of docs/theorem.md that tell how much there is to read
-TOLD = re.compile(r"\d+ definitions of \d+ lines in \d+ files")
-
+MOST_LINES = 450
+MADE = "<!-- Made by docs/make.sh from here on; what stands above is written by hand. -->\n\n"
 STANDARDS = re.compile(r"RFC 9669|ZNS 1\.1|NVMe Base 2\.0|NVM Command Set 1\.0|BPF ABI 1\.0")
-MARKS = {(True, False): "S", (False, True): "P", (True, True): "SP", (False, False): "-"}
+# the words of docs/theorem.md that tell how much there is to read
+TOLD = re.compile(r"\d+ definitions of \d+ lines \(the theorem's: \d+ of \d+\)")
 
-# a definition, by its file and its name, or a declaration, by its place
-Key = Union[Tuple[str, str], Place]
-Item = Union[antt.Definition, Declared]
-
-
-class Closure:
-    """What is reached from some definitions."""
-
-    def __init__(self, crates: Path) -> None:
-        self.crates = crates
-        self.files: Dict[str, antt.SpecFile] = {}
-        self.sources = Sources(crates)
-        self.items: Dict[Key, Item] = {}
-        self.named: Dict[Key, Dict[str, Key]] = {}
-        self.words: Dict[str, str] = {}
-
-    def file(self, path: str) -> antt.SpecFile:
-        """A file of definitions."""
-        if path not in self.files:
-            try:
-                self.files[path] = antt.read((self.crates / path).read_text(), path)
-            except (ValueError, LookupError, StopIteration) as error:
-                raise LookupError(f"{path}: it can't be read: {error}") from error
-        return self.files[path]
-
-    def found(self, module: str, name: str) -> Union[Key, str]:
-        """What a name of a module stands for; of the library's, its module."""
-        parts = module.split(".")
-        if parts[0] != "Rattle" or not (self.crates / parts[1]).is_dir():
-            return module
-        if "declared" in parts:
-            path = parts[parts.index("declared") + 1 :]
-            if "TheConstants" in path:
-                at = path.index("TheConstants")
-                return (parts[1], "/".join(path[:at]), "".join(path[at + 1 :]), name)
-            kind = path[:-1] if path[-1] == "TheVariants" else path
-            return (parts[1], "/".join(kind[:-1]), "", kind[-1])
-        path_of_file = "/".join(parts[1:]) + ".antt"
-        file = self.file(path_of_file)
-        if name in file.definitions:
-            return (path_of_file, file.definitions[name].name)
-        if name in file.passed_on:
-            return self.found(*file.items[name])
-        raise LookupError(f"{path_of_file}: it defines no {name}, which another file takes from there")
-
-    def resolved(self, path: str, word: str) -> Tuple[str, Union[Key, str]]:
-        """What a word of a file stands for, with its name there."""
-        file = self.file(path)
-        head, _, rest = word.partition(".")
-        for name in (word, f"◌{word}◌", f"{word}◌then◌else◌", head):
-            if name in file.definitions:
-                return name, (path, file.definitions[name].name)
-            if name in file.items:
-                module, original = file.items[name]
-                return original, self.found(module, original)
-        if head in file.modules:
-            name = rest.split(".")[0]
-            return name, self.found(file.modules[head], name)
-        if word in BUILT_IN:
-            return word, ""
-        raise LookupError(f"{path}: what {word} stands for can't be found")
-
-    def reach(self, start: Key) -> None:
-        """Takes in an item, and all that it names."""
-        waiting = [start]
-        while waiting:
-            key = waiting.pop()
-            if key in self.items:
-                continue
-            names: Dict[str, Key] = {}
-            if len(key) == 2:
-                definition = self.file(key[0]).definitions.get(key[1])
-                if definition is None:
-                    raise LookupError(f"{key[0]}: it defines no {key[1]}")
-                self.items[key] = definition
-                for word in definition.names:
-                    name, target = self.resolved(key[0], word)
-                    if isinstance(target, str):
-                        self.words[name] = target
-                    elif target != key:
-                        names[word] = target
-            else:
-                declared = self.sources.find(key)
-                self.items[key] = declared
-                names = {place[3]: place for place in declared.names}
-            self.named[key] = names
-            waiting.extend(names.values())
-
-    def head(self, path: str) -> List[str]:
-        """The comment at the head of a file."""
-        if path.endswith(".antt"):
-            return self.file(path).head
-        return [line for line in (self.crates / path).read_text().splitlines() if line.startswith("//!")]
+# the parts of a section: the items of one file that stand there
+Part = Tuple[At, str]
 
 
 def plain(comment: List[str]) -> str:
@@ -128,24 +41,13 @@ def plain(comment: List[str]) -> str:
 
 
 def wrapped(text: str) -> str:
-    """A paragraph of the page."""
+    """A paragraph of a page."""
     return textwrap.fill(text, 130, break_long_words=False, break_on_hyphens=False) + "\n\n"
 
 
 def code_lines(item: Item) -> List[str]:
     """The lines of an item that are no comment."""
     return [line for line in item.lines if line.strip() and not re.match(r" *(--|///)", line)]
-
-
-def mark(item: Item, head: List[str]) -> str:
-    """Whether an item is the standards' or the profile's: by its own comment, or else by that of its `impl` or of its file."""
-    comments = [line for line in item.lines if line not in code_lines(item)]
-    outer = item.owner_comment if isinstance(item, Declared) else []
-    for text in (plain(item.comment + comments), plain(outer), plain(head)):
-        found = (bool(STANDARDS.search(text)), "profile" in text)
-        if found != (False, False):
-            return MARKS[found]
-    return "-"
 
 
 def marked(comment: List[str], sign: str, blanks: int) -> List[str]:
@@ -155,13 +57,12 @@ def marked(comment: List[str], sign: str, blanks: int) -> List[str]:
     return [re.sub(r"^( *(?:--|///)) ?", rf"\1 [{sign}] ", comment[0]), *comment[1:]]
 
 
-def shown(items: List[Item], head: List[str]) -> List[str]:
-    """The items of one file, each with its comment and its mark, below the blocks in which they stand."""
+def shown(items: List[Tuple[str, Item]]) -> List[str]:
+    """Items of one file with their marks, each with its comment, below the blocks in which they stand."""
     lines: List[str] = []
     blocks: Tuple[antt.Block, ...] = ()
     owner: List[str] = []
-    for item in items:
-        sign = mark(item, head)
+    for sign, item in items:
         if isinstance(item, antt.Definition):
             for block in item.blocks:
                 if not any(block is other for other in blocks):
@@ -176,164 +77,252 @@ def shown(items: List[Item], head: List[str]) -> List[str]:
     return [f"    {line}".rstrip() for line in lines]
 
 
-def used_first(closure: Closure) -> List[str]:
-    """The files of the closure, those that a file uses before it."""
-    below: Dict[str, Set[str]] = {}
-    for key, names in closure.named.items():
-        file = closure.items[key].file
-        below.setdefault(file, set()).update(closure.items[target].file for target in names.values())
-    order: List[str] = []
-    visited: Set[str] = set()
+class Pages:
+    """The items of a closure, each in its part of a booklet."""
 
-    def visit(file: str) -> None:
-        if file not in visited:
-            visited.add(file)
-            for other in sorted(below[file]):
-                visit(other)
-            order.append(file)
+    def __init__(self, closure: Closure, place: Callable[[str, str], At] = place_of) -> None:
+        self.closure = closure
+        self.at: Dict[Key, At] = {key: place(item.file, str(key[-1])) for key, item in closure.items.items()}
+        self.parts: Dict[Part, List[Key]] = {}
+        for key, item in closure.items.items():
+            self.parts.setdefault((self.at[key], item.file), []).append(key)
+        for keys in self.parts.values():
+            keys.sort(key=lambda key: closure.items[key].line)
 
-    for file in sorted(below):
-        visit(file)
-    return order
+    def part_of(self, key: Key) -> Part:
+        """The part in which an item stands."""
+        return self.at[key], self.closure.items[key].file
+
+    def below(self, part: Part) -> List[Part]:
+        """The other parts of the same booklet that a part uses."""
+        targets = {self.part_of(target) for key in self.parts[part] for target in self.closure.named[key].values() if target in self.at}
+        return sorted(other for other in targets if other != part and other[0][0] == part[0][0])
+
+    def used_first(self, booklet: int) -> List[Part]:
+        """The parts of a booklet, by their sections, those that a part uses before it."""
+        order: List[Part] = []
+        visited: Set[Part] = set()
+
+        def visit(part: Part) -> None:
+            if part not in visited:
+                visited.add(part)
+                for other in self.below(part):
+                    visit(other)
+                order.append(part)
+
+        for part in sorted(part for part in self.parts if part[0][0] == booklet):
+            visit(part)
+        order.sort(key=lambda part: part[0])
+        for number, part in enumerate(order):
+            for later in self.below(part):
+                if order.index(later) > number:
+                    raise LookupError(f"{part[1]}: what it uses of {later[1]} comes later: see the sections of docs/booklets.py")
+        return order
+
+    def other_names(self, part: Part) -> Iterator[str]:
+        """What isn't plain of the names that a part uses: those that stand for a module, and those that are several items'."""
+        several = self.closure.same_names()
+        found: Dict[str, str] = {}
+        for key in self.parts[part]:
+            item, names = self.closure.items[key], self.closure.named[key]
+            if isinstance(item, Declared):
+                continue
+            for word in item.names:
+                head, _, rest = word.partition(".")
+                target = names.get(word)
+                if rest and head in self.closure.file(item.file).modules:
+                    before = "a word of the library"
+                    if target:
+                        before = f"a variant of `{target[-1]}`" if len(target) > 2 else f"a definition of `{target[0]}`"
+                    found[head] = f"`{head}.` stands before {before}"
+                elif target and head == target[-1] in several and self.closure.file_of(target) != item.file:
+                    found[head] = f"`{head}` is that of `{self.closure.file_of(target)}`"
+        yield from (found[name] for name in sorted(found))
+
+    def elsewhere(self, part: Part) -> Set[int]:
+        """The other booklets in which definitions of the part's file stand."""
+        return {at[0] for at, file in self.parts if file == part[1] and at[0] != part[0][0]}
+
+    def text(self, part: Part) -> str:
+        """What stands on the page of a part."""
+        head = plain(self.closure.head(part[1]))
+        notes = list(self.other_names(part))
+        text = wrapped(f"`{part[1]}`: {head}") + (wrapped(f"Here {'; '.join(notes)}.") if notes else "")
+        links = [link(BOOKLETS[number]) for number in sorted(self.elsewhere(part))]
+        text += wrapped(f"Other definitions of this file are in {' and '.join(links)}.") if links else ""
+        items = [(self.sign(key), self.closure.items[key]) for key in self.parts[part]]
+        return text + "\n".join(shown(items)).rstrip() + "\n\n"
+
+    def sign(self, key: Key) -> str:
+        """The mark of an item, with the section of its standard where no comment names that."""
+        item = self.closure.items[key]
+        mark, section = mark_of(item.file, str(key[-1])), section_of(item.file, str(key[-1]))
+        outer = item.owner_comment if isinstance(item, Declared) else []
+        near = plain([*item.comment, *item.lines, *outer, *self.closure.head(item.file)])
+        if "S" in mark and not section and not STANDARDS.search(near):
+            raise LookupError(f"{item.file}: {key[-1]} is a standard's, of which no section is named there or in docs/statement_marks.py")
+        return f"{mark}: {section}" if section else mark
+
+    def lines_in(self, booklet: int) -> int:
+        """How many lines of definitions a booklet has."""
+        keys = [key for part, keys in self.parts.items() if part[0][0] == booklet for key in keys]
+        items = [self.closure.items[key] for key in keys]
+        return sum(len(code_lines(item)) for item in items if isinstance(item, antt.Definition))
 
 
-def section_of(file: str) -> int:
-    """The section in which a file stands."""
-    for number, (_, pattern) in enumerate(SECTIONS):
-        if re.match(pattern, file):
-            return number
-    raise LookupError(f"{file}: no section of docs/statement_words.py takes it")
+def link(booklet: Booklet) -> str:
+    """A link from one booklet to another."""
+    return f"[{booklet.title}]({booklet.name}.md)"
 
 
-def same_names(closure: Closure) -> Set[str]:
-    """The names that several items of the closure have."""
-    counted = Counter(key[-1] for key in closure.items)
-    return {name for name, times in counted.items() if times > 1}
+def cell(text: str) -> str:
+    """A text as it stands in a table.
+
+    >>> cell("a || b")
+    'a \\\\|\\\\| b'
+    """
+    return text.replace("|", "\\|")
 
 
-def other_names(closure: Closure, file: str) -> Iterator[str]:
-    """What isn't plain of the names that a file uses: those that stand for a module, and those that are several items'."""
-    several = same_names(closure)
-    found: Dict[str, str] = {}
-    for key, names in closure.named.items():
-        item = closure.items[key]
-        if item.file != file or isinstance(item, Declared):
-            continue
-        for word in item.names:
-            head, _, rest = word.partition(".")
-            target = names.get(word)
-            if rest and head in closure.files[file].modules:
-                before = "a word of the library"
-                if target:
-                    before = f"a variant of `{target[-1]}`" if len(target) > 2 else f"a definition of `{target[0]}`"
-                found[head] = f"`{head}.` stands before {before}"
-            elif target and head == target[-1] in several and closure.items[target].file != file:
-                found[head] = f"`{head}` is that of `{closure.items[target].file}`"
-    yield from (found[name] for name in sorted(found))
+def first_sentence(comment: str) -> str:
+    """The first sentence of a comment.
+
+    >>> first_sentence("A slot, one of [`SLOTS`] (profile). A clause sees its number.")
+    'A slot, one of `SLOTS`'
+    """
+    text = re.sub(r"\[(`\w+`)\]", r"\1", comment)
+    found = re.match(r"(.*?[^.])\.(?= [A-Z]|$)", text)
+    return (found[1] if found else text).replace(" (profile)", "")
 
 
-def part(closure: Closure, file: str) -> str:
-    """What stands on the page of a file."""
-    items = sorted((item for item in closure.items.values() if item.file == file), key=lambda item: item.line)
-    head = closure.head(file)
-    notes = "; ".join(other_names(closure, file))
-    text = wrapped(f"`{file}`: {plain(head)}") + (wrapped(f"Here {notes}.") if notes else "")
-    return text + "\n".join(shown(items, head)).rstrip() + "\n\n"
+def meaning_in(closure: Closure, key: Key) -> str:
+    """What an item is, in one line; a constant of a type is named with that."""
+    said = SAID.get(str(key[-1])) or first_sentence(plain(closure.items[key].comment))
+    return f"{key[2]}: {said}" if len(key) == 4 and key[2] else said
 
 
-def sections(closure: Closure) -> Tuple[str, List[Tuple[str, List[Item]]]]:
-    """The sections of the page, and the items of each. What is used stands before what uses it."""
-    order = used_first(closure)
-    order.sort(key=section_of)
-    at = {file: number for number, file in enumerate(order)}
-    for key, names in closure.named.items():
-        file = closure.items[key].file
-        for target in names.values():
-            if at[closure.items[target].file] > at[file]:
-                raise LookupError(f"{file}: {target[-1]}, which it uses, comes later: see SECTIONS of docs/statement_words.py")
-    text = ""
-    items: List[Tuple[str, List[Item]]] = []
-    for number, (title, _) in enumerate(SECTIONS):
-        files = [file for file in order if section_of(file) == number]
-        items.append((title, [item for item in closure.items.values() if item.file in files]))
-        text += f"## {number + 1}. {title}\n\n" + "".join(part(closure, file) for file in files)
-    return text, items
+def names_table(meanings: Dict[str, Set[str]]) -> str:
+    """A table of names, each with what it is."""
+    rows = [f"| `{cell(name)}` | {cell('; or '.join(sorted(meanings[name])))} |\n" for name in sorted(meanings, key=str.lower)]
+    return "| Name | What it is |\n|---|---|\n" + "".join(rows) + "\n"
 
 
-def row(title: str, items: List[Item], closure: Closure) -> str:
+def interface(pages: Pages, booklet: int) -> str:
+    """The names that a booklet takes from the others, with what they are."""
+    taken: Dict[int, Dict[str, Set[str]]] = {}
+    cut: Dict[str, Set[str]] = {}
+    for part, keys in pages.parts.items():
+        for key in keys if part[0][0] == booklet else []:
+            for target in pages.closure.named[key].values():
+                if target in CUT:
+                    cut[str(target[-1])] = {f"{CUT[target]} (`{target[0]}`)"}
+                elif pages.at[target][0] != booklet:
+                    meanings = taken.setdefault(pages.at[target][0], {}).setdefault(str(target[-1]), set())
+                    meanings.add(meaning_in(pages.closure, target))
+    text = "## What it takes from the other booklets\n\n"
+    for number in sorted(taken):
+        text += f"From {link(BOOKLETS[number])}:\n\n" + names_table(taken[number])
+    return text + ("In no booklet, but in [definitions.md](../definitions.md):\n\n" + names_table(cut) if cut else "")
+
+
+def row(title: str, keys: List[Key], closure: Closure) -> str:
     """A row of the table of totals."""
+    items = [closure.items[key] for key in keys]
     definitions = [item for item in items if isinstance(item, antt.Definition)]
     declared = [item for item in items if isinstance(item, Declared)]
-    marks = Counter(mark(item, closure.head(item.file)) for item in items)
+    marks = Counter(mark_of(closure.items[key].file, key[-1]) for key in keys)
     cells = [
         *(title, len(definitions), sum(len(code_lines(item)) for item in definitions)),
         *(len(declared), sum(len(code_lines(item)) for item in declared)),
         *(marks[sign] for sign in ("S", "SP", "P", "-")),
     ]
-    return "| " + " | ".join(str(cell) for cell in cells) + " |\n"
+    return "| " + " | ".join(str(each) for each in cells) + " |\n"
 
 
-def totals(parts: List[Tuple[str, List[Item]]], closure: Closure) -> str:
-    """How much stands on the page."""
-    everything = list(closure.items.values())
-    specs, sources = (len({item.file for item in everything if isinstance(item, kind)}) for kind in (antt.Definition, Declared))
-    crates = re.findall(r"^(\w+):", (ROOT / "crates.txt").read_text(), re.M)
-    named = [crate for crate in crates if any(item.file.startswith(f"{crate}/") for item in everything)]
+def totals(pages: Pages, booklet: int) -> str:
+    """How much stands in a booklet."""
     text = "| Section | Definitions | Lines | Declared in Rust | Lines | S | SP | P | - |\n|---|" + "---|" * 8 + "\n"
-    for number, (title, items) in enumerate(parts):
-        text += row(f"{number + 1}. {title}", items, closure)
-    text += row("all", everything, closure)
-    return text + "\n" + wrapped(
-        f"Lines are those without comments. The definitions stand in {specs} files, and what is declared in Rust in {sources},"
-        f" of {len(named)} crates: {', '.join(named)}."
-    )
+    every: List[Key] = []
+    for at, section in enumerate(BOOKLETS[booklet].sections):
+        keys = [key for part, keys in pages.parts.items() if part[0] == (booklet, at) for key in keys]
+        text += row(f"{at + 1}. {section.title}", keys, pages.closure)
+        every += keys
+    return text + row("all", every, pages.closure) + "\nLines are those without comments.\n\n"
 
 
-def glossary(words: Dict[str, str]) -> str:
-    """The library's words, each with what it means."""
-    text = "## Words of the library\n\n"
-    text += "| Word | What it means |\n|---|---|\n"
+def glossary(pages: Pages, booklet: int) -> str:
+    """The library's words that a booklet names, each with what it means."""
+    words: Dict[str, str] = {}
+    for part, keys in pages.parts.items():
+        for key in keys if part[0][0] == booklet else []:
+            words.update(pages.closure.words.get(key, {}))
+    text = "## Words of the library\n\n| Word | What it means |\n|---|---|\n"
     for name in sorted(words, key=lambda word: (word[0].isascii() and word[0].isalpha(), word.lower(), word)):
-        meaning = meaning_of(name, words[name]).replace("|", "\\|")
-        text += f"| `{name.replace('|', chr(92) + '|')}` | {meaning} |\n"
+        text += f"| `{cell(name)}` | {cell(meaning_of(name, words[name]))} |\n"
     return text
+
+
+def made(pages: Pages, booklet: int) -> str:
+    """What is made of a booklet."""
+    lines = pages.lines_in(booklet)
+    if lines > MOST_LINES:
+        raise LookupError(f"{BOOKLETS[booklet].title}: {lines} lines of definitions, more than {MOST_LINES}")
+    text = headline.READING + totals(pages, booklet) + interface(pages, booklet)
+    text += headline.text(CRATES, {key[-1] for key in pages.at}) if BOOKLETS[booklet] == DEVICE else ""
+    order = pages.used_first(booklet)
+    for at, section in enumerate(BOOKLETS[booklet].sections):
+        text += f"## {at + 1}. {section.title}\n\n" + "".join(pages.text(part) for part in order if part[0] == (booklet, at))
+    return text + glossary(pages, booklet)
+
+
+def counted(closure: Closure) -> str:
+    """How many definitions a closure has, and of how many lines."""
+    definitions = [item for item in closure.items.values() if isinstance(item, antt.Definition)]
+    return f"{len(definitions)} definitions of {sum(len(code_lines(item)) for item in definitions)}"
 
 
 def told(closure: Closure) -> str:
     """How much there is to read, as docs/theorem.md tells it."""
-    definitions = [item for item in closure.items.values() if isinstance(item, antt.Definition)]
-    lines = sum(len(code_lines(item)) for item in definitions)
-    return f"{len(definitions)} definitions of {lines} lines in {len({item.file for item in definitions})} files"
+    law = Closure(CRATES)
+    law.reach(LAW)
+    return f"{counted(closure)} lines (the theorem's: {counted(law).replace('definitions ', '')})"
 
 
-def pages() -> Dict[Path, str]:
-    """The page, and docs/theorem.md with what that tells of it."""
-    closure = Closure(CRATES)
-    closure.reach(headline.LAW)
-    text, parts = sections(closure)
-    top = headline.text(CRATES, {key[-1] for key in closure.items})
+def all_pages() -> Dict[Path, str]:
+    """The booklets, and docs/theorem.md with what that tells of them."""
+    closure = Closure(CRATES, frozenset(CUT))
+    for root in ROOTS:
+        closure.reach(root)
+    pages = Pages(closure)
+    gone = [f"{file}: {name}" for file, names in marked_names().items() for name in names if name not in closure.names_in(file)]
+    if gone:
+        raise LookupError(f"docs/statement_marks.py has marks of what no booklet has: {', '.join(gone)}")
+    texts: Dict[Path, str] = {}
+    for number, booklet in enumerate(BOOKLETS):
+        page = DOCS / "statement" / f"{booklet.name}.md"
+        head, line, _ = page.read_text().partition(MADE)
+        if not line:
+            raise LookupError(f"{page.name}: the line is missing that ends what is written by hand")
+        texts[page] = head + line + made(pages, number)
     theorem = DOCS / "theorem.md"
     if len(TOLD.findall(theorem.read_text())) != 1:
         raise LookupError("docs/theorem.md: it doesn't tell once how many definitions there are")
-    return {
-        DOCS / "statement.md": headline.HEAD + totals(parts, closure) + top + text + glossary(closure.words),
-        theorem: TOLD.sub(told(closure), theorem.read_text()),
-    }
+    return {**texts, theorem: TOLD.sub(told(closure), theorem.read_text())}
 
 
 def main() -> int:
     """Writes the pages, or compares them."""
     status = 0
     try:
-        made = pages()
+        texts = all_pages()
     except (LookupError, ValueError, OSError) as error:
         print(f"docs/statement.py: {error}")
         return 1
-    for file, text in made.items():
+    for file, text in texts.items():
         if "--check" not in sys.argv[1:]:
             file.write_text(text)
-        elif not file.exists() or file.read_text() != text:
-            print(f"docs/{file.name} isn't what docs/make.sh makes of the crates")
+        elif file.read_text() != text:
+            print(f"{file.relative_to(ROOT)} isn't what docs/make.sh makes of the crates")
             status = 1
     return status
 

@@ -1,27 +1,6 @@
-"""What docs/statement.py is told: the sections of its page, and what words of the library mean."""
+"""What words of the library mean, as the booklets of docs/statement/ say it."""
 
-from typing import Dict, List, Tuple
-
-# the sections in reading order, each with the files that stand in it; of two that take a file the first has it
-SECTIONS: List[Tuple[str, str]] = [
-    ("Bytes, readings and checks", r"common_definitions/"),
-    ("A zone", r"zone_state/"),
-    ("Open and active zones, and what runs hold", r"zone_resources/"),
-    ("A namespace", r"image_store/|program_interface/(specs/BlockSize|src/block_size)"),
-    (
-        "Entries, and the commands that they ask for",
-        r"nvme_entry/(specs/(Entry|Dwords|Filter|ProgramSlot)|src/(command|filter|program_slot))\.",
-    ),
-    ("Completions and reports", r"nvme_entry/"),
-    ("What the standards' commands do", r"zns_commands/"),
-    ("What a program is given", r"program_interface/"),
-    ("Instructions", r"instruction_set/"),
-    ("The machine", r"program_meaning/"),
-    ("Packing", r"emit_append/"),
-    ("Runs and their turns", r"device_meaning/specs/(Admission|BlockRuns|Outcome)\."),
-    ("The device and its events", r"device_events/|device_meaning/"),
-    ("The theorem", r"pushdown/"),
-]
+from typing import Dict
 
 # words of the language that no file brings in
 BUILT_IN = {"×", "Unit", "tt", "⊥", "¬"}
@@ -50,7 +29,6 @@ MEANINGS: Dict[str, str] = {
     "◌==◌": "`m == n`, a test: are the numbers equal?",
     "nat_lt": "`nat_lt m n`, a test: is m less than n?",
     "nat_le": "`nat_le m n`, a test: is m no greater than n?",
-    "max": "`max m n`: the greater number",
     "bit_and": "`bit_and m n`: the number with the bits that both have",
     "bit_or": "`bit_or m n`: the number with the bits that either has",
     "bit_xor": "`bit_xor m n`: the number with the bits that one has and the other hasn't",
@@ -58,7 +36,6 @@ MEANINGS: Dict[str, str] = {
     "pos": "`pos n`: n, as one of ℤ",
     "negsuc": "`negsuc n`: -(n + 1)",
     "◌+ℤ◌": "the sum in ℤ",
-    "◌-ℤ◌": "the difference in ℤ",
     "int_lt": "`int_lt a b`, a test: is a less than b, in ℤ?",
     "int_le": "`int_le a b`, a test: is a no greater than b, in ℤ?",
     "int_eq": "`int_eq a b`, a test: are they equal, in ℤ?",
@@ -80,12 +57,13 @@ MEANINGS: Dict[str, str] = {
     "not": "`not b`: the other answer",
     "◌&&◌": "do both tests pass?",
     "◌||◌": "does one of the tests pass, or both?",
+    "cond": "`cond b x y`: x where b is true, else y",
     "if◌then◌else◌": "`if b then x else y`: x where b is true, else y",
     "IsTrue": "`IsTrue b`: b is true",
     "List": "`List X`: lists of values of X",
     "[]": "the list without elements",
     "◌∷◌": "`x ∷ xs`: x in front of xs",
-    "◌++◌": "`xs ++ ys`: xs, and ys behind it",
+    "◌++◌": "`xs ++ ys`: the elements of xs, then those of ys",
     "map": "`map f xs`: what f makes of each element of xs",
     "length": "`length xs`: the number of its elements",
     "take": "`take n xs`: the first n elements, or all where there are fewer",

@@ -1,13 +1,17 @@
 #!/usr/bin/env python3
-"""Tries on small texts how definitions and declarations are read for docs/statement.md."""
+"""Tries on small texts how definitions and declarations are read for docs/statement/, and looks at the marks and sections of these."""
 
+import doctest
 import tempfile
 import unittest
 from pathlib import Path
 from typing import Dict, List
 
 import antt
+import booklets
 import statement
+import statement_marks
+from closure import Closure
 from declared import Sources
 
 
@@ -90,8 +94,8 @@ class Names(unittest.TestCase):
         self.assertEqual(names('abbrev pub a : A\na = codes "a b" 0x1_0 -- c d\n', "a"), ["A", "codes"])
 
 
-class Reached(unittest.TestCase):
-    """What is reached from a definition, over files and crates."""
+class Files(unittest.TestCase):
+    """Files of two crates."""
 
     FILES = {
         "a/specs/A.antt": "-- A (RFC 9669, 3).\nuse Rattle.b.specs.B.{f as g, passed}\nuse Rattle.b.specs.B as other\n"
@@ -108,25 +112,34 @@ class Reached(unittest.TestCase):
         "impl Model for Count {\n    ghost Value = { ℕ };\n}\n",
     }
 
-    def closure(self, changed: Dict[str, str]) -> statement.Closure:
+    def closure(self, changed: Dict[str, str], cut: bool = False) -> Closure:
         """What is reached from `top` of these files."""
         with tempfile.TemporaryDirectory() as folder:
             for name, text in {**self.FILES, **changed}.items():
                 file = Path(folder) / name
                 file.parent.mkdir(parents=True, exist_ok=True)
                 file.write_text(text)
-            closure = statement.Closure(Path(folder))
+            closure = Closure(Path(folder), frozenset([("b/specs/B.antt", "h")]) if cut else frozenset())
             closure.reach(("a/specs/A.antt", "top"))
             for file in {item.file for item in closure.items.values()}:
                 closure.head(file)
             return closure
+
+
+class Reached(Files):
+    """What is reached from a definition, over files and crates."""
 
     def test_names_are_found_by_imports_renamed_passed_on_and_by_module(self) -> None:
         found = {key[-1] for key in self.closure({}).items}
         self.assertEqual(found, {"top", "f", "h", "passed", "D", "Kind", "Count", "MOST", "EACH"})
 
     def test_words_of_the_library_are_kept_apart(self) -> None:
-        self.assertEqual(self.closure({}).words, {"ℕ": "Rattle.std.specs.Prelude"})
+        self.assertEqual(self.closure({}).words, {("a/specs/A.antt", "top"): {"ℕ": "Rattle.std.specs.Prelude"}})
+
+    def test_what_is_cut_off_is_named_and_not_gone_into(self) -> None:
+        closure = self.closure({}, cut=True)
+        self.assertEqual({key[-1] for key in closure.items}, {"top", "f", "passed", "D", "Kind", "Count"})
+        self.assertEqual(closure.named[("a/specs/A.antt", "top")]["other.h"], ("b/specs/B.antt", "h"))
 
     def test_a_name_that_cannot_be_found_is_told_with_its_file(self) -> None:
         for name, text in (("b/specs/B.antt", "nowhere"), ("a/specs/A.antt", "missing")):
@@ -143,20 +156,76 @@ class Reached(unittest.TestCase):
         most = self.closure({}).items[("b", "", "", "MOST")]
         self.assertEqual(most.lines, ["pub const MOST: usize = 4 * EACH; // 32"])
 
-    def test_marks_are_those_of_the_comment_or_else_of_the_head(self) -> None:
-        closure = self.closure({})
-        heads = {"top": ["-- A (RFC 9669, 3)."], "f": ["-- A (RFC 9669, 3)."]}
-        signs = {key[-1]: statement.mark(item, heads.get(key[-1], [])) for key, item in closure.items.items()}
-        self.assertEqual([signs[name] for name in ("top", "f", "h", "Kind")], ["S", "P", "-", "S"])
+    def test_a_type_that_is_seen_as_bytes_is_shown_with_its_view_and_leads_to_what_that_names(self) -> None:
+        model = "    ghost use Rattle.b.specs.C.{D, passed};\n    ghost Value = { List ℕ };\n    ghost view = { λ c. passed c };\n"
+        closure = self.closure({"b/src/m.rt": self.FILES["b/src/m.rt"].replace("    ghost Value = { ℕ };\n", model)})
+        key = ("b", "m", "", "Count")
+        self.assertIn("    ghost view = { λ c. passed c };", closure.items[key].lines)
+        self.assertEqual(closure.named[key], {"passed": ("b/specs/C.antt", "passed")})
+
+    def test_the_last_number_of_a_list_is_a_number(self) -> None:
+        text = "const EACH: [u8; 2] = [4, 8];\n\n/// The most.\npub const MOST: usize = EACH[EACH.len() - 1] as usize;\n"
+        most = self.closure({"b/src/lib.rt": "pub use m::Count;\n" + text}).items[("b", "", "", "MOST")]
+        self.assertTrue(most.lines[0].endswith("// 8"))
+
+
+class Parts(Files):
+    """How what is reached stands in booklets."""
+
+    def pages(self, places: Dict[str, booklets.At]) -> statement.Pages:
+        """The pages where these names have these places, and all others the first section of the first booklet."""
+        return statement.Pages(self.closure({}), lambda file, name: places.get(name, (0, 0)))
 
     def test_what_is_used_stands_before_what_uses_it(self) -> None:
-        order = statement.used_first(self.closure({}))
+        order = [file for _, file in self.pages({}).used_first(0)]
         self.assertEqual(order, ["b/specs/C.antt", "b/src/lib.rt", "b/specs/B.antt", "b/src/m.rt", "a/specs/A.antt"])
 
+    def test_a_section_that_uses_a_later_one_is_told(self) -> None:
+        with self.assertRaisesRegex(LookupError, "a/specs/A.antt.*b/src/m.rt comes later"):
+            self.pages({"Kind": (0, 1)}).used_first(0)
+
+    def test_a_file_may_stand_in_parts(self) -> None:
+        pages = self.pages({"f": (1, 0)})
+        self.assertEqual(pages.parts[((1, 0), "b/specs/B.antt")], [("b/specs/B.antt", "f")])
+        self.assertEqual(pages.elsewhere(((1, 0), "b/specs/B.antt")), {0})
+        self.assertEqual((pages.lines_in(0), pages.lines_in(1)), (8, 2))
+
+    def test_names_of_other_booklets_are_listed_with_what_they_are(self) -> None:
+        text = statement.interface(self.pages({"f": (1, 0)}), 0)
+        self.assertIn(f"From {statement.link(booklets.BOOKLETS[1])}:", text)
+        self.assertIn("| `f` | f |\n", text)
+        self.assertNotIn("`h`", text)
+
     def test_names_that_stand_for_a_module_are_told(self) -> None:
-        closure = self.closure({})
         told = ["`kinds.` stands before a variant of `Kind`", "`other.` stands before a definition of `b/specs/B.antt`"]
-        self.assertEqual(list(statement.other_names(closure, "a/specs/A.antt")), told)
+        self.assertEqual(list(self.pages({}).other_names(((0, 0), "a/specs/A.antt"))), told)
+
+
+class Places(unittest.TestCase):
+    """In which booklet a definition stands, and whose it is."""
+
+    def test_a_name_goes_before_its_file(self) -> None:
+        self.assertEqual(booklets.BOOKLETS[booklets.place_of("nvme_entry/specs/Entry.antt", "load_of")[0]], booklets.RUNS)
+        self.assertEqual(booklets.BOOKLETS[booklets.place_of("nvme_entry/specs/Entry.antt", "send_of")[0]], booklets.COMMANDS)
+
+    def test_what_no_section_takes_is_told(self) -> None:
+        with self.assertRaisesRegex(LookupError, "nowhere/specs/A.antt.*top"):
+            booklets.place_of("nowhere/specs/A.antt", "top")
+
+    def test_what_has_no_mark_is_told(self) -> None:
+        with self.assertRaisesRegex(LookupError, "zone_state/specs/Status.antt.*other"):
+            statement_marks.mark_of("zone_state/specs/Status.antt", "other")
+
+    def test_each_name_has_one_mark_and_sections_are_of_standards(self) -> None:
+        for file, names in statement_marks.marked_names().items():
+            self.assertEqual(len(names), len(set(names)), file)
+        for file, sections in statement_marks.SECTIONS.items():
+            for name in " ".join(sections).split():
+                self.assertIn("S", statement_marks.mark_of(file, name), f"{file}: {name}")
+
+    def test_examples(self) -> None:
+        for module in (statement, statement_marks, booklets):
+            self.assertEqual(doctest.testmod(module).failed, 0)
 
 
 class Shown(unittest.TestCase):
@@ -167,10 +236,11 @@ class Shown(unittest.TestCase):
             "-- of all\nmodule _ (s : S) where\n  -- one (ZNS 1.1, 2)\n  abbrev pub a : A\n  a = s\n\n"
             "  abbrev pub b : A\n  b = s\n\n-- last (profile)\nabbrev pub c : A\nc = d\n"
         )
-        lines = statement.shown([*antt.read(text, "").definitions.values()], [])
+        definitions = antt.read(text, "").definitions
+        lines = statement.shown([(sign, definitions[name]) for sign, name in (("S", "a"), ("-", "b"), ("P: c", "c"))])
         expected = (
             "-- of all\nmodule _ (s : S) where\n  -- [S] one (ZNS 1.1, 2)\n  abbrev pub a : A\n  a = s\n\n"
-            "  -- [-]\n  abbrev pub b : A\n  b = s\n\n-- [P] last (profile)\nabbrev pub c : A\nc = d\n"
+            "  -- [-]\n  abbrev pub b : A\n  b = s\n\n-- [P: c] last (profile)\nabbrev pub c : A\nc = d\n"
         )
         self.assertEqual(lines, [f"    {line}".rstrip() for line in expected.split("\n")])
 
@@ -189,7 +259,7 @@ class Constants(unittest.TestCase):
             file.write_text(text)
             found = Sources(Path(folder)).find(("a", "s", "S", "WELL"))
         self.assertEqual(found.lines, ["    pub const WELL: S = S { code: 0x0A };"])
-        self.assertEqual((found.owner_comment, statement.mark(found, [])), (["/// Of one kind (profile)."], "P"))
+        self.assertEqual(found.owner_comment, ["/// Of one kind (profile)."])
 
 
 if __name__ == "__main__":

@@ -81,7 +81,7 @@ fn push_answered(
     let mut output = vec![in alloc; 0; MOST_TRANSFER]?;
     let reply = device.apply(event, output.as_mut_slice());
     push_event(alloc, event, hex, out)?;
-    push_reply(alloc, event, reply, output.as_slice(), hex, out)
+    push_reply(alloc, event, &reply, output.as_slice(), hex, out)
 }
 
 /// Adds what is asked of the device.
@@ -118,22 +118,31 @@ fn push_submission(
 fn push_reply(
     alloc: Global,
     event: &Event,
-    reply: Reply,
+    reply: &Reply,
     data: &[u8],
     hex: bool,
     out: &mut String,
 ) -> Result<(), AllocError> {
-    match (reply, event) {
-        (Reply::Complete { entry, length, .. }, _) => {
-            let data = data.get(..length).unwrap_or(data);
-            push_completion(alloc, event, &entry, data, out)?;
+    match reply {
+        Reply::Complete { entry, length, .. } => {
+            let data = data.get(..*length).unwrap_or(data);
+            push_completion(alloc, event, entry, data, out)?;
             push_bytes(alloc, hex, &entry.bytes(), out)
         }
-        (Reply::Pending { run }, Event::Submit { .. }) => writeln!(out, "  admitted as run {run}"),
-        (Reply::Pending { .. }, _) => out.push_str("  done for one block; more are left\n"),
-        (Reply::Idle, _) => out.push_str("  no such run\n"),
-        (Reply::FaultTaken, _) => out.push_str("  done\n"),
-        (Reply::FaultRefused, _) => out.push_str("  refused\n"),
+        Reply::Pending { run } => push_pending(event, *run, out),
+        Reply::Idle => out.push_str("  no such run\n"),
+        Reply::FaultTaken => out.push_str("  done\n"),
+        Reply::FaultRefused => out.push_str("  refused\n"),
+    }
+}
+
+/// Adds that an event began a run, or did one of its turns.
+fn push_pending(event: &Event, run: u8, out: &mut String) -> Result<(), AllocError> {
+    match event {
+        Event::Submit { .. } => writeln!(out, "  admitted as run {run}"),
+        Event::Turn { .. } | Event::Fault { .. } => {
+            out.push_str("  done for one block; more are left\n")
+        }
     }
 }
 

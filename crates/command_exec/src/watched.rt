@@ -97,8 +97,9 @@ impl<T: Out> Out for Watched<T> {
     ) };
 
     fn take(&mut self, reply: Reply, bytes: &[u8]) -> Result<(), NotTaken> {
+        let refused = is_refusal(&reply);
         self.out.take(reply, bytes)?;
-        self.tally = self.tally.with(is_refusal(&reply));
+        self.tally = self.tally.with(refused);
         Ok(())
     }
 

@@ -52,8 +52,8 @@ impl<W: Write> Out for Worded<'_, W> {
     ghost joins = { λ _ _ _ first later early late. late ∙ early };
 
     fn take(&mut self, reply: Reply, bytes: &[u8]) -> Result<(), NotTaken> {
-        let answered = self.asked.entry_of(reply);
-        if print(self.alloc, self.out, reply, bytes, answered) {
+        let answered = self.asked.entry_of(&reply);
+        if print(self.alloc, self.out, &reply, bytes, answered) {
             Ok(())
         } else {
             self.refusals += 1;
@@ -70,7 +70,7 @@ impl<W: Write> Out for Worded<'_, W> {
 fn print<W: Write>(
     alloc: Global,
     out: &mut W,
-    reply: Reply,
+    reply: &Reply,
     bytes: &[u8],
     answered: Option<&[u8; 64]>,
 ) -> bool {
@@ -83,7 +83,7 @@ fn print<W: Write>(
 /// What a reply says.
 fn text_of(
     alloc: Global,
-    reply: Reply,
+    reply: &Reply,
     bytes: &[u8],
     answered: Option<&[u8; 64]>,
 ) -> Result<String, AllocError> {
@@ -113,7 +113,7 @@ impl<'a> Asked<'a> {
     }
 
     /// The entry that the next reply answers, if it answers one.
-    fn entry_of(&mut self, reply: Reply) -> Option<&'a [u8; 64]> {
+    fn entry_of(&mut self, reply: &Reply) -> Option<&'a [u8; 64]> {
         let index = self.taken;
         self.taken = index.saturating_add(1);
         let submitted = match self.events.get(index) {
@@ -136,16 +136,16 @@ impl<'a> Asked<'a> {
     }
 
     /// Notes which event started a run, where the reply says that it did.
-    fn note_run(&mut self, reply: Reply, index: usize) {
+    fn note_run(&mut self, reply: &Reply, index: usize) {
         if let Reply::Pending { run } = reply {
-            if let Some(place) = self.runs.get_mut(usize::from(run)) {
+            if let Some(place) = self.runs.get_mut(usize::from(*run)) {
                 *place = Some(index);
             }
         }
     }
 
     /// The event that started a run which ends with this reply.
-    fn ended(&mut self, reply: Reply, run: usize) -> Option<usize> {
+    fn ended(&mut self, reply: &Reply, run: usize) -> Option<usize> {
         match reply {
             Reply::Complete { .. } => self.runs.get_mut(run)?.take(),
             _ => None,

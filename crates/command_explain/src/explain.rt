@@ -274,9 +274,9 @@ fn push_replies(
 ) -> Result<(), AllocError> {
     for told in replies {
         let data = told.bytes.as_slice();
-        match told.told {
+        match &told.told {
             Told::Reply(reply) => push_reply(reply, data, pairing, notes, form, out)?,
-            Told::Unknown { queue, .. } => push_unknown(queue, form, out)?,
+            Told::Unknown { queue, .. } => push_unknown(*queue, form, out)?,
         }
     }
     Ok(())
@@ -284,7 +284,7 @@ fn push_replies(
 
 /// Adds what a reply tells.
 fn push_reply(
-    reply: Reply,
+    reply: &Reply,
     data: &[u8],
     pairing: &mut Option<Pairing<'_>>,
     notes: &Option<LinkNotes<'_>>,
@@ -294,8 +294,8 @@ fn push_reply(
     let Reply::Complete { queue, entry, .. } = reply else {
         return push_other(reply, form, out);
     };
-    let Some(completion) = completion_from(queue, &entry) else {
-        return push_unknown(queue, form, out);
+    let Some(completion) = completion_from(*queue, entry) else {
+        return push_unknown(*queue, form, out);
     };
     let answered = match pairing {
         None => Answered::Unnamed,
@@ -329,9 +329,9 @@ pub(crate) fn push_unknown(queue: u16, form: Form, out: &mut String) -> Result<(
 }
 
 /// Adds a reply that is no completion.
-pub(crate) fn push_other(reply: Reply, form: Form, out: &mut String) -> Result<(), AllocError> {
+pub(crate) fn push_other(reply: &Reply, form: Form, out: &mut String) -> Result<(), AllocError> {
     let (words, json) = match reply {
-        Reply::Pending { run } => return push_pending(run, form, out),
+        Reply::Pending { run } => return push_pending(*run, form, out),
         Reply::Idle => ("idle: a turn for a run that is not active", "idle"),
         Reply::FaultTaken => ("done: a zone has its fault", "done"),
         Reply::FaultRefused => (

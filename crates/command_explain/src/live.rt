@@ -14,7 +14,7 @@ use std::alloc::AllocError;
 ///
 /// Want of memory.
 pub fn push_reply_words(
-    reply: Reply,
+    reply: &Reply,
     data: &[u8],
     answered: Option<&[u8; 64]>,
     out: &mut String,
@@ -22,9 +22,9 @@ pub fn push_reply_words(
     let Reply::Complete { queue, entry, .. } = reply else {
         return push_other(reply, Form::Words, out);
     };
-    match completion_from(queue, &entry) {
+    match completion_from(*queue, entry) {
         Some(completion) => push_completion(&completion, data, answered, out),
-        None => push_unknown(queue, Form::Words, out),
+        None => push_unknown(*queue, Form::Words, out),
     }
 }
 

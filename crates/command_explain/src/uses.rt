@@ -5,7 +5,7 @@ ghost use Rattle.std.specs.List.{filter_map};
 ghost use Rattle.std.specs.HashMap.{get};
 ghost use Rattle.command_explain.specs.declared.submissions.Identity.{Identity};
 ghost use Rattle.command_explain.specs.steps.Submissions.{same_identity};
-ghost use Rattle.command_explain.specs.steps.Uses.{AreCounted, completion_in, count_of, doubt_at, ends_in_run, identity_in, run_in};
+ghost use Rattle.command_explain.specs.steps.Uses.{AreCounted, completion_in, completion_of, count_of, doubt_at, ends_in_run, identity_in, run_in};
 
 use crate::submissions::{Identity, Submission, is_run};
 use device_events::Reply;
@@ -138,15 +138,19 @@ fn completions(alloc: Global, replies: &[ToldReply]) -> Result<Vec<Identity>, Al
 fn completion_in(told: &ToldReply) -> Option<Identity>
     ensures { result ≡ completion_in told.now }
 {
-    match told.told {
-        Told::Reply(Reply::Complete { queue, entry, .. }) => Some(identity_in(
-            queue,
-            &entry.bytes(),
-        )),
-        Told::Unknown { queue, entry, .. } => Some(identity_in(queue, &entry)),
-        Told::Reply(
-            Reply::Pending { .. } | Reply::Idle | Reply::FaultTaken | Reply::FaultRefused,
-        ) => None,
+    match &told.told {
+        Told::Reply(reply) => completion_of(reply),
+        Told::Unknown { queue, entry, .. } => Some(identity_in(*queue, entry)),
+    }
+}
+
+/// The identity of a reply that is a completion.
+fn completion_of(reply: &Reply) -> Option<Identity>
+    ensures { result ≡ completion_of reply.now }
+{
+    match reply {
+        Reply::Complete { queue, entry, .. } => Some(identity_in(*queue, &entry.bytes())),
+        Reply::Pending { .. } | Reply::Idle | Reply::FaultTaken | Reply::FaultRefused => None,
     }
 }
 

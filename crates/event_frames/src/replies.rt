@@ -122,8 +122,8 @@ pub fn push_reply(frame: &mut Vec<u8>, reply: Reply, bytes: &[u8]) -> Result<(),
     requires { length bytes.now < 2 ^ 32 }
     ensures { OnOk result (frame.new.items ≡ frame.old.items ++ frame_of reply bytes.now) }
 {
-    frame.extend_from_slice(&reply_header(reply, bytes.len() as u32))?;
-    match reply {
+    frame.extend_from_slice(&reply_header(&reply, bytes.len() as u32))?;
+    match &reply {
         Reply::Complete { entry, .. } => frame.extend_from_slice(&entry.bytes())?,
         Reply::Pending { .. } | Reply::Idle | Reply::FaultTaken | Reply::FaultRefused => {}
     }
@@ -132,12 +132,12 @@ pub fn push_reply(frame: &mut Vec<u8>, reply: Reply, bytes: &[u8]) -> Result<(),
 }
 
 /// The header of a reply with so many bytes of data.
-fn reply_header(reply: Reply, size: u32) -> [u8; HEADER_BYTES]
-    ensures { result ≡ reply_header reply size }
+fn reply_header(reply: &Reply, size: u32) -> [u8; HEADER_BYTES]
+    ensures { result ≡ reply_header reply.now size }
 {
     match reply {
-        Reply::Complete { queue, .. } => header(1, 0, queue, 0, size),
-        Reply::Pending { run } => header(2, run, 0, 0, size),
+        Reply::Complete { queue, .. } => header(1, 0, *queue, 0, size),
+        Reply::Pending { run } => header(2, *run, 0, 0, size),
         Reply::Idle => header(3, 0, 0, 0, size),
         Reply::FaultTaken => header(4, 0, 0, 0, size),
         Reply::FaultRefused => header(5, 0, 0, 0, size),

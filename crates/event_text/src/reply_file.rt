@@ -100,7 +100,7 @@ fn told_by(alloc: Global, line: &[u8]) -> Result<ToldReply, ReplyFault>
     ensures given { IfOk result (λ told. can_be_given (reply_of told) ≡ true) }
 {
     let told = candidate(alloc, line)?;
-    if !can_be_given(told.told) {
+    if !can_be_given(&told.told) {
         return Err(ReplyFault::Refused);
     }
     let mut again = Vec::new(alloc);
@@ -121,15 +121,24 @@ fn push_told(line: &mut Vec<u8>, told: Told, bytes: &[u8]) -> io::Result<()>
     }
 }
 
-/// Can a device give such a reply? A command that it refuses gives no data, and a run that goes on has one of the places for runs.
-fn can_be_given(told: Told) -> bool
-    ensures { result ≡ can_be_given (reply_told told) }
+/// Can a device give what a line tells?
+fn can_be_given(told: &Told) -> bool
+    ensures { result ≡ can_be_given (reply_told told.now) }
 {
     match told {
-        Told::Reply(Reply::Complete { entry, length, .. }) => length == 0 || entry.is_success(),
-        Told::Reply(Reply::Pending { run }) => usize::from(run) < RUNS,
-        Told::Reply(Reply::Idle | Reply::FaultTaken | Reply::FaultRefused) => true,
-        Told::Unknown { entry, length, .. } => length == 0 || tells_success(&entry),
+        Told::Reply(reply) => is_possible(reply),
+        Told::Unknown { entry, length, .. } => *length == 0 || tells_success(entry),
+    }
+}
+
+/// Can a device give such a reply? A command that it refuses gives no data, and a run that goes on has one of the places for runs.
+fn is_possible(reply: &Reply) -> bool
+    ensures { result ≡ can_be_given reply.now }
+{
+    match reply {
+        Reply::Complete { entry, length, .. } => *length == 0 || entry.is_success(),
+        Reply::Pending { run } => usize::from(*run) < RUNS,
+        Reply::Idle | Reply::FaultTaken | Reply::FaultRefused => true,
     }
 }
 

@@ -8,8 +8,8 @@ use tcp_connection::Outcome;
 
 /// What a host is told of a completion: its status, and Dwords 0 and 1.
 #[tactic(auto, using(crate::proofs::Told::outcome_told))]
-pub(crate) fn outcome_in(entry: CompletionEntry) -> Outcome
-    ensures { result ≡ outcome_in entry }
+pub(crate) fn outcome_in(entry: &CompletionEntry) -> Outcome
+    ensures { result ≡ outcome_in entry.now }
 {
     let completion = entry.completion();
     Outcome {

@@ -95,7 +95,7 @@ fn hand(
     let reply = device.submit(number as u16, entry, input, output);
     target.hand_over(number);
     let bytes = &output[..reply.data_length()];
-    complete(target, number, entry, &reply, bytes);
+    complete(target, number, entry, reply, bytes);
     reply
 }
 
@@ -104,19 +104,19 @@ fn complete(
     target: &mut Target,
     number: usize,
     entry: &[u8; ENTRY_BYTES],
-    reply: &Reply,
+    reply: Reply,
     bytes: &[u8],
 )
     requires number { number < MOST_CONNECTIONS }
     requires most { length bytes.now ≤ MOST_DATA }
     requires room { IsTrue (has_room MOST_DATA (place_at number target.old.queues)) }
-    ensures { target.new ≡ completed_by reply.now bytes.now number entry.now target.old }
+    ensures { target.new ≡ completed_by reply bytes.now number entry.now target.old }
 {
     match reply {
         Reply::Complete {
             entry: completion,
             ..
-        } => target.execute(number, entry, outcome_in(*completion), bytes),
+        } => target.execute(number, entry, outcome_in(&completion), bytes),
         Reply::Pending { .. } | Reply::Idle | Reply::FaultTaken | Reply::FaultRefused => {}
     }
 }

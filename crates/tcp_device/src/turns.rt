@@ -74,15 +74,15 @@ fn end(target: &mut Target, command: Option<PendingCommand>, reply: &Reply)
     ensures { target.new ≡ ended_by reply.now command target.old }
 {
     match reply {
-        Reply::Complete { entry, .. } => end_with(target, command, *entry),
+        Reply::Complete { entry, .. } => end_with(target, command, entry),
         Reply::Pending { .. } | Reply::Idle | Reply::FaultTaken | Reply::FaultRefused => {}
     }
 }
 
 /// Completes the command of a run with what the device's completion tells.
-fn end_with(target: &mut Target, command: Option<PendingCommand>, completion: CompletionEntry)
+fn end_with(target: &mut Target, command: Option<PendingCommand>, completion: &CompletionEntry)
     requires { IsTrue (can_go target.old command) }
-    ensures { target.new ≡ ended_with command completion target.old }
+    ensures { target.new ≡ ended_with command completion.now target.old }
 {
     if let Some(command) = command {
         target.end_run(

@@ -89,7 +89,7 @@ fn check(
     let gives = bytes_of(alloc, case.0.gives())?;
     let reply = case.1.reply(gives.len());
     for _ in 0..case.0.times() {
-        check_event(rt, device, output, at, &event, reply);
+        check_event(rt, device, output, at, &event, &reply);
     }
     assert!(rt; output.starts_with(gives.as_slice()), "{at:?}");
     Ok(())
@@ -101,12 +101,12 @@ fn check_event(
     output: &mut [u8],
     at: &At,
     event: &Event,
-    reply: Reply,
+    reply: &Reply,
 )
     requires { MOST_TRANSFER ≤ length output.old }
     ensures { MOST_TRANSFER ≤ length output.new }
 {
-    assert_eq!(rt; device.apply(event, output), reply, "{at:?}");
+    assert_eq!(rt; &device.apply(event, output), reply, "{at:?}");
 }
 
 /// Compares the zones with those that have to be left.
