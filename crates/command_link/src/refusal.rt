@@ -7,10 +7,9 @@ use accepted_programs::{Reason, Refusal as Verdict};
 use command_files::Shown;
 use ebpf_calls::StartFault;
 use ebpf_gather::{GatherFault, Gathered, Origin, SlotProblem, Wanted};
-use ebpf_inline::InlineFault;
+use ebpf_inline::{InlineFault, UnitFault};
 use ebpf_link::{CELLS_BYTES, GuardPlace, LinkFault, LoopRule, MARK_BYTES, Widest};
 use ebpf_object::{HeaderFault, Object, ObjectFault};
-use ebpf_units::UnitFault;
 use program_interface::STACK_BYTES;
 use std::alloc::{AllocError, Global};
 

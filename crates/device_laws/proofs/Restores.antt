@@ -4,7 +4,7 @@ use Rattle.device_meaning.specs.Judging.{interval_judge}
 use Rattle.device_meaning.specs.Outcome.{Turn, ending_of}
 use Rattle.device_meaning.specs.State.{State, place_at}
 use Rattle.pushdown.specs.Pushdown.{now, own_turns}
-use Rattle.pushdown.proofs.Proved.{pushdown}
+use Rattle.pushdown.proofs.Proved.{pushdown_from_any_beginning}
 use Rattle.runner.proofs.Proved.{one_is_restored}
 use Rattle.device_laws.specs.Restores.{RunsGoOnAfterRestores}
 use Rattle.device_laws.proofs.Reached.{sound}
@@ -19,7 +19,7 @@ same_ending (turn ∷ next ∷ turns) (suc done) less = same_ending (next ∷ tu
 pub runs_go_on_after_restores : RunsGoOnAfterRestores
 runs_go_on_after_restores s reached queue entry input starved command run events admitted less programs runs after kept restored =
     let before = now interval_judge s queue entry input starved command run events in
-    let is = pushdown interval_judge sound s reached queue entry input starved command run events admitted in
+    let is = pushdown_from_any_beginning interval_judge sound s reached queue entry input starved command run events admitted in
     let same : after ≡ before = sym (one_is_restored before.namespace programs runs before after kept restored) in
     record {
       left = ap (λ (t : State). place_at t run) same ∙ (is.does_its_turns less).left;

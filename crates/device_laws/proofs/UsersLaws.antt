@@ -22,7 +22,7 @@ use Rattle.device_events.specs.Replies.{ReplyWithData}
 use Rattle.device_events.specs.ToldEvents.{ToldEvent}
 use Rattle.device_events.specs.ToldEvents as told
 use Rattle.pushdown.specs.Pushdown.{IsAdmitted, IsPushedDown, blocks_at, no_turn, now, own_turns}
-use Rattle.pushdown.proofs.Proved.{pushdown}
+use Rattle.pushdown.proofs.Proved.{pushdown_from_any_beginning}
 use Rattle.device_laws.specs.Laws.{ComeToTheSameRun, CompletedAtMostOnce, EnoughTurnsComplete, IsCompletedAmong, IsGivenMemory, OutcomeIsItsOwn, SameEventsSameAnswers, TurnsAreFew}
 use Rattle.device_laws.proofs.OwnTurns.{Goes, answered, completes}
 
@@ -102,7 +102,7 @@ module _ (judge : Judge) (sound : IsSoundJudge judge) (s : State) (reached : IsR
   start = (happens judge s starved (told.Submitted queue entry input)).state
 
   theorem : (events : List Occurrence) → IsPushedDown judge s queue entry input starved command run events
-  theorem events = pushdown judge sound s reached queue entry input starved command run events admitted
+  theorem events = pushdown_from_any_beginning judge sound s reached queue entry input starved command run events admitted
 
   -- before its first turn it has all of its turns
   goes : Goes judge run place start place.turns

@@ -9,7 +9,7 @@ ghost use Rattle.pushdown.specs.AnyOrder.{TurnsInAnyOrder};
 ghost use Rattle.device_meaning.specs.Completions.{EachIsCompletedOnce, NoCompletionIsLost};
 ghost use Rattle.device_meaning.specs.Laws.{DrainingEnds, NoReplyIsTrapped, StatesAreSound};
 ghost use Rattle.pushdown.specs.Laws.{LastTurnCompletes, OnlyLoadsChangeSlots, RefusedEventsLeaveState, RefusedLeavesState};
-ghost use Rattle.pushdown.specs.Pushdown.{Pushdown};
+ghost use Rattle.pushdown.specs.Pushdown.{Pushdown, PushdownFromAnyBeginning};
 ghost use Rattle.device_meaning.specs.Reached.{EventsKeepReached, TurnsKeepReached};
 ghost use Rattle.pushdown.specs.ReadBack.{AppendedBlocksReadBack, AppendedByRunsReadsBack, ResultsReadBack, WrittenBlocksReadBack};
 ghost use Rattle.device_laws.specs.Laws.{CompletedAtMostOnce, EmptyIsReached, EnoughTurnsComplete, LoadedIsReached, OutcomeIsItsOwn, SameEventsSameAnswers, SavedStatesLoad, TurnsAreFew};
@@ -169,6 +169,11 @@ pub fn turns_in_any_order()
 /// those that are fixed at admission; and the numbers that the completion tells fit into its 32 bits.
 pub fn pushdown()
     ensures { Pushdown interval_judge }
+{}
+
+/// It holds of a device that was kept, too: in each state that events leave of what a device may begin with.
+pub fn pushdown_from_any_beginning()
+    ensures { PushdownFromAnyBeginning interval_judge }
 {}
 
 /// There is a Run of which that law speaks: in a state that events leave it is admitted, its program emits three frames over

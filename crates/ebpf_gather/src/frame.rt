@@ -1,6 +1,6 @@
 //! How many bytes of the stack a function has.
 
-use ebpf_units::FunctionSlot;
+use ebpf_inline::FunctionSlot;
 use instruction_set::{Instruction, Operation, Register, Source, Width};
 use program_interface::STACK_BYTES;
 

@@ -6,8 +6,8 @@ use crate::frame::{ALIGNED, frame_bytes};
 use crate::library::library_slots;
 use crate::slots::{Found, function_slots};
 use crate::wanted::{Wanted, symbol_of};
+use ebpf_inline::{FunctionBody, FunctionSlot, TranslationUnit};
 use ebpf_object::{Function, Object};
-use ebpf_units::{FunctionBody, FunctionSlot, TranslationUnit};
 use program_interface::{MOST_SLOTS, STACK_BYTES};
 use std::alloc::{AllocError, Global};
 

@@ -1,5 +1,5 @@
 //! The functions of an object that a program is made of, with the constant data that they refer to, as functions that call one another:
-//! what `ebpf_units` and `ebpf_inline` make one program of.
+//! what `ebpf_inline` makes one program of.
 #![tactic(auto)]
 
 mod addresses;

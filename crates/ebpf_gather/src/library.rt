@@ -4,7 +4,7 @@ ghost use Rattle.std.specs.Prelude.{◌+◌, ◌/◌, ◌≤◌};
 ghost use Rattle.program_interface.specs.declared.area.TheConstants.{STACK_BYTES};
 
 use crate::wanted::{LibraryCall, LibraryFunction};
-use ebpf_units::FunctionSlot;
+use ebpf_inline::FunctionSlot;
 use instruction_set::{
     Instruction, Operation, Register, Relation, Size, Source, Swap, SwapSize, Width,
 };

@@ -2,7 +2,7 @@
 
 use crate::gathering::Gathered;
 use crate::wanted::Wanted;
-use ebpf_units::{FunctionSlot, MOST_FRAMES, kept_count, moved_frame_pointer};
+use ebpf_inline::{FunctionSlot, MOST_FRAMES, kept_count, moved_frame_pointer};
 use program_interface::MOST_SLOTS;
 use std::alloc::{AllocError, Global};
 

@@ -3,9 +3,9 @@ use Rattle.std.proofs.Common.{◌≡◌, ◌∙◌, nat_le, ℕ, zero, suc, ◌+
 use Rattle.std.proofs.lemmas.Bool.{cases_lt, leb-true}
 use Rattle.common_definitions.proofs.Proved.{guarded}
 use Rattle.common_definitions.specs.Readings.{◌>>=◌}
-use Rattle.ebpf_units.specs.Sizes.{few_slots, slots_before}
-use Rattle.ebpf_units.specs.declared.fault.UnitFault.{UnitFault}
-use Rattle.ebpf_units.specs.declared.fault.UnitFault.TheVariants as faults
+use Rattle.ebpf_inline.specs.Sizes.{few_slots, slots_before}
+use Rattle.ebpf_inline.specs.declared.unit_fault.UnitFault.{UnitFault}
+use Rattle.ebpf_inline.specs.declared.unit_fault.UnitFault.TheVariants as faults
 use Rattle.program_interface.specs.declared.TheConstants.{MOST_SLOTS}
 
 -- where one reading after another gives something, each does

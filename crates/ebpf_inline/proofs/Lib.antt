@@ -1,3 +1,4 @@
+mod UnitCounts
 mod Sections
 mod Counts
 mod Parts

@@ -10,17 +10,17 @@ use Rattle.ebpf_inline.proofs.Counts.{both_give, each_counted}
 use Rattle.ebpf_inline.proofs.Sections.{begin_fits, begin_next}
 use Rattle.ebpf_inline.specs.Data.{all_data, data_begin, section_length}
 use Rattle.ebpf_inline.specs.Needs.{IsCounted, IsTree, Stands, lands}
-use Rattle.ebpf_units.specs.Checks.{address_checks, begins, call_checks, fault_of, goes_on, has_data, instruction_checks, is_below, is_beginning, jumps_astray, leaves}
-use Rattle.ebpf_units.specs.Sizes.{HasFrame, body_slots, called_frame, callee_slots, frame_checks, slots_at, slots_for_found, told, tree_slots, within}
-use Rattle.ebpf_units.specs.Units.{frame_bytes, kept_registers, sections_of, slot_at, slots_of}
-use Rattle.ebpf_units.specs.declared.fault.SlotFault.{SlotFault}
-use Rattle.ebpf_units.specs.declared.fault.SlotFault.TheVariants as slot_faults
-use Rattle.ebpf_units.specs.declared.fault.UnitFault.{UnitFault}
-use Rattle.ebpf_units.specs.declared.fault.UnitFault.TheVariants as faults
-use Rattle.ebpf_units.specs.declared.frame.Frame.{Frame}
-use Rattle.ebpf_units.specs.declared.unit.FunctionSlot.{FunctionSlot}
-use Rattle.ebpf_units.specs.declared.unit.FunctionSlot.TheVariants.{Address, Begins, Calls, Inside}
-use Rattle.ebpf_units.specs.declared.unit.TranslationUnit.{TranslationUnit}
+use Rattle.ebpf_inline.specs.Checks.{address_checks, begins, call_checks, fault_of, goes_on, has_data, instruction_checks, is_below, is_beginning, jumps_astray, leaves}
+use Rattle.ebpf_inline.specs.Sizes.{HasFrame, body_slots, called_frame, callee_slots, frame_checks, slots_at, slots_for_found, told, tree_slots, within}
+use Rattle.ebpf_inline.specs.Units.{frame_bytes, kept_registers, sections_of, slot_at, slots_of}
+use Rattle.ebpf_inline.specs.declared.unit_fault.SlotFault.{SlotFault}
+use Rattle.ebpf_inline.specs.declared.unit_fault.SlotFault.TheVariants as slot_faults
+use Rattle.ebpf_inline.specs.declared.unit_fault.UnitFault.{UnitFault}
+use Rattle.ebpf_inline.specs.declared.unit_fault.UnitFault.TheVariants as faults
+use Rattle.ebpf_inline.specs.declared.frame.Frame.{Frame}
+use Rattle.ebpf_inline.specs.declared.unit.FunctionSlot.{FunctionSlot}
+use Rattle.ebpf_inline.specs.declared.unit.FunctionSlot.TheVariants.{Address, Begins, Calls, Inside}
+use Rattle.ebpf_inline.specs.declared.unit.TranslationUnit.{TranslationUnit}
 use Rattle.instruction_set.specs.declared.access.Access.{Access}
 use Rattle.instruction_set.specs.declared.instruction.Instruction.{Instruction}
 use Rattle.instruction_set.specs.Instruction.{access_of, distance_of, target}

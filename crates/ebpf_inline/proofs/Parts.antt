@@ -2,10 +2,10 @@
 use Rattle.std.proofs.Common.{◌≡◌, ℕ, suc, ◌+◌, Bool, List, ◌++◌, length, Option, refl, ap, add-one}
 use Rattle.ebpf_inline.specs.Bodies.{body_of, callee_part, parts_before, place, places_of, slot_part}
 use Rattle.ebpf_inline.specs.Data.{first_ones}
-use Rattle.ebpf_units.specs.Sizes.{within}
-use Rattle.ebpf_units.specs.Units.{slots_of}
-use Rattle.ebpf_units.specs.declared.frame.Frame.{Frame}
-use Rattle.ebpf_units.specs.declared.unit.TranslationUnit.{TranslationUnit}
+use Rattle.ebpf_inline.specs.Sizes.{within}
+use Rattle.ebpf_inline.specs.Units.{slots_of}
+use Rattle.ebpf_inline.specs.declared.frame.Frame.{Frame}
+use Rattle.ebpf_inline.specs.declared.unit.TranslationUnit.{TranslationUnit}
 use Rattle.instruction_set.specs.declared.instruction.Instruction.{Instruction}
 
 -- one slot more

@@ -5,7 +5,7 @@ use Rattle.std.proofs.lemmas.List.{length-append}
 use Rattle.std.specs.List.{slice_get}
 use Rattle.common_definitions.proofs.Proved.{length-padded}
 use Rattle.ebpf_inline.specs.Data.{all_data, data_begin, first_ones, fitting_data, padded_length, padded_section, section_length}
-use Rattle.ebpf_units.specs.declared.fault.UnitFault.TheVariants.{TooMuchData}
+use Rattle.ebpf_inline.specs.declared.unit_fault.UnitFault.TheVariants.{TooMuchData}
 use Rattle.program_interface.specs.declared.area.TheConstants.{STACK_BYTES}
 
 -- ---- lists that are given place by place

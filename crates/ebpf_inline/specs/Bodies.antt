@@ -4,14 +4,14 @@
 -- them again behind the function's slots. Below them begins the frame of what is called.
 use Rattle.std.specs.Prelude.{ℕ, zero, suc, ℤ, pos, ◌-ℤ◌, ◌+◌, ◌-◌, Bool, true, List, [], ◌∷◌, ◌++◌, length, slice_index, Option, Some, None, Result, Ok, Err, if◌then◌else◌}
 use Rattle.ebpf_inline.specs.Data.{data_begin, first_ones}
-use Rattle.ebpf_units.specs.declared.fault.UnitFault.{UnitFault}
-use Rattle.ebpf_units.specs.declared.frame.Frame.{Frame}
-use Rattle.ebpf_units.specs.declared.unit.FunctionSlot.{FunctionSlot}
-use Rattle.ebpf_units.specs.declared.unit.FunctionSlot.TheVariants.{Begins, Inside, Calls, Address}
-use Rattle.ebpf_units.specs.declared.unit.TranslationUnit.{TranslationUnit}
-use Rattle.ebpf_units.specs.Frames.{by_distance, distance, frame_address, in_frame, moved_frame_pointer}
-use Rattle.ebpf_units.specs.Sizes.{called_frame, callee_slots, slots_at, slots_before, within}
-use Rattle.ebpf_units.specs.Units.{frame_bytes, kept_registers, sections_of, slot_at, slots_of}
+use Rattle.ebpf_inline.specs.declared.unit_fault.UnitFault.{UnitFault}
+use Rattle.ebpf_inline.specs.declared.frame.Frame.{Frame}
+use Rattle.ebpf_inline.specs.declared.unit.FunctionSlot.{FunctionSlot}
+use Rattle.ebpf_inline.specs.declared.unit.FunctionSlot.TheVariants.{Begins, Inside, Calls, Address}
+use Rattle.ebpf_inline.specs.declared.unit.TranslationUnit.{TranslationUnit}
+use Rattle.ebpf_inline.specs.Frames.{by_distance, distance, frame_address, in_frame, moved_frame_pointer}
+use Rattle.ebpf_inline.specs.Sizes.{called_frame, callee_slots, slots_at, slots_before, within}
+use Rattle.ebpf_inline.specs.Units.{frame_bytes, kept_registers, sections_of, slot_at, slots_of}
 use Rattle.instruction_set.specs.declared.instruction.Instruction.{Instruction}
 use Rattle.instruction_set.specs.declared.instruction.Instruction.TheVariants.{Load, StoreRegister}
 use Rattle.instruction_set.specs.declared.operation.Size.TheVariants.{DoubleWord}

@@ -3,8 +3,8 @@ use Rattle.std.specs.Prelude.{ℕ, zero, suc, pos, ◌-ℤ◌, ◌+◌, ◌*◌,
 use Rattle.std.specs.Int.{w32, cast_signed}
 use Rattle.byteorder.specs.Endian.{little_number}
 use Rattle.common_definitions.specs.Bytes.{padded}
-use Rattle.ebpf_units.specs.declared.fault.UnitFault.{UnitFault}
-use Rattle.ebpf_units.specs.declared.fault.UnitFault.TheVariants.{TooMuchData}
+use Rattle.ebpf_inline.specs.declared.unit_fault.UnitFault.{UnitFault}
+use Rattle.ebpf_inline.specs.declared.unit_fault.UnitFault.TheVariants.{TooMuchData}
 use Rattle.instruction_set.specs.declared.instruction.Instruction.{Instruction}
 use Rattle.instruction_set.specs.declared.instruction.Instruction.TheVariants.{StoreImmediate}
 use Rattle.instruction_set.specs.declared.operation.Size.TheVariants.{Word}

@@ -1,3 +1,7 @@
+pub mod Units
+pub mod Frames
+pub mod Checks
+pub mod Sizes
 pub mod Data
 pub mod Bodies
 pub mod Linked

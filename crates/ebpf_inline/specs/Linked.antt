@@ -6,13 +6,13 @@ use Rattle.ebpf_inline.specs.declared.fault.InlineFault.{InlineFault}
 use Rattle.ebpf_inline.specs.declared.fault.InlineFault.TheVariants.{Memory, Hindered}
 use Rattle.ebpf_inline.specs.Bodies.{body_of}
 use Rattle.ebpf_inline.specs.Data.{all_data, data_part}
-use Rattle.ebpf_units.specs.declared.fault.UnitFault.{UnitFault}
-use Rattle.ebpf_units.specs.declared.fault.UnitFault.TheVariants as faults
-use Rattle.ebpf_units.specs.declared.frame.Frame.{Frame}
-use Rattle.ebpf_units.specs.declared.frame.TheConstants.{MOST_FRAMES}
-use Rattle.ebpf_units.specs.declared.unit.TranslationUnit.{TranslationUnit}
-use Rattle.ebpf_units.specs.Sizes.{tree_slots}
-use Rattle.ebpf_units.specs.Units.{sections_of}
+use Rattle.ebpf_inline.specs.declared.unit_fault.UnitFault.{UnitFault}
+use Rattle.ebpf_inline.specs.declared.unit_fault.UnitFault.TheVariants as faults
+use Rattle.ebpf_inline.specs.declared.frame.Frame.{Frame}
+use Rattle.ebpf_inline.specs.declared.frame.TheConstants.{MOST_FRAMES}
+use Rattle.ebpf_inline.specs.declared.unit.TranslationUnit.{TranslationUnit}
+use Rattle.ebpf_inline.specs.Sizes.{tree_slots}
+use Rattle.ebpf_inline.specs.Units.{sections_of}
 use Rattle.instruction_set.specs.declared.instruction.Instruction.{Instruction}
 use Rattle.program_interface.specs.declared.TheConstants.{MOST_SLOTS}
 use Rattle.program_interface.specs.declared.area.TheConstants.{STACK_BYTES}

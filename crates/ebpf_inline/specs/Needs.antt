@@ -1,9 +1,9 @@
 -- What holds of functions whose slots are counted.
 use Rattle.std.specs.Prelude.{◌≡◌, ℕ, ℤ, pos, int_le, int_lt, ◌&&◌, Bool, true, false, Option, Some, None, Ok}
-use Rattle.ebpf_units.specs.declared.frame.Frame.{Frame}
-use Rattle.ebpf_units.specs.declared.unit.TranslationUnit.{TranslationUnit}
-use Rattle.ebpf_units.specs.Checks.{is_below}
-use Rattle.ebpf_units.specs.Sizes.{body_slots, callee_slots, tree_slots}
+use Rattle.ebpf_inline.specs.declared.frame.Frame.{Frame}
+use Rattle.ebpf_inline.specs.declared.unit.TranslationUnit.{TranslationUnit}
+use Rattle.ebpf_inline.specs.Checks.{is_below}
+use Rattle.ebpf_inline.specs.Sizes.{body_slots, callee_slots, tree_slots}
 use Rattle.instruction_set.specs.declared.instruction.Instruction.{Instruction}
 use Rattle.instruction_set.specs.Instruction.{access_of, distance_of, target}
 

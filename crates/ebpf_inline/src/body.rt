@@ -4,20 +4,20 @@ ghost use Rattle.std.specs.Prelude.{ℕ, ◌≡◌, ◌≤◌, ◌<◌, ◌+◌,
 ghost use Rattle.ebpf_inline.specs.Bodies.{address_part, body_of, call_part, callee_part, inside_part, instruction_part, leads_to, part_of, placed, places_of};
 ghost use Rattle.ebpf_inline.specs.Data.{all_data, data_begin};
 ghost use Rattle.ebpf_inline.specs.Needs.{IsCounted, IsTree, Stands, lands};
-ghost use Rattle.ebpf_units.specs.Checks.{is_below};
-ghost use Rattle.ebpf_units.specs.Frames.{distance, moved_frame_pointer};
-ghost use Rattle.ebpf_units.specs.Sizes.{HasFrame, called_frame, callee_slots, slots_at};
-ghost use Rattle.ebpf_units.specs.Units.{sections_of, slot_at, slots_of};
+ghost use Rattle.ebpf_inline.specs.Checks.{is_below};
+ghost use Rattle.ebpf_inline.specs.Frames.{distance, moved_frame_pointer};
+ghost use Rattle.ebpf_inline.specs.Sizes.{HasFrame, called_frame, callee_slots, slots_at};
+ghost use Rattle.ebpf_inline.specs.Units.{sections_of, slot_at, slots_of};
 ghost use Rattle.instruction_set.specs.Instruction.{access_of, distance_of};
 ghost use Rattle.program_interface.specs.declared.TheConstants.{MOST_SLOTS};
 ghost use Rattle.program_interface.specs.declared.area.TheConstants.{STACK_BYTES};
 
 use crate::data::data_begin;
+use crate::frame::{Frame, frame_address, in_frame, moved_frame_pointer};
+use crate::jumps::by_distance;
 use crate::kept::{kept_registers, push_loads, push_stores};
-use ebpf_units::{
-    Frame, FunctionSlot, TranslationUnit, by_distance, called_frame, frame_address, frame_bytes,
-    in_frame, moved_frame_pointer, slots_at, slots_of, within,
-};
+use crate::sizes::{called_frame, slots_at, within};
+use crate::unit::{FunctionSlot, TranslationUnit, frame_bytes, slots_of};
 use instruction_set::{Instruction, Register};
 use program_interface::STACK_BYTES;
 use std::alloc::{AllocError, Global};

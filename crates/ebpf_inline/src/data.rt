@@ -9,8 +9,8 @@ ghost use Rattle.ebpf_inline.specs.Linked.{hindrance};
 ghost use Rattle.program_interface.specs.declared.area.TheConstants.{STACK_BYTES};
 
 use crate::fault::InlineFault;
+use crate::unit_fault::UnitFault;
 use byteorder::{ByteOrder, LittleEndian};
-use ebpf_units::UnitFault;
 use instruction_set::{Instruction, Register, Size};
 use program_interface::STACK_BYTES;
 use std::alloc::{AllocError, Global};

@@ -3,7 +3,7 @@
 ghost use Rattle.std.specs.Prelude.{◌≡◌};
 ghost use Rattle.ebpf_inline.specs.declared.fault.InlineFault.TheVariants.{Memory, Hindered};
 
-use ebpf_units::UnitFault;
+use crate::unit_fault::UnitFault;
 use std::alloc::AllocError;
 use thiserror::Error;
 

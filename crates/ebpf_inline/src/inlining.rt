@@ -9,7 +9,10 @@ ghost use Rattle.program_interface.specs.declared.area.TheConstants.{STACK_BYTES
 use crate::body::push_body;
 use crate::data::{all_data, push_data};
 use crate::fault::InlineFault;
-use ebpf_units::{Frame, MOST_FRAMES, TranslationUnit, UnitFault, tree_slots};
+use crate::frame::{Frame, MOST_FRAMES};
+use crate::sizes::tree_slots;
+use crate::unit::TranslationUnit;
+use crate::unit_fault::UnitFault;
 use instruction_set::Instruction;
 use program_interface::{MOST_SLOTS, STACK_BYTES};
 use std::alloc::Global;

@@ -2,10 +2,11 @@
 
 ghost use Rattle.std.specs.Prelude.{◌≡◌, ◌≤◌, ◌<◌, ◌+◌, ◌*◌, ◌++◌, [], ◌∷◌, IfOk, if◌then◌else◌, length};
 ghost use Rattle.ebpf_inline.specs.Bodies.{cell, loads, stores};
-ghost use Rattle.ebpf_units.specs.Units.{kept_by, slots_write};
+ghost use Rattle.ebpf_inline.specs.Units.{kept_by, slots_write};
 ghost use Rattle.program_interface.specs.declared.area.TheConstants.{STACK_BYTES};
 
-use ebpf_units::{FunctionSlot, slots_write};
+use crate::unit::FunctionSlot;
+use crate::written::slots_write;
 use instruction_set::{Instruction, Register, Size};
 use std::alloc::{AllocError, Global};
 

@@ -2,7 +2,7 @@
 use Rattle.device_meaning.specs.Judging.{IsSoundJudge, Judge}
 use Rattle.pushdown.specs.AnyOrder.{TurnsInAnyOrder}
 use Rattle.pushdown.specs.Laws.{LastTurnCompletes, OnlyLoadsChangeSlots, RefusedEventsLeaveState, RefusedLeavesState}
-use Rattle.pushdown.specs.Pushdown.{Pushdown}
+use Rattle.pushdown.specs.Pushdown.{Pushdown, PushdownFromAnyBeginning}
 use Rattle.pushdown.specs.ReadBack.{AppendedBlocksReadBack, AppendedByRunsReadsBack, ResultsReadBack, WrittenBlocksReadBack}
 use Rattle.pushdown.proofs.Answered as answered
 use Rattle.pushdown.proofs.AnyOrder as any_order
@@ -44,3 +44,6 @@ module _ (judge : Judge) where
 
     pub pushdown : Pushdown judge
     pushdown = theorem.pushdown judge sound
+
+    pub pushdown_from_any_beginning : PushdownFromAnyBeginning judge
+    pushdown_from_any_beginning = theorem.from_any_beginning judge sound

@@ -29,11 +29,11 @@ use Rattle.device_meaning.specs.Events.{Occurrence, state_after}
 use Rattle.pushdown.specs.Laws.{AdmittedStarts, StartsRun}
 use Rattle.device_meaning.specs.Happenings.{admitted_place, happens, start_by, submitted}
 use Rattle.device_meaning.specs.Outcome.{EndsWithLast, Turn, outcome}
-use Rattle.pushdown.specs.Pushdown.{ChangesDestinationAlone, DoesItsTurns, IsAdmitted, Pushdown, TellsFramesAndBlocks, blocks_at, no_turn, own_turns}
-use Rattle.device_meaning.specs.State.{Place, State, free_place, holds_at, loaded_at, place_at, with_place}
+use Rattle.pushdown.specs.Pushdown.{ChangesDestinationAlone, DoesItsTurns, IsAdmitted, Pushdown, PushdownFromAnyBeginning, TellsFramesAndBlocks, blocks_at, no_turn, own_turns}
+use Rattle.device_meaning.specs.State.{Place, State, free_place, holds_at, loaded_at, new_state, place_at, with_place}
 use Rattle.device_events.specs.ToldEvents as told
 use Rattle.device_events.specs.declared.reply.Reply.TheVariants as reply
-use Rattle.device_meaning.proofs.Proved.{added_leaves, added_shape, open_on, IsDone, few_frames, few_block_runs, outcome_is_packed, AreApart, event_apart, decoded_has, IsFine, admitted_room, all_exit, all_granted, few_source, reached_fine, ready as is_ready, block_runs_all_done, some_block_run, turns_are, written}
+use Rattle.device_meaning.proofs.Proved.{new_may_begin, added_leaves, added_shape, open_on, IsDone, few_frames, few_block_runs, outcome_is_packed, AreApart, event_apart, decoded_has, IsFine, admitted_room, all_exit, all_granted, few_source, reached_fine, ready as is_ready, block_runs_all_done, some_block_run, turns_are, written}
 use Rattle.common_definitions.proofs.Proved.{all_from}
 use Rattle.pushdown.proofs.TurnsDone.{Next, Ready, Stands, next_is, stand}
 use Rattle.pushdown.proofs.OthersEvents.{free_within}
@@ -195,8 +195,8 @@ module _ (judge : Judge) (sound : IsSoundJudge judge) (block : ℕ) (s : State) 
         blocks = omega (arith, room, shape.capacity_most, shape.size_most);
       }
 
-pub pushdown : (judge : Judge) → IsSoundJudge judge → Pushdown judge
-pushdown judge sound s reached queue entry input starved command run after admitted =
+pub from_any_beginning : (judge : Judge) → IsSoundJudge judge → PushdownFromAnyBeginning judge
+from_any_beginning judge sound s reached queue entry input starved command run after admitted =
     let sub = submission_of queue entry input in
     let fine = reached_fine judge sound s reached in
     let block = reached.first.namespace.block in
@@ -222,3 +222,13 @@ pushdown judge sound s reached queue entry input starved command run after admit
       does_its_turns = does_its_turns judge s queue entry input command run fine.apart starved admitted ends after;
       tells_frames_and_blocks = tells_frames_and_blocks judge sound block s fine queue entry input starved command run after admitted;
     }
+
+-- a new device is one that may begin
+pub pushdown : (judge : Judge) → IsSoundJudge judge → Pushdown judge
+pushdown judge sound s left = from_any_beginning judge sound s (record {
+  first = new_state left.namespace;
+  events = left.events;
+  begins = new_may_begin judge left.namespace left.can_be;
+  bytes = left.bytes;
+  leaves = left.leaves;
+})

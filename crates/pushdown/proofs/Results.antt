@@ -30,7 +30,7 @@ use Rattle.device_events.specs.ToldEvents.{ToldEvent}
 use Rattle.device_events.specs.ToldEvents as told
 use Rattle.pushdown.proofs.Answered.{only_loads_change_slots}
 use Rattle.device_meaning.proofs.Proved.{IsDone, after_event, after_turn as turn_changes, left_program, decoded_has, reached_fine, block_runs_all_done, some_block_run}
-use Rattle.pushdown.proofs.Pushdown.{pushdown}
+use Rattle.pushdown.proofs.Pushdown.{from_any_beginning}
 use Rattle.pushdown.proofs.TurnsDone.{left_other}
 
 -- ---- a slot that has a program has one
@@ -168,7 +168,7 @@ module _ (judge : Judge) (sound : IsSoundJudge judge) (s : State) (reached : IsR
     leaves_result : own_turns run events + 1 ≡ length here.turns → HasResult then command.slot (last_scratch all_block_runs)
     leaves_result last =
         let k = own_turns run events in
-        let theorem = pushdown judge sound s reached queue entry input starved command run events admitted in
+        let theorem = from_any_beginning judge sound s reached queue entry input starved command run events admitted in
         let does = theorem.does_its_turns (omega (arith, last)) in
         let ending = last_ending here.turns k last ∙ theorem.tells_frames_and_blocks.ending in
         let slots = ap (λ (h : Happening). h.state.slots) does.does ∙ ap (slots_left before_turn here) ending in

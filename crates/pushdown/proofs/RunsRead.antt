@@ -24,7 +24,7 @@ use Rattle.device_meaning.specs.Reached.{IsReached}
 use Rattle.device_meaning.specs.State.{State, free_place, holds_at, loaded_at}
 use Rattle.device_events.specs.ToldEvents as told
 use Rattle.pushdown.proofs.Emitted.{outcome_unpacks}
-use Rattle.pushdown.proofs.Pushdown.{pushdown}
+use Rattle.pushdown.proofs.Pushdown.{from_any_beginning}
 use Rattle.pushdown.proofs.TurnsDone.{take_next}
 use Rattle.pushdown.proofs.Lasting.{events_keep, events_keep_shapes}
 use Rattle.pushdown.proofs.ReadBack.{each_is_read, part_is_read}
@@ -94,7 +94,7 @@ module _ (judge : Judge) (sound : IsSoundJudge judge) (s : State) (reached : IsR
     appended_are_read at blocks within some transfer =
         let held = blocks_at s to in
         let all = appended_by (take (so_far + 1) all_turns) in
-        let theorem = pushdown judge sound s reached queue entry input starved command run events admitted in
+        let theorem = from_any_beginning judge sound s reached queue entry input starved command run events admitted in
         let grows = (events_keep judge later then to none).blocks in
         let own = (get_or all_turns so_far no_turn).blocks in
         let grown : blocks_at then to ≡ held ++ all =

@@ -18,15 +18,15 @@ use Rattle.program_meaning.specs.BlockRun.{BlockRun, block_run_of}
 use Rattle.program_meaning.specs.Granted.{KeepsToGrantedAreas}
 use Rattle.program_meaning.specs.TrapFree.{IsExit}
 use Rattle.device_meaning.specs.Judging.{IsSoundJudge, Judge}
-use Rattle.image_store.specs.Namespace.{ZonedNamespace, zone_at, shape}
+use Rattle.image_store.specs.Namespace.{IsNamespace, ZonedNamespace, zone_at, shape}
 use Rattle.device_meaning.specs.Admission.{SameProgram, source_blocks, task_of}
 use Rattle.device_meaning.specs.EventReplies.{Happening, Submission, submission_of}
 use Rattle.device_meaning.specs.BlockRuns.{Task, block_runs_of, frames_of, start_of}
-use Rattle.device_meaning.specs.Events.{Occurrence, state_after}
+use Rattle.device_meaning.specs.Events.{AreEvents, Occurrence, state_after}
 use Rattle.device_meaning.specs.Happenings.{admitted_place, turn_reply, turn_state, turned, why_not_run}
 use Rattle.device_meaning.specs.Outcome.{EndsWithLast, Turn, appended_by, ending_of, outcome, success_of}
 use Rattle.device_meaning.specs.Reached.{IsReached}
-use Rattle.device_meaning.specs.State.{Place, State, free_place, loaded_at, place_at}
+use Rattle.device_meaning.specs.State.{Place, State, free_place, loaded_at, new_state, place_at}
 use Rattle.device_events.specs.ToldEvents.{ToldEvent}
 use Rattle.device_events.specs.ToldEvents as told
 
@@ -160,14 +160,29 @@ module _ (judge : Judge) where
       pub does_its_turns : done < length place.turns → DoesItsTurns
       pub tells_frames_and_blocks : TellsFramesAndBlocks
 
--- In each state that events leave, whatever Run is admitted there, and whatever events follow, of which any
--- number are the run's own turns.
-abbrev pub Pushdown : Judge → Type 0
-Pushdown judge =
-    (s : State) → IsReached judge s
+-- a state that events leave, whose data is bytes, of a new device
+pub record IsLeftOfNew (judge : Judge) (s : State) : Type 0 where
+  pub namespace : ZonedNamespace
+  pub can_be : IsNamespace namespace
+  pub events : List Occurrence
+  pub bytes : AreEvents events
+  pub leaves : s ≡ state_after judge events (new_state namespace)
+
+-- In each state of a kind, whatever Run is admitted there, and whatever events follow, of which any number are the run's own turns.
+abbrev pub PushesDownIn : Judge → (State → Type 0) → Type 0
+PushesDownIn judge IsOfKind =
+    (s : State) → IsOfKind s
     → (queue : ℕ) (entry input : List ℕ) (starved : Bool) (command : RunCommand) (run : ℕ) (after : List Occurrence)
     → IsAdmitted s (submission_of queue entry input) command run
     → IsPushedDown judge s queue entry input starved command run after
+
+-- the theorem: in each state that events leave of a new device
+abbrev pub Pushdown : Judge → Type 0
+Pushdown judge = PushesDownIn judge (IsLeftOfNew judge)
+
+-- the same of a device that was kept, too: in each state that events leave of what a device may begin with
+abbrev pub PushdownFromAnyBeginning : Judge → Type 0
+PushdownFromAnyBeginning judge = PushesDownIn judge (IsReached judge)
 
 -- it holds of every sound judge: of how programs are judged it asks no more than that those accepted never trap
 abbrev pub SoundJudgesPushDown : Type 0

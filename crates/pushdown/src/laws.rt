@@ -3,7 +3,7 @@
 ghost use Rattle.device_meaning.specs.Judging.{judge_by};
 ghost use Rattle.pushdown.specs.AnyOrder.{TurnsInAnyOrder};
 ghost use Rattle.pushdown.specs.Laws.{AdmittedStarts, ForeignLeavesTurns, LastTurnCompletes, OnlyLoadsChangeSlots, OutcomeUnpacks, PendingIsAdmitted, RefusedEventsLeaveState, RefusedLeavesState, TurnTakesFirst};
-ghost use Rattle.pushdown.specs.Pushdown.{Pushdown, SoundJudgesPushDown};
+ghost use Rattle.pushdown.specs.Pushdown.{Pushdown, PushdownFromAnyBeginning, SoundJudgesPushDown};
 ghost use Rattle.pushdown.specs.ReadBack.{AppendedBlocksReadBack, AppendedByRunsReadsBack, EventsKeepShapes, ResultsReadBack, UnclearedZonesKeepBlocks, WrittenBlocksReadBack, WrittenIsRead};
 
 use device_meaning::laws::domains_judge_soundly;
@@ -119,8 +119,8 @@ pub fn turns_in_any_order<D: Domain>()
     domains_judge_soundly::<D>();
 }
 
-/// The pushdown theorem, for every sound judge of programs: in each state that events leave, whatever Run is admitted there, and
-/// whatever events follow, no turn traps; each takes at most as many steps as the program has instructions;
+/// The pushdown theorem, for every sound judge of programs: in each state that events leave of a new device, whatever Run is admitted
+/// there, and whatever events follow, no turn traps; each takes at most as many steps as the program has instructions;
 /// within each, memory outside the granted areas is neither read nor changed, whatever stands there;
 /// each changes no zone but its destination, and that one by blocks at its end, as a Zone Append does that meets
 /// no hold (law `states_are_sound`), leaves other runs' places and other slots, and reads nothing but source blocks;
@@ -133,6 +133,14 @@ pub fn sound_judges_push_down()
 /// So it holds where programs are judged by the facts of any domain.
 pub fn pushdown<D: Domain>()
     ensures { Pushdown (judge_by D.operations) }
+{
+    domains_judge_soundly::<D>();
+}
+
+/// It holds of a device that was kept, too: in each state that events leave of what a device may begin with, programs and begun runs
+/// among it.
+pub fn pushdown_from_any_beginning<D: Domain>()
+    ensures { PushdownFromAnyBeginning (judge_by D.operations) }
 {
     domains_judge_soundly::<D>();
 }

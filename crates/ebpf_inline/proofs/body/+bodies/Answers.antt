@@ -7,11 +7,11 @@ use Rattle.ebpf_inline.proofs.Needs.{address_at, callee_at, instruction_at, seco
 use Rattle.ebpf_inline.proofs.Parts.{body_is, one_part_more}
 use Rattle.ebpf_inline.specs.Bodies.{body_of, callee_part, part_of, parts_before, places_of, slot_part}
 use Rattle.ebpf_inline.specs.Needs.{IsCounted, IsTree, Stands}
-use Rattle.ebpf_units.specs.Sizes.{HasFrame, called_frame}
-use Rattle.ebpf_units.specs.Units.{sections_of, slot_at, slots_of}
-use Rattle.ebpf_units.specs.declared.frame.Frame.{Frame}
-use Rattle.ebpf_units.specs.declared.unit.FunctionSlot.{FunctionSlot}
-use Rattle.ebpf_units.specs.declared.unit.TranslationUnit.{TranslationUnit}
+use Rattle.ebpf_inline.specs.Sizes.{HasFrame, called_frame}
+use Rattle.ebpf_inline.specs.Units.{sections_of, slot_at, slots_of}
+use Rattle.ebpf_inline.specs.declared.frame.Frame.{Frame}
+use Rattle.ebpf_inline.specs.declared.unit.FunctionSlot.{FunctionSlot}
+use Rattle.ebpf_inline.specs.declared.unit.TranslationUnit.{TranslationUnit}
 use Rattle.instruction_set.specs.declared.instruction.Instruction.{Instruction}
 use Rattle.program_interface.specs.declared.area.TheConstants.{STACK_BYTES}
 use Rattle.ebpf_inline.proofs.body.+bodies.Goals as goal

@@ -1,9 +1,9 @@
 use Rattle.std.proofs.Common.{◌≡◌, ◌∙◌, length, ℕ, Ok, Result, refl, subst, sym}
 use Rattle.std.specs.Prelude.{IsOk}
 use Rattle.ebpf_inline.proofs.Counts.{each_counted}
-use Rattle.ebpf_units.specs.Sizes.{callee_slots, slots_at}
-use Rattle.ebpf_units.specs.Units.{slots_of}
-use Rattle.ebpf_units.specs.declared.fault.UnitFault.{UnitFault}
+use Rattle.ebpf_inline.specs.Sizes.{callee_slots, slots_at}
+use Rattle.ebpf_inline.specs.Units.{slots_of}
+use Rattle.ebpf_inline.specs.declared.unit_fault.UnitFault.{UnitFault}
 use Rattle.ebpf_inline.proofs.body.counted_slots.Goals as goal
 
 pub unwrap-requires : goal.unwrap-requires

@@ -4,8 +4,8 @@ use Rattle.ebpf_inline.proofs.Parts.{places_are}
 use Rattle.ebpf_inline.proofs.Sections.{length-first_ones, one_more}
 use Rattle.ebpf_inline.specs.Bodies.{counted, place}
 use Rattle.ebpf_inline.specs.Data.{first_ones}
-use Rattle.ebpf_units.specs.Sizes.{callee_slots, slots_at}
-use Rattle.ebpf_units.specs.Units.{slots_of}
+use Rattle.ebpf_inline.specs.Sizes.{callee_slots, slots_at}
+use Rattle.ebpf_inline.specs.Units.{slots_of}
 use Rattle.program_interface.specs.declared.TheConstants.{MOST_SLOTS}
 use Rattle.ebpf_inline.proofs.body.places.Goals as goal
 

@@ -1,7 +1,7 @@
 use Rattle.std.proofs.Common.{◌≡◌, ◌≤◌, ℕ, Ok, slice_index}
 use Rattle.ebpf_inline.specs.Bodies.{place}
 use Rattle.ebpf_inline.specs.Data.{first_ones}
-use Rattle.ebpf_units.specs.Sizes.{callee_slots, slots_at, slots_before}
+use Rattle.ebpf_inline.specs.Sizes.{callee_slots, slots_at, slots_before}
 use Rattle.program_interface.specs.declared.TheConstants.{MOST_SLOTS}
 use Rattle.ebpf_inline.proofs.body.places.Given as goal
 

@@ -1,7 +1,7 @@
 //! Functions that call one another, and constant data.
 
 ghost use Rattle.std.specs.Prelude.{◌≡◌, ◌<◌, vec_len};
-ghost use Rattle.ebpf_units.specs.Units.{frame_bytes, slots_of};
+ghost use Rattle.ebpf_inline.specs.Units.{frame_bytes, slots_of};
 
 use instruction_set::{Instruction, Register};
 

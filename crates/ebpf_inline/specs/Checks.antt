@@ -1,13 +1,13 @@
 -- What hinders a slot of a function from being a part of a program.
 use Rattle.std.specs.Prelude.{ℕ, zero, suc, ℤ, int_lt, pos, negsuc, neg_ℤ, ◌+◌, ◌==◌, ◌&&◌, ◌||◌, not, nat_le, nat_lt, Bool, true, false, List, [], ◌∷◌, length, slice_get, Option, Some, None, is_none}
 use Rattle.common_definitions.specs.Checks.{demand, first_failed}
-use Rattle.ebpf_units.specs.declared.fault.SlotFault.{SlotFault}
-use Rattle.ebpf_units.specs.declared.fault.SlotFault.TheVariants as faults
-use Rattle.ebpf_units.specs.declared.unit.FunctionSlot.{FunctionSlot}
-use Rattle.ebpf_units.specs.declared.unit.FunctionSlot.TheVariants.{Begins, Inside, Calls, Address}
-use Rattle.ebpf_units.specs.declared.unit.TranslationUnit.{TranslationUnit}
-use Rattle.ebpf_units.specs.Frames.{moved_frame_pointer, reads_frame_pointer}
-use Rattle.ebpf_units.specs.Units.{sections_of}
+use Rattle.ebpf_inline.specs.declared.unit_fault.SlotFault.{SlotFault}
+use Rattle.ebpf_inline.specs.declared.unit_fault.SlotFault.TheVariants as faults
+use Rattle.ebpf_inline.specs.declared.unit.FunctionSlot.{FunctionSlot}
+use Rattle.ebpf_inline.specs.declared.unit.FunctionSlot.TheVariants.{Begins, Inside, Calls, Address}
+use Rattle.ebpf_inline.specs.declared.unit.TranslationUnit.{TranslationUnit}
+use Rattle.ebpf_inline.specs.Frames.{moved_frame_pointer, reads_frame_pointer}
+use Rattle.ebpf_inline.specs.Units.{sections_of}
 use Rattle.instruction_set.specs.declared.access.Access.{Access}
 use Rattle.instruction_set.specs.declared.instruction.Instruction.{Instruction}
 use Rattle.instruction_set.specs.declared.instruction.Instruction.TheVariants.{Jump, JumpLong, Exit}

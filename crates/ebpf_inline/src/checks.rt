@@ -2,15 +2,15 @@
 
 ghost use Rattle.std.specs.Prelude.{◌≡◌, ◌≤◌, ◌<◌, Some, length, map, slice_get};
 ghost use Rattle.common_definitions.specs.Checks.{first_failed};
-ghost use Rattle.ebpf_units.specs.Checks.{address_checks, call_checks, fault_of, has_data, inside_checks, instruction_checks, is_below, is_inside, takes_frame_pointer, takes_two};
+ghost use Rattle.ebpf_inline.specs.Checks.{address_checks, call_checks, fault_of, has_data, inside_checks, instruction_checks, is_below, is_inside, takes_frame_pointer, takes_two};
 ghost use Rattle.instruction_set.specs.Instruction.{access_of};
 ghost use Rattle.instruction_set.specs.Program.{is_wide};
 ghost use Rattle.program_interface.specs.declared.TheConstants.{MOST_SLOTS};
 
-use crate::fault::SlotFault;
 use crate::frame::{moved_frame_pointer, reads_frame_pointer};
 use crate::jumps::{begins, leaves};
 use crate::unit::{FunctionSlot, TranslationUnit};
+use crate::unit_fault::SlotFault;
 use instruction_set::{Instruction, Register};
 
 /// Is it the wide instruction (RFC 9669, 3.2)?

@@ -1,10 +1,10 @@
 use Rattle.std.proofs.Common.{◌≡◌, ◌∙◌, ◌<◌, ◌-◌, ℕ, suc, zero, length, None, Ok, Err, arith, subst, sym, rules}
 use Rattle.common_definitions.specs.Checks.{first_failed}
-use Rattle.ebpf_units.specs.Sizes.{body_slots, callee_slots, frame_checks, slots_at, slots_before, tree_slots, within}
-use Rattle.ebpf_units.specs.Units.{slots_of}
-use Rattle.ebpf_units.specs.declared.fault.UnitFault.TheVariants as faults
-use Rattle.ebpf_units.proofs.Counts.{fault_stays, one_more, one_wrong, tree_ends, tree_has_none, tree_is}
-use Rattle.ebpf_units.proofs.sizes.+sizes.Goals as goal
+use Rattle.ebpf_inline.specs.Sizes.{body_slots, callee_slots, frame_checks, slots_at, slots_before, tree_slots, within}
+use Rattle.ebpf_inline.specs.Units.{slots_of}
+use Rattle.ebpf_inline.specs.declared.unit_fault.UnitFault.TheVariants as faults
+use Rattle.ebpf_inline.proofs.UnitCounts.{fault_stays, one_more, one_wrong, tree_ends, tree_has_none, tree_is}
+use Rattle.ebpf_inline.proofs.sizes.+sizes.Goals as goal
 
 pub body_slots-returns-in_err-here-clause-value : goal.body_slots-returns-in_err-here-clause-value
 body_slots-returns-in_err-here-clause-value t c =

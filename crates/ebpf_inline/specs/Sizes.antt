@@ -2,16 +2,16 @@
 use Rattle.std.specs.Prelude.{◌<◌, ◌≤◌, ℕ, zero, suc, ◌+◌, ◌-◌, ◌*◌, ◌%◌, ◌==◌, ◌&&◌, nat_le, nat_lt, List, [], ◌∷◌, length, Option, Some, None, is_some, Result, Ok, Err, if◌then◌else◌}
 use Rattle.common_definitions.specs.Checks.{demand, first_failed}
 use Rattle.common_definitions.specs.Readings.{◌>>=◌, unless_fault}
-use Rattle.ebpf_units.specs.declared.fault.SlotFault.{SlotFault}
-use Rattle.ebpf_units.specs.declared.fault.UnitFault.{UnitFault}
-use Rattle.ebpf_units.specs.declared.fault.UnitFault.TheVariants as faults
-use Rattle.ebpf_units.specs.declared.frame.Frame.{Frame}
-use Rattle.ebpf_units.specs.declared.unit.FunctionSlot.{FunctionSlot}
-use Rattle.ebpf_units.specs.declared.unit.FunctionSlot.TheVariants.{Begins, Inside, Calls, Address}
-use Rattle.ebpf_units.specs.declared.unit.TranslationUnit.{TranslationUnit}
-use Rattle.ebpf_units.specs.Checks.{fault_of}
-use Rattle.ebpf_units.specs.Frames.{moved_frame_pointer}
-use Rattle.ebpf_units.specs.Units.{frame_bytes, kept_registers, slot_at, slots_of}
+use Rattle.ebpf_inline.specs.declared.unit_fault.SlotFault.{SlotFault}
+use Rattle.ebpf_inline.specs.declared.unit_fault.UnitFault.{UnitFault}
+use Rattle.ebpf_inline.specs.declared.unit_fault.UnitFault.TheVariants as faults
+use Rattle.ebpf_inline.specs.declared.frame.Frame.{Frame}
+use Rattle.ebpf_inline.specs.declared.unit.FunctionSlot.{FunctionSlot}
+use Rattle.ebpf_inline.specs.declared.unit.FunctionSlot.TheVariants.{Begins, Inside, Calls, Address}
+use Rattle.ebpf_inline.specs.declared.unit.TranslationUnit.{TranslationUnit}
+use Rattle.ebpf_inline.specs.Checks.{fault_of}
+use Rattle.ebpf_inline.specs.Frames.{moved_frame_pointer}
+use Rattle.ebpf_inline.specs.Units.{frame_bytes, kept_registers, slot_at, slots_of}
 use Rattle.program_interface.specs.declared.TheConstants.{MOST_SLOTS}
 use Rattle.program_interface.specs.declared.area.TheConstants.{STACK_BYTES}
 

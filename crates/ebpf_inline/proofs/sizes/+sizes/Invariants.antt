@@ -1,7 +1,7 @@
 use Rattle.std.specs.Prelude.{◌≡◌, ◌≤◌, ◌+◌, ◌*◌, Ok}
-use Rattle.ebpf_units.specs.Sizes.{callee_slots, slots_at, slots_before}
+use Rattle.ebpf_inline.specs.Sizes.{callee_slots, slots_at, slots_before}
 use Rattle.program_interface.specs.declared.TheConstants.{MOST_SLOTS}
-use Rattle.ebpf_units.proofs.sizes.+sizes.Given as goal
+use Rattle.ebpf_inline.proofs.sizes.+sizes.Given as goal
 
 abbrev pub decreases-body_slots : goal.decreases-body_slots
 decreases-body_slots l = 4 * l.frame.depth + 3

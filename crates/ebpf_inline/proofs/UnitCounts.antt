@@ -4,11 +4,11 @@ use Rattle.std.proofs.lemmas.Bool.{cases_lt}
 use Rattle.common_definitions.specs.Checks.{first_failed}
 use Rattle.common_definitions.specs.Readings.{◌>>=◌, unless_fault}
 use Rattle.std.specs.Prelude.{Option, None, Some}
-use Rattle.ebpf_units.specs.Sizes.{body_slots, callee_slots, few_slots, frame_checks, slots_before, tree_slots, within}
-use Rattle.ebpf_units.specs.declared.fault.UnitFault.{UnitFault}
-use Rattle.ebpf_units.specs.declared.fault.UnitFault.TheVariants as faults
-use Rattle.ebpf_units.specs.declared.frame.Frame.{Frame}
-use Rattle.ebpf_units.specs.declared.unit.TranslationUnit.{TranslationUnit}
+use Rattle.ebpf_inline.specs.Sizes.{body_slots, callee_slots, few_slots, frame_checks, slots_before, tree_slots, within}
+use Rattle.ebpf_inline.specs.declared.unit_fault.UnitFault.{UnitFault}
+use Rattle.ebpf_inline.specs.declared.unit_fault.UnitFault.TheVariants as faults
+use Rattle.ebpf_inline.specs.declared.frame.Frame.{Frame}
+use Rattle.ebpf_inline.specs.declared.unit.TranslationUnit.{TranslationUnit}
 
 module _ (of : ℕ → Result ℕ UnitFault) where
   -- those of one slot more, where the ones before are counted

@@ -1,8 +1,8 @@
 //! Where instructions of a function lead.
 
 ghost use Rattle.std.specs.Prelude.{◌≡◌, ◌≤◌, ◌<◌, length};
-ghost use Rattle.ebpf_units.specs.Checks.{begins, goes_on, leaves};
-ghost use Rattle.ebpf_units.specs.Frames.{by_distance};
+ghost use Rattle.ebpf_inline.specs.Checks.{begins, goes_on, leaves};
+ghost use Rattle.ebpf_inline.specs.Frames.{by_distance};
 ghost use Rattle.program_interface.specs.declared.TheConstants.{MOST_SLOTS};
 
 use crate::unit::FunctionSlot;

@@ -2,16 +2,16 @@
 
 ghost use Rattle.std.specs.Prelude.{◌≡◌, ◌≤◌, ◌<◌, ◌+◌, ◌-◌, IfOk, None, Some, if◌then◌else◌, is_some, length, vec_len};
 ghost use Rattle.common_definitions.specs.Checks.{first_failed};
-ghost use Rattle.ebpf_units.specs.Frames.{moved_frame_pointer};
-ghost use Rattle.ebpf_units.specs.Sizes.{HasFrame, body_slots, call_slots, called_frame, callee_slots, few_slots, frame_checks, inside_slots, kept_bytes, slots_at, tree_slots, within};
-ghost use Rattle.ebpf_units.specs.Units.{frame_bytes, slots_of};
+ghost use Rattle.ebpf_inline.specs.Frames.{moved_frame_pointer};
+ghost use Rattle.ebpf_inline.specs.Sizes.{HasFrame, body_slots, call_slots, called_frame, callee_slots, few_slots, frame_checks, inside_slots, kept_bytes, slots_at, tree_slots, within};
+ghost use Rattle.ebpf_inline.specs.Units.{frame_bytes, slots_of};
 ghost use Rattle.program_interface.specs.declared.area.TheConstants.{STACK_BYTES};
 
 use crate::checks::slot_fault;
-use crate::fault::UnitFault;
 use crate::frame::{Frame, moved_frame_pointer};
-use crate::kept::kept_count;
 use crate::unit::{FunctionSlot, TranslationUnit, frame_bytes, slots_of};
+use crate::unit_fault::UnitFault;
+use crate::written::kept_count;
 use instruction_set::Instruction;
 use program_interface::MOST_SLOTS;
 

@@ -1,7 +1,7 @@
 //! The registers that a call keeps.
 
 ghost use Rattle.std.specs.Prelude.{◌≡◌, ◌≤◌, ◌<◌, if◌then◌else◌, length};
-ghost use Rattle.ebpf_units.specs.Units.{kept_by, slot_writes, slots_write};
+ghost use Rattle.ebpf_inline.specs.Units.{kept_by, slot_writes, slots_write};
 
 use crate::unit::FunctionSlot;
 use instruction_set::Register;

@@ -1,10 +1,10 @@
 -- What a unit of functions and data has.
 use Rattle.std.specs.Prelude.{ℕ, ◌==◌, Bool, false, List, [], ◌∷◌, map, filter, slice_get, Option, Some, None}
 use Rattle.std.specs.List.{list_any}
-use Rattle.ebpf_units.specs.declared.unit.FunctionBody.{FunctionBody}
-use Rattle.ebpf_units.specs.declared.unit.FunctionSlot.{FunctionSlot}
-use Rattle.ebpf_units.specs.declared.unit.FunctionSlot.TheVariants.{Begins, Inside, Calls, Address}
-use Rattle.ebpf_units.specs.declared.unit.TranslationUnit.{TranslationUnit}
+use Rattle.ebpf_inline.specs.declared.unit.FunctionBody.{FunctionBody}
+use Rattle.ebpf_inline.specs.declared.unit.FunctionSlot.{FunctionSlot}
+use Rattle.ebpf_inline.specs.declared.unit.FunctionSlot.TheVariants.{Begins, Inside, Calls, Address}
+use Rattle.ebpf_inline.specs.declared.unit.TranslationUnit.{TranslationUnit}
 use Rattle.instruction_set.specs.declared.instruction.Instruction.{Instruction}
 use Rattle.instruction_set.specs.declared.instruction.Instruction.TheVariants as instructions
 use Rattle.instruction_set.specs.Instruction.{writes}

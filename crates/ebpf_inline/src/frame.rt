@@ -1,8 +1,8 @@
 //! Where a function's frame lies, and what its instructions are there.
 
 ghost use Rattle.std.specs.Prelude.{int_lt, ◌≡◌, ◌≤◌, ◌-◌, ◌==◌, ◌&&◌, false, pos, neg_ℤ};
-ghost use Rattle.ebpf_units.specs.Checks.{is_below};
-ghost use Rattle.ebpf_units.specs.Frames.{frame_address, in_frame, is_frame_source, lowered, moved_frame_pointer, reads_frame_pointer};
+ghost use Rattle.ebpf_inline.specs.Checks.{is_below};
+ghost use Rattle.ebpf_inline.specs.Frames.{frame_address, in_frame, is_frame_source, lowered, moved_frame_pointer, reads_frame_pointer};
 ghost use Rattle.instruction_set.specs.Instruction.{access_of};
 ghost use Rattle.program_interface.specs.declared.area.TheConstants.{STACK_BYTES};
 

@@ -1,4 +1,0 @@
-pub mod Units
-pub mod Frames
-pub mod Checks
-pub mod Sizes
