@@ -24,4 +24,4 @@ returns-else-is_idle-clause-kept g c =
     was_turned c.args.run c.args.served.now c.give_turn-reply.new.self c.give_turn-reply.result c.requires.next c.give_turn-reply.ensures in
     subst (λ s. store.keeps s (store.waits c.note_turn.new.events) (store.disk c.note_turn.new.events)) (sym (turned c.changes_come_again.ensures c.args.served.now.device c.give_turn-reply.new.self.device c.give_turn-reply.result c.args.run numbered was
     (sym c.is_idle.ensures ∙ c.if-is_idle.false)))
-    (c.in_ok-note_turn.ensures.noted c.args.served.now.device c.requires.kept)
+    (c.in_ok-before.ensures.noted c.args.served.now.device c.requires.kept)

@@ -22,4 +22,4 @@ returns-clause-kept g c =
     let was = was_resumed c.args.run c.args.served.now c.resume-reply.new.self c.resume-reply.result c.resume-reply.ensures in
     subst (λ s. store.keeps s (store.waits c.note_turn.new.events) (store.disk c.note_turn.new.events)) (sym (resumed c.changes_come_again.ensures c.args.served.now.device c.resume-reply.new.self.device c.resume-reply.result c.args.run numbered was
     (sym c.is_idle.ensures ∙ c.if-is_idle.false)))
-    (c.in_ok-note_turn.ensures.noted c.args.served.now.device c.requires.kept)
+    (c.in_ok-before.ensures.noted c.args.served.now.device c.requires.kept)

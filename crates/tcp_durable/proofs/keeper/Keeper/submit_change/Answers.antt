@@ -27,5 +27,5 @@ returns-else-is_refusal-clause-kept g c =
     let whole : length c.args.entry.now ≡ 64 = search rules in
     let numbered : c.args.number < 2 ^ 16 = omega (arith, c.requires.number) in
     subst (λ s. store.keeps s (store.waits c.note_submission.new.events) (store.disk c.note_submission.new.events)) (sym (changed c.changes_come_again.ensures c.args.served.now.device c.submit-reply.new.self.device c.submit-reply.result c.args.number c.args.entry.now c.given_data-input.result.now identified was
-    c.requires.asks (sym c.is_refusal.ensures ∙ c.if-is_refusal.false) numbered whole c.in_ok-note_submission.ensures.fits))
-    (c.in_ok-note_submission.ensures.noted c.args.served.now.device c.requires.kept)
+    c.requires.asks (sym c.is_refusal.ensures ∙ c.if-is_refusal.false) numbered whole c.in_ok-before.ensures.fits))
+    (c.in_ok-before.ensures.noted c.args.served.now.device c.requires.kept)

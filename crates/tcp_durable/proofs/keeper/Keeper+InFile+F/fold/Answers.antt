@@ -2,7 +2,7 @@ use Rattle.std.proofs.Common.{rules, ⊎_elim}
 use Rattle.stored_file.proofs.Moments.{weaken}
 use Rattle.durable_machine.proofs.Files.{as_before, nothing_done, rests_before}
 use Rattle.durable_device.specs.Machine.{IsDeviceBase, next_state}
-use Rattle.tcp_durable.proofs.keeper.Keeper.fold.Goals as goal
+use Rattle.tcp_durable.proofs.keeper.Keeper+InFile+F.fold.Goals as goal
 
 pub returns-in_default-clause-any_moment : goal.returns-in_default-clause-any_moment
 returns-in_default-clause-any_moment g c = nothing_done IsDeviceBase next_state c.args.served.now.device c.args.self.now.events.journal.gate _ c.requires.kept _ (λ file is. is)
