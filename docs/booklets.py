@@ -13,6 +13,7 @@ LAW = ("pushdown/specs/Pushdown.antt", "SoundJudgesPushDown")
 # what the booklets begin with; all that these name stands in one of them
 ROOTS: List[Key] = [
     LAW,
+    ("pushdown/specs/Pushdown.antt", "PushdownFromAnyBeginning"),
     (MEANING + "State.antt", "new_state"),
     (MEANING + "Reached.antt", "NewIsReached"),
     ("device_laws/specs/Laws.antt", "EmptyIsReached"),

@@ -176,8 +176,8 @@ MARKS: Dict[str, str] = {
     "program_interface/src/block_size.rt": "P: BLOCK_SIZES LARGEST_BLOCK BlockSize",
     "pushdown/specs/Pushdown.antt": (
         "-: is_turn_of own_turns IsAdmitted blocks_at no_turn task source block_runs place now done turn next NoTurnTraps "
-        "FewSteps StaysInGrantedAreas ChangesDestinationAlone DoesItsTurns TellsFramesAndBlocks IsPushedDown Pushdown "
-        "SoundJudgesPushDown"
+        "FewSteps StaysInGrantedAreas ChangesDestinationAlone DoesItsTurns TellsFramesAndBlocks IsPushedDown IsLeftOfNew "
+        "PushesDownIn Pushdown PushdownFromAnyBeginning SoundJudgesPushDown"
     ),
     "device_meaning/specs/Laws.antt": "-: RoomIn IsAppended IsAcceptedIn IsSoundState StatesAreSound NoReplyIsTrapped",
     "device_laws/specs/Witness.antt": "-: interleaved AppendsBetween PushdownIsMet",
