@@ -62,3 +62,13 @@ A call by an address has its line, and a variable that can be changed its name.
   $ zscli link refused.o --block 512 -o program --function counts
   link refused: refused.c, line 12, in counts: count: an address of data that can be changed; call functions of this file, and keep what changes on the stack or in scratch
   [3]
+
+An address that a called function gave in R0 goes to the stack by a copy in another register, since of R0 the verifier keeps nothing there.
+When it comes back it is known, so that no guard is needed. The C is tests/cli/data/spilled.c.
+
+  $ xxd -r -p "$ROOT/tests/cli/data/spilled.hex" > spilled.o
+  $ zscli link spilled.o --block 512 -o program --strict
+  $ zscli disasm program | grep r10
+  stxdw [r10-8], r1
+  $ zscli verify program --block 512 --emit 0
+  accepted 12
