@@ -15,7 +15,7 @@
   > fault 3 offline
   > report --lba 0 --dwords 48
   > END
-  $ zscli entries words --image image > work.cmd
+  $ zscli entries words > work.cmd
   $ zscli exec image work.cmd --words > told
   $ cat told
   queue 1, command 1: append of 2 blocks to the zone of LBA 0: the first is at LBA 0
