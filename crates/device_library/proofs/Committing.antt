@@ -9,7 +9,7 @@ use Rattle.durable_device.specs.declared.durable_device.Folding.{Folding}
 use Rattle.durable_device.specs.declared.durable_device.Folding.TheVariants.{Done, NoRoom, NoMemory}
 use Rattle.durable_device.specs.declared.durable_device.TheConstants.{MOST_JOURNAL}
 use Rattle.durable_machine.specs.declared.in_file.InFile.{InFile}
-use Rattle.tcp_durable.specs.declared.keeper.Keeper.{Keeper}
+use Rattle.tcp_device.specs.declared.keeper.Keeper.{Keeper}
 use Rattle.device_library.specs.Target.{IsCommitted, IsNotDue, promised}
 
 -- a crash leaves the device from before, or the one that there is now

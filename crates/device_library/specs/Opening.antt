@@ -23,7 +23,7 @@ use Rattle.tcp_admin.specs.declared.subsystem.Subsystem.{Subsystem}
 use Rattle.tcp_device.specs.Format.{IsFormatOf}
 use Rattle.tcp_device.specs.State.{ServedState, begun, begun_on}
 use Rattle.durable_machine.specs.declared.in_file.InFile.{InFile}
-use Rattle.tcp_durable.specs.declared.keeper.Keeper.{Keeper}
+use Rattle.tcp_device.specs.declared.keeper.Keeper.{Keeper}
 use Rattle.device_library.specs.Devices as devices
 use Rattle.device_library.specs.Files.{promised_of}
 use Rattle.device_library.specs.Kinds.{door_of}

@@ -16,9 +16,9 @@ use Rattle.tcp_device.specs.State.{ServedState, with_target}
 use Rattle.tcp_queues.specs.Queues.{place_at}
 use Rattle.tcp_admin.specs.Identity.{IsNamedBy}
 use Rattle.tcp_admin.specs.declared.subsystem.Subsystem.{Subsystem}
-use Rattle.tcp_durable.specs.Resuming.{Resumes}
+use Rattle.tcp_device.specs.Resuming.{Resumes}
 use Rattle.durable_machine.specs.declared.in_file.InFile.{InFile}
-use Rattle.tcp_durable.specs.declared.keeper.Keeper.{Keeper}
+use Rattle.tcp_device.specs.declared.keeper.Keeper.{Keeper}
 use Rattle.device_library.specs.Files.{IsToldDone, promised_of, told_by}
 use Rattle.device_library.specs.declared.target.Folded.{Folded}
 use Rattle.device_library.specs.declared.target.Folded.TheVariants.{NotDone, Done, NoRoom, NoMemory, Failed}

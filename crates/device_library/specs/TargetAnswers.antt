@@ -17,7 +17,7 @@ use Rattle.device_library.specs.declared.kind.TargetKind.TheVariants as kind
 use Rattle.stored_file.specs.declared.stored_file.FileError.{FileError}
 use Rattle.stored_file.specs.declared.stored_file.FileError.TheVariants as file
 use Rattle.durable_machine.specs.declared.in_file.InFile.{InFile}
-use Rattle.tcp_durable.specs.declared.keeper.Keeper.{Keeper}
+use Rattle.tcp_device.specs.declared.keeper.Keeper.{Keeper}
 use Rattle.device_library.specs.Bytes.{IsFront, SavesText}
 use Rattle.device_library.specs.Files.{TellsNext, next_of}
 use Rattle.device_library.specs.Kinds.{nothing_of, target_kind}

@@ -22,8 +22,7 @@ use image_base::MAGIC;
 use image_store::Image;
 use image_text::{ImageText, LoadFault};
 use std::alloc::{AllocError, Global};
-use tcp_device::ServedTarget;
-use tcp_durable::target_of;
+use tcp_device::{ServedTarget, target_of};
 
 /// The device that is kept in a file of these bytes, for which C makes the calls.
 ///

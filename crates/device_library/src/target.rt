@@ -15,8 +15,7 @@ use handed_file::HandedFile;
 use std::alloc::Global;
 use stored_file::FileError;
 use tcp_associations::MOST_CONNECTIONS;
-use tcp_device::ServedTarget;
-use tcp_durable::Keeper;
+use tcp_device::{Keeper, ServedTarget};
 use zone_resources::RUNS;
 
 /// A target with its device, and what keeps that in a file for which C makes the calls, where it is kept.
