@@ -238,7 +238,7 @@ impl<S: Store<FrameDevice> + Drop> Keeper<S> {
         ensures counted { self.new.folded ≡ self.old.folded }
         ensures committed { OnOk result (S.settled served.now.device (S.disk self.new.events)) }
 
-        // A crash at any moment of it leaves the device that was committed before, or the one behind all that was done since.
+        // A crash at any moment of it leaves the device that was committed before, or the one after all that was done since.
         ensures any_moment { (before : State) → S.settled before (S.disk self.old.events)
             → LeavesOnly (S.told (S.disk self.old.events)) (S.told (S.disk self.new.events)) (IsEither before served.now.device) }
 
