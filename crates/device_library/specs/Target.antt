@@ -154,7 +154,8 @@ CameOf came.NoMemory old new device = Unit {0}
 -- was tried now
 pub record IsNotDue (old new : Keeper (InFile HandedFile)) (device : State) : Type 0 where
   pub short : new.events.journal.gate - new.folded ≤ MOST_JOURNAL
-  pub counts : (new.folded ≡ old.folded) ⊎ ((new.folded ≡ new.events.journal.gate) × ((folding : fold.Folding) × CameOf folding old new device))
+  pub counts : (new.folded ≡ old.folded)
+      ⊎ ((new.folded ≡ new.events.journal.gate) × ((folding : fold.Folding) × CameOf folding old new device))
 
 -- While C makes the calls for a commit, a crash leaves the device that was committed before or the one that there is now. Once it has
 -- made them, this one is kept, and its journal isn't to be folded
