@@ -9,7 +9,8 @@ work=$(mktemp -d /dev/shm/nvme_tcp.XXXXXX)
 trap 'rm -r "$work"' EXIT
 cc -O2 -Wall -o "$work/host" "$here/nvme_tcp.c"
 cc -std=c11 -O2 -Wall -Wextra -I "$here/../hosts/c" -o "$work/answers" "$here/../hosts/nvme_tcp/nvme_tcp.c" \
-    "$here/../hosts/c/image_file.c" "$here/../hosts/nvme_tcp/image_uuid.c" "$here/../hosts/c/kept_file.c" "$here/nvme_tcp_answers.c"
+    "$here/../hosts/c/pifnjarl_device.c" "$here/../hosts/c/image_file.c" "$here/../hosts/c/kept_file.c" \
+    "$here/../hosts/nvme_tcp/image_uuid.c" "$here/nvme_tcp_answers.c"
 "$here/../hosts/nvme_tcp/build.sh" "$work"
 "$here/../zscli" format "$work/empty.img" --block 4096 --zones 4 --size 4096 --capacity 4096 --open 4 --active 4
 # the UUID of the subsystem that the host names

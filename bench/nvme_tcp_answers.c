@@ -1,6 +1,6 @@
-// In the place of crates/tcp_library: answers each PDU of bench/nvme_tcp.c at once, checks nothing, and has no device. What is written
+// In the place of crates/device_library: answers each PDU of bench/nvme_tcp.c at once, checks nothing, and has no device. What is written
 // is thrown away, and what is read are zeros.
-#include "../hosts/nvme_tcp/target_library.h"
+#include "../hosts/c/pifnjarl_handle.h"
 
 #include <string.h>
 
@@ -11,7 +11,7 @@ enum { INITIALIZE = 128, CAPSULE = 72, HEADER = 24, MOST_HEADER = 128, MOST_OUT 
 static struct connection {
   uint8_t head[MOST_HEADER], *unsent_end, *unsent, out[MOST_OUT];
   uint32_t came, queue, identifiers[128], first, waiting, asked;
-} connections[TARGET_CONNECTIONS];
+} connections[PIFNJARL_CONNECTIONS];
 static size_t begun;
 
 static uint32_t number(const uint8_t *at) {
@@ -83,35 +83,32 @@ static size_t unsent(struct connection *c, uint8_t *out, size_t room) {
   return count;
 }
 
-size_t target_library_handle_bytes(void) { return 1; }
+size_t pifnjarl_handle_bytes(void) { return 1; }
 
-void target_library_open(unsigned char *target, const unsigned char *image, size_t image_bytes) {
-  (void)target, (void)image, (void)image_bytes;
+void pifnjarl_handle_open(unsigned char *handle, uint32_t door, const unsigned char *bytes, size_t count) {
+  (void)handle, (void)door, (void)bytes, (void)count;
 }
 
-void target_library_open_kept(unsigned char *target, const unsigned char *file, size_t file_bytes) {
-  (void)target, (void)file, (void)file_bytes;
-}
-
-size_t target_library_call(unsigned char *target, uint32_t kind, size_t which, size_t count, const unsigned char *piece,
-                           size_t piece_bytes, unsigned char *out, size_t room) {
+size_t pifnjarl_handle_call(unsigned char *handle, uint32_t kind, size_t which, size_t count, const unsigned char *piece,
+                            size_t piece_bytes, const unsigned char *beside, size_t beside_bytes, struct pifnjarl_reply *reply,
+                            unsigned char *out, size_t room) {
   struct connection *c = &connections[which];
-  (void)target;
+  (void)handle, (void)beside, (void)beside_bytes, (void)reply;
   switch (kind) {
-  case TARGET_ACCEPT:
-    if (begun < TARGET_CONNECTIONS) connections[begun].unsent = connections[begun].unsent_end = connections[begun].out;
-    return begun < TARGET_CONNECTIONS ? begun++ : begun;
-  case TARGET_RECEIVE: return piece_bytes ? receive(c, piece, piece_bytes) : 0;
-  case TARGET_UNSENT: return unsent(c, out, room);
-  case TARGET_SENT:
+  case PIFNJARL_ASK_ACCEPT:
+    if (begun < PIFNJARL_CONNECTIONS) connections[begun].unsent = connections[begun].unsent_end = connections[begun].out;
+    return begun < PIFNJARL_CONNECTIONS ? begun++ : begun;
+  case PIFNJARL_ASK_RECEIVE: return piece_bytes ? receive(c, piece, piece_bytes) : 0;
+  case PIFNJARL_ASK_UNSENT: return unsent(c, out, room);
+  case PIFNJARL_ASK_SENT:
     c->unsent += count;
     if (c->unsent == c->unsent_end) c->unsent = c->unsent_end = c->out;
     return count;
-  case TARGET_NAME: return 1;
-  case TARGET_COMMIT: return 1;
-  case TARGET_SAVE: return 1;
+  case PIFNJARL_ASK_NAME: return 1;
+  case PIFNJARL_ASK_COMMIT: return 1;
+  case PIFNJARL_ASK_SAVE: return 1;
   default: return 0;
   }
 }
 
-void target_library_end(unsigned char *target) { (void)target; }
+void pifnjarl_handle_end(unsigned char *handle) { (void)handle; }

@@ -1,7 +1,7 @@
 /* A device whose journal grows long, where a new file can be written beside it or can't: full_disk IMAGE. IMAGE is replaced. Prints what
    fails, and how many checks there were. */
 #define _GNU_SOURCE
-#include "durable_library.h"
+#include "pifnjarl_handle.h"
 #include "pifnjarl_durable.h"
 
 #include <errno.h>
@@ -68,15 +68,18 @@ int __wrap_fsync(int file)
 }
 
 /* And these in those of the library's call and of what gives it memory: there is none for a fold while memory is wanting. */
-size_t __real_durable_library_call(unsigned char *device, uint32_t kind, size_t number, size_t count, const unsigned char *piece,
-                                   size_t piece_bytes, unsigned char *out, size_t room);
-size_t __wrap_durable_library_call(unsigned char *device, uint32_t kind, size_t number, size_t count, const unsigned char *piece,
-                                   size_t piece_bytes, unsigned char *out, size_t room);
-size_t __wrap_durable_library_call(unsigned char *device, uint32_t kind, size_t number, size_t count, const unsigned char *piece,
-                                   size_t piece_bytes, unsigned char *out, size_t room)
+size_t __real_pifnjarl_handle_call(unsigned char *handle, uint32_t kind, size_t number, size_t count, const unsigned char *piece,
+                                   size_t piece_bytes, const unsigned char *beside, size_t beside_bytes, struct pifnjarl_reply *reply,
+                                   unsigned char *out, size_t room);
+size_t __wrap_pifnjarl_handle_call(unsigned char *handle, uint32_t kind, size_t number, size_t count, const unsigned char *piece,
+                                   size_t piece_bytes, const unsigned char *beside, size_t beside_bytes, struct pifnjarl_reply *reply,
+                                   unsigned char *out, size_t room);
+size_t __wrap_pifnjarl_handle_call(unsigned char *handle, uint32_t kind, size_t number, size_t count, const unsigned char *piece,
+                                   size_t piece_bytes, const unsigned char *beside, size_t beside_bytes, struct pifnjarl_reply *reply,
+                                   unsigned char *out, size_t room)
 {
-    folds_now = kind == DURABLE_FOLD;
-    size_t answer = __real_durable_library_call(device, kind, number, count, piece, piece_bytes, out, room);
+    folds_now = kind == PIFNJARL_ASK_FOLD;
+    size_t answer = __real_pifnjarl_handle_call(handle, kind, number, count, piece, piece_bytes, beside, beside_bytes, reply, out, room);
     folds_now = false;
     return answer;
 }

@@ -1,6 +1,7 @@
 #define _GNU_SOURCE
 #include "kept_file.h"
 #include "image_file.h"
+#include "pifnjarl_handle.h"
 
 #include <errno.h>
 #include <fcntl.h>
@@ -101,27 +102,31 @@ unsigned char *kept_file_read(struct kept_file *kept, size_t *count)
 
 /* ---- calls */
 
-/* a file, and the library that tells the calls for it */
+/* a file, and the handle that tells the calls for it */
 struct calls {
     struct kept_file *kept;
-    kept_ask *ask;
-    void *library;
+    unsigned char *handle;
 };
 
-static size_t tell(struct calls *c, enum kept_question question)
+static size_t tell(struct calls *c, enum pifnjarl_asked question)
 {
-    unsigned char none[1];
-    return c->ask(c->library, question, 0, none, 0);
+    return pifnjarl_ask(c->handle, question, 0, 0);
+}
+
+/* Puts bytes of the next call into `out`, from one on. */
+static size_t bytes_from(struct calls *c, size_t from, unsigned char *out, size_t room)
+{
+    return pifnjarl_ask_for(c->handle, PIFNJARL_ASK_BYTES, 0, from, out, room);
 }
 
 /* Writes the bytes of the next call to a file from an offset on. */
 static bool write_bytes(struct calls *c, int file, size_t at)
 {
     unsigned char piece[1 << 16];
-    size_t count = tell(c, KEPT_SIZE);
+    size_t count = tell(c, PIFNJARL_ASK_SIZE);
     size_t done = 0;
     while (done < count) {
-        size_t size = c->ask(c->library, KEPT_BYTES, done, piece, sizeof piece);
+        size_t size = bytes_from(c, done, piece, sizeof piece);
         for (size_t written = 0; written < size;) {
             ssize_t more = pwrite(file, piece + written, size - written, (off_t)(at + done + written));
             if (more >= 0)
@@ -180,12 +185,12 @@ static bool has_bytes(struct calls *c, int file)
 {
     unsigned char piece[1 << 15], read[1 << 15];
     struct stat about;
-    size_t count = tell(c, KEPT_SIZE);
+    size_t count = tell(c, PIFNJARL_ASK_SIZE);
     bool same = fstat(file, &about) == 0 && (size_t)about.st_size == count;
     for (size_t done = 0; same && done < count;) {
         ssize_t more = pread(file, read, sizeof read, (off_t)done);
         size_t size = more > 0 ? (size_t)more : 0;
-        same = size > 0 && c->ask(c->library, KEPT_BYTES, done, piece, size) == size && memcmp(piece, read, size) == 0;
+        same = size > 0 && bytes_from(c, done, piece, size) == size && memcmp(piece, read, size) == 0;
         done += size;
     }
     return same;
@@ -228,67 +233,80 @@ static void want(struct calls *c)
         return;
     discard(kept, kept->written);
     errno = ENOMEM;
-    kept->written = tell(c, KEPT_SIZE) == 0 ? -1 : write_new(c);
+    kept->written = tell(c, PIFNJARL_ASK_SIZE) == 0 ? -1 : write_new(c);
     kept->cause = errno;
 }
 
-static bool make(struct calls *c, enum kept_call next)
+static bool make(struct calls *c, enum pifnjarl_call next)
 {
     switch (next) {
-    case KEPT_WRITE: return write_bytes(c, c->kept->file, tell(c, KEPT_PLACE));
-    case KEPT_TRUNCATE: return ftruncate(c->kept->file, (off_t)tell(c, KEPT_PLACE)) == 0;
-    case KEPT_SYNC: return fsync(c->kept->file) == 0;
-    case KEPT_REPLACE: return replace(c);
-    case KEPT_WANT: want(c); return true;
-    case KEPT_NONE: break;
+    case PIFNJARL_CALL_WRITE: return write_bytes(c, c->kept->file, tell(c, PIFNJARL_ASK_PLACE));
+    case PIFNJARL_CALL_TRUNCATE: return ftruncate(c->kept->file, (off_t)tell(c, PIFNJARL_ASK_PLACE)) == 0;
+    case PIFNJARL_CALL_SYNC: return fsync(c->kept->file) == 0;
+    case PIFNJARL_CALL_REPLACE: return replace(c);
+    case PIFNJARL_CALL_WANT: want(c); return true;
+    case PIFNJARL_CALL_NONE: break;
     }
     return false;
 }
 
-bool kept_file_make_calls(struct kept_file *kept, kept_ask *ask, void *library)
+bool kept_file_make_calls(struct kept_file *kept, unsigned char *handle)
 {
-    struct calls c = {.kept = kept, .ask = ask, .library = library};
-    enum kept_call next;
-    while ((next = tell(&c, KEPT_NEXT)) != KEPT_NONE) {
+    struct calls c = {.kept = kept, .handle = handle};
+    enum pifnjarl_call next;
+    while ((next = tell(&c, PIFNJARL_ASK_NEXT)) != PIFNJARL_CALL_NONE) {
         if (!make(&c, next)) {
             int cause = errno;
-            tell(&c, KEPT_FAILED);
+            tell(&c, PIFNJARL_ASK_FAILED);
             errno = cause;
             return false;
         }
-        tell(&c, KEPT_DONE);
+        tell(&c, PIFNJARL_ASK_DONE);
     }
     return true;
 }
 
+/* ---- folding */
+
 /* The calls for a fold without room, which say what the new file is: it is written. */
-static bool write_wanted(struct kept_file *kept, kept_ask *ask, void *library)
+static bool write_wanted(struct kept_file *kept, unsigned char *handle)
 {
     kept->is_fold = true;
-    bool made = kept_file_make_calls(kept, ask, library);
+    bool made = kept_file_make_calls(kept, handle);
     kept->is_fold = false;
     return made;
 }
 
+static enum kept_folded ask_to_fold(unsigned char *handle, size_t room)
+{
+    switch ((enum pifnjarl_folded)pifnjarl_ask(handle, PIFNJARL_ASK_FOLD, 0, room)) {
+    case PIFNJARL_FOLD_DONE: return KEPT_FOLDED;
+    case PIFNJARL_FOLD_NO_ROOM: return KEPT_NO_ROOM;
+    case PIFNJARL_FOLD_NO_MEMORY: return KEPT_NO_MEMORY;
+    case PIFNJARL_FOLD_NOT: break;
+    }
+    return KEPT_NOT_FOLDED;
+}
+
 /* Folds a journal into the new file that is written. */
-static enum kept_folded fold_into_written(struct kept_file *kept, kept_ask *ask, kept_fold *fold, void *library)
+static enum kept_folded fold_into_written(struct kept_file *kept, unsigned char *handle)
 {
     struct stat about;
     if (fstat(kept->written, &about) != 0)
         return KEPT_NO_ROOM;
-    enum kept_folded folded = fold(library, (size_t)about.st_size);
-    if (!kept_file_make_calls(kept, ask, library))
+    enum kept_folded folded = ask_to_fold(handle, (size_t)about.st_size);
+    if (!kept_file_make_calls(kept, handle))
         return KEPT_NOT_FOLDED;
     return folded == KEPT_NO_ROOM ? KEPT_NO_MEMORY : folded;
 }
 
-enum kept_folded kept_file_fold(struct kept_file *kept, kept_ask *ask, kept_fold *fold, void *library)
+enum kept_folded kept_file_fold(struct kept_file *kept, unsigned char *handle)
 {
-    enum kept_folded folded = fold(library, 0);
-    if (folded == KEPT_NO_ROOM && !write_wanted(kept, ask, library))
+    enum kept_folded folded = ask_to_fold(handle, 0);
+    if (folded == KEPT_NO_ROOM && !write_wanted(kept, handle))
         folded = KEPT_NOT_FOLDED;
     if (folded == KEPT_NO_ROOM && kept->written >= 0) {
-        folded = fold_into_written(kept, ask, fold, library);
+        folded = fold_into_written(kept, handle);
     } else if (folded == KEPT_NO_ROOM) {
         errno = kept->cause;
         folded = errno == ENOMEM ? KEPT_NO_MEMORY : KEPT_NO_ROOM;

@@ -2,6 +2,7 @@
 #define _POSIX_C_SOURCE 200809L
 #include "pifnjarl_device.h"
 #include "image_file.h"
+#include "pifnjarl_handle.h"
 
 #include <errno.h>
 #include <fcntl.h>
@@ -11,24 +12,13 @@
 #include <sys/stat.h>
 #include <unistd.h>
 
-/* crates/device_library/src/exports.rt: a slice is a pointer, which isn't null, and a length */
-size_t device_library_handle_bytes(void);
-void device_library_open(unsigned char *device, const unsigned char *image, size_t image_bytes);
-uint32_t device_library_opened(unsigned char *device);
-uint32_t device_library_event(unsigned char *device, uint32_t kind, uint32_t number, const unsigned char *entry, size_t entry_bytes,
-                              const unsigned char *data, size_t data_bytes, struct pifnjarl_reply *reply,
-                              unsigned char *output, size_t output_bytes);
-uint32_t device_library_lowest_run(unsigned char *device);
-size_t device_library_save(unsigned char *device, unsigned char *image, size_t room);
-void device_library_end(unsigned char *device);
-
 /* where a slice of no bytes lies */
 static unsigned char nowhere[1];
 
 /* The numbers of the namespace are after the handle, at a multiple of 16. */
 static size_t place_of_geometry(void)
 {
-    return (device_library_handle_bytes() + 15) / 16 * 16;
+    return (pifnjarl_handle_bytes() + 15) / 16 * 16;
 }
 
 static bool lacks(const void *bytes, size_t count)
@@ -57,10 +47,10 @@ enum pifnjarl_result pifnjarl_open(const void *image, size_t image_bytes, struct
     unsigned char *handle = malloc(place_of_geometry() + sizeof(struct pifnjarl_geometry));
     if (handle == NULL)
         return PIFNJARL_WANT_OF_MEMORY;
-    device_library_open(handle, read_at(image), image_bytes);
+    pifnjarl_handle_open(handle, PIFNJARL_OPEN_MEMORY, read_at(image), image_bytes);
     struct pifnjarl_geometry geometry = pifnjarl_geometry_of(read_at(image), image_bytes);
     memcpy(handle + place_of_geometry(), &geometry, sizeof geometry);
-    enum pifnjarl_result opened = device_library_opened(handle);
+    enum pifnjarl_result opened = (enum pifnjarl_result)pifnjarl_opened(handle);
     if (opened != PIFNJARL_DONE)
         pifnjarl_close((struct pifnjarl_device *)handle);
     else
@@ -134,14 +124,16 @@ enum pifnjarl_result pifnjarl_do(struct pifnjarl_device *device, const struct pi
     bool submits = event->kind == PIFNJARL_SUBMIT;
     if (submits && (event->entry == NULL || lacks(event->data, event->data_bytes)))
         return PIFNJARL_NULL_POINTER;
-    return device_library_event(handle_of(device), event->kind, event->number, submits ? event->entry : nowhere,
-                                submits ? PIFNJARL_ENTRY_BYTES : 0, submits ? read_at(event->data) : nowhere,
-                                submits ? event->data_bytes : 0, reply, output == NULL ? nowhere : output, output_bytes);
+    size_t told = pifnjarl_handle_call(handle_of(device), PIFNJARL_ASK_EVENT, event->number, event->kind,
+                                       submits ? event->entry : nowhere, submits ? PIFNJARL_ENTRY_BYTES : 0,
+                                       submits ? read_at(event->data) : nowhere, submits ? event->data_bytes : 0, reply,
+                                       output == NULL ? nowhere : output, output_bytes);
+    return (enum pifnjarl_result)told;
 }
 
 uint32_t pifnjarl_lowest_run(struct pifnjarl_device *device)
 {
-    return device == NULL ? PIFNJARL_NO_RUN : device_library_lowest_run(handle_of(device));
+    return device == NULL ? PIFNJARL_NO_RUN : (uint32_t)pifnjarl_ask(handle_of(device), PIFNJARL_ASK_LOWEST_RUN, 0, 0);
 }
 
 enum pifnjarl_result pifnjarl_save(struct pifnjarl_device *device, void *image, size_t room, size_t *image_bytes)
@@ -150,7 +142,7 @@ enum pifnjarl_result pifnjarl_save(struct pifnjarl_device *device, void *image, 
         return PIFNJARL_NO_DEVICE;
     if (image_bytes == NULL || lacks(image, room))
         return PIFNJARL_NULL_POINTER;
-    size_t count = device_library_save(handle_of(device), image == NULL ? nowhere : image, room);
+    size_t count = pifnjarl_ask_for(handle_of(device), PIFNJARL_ASK_SAVE, 0, 0, image == NULL ? nowhere : image, room);
     if (count == 0)
         return PIFNJARL_WANT_OF_MEMORY;
     *image_bytes = count;
@@ -191,7 +183,7 @@ void pifnjarl_close(struct pifnjarl_device *device)
 {
     if (device == NULL)
         return;
-    device_library_end(handle_of(device));
+    pifnjarl_handle_end(handle_of(device));
     free(device);
 }
 

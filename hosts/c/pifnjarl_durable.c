@@ -1,8 +1,8 @@
-/* The part of the durable device that is C: it has the calls made for a file that crates/durable_library tells. */
+/* The part of the durable device that is C: it has the calls made for a file that crates/device_library tells. */
 #define _GNU_SOURCE
 #include "pifnjarl_durable.h"
-#include "durable_library.h"
 #include "kept_file.h"
+#include "pifnjarl_handle.h"
 
 #include <errno.h>
 #include <stdbool.h>
@@ -17,41 +17,10 @@ struct pifnjarl_durable {
     int cause;                           /* why it wasn't made */
 };
 
-static size_t ask(struct pifnjarl_durable *device, enum durable_kind kind, size_t number, unsigned char *out, size_t room)
-{
-    return durable_library_call(device->handle, kind, number, 0, (const unsigned char *)"", 0, out, room);
-}
-
-static size_t tell(struct pifnjarl_durable *device, enum durable_kind kind)
-{
-    unsigned char none[1];
-    return ask(device, kind, 0, none, 0);
-}
-
-/* The kinds that speak of calls stand in the order of the questions. */
-static size_t ask_of_call(void *device, enum kept_question question, size_t from, unsigned char *out, size_t room)
-{
-    return ask(device, DURABLE_NEXT + question, from, out, room);
-}
-
 static enum pifnjarl_durable_result make_calls(struct pifnjarl_durable *device)
 {
-    device->failed = !kept_file_make_calls(&device->kept, ask_of_call, device);
+    device->failed = !kept_file_make_calls(&device->kept, device->handle);
     return device->failed ? PIFNJARL_DURABLE_CANNOT_WRITE : PIFNJARL_DURABLE_DONE;
-}
-
-/* The library has done nothing: for want of memory, as the allocator has it in errno, or for `other`. */
-static enum pifnjarl_durable_result refused(struct pifnjarl_durable *device, enum pifnjarl_durable_result other)
-{
-    device->failed = true;
-    return errno == ENOMEM ? PIFNJARL_DURABLE_NO_MEMORY : other;
-}
-
-static size_t ask_to_fold(void *library, size_t room)
-{
-    struct pifnjarl_durable *device = library;
-    unsigned char none[1];
-    return durable_library_call(device->handle, DURABLE_FOLD, 0, room, (const unsigned char *)"", 0, none, 0);
 }
 
 static enum pifnjarl_durable_result result_of(enum kept_folded folded)
@@ -69,7 +38,7 @@ static enum pifnjarl_durable_result result_of(enum kept_folded folded)
 static enum pifnjarl_durable_result fold(struct pifnjarl_durable *device)
 {
     errno = 0;
-    enum kept_folded folded = kept_file_fold(&device->kept, ask_of_call, ask_to_fold, device);
+    enum kept_folded folded = kept_file_fold(&device->kept, device->handle);
     device->failed = folded == KEPT_NOT_FOLDED;
     device->folded = result_of(folded);
     device->cause = errno;
@@ -83,7 +52,8 @@ static enum pifnjarl_durable_result fold_when_due(struct pifnjarl_durable *devic
         enum pifnjarl_durable_result result = fold(device);
         return device->failed ? result : PIFNJARL_DURABLE_DONE;
     }
-    if (tell(device, DURABLE_FOLDED) == KEPT_NO_MEMORY) { /* the library itself lacked it, before there was a new file */
+    /* the library itself lacked it, before there was a new file */
+    if (pifnjarl_ask(device->handle, PIFNJARL_ASK_FOLDED, 0, 0) == PIFNJARL_FOLD_NO_MEMORY) {
         device->folded = PIFNJARL_DURABLE_NO_MEMORY;
         device->cause = ENOMEM;
     }
@@ -99,16 +69,16 @@ static enum pifnjarl_durable_result begin(struct pifnjarl_durable *device, const
     unsigned char *bytes = opened == KEPT_OPENED ? kept_file_read(&device->kept, &count) : NULL;
     if (bytes == NULL)
         return errno == ENOMEM ? PIFNJARL_DURABLE_NO_MEMORY : PIFNJARL_DURABLE_CANNOT_READ;
-    device->handle = malloc(durable_library_handle_bytes()); /* aligned to 16 */
+    device->handle = malloc(pifnjarl_handle_bytes()); /* aligned to 16 */
     if (device->handle != NULL)
-        durable_library_open(device->handle, bytes, count);
+        pifnjarl_handle_open(device->handle, PIFNJARL_OPEN_FILE, bytes, count);
     device->geometry = pifnjarl_geometry_of(bytes, count);
     free(bytes);
     if (device->handle == NULL)
         return PIFNJARL_DURABLE_NO_MEMORY;
-    size_t told = tell(device, DURABLE_ASKS_OPENED);
-    if (told != 0)
-        return told == 17 ? PIFNJARL_DURABLE_NO_MEMORY : PIFNJARL_DURABLE_NO_IMAGE;
+    size_t told = pifnjarl_opened(device->handle);
+    if (told != PIFNJARL_DONE)
+        return told == PIFNJARL_WANT_OF_MEMORY ? PIFNJARL_DURABLE_NO_MEMORY : PIFNJARL_DURABLE_NO_IMAGE;
     return make_calls(device);
 }
 
@@ -129,16 +99,27 @@ enum pifnjarl_durable_result pifnjarl_durable_open(const char *path, struct pifn
     return result;
 }
 
+/* Why frames weren't served. */
+static enum pifnjarl_durable_result refused(enum pifnjarl_served served)
+{
+    switch (served) {
+    case PIFNJARL_SERVED_NO_FRAMES: return PIFNJARL_DURABLE_NO_FRAMES;
+    case PIFNJARL_SERVED_NO_MEMORY: return PIFNJARL_DURABLE_NO_MEMORY;
+    case PIFNJARL_SERVED_NOT:
+    case PIFNJARL_SERVED: break;
+    }
+    return PIFNJARL_DURABLE_FAILED;
+}
+
 enum pifnjarl_durable_result pifnjarl_durable_serve(struct pifnjarl_durable *device, const void *frames, size_t count)
 {
-    unsigned char none[1];
-    const unsigned char *bytes = count == 0 ? none : frames;
-    none[0] = 0;
     if (device->failed)
         return PIFNJARL_DURABLE_FAILED;
-    errno = 0;
-    if (durable_library_call(device->handle, DURABLE_SERVE, 0, 0, bytes, count, none, 0) == 0)
-        return refused(device, PIFNJARL_DURABLE_NO_FRAMES);
+    const unsigned char *bytes = count == 0 ? (const unsigned char *)"" : frames;
+    enum pifnjarl_served served = (enum pifnjarl_served)pifnjarl_give(device->handle, PIFNJARL_ASK_SERVE, 0, bytes, count);
+    device->failed = served != PIFNJARL_SERVED;
+    if (device->failed)
+        return refused(served);
     enum pifnjarl_durable_result result = make_calls(device);
     return result == PIFNJARL_DURABLE_DONE ? fold_when_due(device) : result;
 }
@@ -146,7 +127,7 @@ enum pifnjarl_durable_result pifnjarl_durable_serve(struct pifnjarl_durable *dev
 size_t pifnjarl_durable_replies(struct pifnjarl_durable *device, size_t from, void *out, size_t room)
 {
     unsigned char none[1];
-    return ask(device, DURABLE_REPLIES, from, room == 0 ? none : out, room);
+    return pifnjarl_ask_for(device->handle, PIFNJARL_ASK_REPLIES, 0, from, room == 0 ? none : out, room);
 }
 
 enum pifnjarl_durable_result pifnjarl_durable_fold(struct pifnjarl_durable *device)
@@ -186,7 +167,7 @@ void pifnjarl_durable_close(struct pifnjarl_durable *device)
     if (device == NULL)
         return;
     if (device->handle != NULL)
-        durable_library_end(device->handle);
+        pifnjarl_handle_end(device->handle);
     kept_file_close(&device->kept);
     free(device->handle);
     free(device);

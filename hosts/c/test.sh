@@ -40,8 +40,28 @@ prints() {
 numbers_agree() {
     sed -n 's/^  pub \([a-z_]*\) : .*≡ \([0-9]*\)$/\1 \2/p' "$here/../../crates/device_library/specs/Numbers.antt" |
         tr a-z A-Z | sort > "$work/law"
-    sed -n 's/^ *PIFNJARL_\([A-Z_]*\) = \([0-9]*\).*/\1 \2/p; s/^#define PIFNJARL_\(NO_RUN\) *\([0-9]*\).*/\1 \2/p' \
-        "$here/pifnjarl_device.h" | grep -v -e NULL_POINTER -e CANNOT_ | sort | diff "$work/law" -
+    {
+        sed -n 's/^ *PIFNJARL_\([A-Z_]*\) = \([0-9]*\).*/\1 \2/p' "$here/pifnjarl_device.h" | grep -v -e NULL_POINTER -e CANNOT_
+        cat "$here/pifnjarl_device.h" "$here/pifnjarl_handle.h" |
+            sed -n 's/^#define PIFNJARL_\(NO_RUN\|DAMAGED\|NO_DOOR\) *\([0-9]*\).*/\1 \2/p'
+    } | sort | diff "$work/law" -
+}
+
+# the names and numbers of a definition: a header's name, as LOWEST_RUN for LowestRun, and the number
+defined() {
+    sed -n "s/.*if number == \([0-9]*\) then Some (*\($1\)\.\(Ask question\.\)*\([A-Za-z]*\))*\$/\4 \1/p" \
+        "$here/../../crates/device_library/specs/Kinds.antt" | sed 's/\([a-z]\)\([A-Z]\)/\1_\2/' | tr a-z A-Z | sort -u
+}
+
+# those of a header
+named() {
+    sed -n "s/^    PIFNJARL_$1_\([A-Z_]*\) = \([0-9]*\).*/\1 \2/p" "$here/pifnjarl_handle.h" | sort
+}
+
+# the doors and kinds of calls have the numbers of the definitions
+kinds_agree() {
+    { defined 'memory\|kept\|target' && echo OPENED 0; } | sort > "$work/kinds"
+    named ASK | diff "$work/kinds" - && defined door | sed 's/TARGETFILE/TARGET_FILE/' > "$work/doors" && named OPEN | diff "$work/doors" -
 }
 
 # the headers are C++ too
@@ -73,6 +93,7 @@ try 'the headers are C++ too' headers
 try 'entries agree' entries_agree
 try 'the library is made' "$here/library.sh" "$work" -fsanitize=address,undefined -fno-sanitize-recover=all
 try 'numbers agree' numbers_agree
+try 'kinds agree' kinds_agree
 try 'append_and_read compiles' compile append_and_read
 try 'append_and_read prints' prints append_and_read "$work/zoned.img" "$work/saved.img"
 try 'what it saved has one block more' test "$(wc -c < "$work/saved.img")" = $(($(wc -c < "$work/zoned.img") + 512))
@@ -85,7 +106,7 @@ try 'crashes compiles' compile crashes -Wl,--wrap=pwrite,--wrap=fsync,--wrap=ren
 try 'crashes' "$work/crashes" "$work/zoned.img"
 tail -n 1 "$work/out"
 cp "$here/../../examples/empty.img" "$work/full.img"
-try 'full_disk compiles' compile full_disk -Wl,--wrap=pwrite,--wrap=fsync,--wrap=malloc,--wrap=realloc,--wrap=durable_library_call
+try 'full_disk compiles' compile full_disk -Wl,--wrap=pwrite,--wrap=fsync,--wrap=malloc,--wrap=realloc,--wrap=pifnjarl_handle_call
 try 'full_disk' "$work/full_disk" "$work/full.img"
 tail -n 1 "$work/out"
 cp "$here/../../examples/empty.img" "$work/stack.img"

@@ -1,12 +1,12 @@
 /* Serves an image as an NVMe/TCP target: nvme_tcp IMAGE [--memory] [--listen ADDRESS:PORT]. All that is known of NVMe stands in
-   crates/tcp_library: here bytes are moved between sockets and it, in one thread, with a tick each second and turns of runs in
+   crates/device_library: here bytes are moved between sockets and it, in one thread, with a tick each second and turns of runs in
    between. The image is locked while it is served. A journal takes its place, and what is sent to hosts answers only what is on the disk;
    or with --memory the image is saved once, upon the signal that ends the program: SIGTERM, SIGINT, SIGHUP or SIGQUIT. */
 #define _GNU_SOURCE
 #include "image_file.h"
 #include "image_uuid.h"
 #include "kept_file.h"
-#include "target_library.h"
+#include "pifnjarl_handle.h"
 
 #include <arpa/inet.h>
 #include <errno.h>
@@ -31,7 +31,7 @@
 #define SECOND 1000000  /* microseconds */
 
 /* what is waited for beside connections */
-enum { LISTENER = TARGET_CONNECTIONS, SIGNALS, POLLED };
+enum { LISTENER = PIFNJARL_CONNECTIONS, SIGNALS, POLLED };
 
 /* a connection: its socket, or -1, and what came and isn't taken yet */
 struct connection {
@@ -49,9 +49,9 @@ struct image {
     bool lacks_room; /* the journal can't be folded, and that was said */
 };
 
-static struct connection connections[TARGET_CONNECTIONS];
-static bool active[TARGET_CONNECTIONS]; /* there may be something to do on it */
-static bool served[TARGET_CONNECTIONS]; /* it is one of those on which something is being done */
+static struct connection connections[PIFNJARL_CONNECTIONS];
+static bool active[PIFNJARL_CONNECTIONS]; /* there may be something to do on it */
+static bool served[PIFNJARL_CONNECTIONS]; /* it is one of those on which something is being done */
 static unsigned char outgoing[OUTGOING];
 static uint64_t at_disk; /* how many microseconds the disk took since hosts were last read */
 
@@ -70,31 +70,15 @@ static void complain_of_call(const char *what, const char *name)
 /* Why there is no target. */
 static const char *opening_fault(size_t opened)
 {
-    switch (opened) {
-    case 10: return "it is no image, but cut short";
-    case 11: return "it is no image: it begins otherwise";
-    case 12: return "it is no image: a number of its header is wrong";
-    case 13: return "it is no image: the row of a zone is wrong";
-    case 14: return "it is no image: too many zones are open or active";
-    case 15: return "it is no image: bytes follow its last block";
-    case TARGET_WANT_OF_MEMORY: return "memory is wanting";
-    case 18: return "it is no image: the number of its written blocks is wrong";
-    case TARGET_DAMAGED: return "it is a journal that is damaged";
-    default: return "it can't be opened";
-    }
+    return opened == PIFNJARL_DAMAGED ? "it is a journal that is damaged" : pifnjarl_words((enum pifnjarl_result)opened);
 }
 
 /* ---- the image */
 
-static size_t ask_of_call(void *target, enum kept_question question, size_t from, unsigned char *out, size_t room)
-{
-    return target_library_call(target, TARGET_NEXT + question, 0, from, (const unsigned char *)"", 0, out, room);
-}
-
 /* Makes the calls for the file that the target tells. */
 static bool make_calls(unsigned char *target, struct image *image)
 {
-    bool made = kept_file_make_calls(&image->kept, ask_of_call, target);
+    bool made = kept_file_make_calls(&image->kept, target);
     if (!made)
         complain_of_call("cannot write", image->kept.path);
     return made;
@@ -108,16 +92,11 @@ static uint64_t now(void)
     return (uint64_t)at.tv_sec * 1000000 + (uint64_t)at.tv_nsec / 1000;
 }
 
-static size_t ask_to_fold(void *target, size_t room)
-{
-    return target_fold(target, room);
-}
-
 /* Folds the journal. Where the new file can't be written, that is said once, and the journal goes on growing. */
 static bool fold(unsigned char *target, struct image *image)
 {
     errno = ENOMEM;
-    enum kept_folded folded = kept_file_fold(&image->kept, ask_of_call, ask_to_fold, target);
+    enum kept_folded folded = kept_file_fold(&image->kept, target);
     bool lacks_room = folded == KEPT_NO_ROOM || folded == KEPT_NO_MEMORY;
     if (folded == KEPT_NOT_FOLDED)
         complain_of_call("cannot fold", image->kept.path);
@@ -132,7 +111,7 @@ static bool fold(unsigned char *target, struct image *image)
 static bool commit(unsigned char *target, struct image *image)
 {
     errno = ENOMEM;
-    if (!target_commit(target)) {
+    if (pifnjarl_target_commit(target) != PIFNJARL_COMMIT_DONE) {
         complain_of_call("cannot write", image->kept.path);
         return false;
     }
@@ -153,17 +132,17 @@ static unsigned char *open_target(struct image *image)
         complain_of_call("cannot read", image->kept.path);
         return NULL;
     }
-    unsigned char *target = malloc(target_library_handle_bytes());
+    unsigned char *target = malloc(pifnjarl_handle_bytes());
     if (target != NULL)
-        (image->is_durable ? target_library_open_kept : target_library_open)(target, bytes, count);
+        pifnjarl_handle_open(target, image->is_durable ? PIFNJARL_OPEN_TARGET_FILE : PIFNJARL_OPEN_TARGET, bytes, count);
     free(bytes);
-    size_t opened = target == NULL ? TARGET_WANT_OF_MEMORY : target_opened(target);
-    if (opened == TARGET_OPENED && make_calls(target, image))
+    size_t opened = target == NULL ? PIFNJARL_WANT_OF_MEMORY : pifnjarl_opened(target);
+    if (opened == PIFNJARL_DONE && make_calls(target, image))
         return target;
-    if (opened != TARGET_OPENED)
+    if (opened != PIFNJARL_DONE)
         complain("cannot serve", image->kept.path, opening_fault(opened));
     if (target != NULL)
-        target_library_end(target);
+        pifnjarl_handle_end(target);
     free(target);
     return NULL;
 }
@@ -172,10 +151,10 @@ static unsigned char *open_target(struct image *image)
 static bool save(unsigned char *target, const char *path)
 {
     unsigned char none[1];
-    size_t count = target_save(target, none, 0);
+    size_t count = pifnjarl_target_save(target, none, 0);
     unsigned char *bytes = count == 0 ? NULL : malloc(count);
     errno = ENOMEM;
-    bool saved = bytes != NULL && target_save(target, bytes, count) == count && image_file_replace(path, bytes, count);
+    bool saved = bytes != NULL && pifnjarl_target_save(target, bytes, count) == count && image_file_replace(path, bytes, count);
     free(bytes);
     if (!saved)
         complain_of_call("cannot write", path);
@@ -188,7 +167,7 @@ static void drop(unsigned char *target, size_t number)
 {
     close(connections[number].socket);
     connections[number].socket = -1;
-    target_close(target, number);
+    pifnjarl_target_close(target, number);
 }
 
 /* Takes the connections that hosts begin, as long as a number is free. False where the system has no room for one more: the others wait. */
@@ -196,8 +175,8 @@ static bool accept_hosts(unsigned char *target, int listener)
 {
     int host;
     while ((host = accept4(listener, NULL, NULL, SOCK_NONBLOCK | SOCK_CLOEXEC)) >= 0) {
-        size_t number = target_accept(target);
-        if (number >= TARGET_CONNECTIONS) {
+        size_t number = pifnjarl_target_accept(target);
+        if (number >= PIFNJARL_CONNECTIONS) {
             close(host);
             continue;
         }
@@ -229,9 +208,9 @@ static bool advance(unsigned char *target, size_t number)
     struct connection *c = &connections[number];
     bool happened = false;
     for (;;) {
-        size_t taken = target_receive(target, number, c->bytes + c->first, c->end - c->first);
+        size_t taken = pifnjarl_target_receive(target, number, c->bytes + c->first, c->end - c->first);
         c->first += taken;
-        if (!target_serve(target, number) && taken == 0)
+        if (!pifnjarl_target_command(target, number) && taken == 0)
             return happened;
         happened = true;
     }
@@ -242,11 +221,11 @@ static bool advance(unsigned char *target, size_t number)
 static bool send_host(unsigned char *target, size_t number, bool *happened)
 {
     size_t count;
-    while ((count = target_unsent(target, number, outgoing, OUTGOING)) > 0) {
+    while ((count = pifnjarl_target_unsent(target, number, outgoing, OUTGOING)) > 0) {
         ssize_t sent = send(connections[number].socket, outgoing, count, MSG_NOSIGNAL);
         if (sent < 0)
             return errno == EAGAIN || errno == EINTR;
-        target_sent(target, number, (size_t)sent);
+        pifnjarl_target_sent(target, number, (size_t)sent);
         *happened = true;
     }
     return true;
@@ -267,14 +246,14 @@ static bool serve_hosts(unsigned char *target, struct image *image)
 {
     for (bool goes_on = true; goes_on;) {
         goes_on = false;
-        for (size_t number = 0; number < TARGET_CONNECTIONS; number++)
+        for (size_t number = 0; number < PIFNJARL_CONNECTIONS; number++)
             served[number] = active[number];
-        for (size_t number = 0; number < TARGET_CONNECTIONS; number++)
+        for (size_t number = 0; number < PIFNJARL_CONNECTIONS; number++)
             if (served[number])
                 active[number] = advance(target, number);
         if (!commit(target, image))
             return false;
-        for (size_t number = 0; number < TARGET_CONNECTIONS; number++)
+        for (size_t number = 0; number < PIFNJARL_CONNECTIONS; number++)
             if (served[number]) {
                 send_answers(target, number);
                 goes_on |= active[number];
@@ -288,11 +267,11 @@ static bool serve_hosts(unsigned char *target, struct image *image)
 static bool close_hosts(unsigned char *target)
 {
     bool closed = false;
-    for (size_t number = 0; number < TARGET_CONNECTIONS; number++) {
+    for (size_t number = 0; number < PIFNJARL_CONNECTIONS; number++) {
         if (connections[number].socket < 0)
             continue;
-        size_t ending = target_ending(target, number);
-        if (ending == TARGET_CUT_OFF || (ending == TARGET_ENDS && !target_has_unsent(target, number))) {
+        enum pifnjarl_ending ending = pifnjarl_target_ending(target, number);
+        if (ending == PIFNJARL_CUT_OFF || (ending == PIFNJARL_ENDS && !pifnjarl_target_has_unsent(target, number))) {
             drop(target, number);
             closed = true;
         }
@@ -322,7 +301,7 @@ static int listen_at(const char *place)
     int listener = socket(AF_INET, SOCK_STREAM | SOCK_NONBLOCK | SOCK_CLOEXEC, 0);
     int yes = 1;
     if (listener < 0 || setsockopt(listener, SOL_SOCKET, SO_REUSEADDR, &yes, sizeof yes) != 0
-        || bind(listener, (struct sockaddr *)&at, sizeof at) != 0 || listen(listener, TARGET_CONNECTIONS) != 0)
+        || bind(listener, (struct sockaddr *)&at, sizeof at) != 0 || listen(listener, PIFNJARL_CONNECTIONS) != 0)
         return -1;
     return listener;
 }
@@ -330,8 +309,8 @@ static int listen_at(const char *place)
 /* Says where it listens, and by which name hosts know it. */
 static bool announce(unsigned char *target, int listener)
 {
-    unsigned char name[TARGET_NAME_BYTES];
-    int name_bytes = (int)target_nqn(target, name, sizeof name);
+    unsigned char name[PIFNJARL_NQN_BYTES];
+    int name_bytes = (int)pifnjarl_target_nqn(target, name, sizeof name);
     char address[INET_ADDRSTRLEN];
     struct sockaddr_in at;
     socklen_t size = sizeof at;
@@ -365,10 +344,10 @@ static void wait(unsigned char *target, struct watch *watch, int milliseconds)
     struct pollfd polled[POLLED];
     size_t of[POLLED];
     nfds_t count = 0;
-    for (size_t number = 0; number < TARGET_CONNECTIONS; number++) {
+    for (size_t number = 0; number < PIFNJARL_CONNECTIONS; number++) {
         struct connection *c = &connections[number];
         short events = c->first == c->end ? POLLIN : 0;
-        if (c->socket >= 0 && target_has_unsent(target, number))
+        if (c->socket >= 0 && pifnjarl_target_has_unsent(target, number))
             events |= POLLOUT;
         count = watch_one(polled, of, count, c->socket, events, number);
     }
@@ -385,7 +364,7 @@ static void wait(unsigned char *target, struct watch *watch, int milliseconds)
 /* Reads from each connection at which something happened. */
 static void read_hosts(unsigned char *target, const struct watch *watch)
 {
-    for (size_t number = 0; number < TARGET_CONNECTIONS; number++) {
+    for (size_t number = 0; number < PIFNJARL_CONNECTIONS; number++) {
         short events = watch->happened[number];
         active[number] = events != 0;
         if (active[number] && (events & ~POLLOUT) != 0 && !read_host(&connections[number])) {
@@ -399,8 +378,8 @@ static void read_hosts(unsigned char *target, const struct watch *watch)
 static bool resume_runs(unsigned char *target)
 {
     bool went = false;
-    for (size_t run = 0; run < TARGET_RUNS; run++)
-        went |= target_resume(target, run);
+    for (size_t run = 0; run < PIFNJARL_RUNS; run++)
+        went |= pifnjarl_target_resume(target, run);
     return went;
 }
 
@@ -412,7 +391,7 @@ static bool give_turns(unsigned char *target, struct image *image)
     bool given = false;
     for (int turn = 0; goes_on && turn < most; turn++) {
         image->has_runs = image->has_runs && resume_runs(target);
-        goes_on = target_turn(target) || image->has_runs;
+        goes_on = pifnjarl_target_turn(target) || image->has_runs;
         given |= goes_on;
     }
     return goes_on || (given && image->is_durable);
@@ -441,7 +420,7 @@ static bool tick(unsigned char *target, struct clock *clock)
 {
     if (clock->untold < SECOND)
         return false;
-    target_tick(target, (size_t)(clock->untold / 1000));
+    pifnjarl_target_tick(target, (size_t)(clock->untold / 1000));
     clock->untold %= 1000;
     return true;
 }
@@ -450,7 +429,7 @@ static bool tick(unsigned char *target, struct clock *clock)
 static bool serve(unsigned char *target, struct image *image, int listener, int signals)
 {
     struct watch watch = {.listener = listener, .signals = signals};
-    for (size_t number = 0; number < TARGET_CONNECTIONS; number++)
+    for (size_t number = 0; number < PIFNJARL_CONNECTIONS; number++)
         connections[number].socket = -1;
     struct clock clock = {.last = now()};
     bool is_busy = false;
@@ -493,7 +472,7 @@ static bool name_target(unsigned char *target, const struct image *image)
     bool taken = (size_t)snprintf(path, sizeof path, "%s.uuid", image->kept.path) < sizeof path && image_uuid_take(path, uuid);
     if (!taken)
         complain("cannot take a UUID from", path, errno == EINVAL ? "it has none" : strerror(errno));
-    else if (!target_name(target, uuid))
+    else if (!pifnjarl_target_name(target, uuid))
         complain("cannot serve", image->kept.path, "memory is wanting");
     else
         return true;
@@ -515,7 +494,7 @@ static bool run(struct image *image, const char *path, const char *place, int si
         complain_of_call("cannot listen at", place);
     bool done = listens && serve(target, image, listener, signals);
     bool saved = !listens || image->is_durable || save(target, image->kept.path);
-    target_library_end(target);
+    pifnjarl_handle_end(target);
     free(target);
     return done && saved;
 }

@@ -54,10 +54,10 @@ stub() {
 }
 
 make_library() {
-    if is_new device_library && is_new durable_library; then
+    if is_new device_library; then
         "$top/hosts/c/library.sh" "$work/made"
     else
-        echo 'the library for C is a stub, as its crates are not built'
+        echo 'the library for C is a stub, as its crate is not built'
         library=stub
         stub pifnjarl_open_path pifnjarl_do pifnjarl_lowest_run pifnjarl_save_path pifnjarl_close pifnjarl_durable_open pifnjarl_durable_close &&
             ar rcs "$work/made/libpifnjarl.a" "$work/stub.o"
@@ -65,12 +65,12 @@ make_library() {
 }
 
 make_target() {
-    if is_new tcp_library; then
+    if is_new device_library; then
         "$top/hosts/nvme_tcp/build.sh" "$work/made"
     else
         echo 'the target is a stub, as its crate is not built'
         target=stub
-        stub target_library_handle_bytes target_library_open target_library_open_kept target_library_call target_library_end &&
+        stub pifnjarl_handle_bytes pifnjarl_handle_open pifnjarl_handle_call pifnjarl_handle_end pifnjarl_words &&
             ${CC:-gcc} -std=c11 -I "$top/hosts/c" "$top/hosts/nvme_tcp/nvme_tcp.c" "$top/hosts/nvme_tcp/image_uuid.c" \
                 "$top/hosts/c/image_file.c" "$top/hosts/c/kept_file.c" "$work/stub.o" -o "$work/made/nvme_tcp"
     fi

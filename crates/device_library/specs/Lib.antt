@@ -1,5 +1,15 @@
 pub mod Numbers
+pub mod Kinds
+pub mod Asked
+pub mod Bytes
+pub mod Files
+pub mod Devices
+pub mod Events
+pub mod Memory
+pub mod Kept
+pub mod Target
+pub mod TargetAnswers
+pub mod Sessions
 pub mod Opening
-pub mod Asking
-pub mod Saving
+pub mod Calls
 pub mod Lying

@@ -10,6 +10,10 @@ use Rattle.device_library.specs.declared.handle.Handle.{Handle}
 abbrev pub lies : Ptr → Handle → Fml
 lies at handle = lies_at the_row full_share at handle
 
+-- and this holds of it
+abbrev pub lies_holding : Ptr → Handle → (Handle → Type 0) → Fml
+lies_holding at handle Holds = fsep (fex (Holds handle) (λ _. ftrue)) (lies at handle)
+
 -- a handle lies there of which this holds
 abbrev pub lies_some : Ptr → (Handle → Type 0) → Fml
-lies_some at Holds = fex Handle (λ handle. fsep (fex (Holds handle) (λ _. ftrue)) (lies at handle))
+lies_some at Holds = fex Handle (λ handle. lies_holding at handle Holds)

@@ -1,4 +1,4 @@
--- The numbers that cross to C, as `hosts/c/pifnjarl_device.h` has them.
+-- The numbers that cross to C, as `hosts/c/pifnjarl_device.h` and `hosts/c/pifnjarl_handle.h` have them.
 use Rattle.std.specs.Prelude.{ℕ, ◌≡◌}
 use Rattle.zone_resources.specs.declared.admission.Limits.{Limits}
 use Rattle.image_text.specs.Fault.{load_number}
@@ -7,7 +7,7 @@ use Rattle.image_text.specs.declared.fault.ZoneRowFault.{ZoneRowFault}
 use Rattle.image_text.specs.declared.fault.LoadFault.TheVariants as load
 use Rattle.device_library.specs.declared.numbers.TheConstants.{SUBMIT, TURN, FAULT_READ_ONLY, FAULT_OFFLINE}
 use Rattle.device_library.specs.declared.numbers.TheConstants.{DONE, COMPLETION, PENDING, IDLE, FAULT_TAKEN, FAULT_REFUSED}
-use Rattle.device_library.specs.declared.numbers.TheConstants.{NO_DEVICE, WRONG_SIZE, UNKNOWN_KIND, NUMBER_TOO_LARGE, NO_RUN}
+use Rattle.device_library.specs.declared.numbers.TheConstants.{NO_DEVICE, WRONG_SIZE, UNKNOWN_KIND, NUMBER_TOO_LARGE, NO_RUN, DAMAGED, NO_DOOR}
 
 -- each constant is the number of the header (profile)
 pub record NumbersAreTheHeaders : Type 0 where
@@ -39,3 +39,6 @@ pub record NumbersAreTheHeaders : Type 0 where
   pub number_too_large : NUMBER_TOO_LARGE ≡ 35
   -- in place of a run's number, which is at most 255
   pub no_run : NO_RUN ≡ 256
+  -- why nothing is behind a handle, beside those
+  pub damaged : DAMAGED ≡ 40
+  pub no_door : NO_DOOR ≡ 41

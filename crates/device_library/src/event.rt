@@ -2,13 +2,12 @@
 
 ghost use Rattle.std.specs.Prelude.{ℕ, ◌≡◌, ◌≤◌, ◌≢◌, List, length, IfSome, None};
 ghost use Rattle.nvme_entry.specs.declared.command.TheConstants.{MOST_TRANSFER};
-ghost use Rattle.device_library.specs.Asking.{Asked, Calls, Happens, IsAsked, head_of, most_number, refusal, reply_number};
+ghost use Rattle.device_library.specs.Events.{DoesEvent, EventAsked, Happens, IsAsked, MemoryLent, head_of, most_number, refusal, reply_number};
 ghost use Rattle.device_library.specs.declared.numbers.TheConstants.{SUBMIT};
 
-use crate::handle::Handle;
 use crate::numbers::{
-    COMPLETION, FAULT_OFFLINE, FAULT_READ_ONLY, FAULT_REFUSED, FAULT_TAKEN, IDLE, NO_DEVICE,
-    NUMBER_TOO_LARGE, PENDING, SUBMIT, TURN, UNKNOWN_KIND, WRONG_SIZE,
+    COMPLETION, FAULT_OFFLINE, FAULT_READ_ONLY, FAULT_REFUSED, FAULT_TAKEN, IDLE, NUMBER_TOO_LARGE,
+    PENDING, SUBMIT, TURN, UNKNOWN_KIND, WRONG_SIZE,
 };
 use nvme_entry::MOST_TRANSFER;
 use runner::{Device, Event, Reply};
@@ -30,22 +29,19 @@ pub struct ReplyHead {
 }
 
 /// Does the event that is asked for, and gives the number of what became of it.
-pub fn call(
-    handle: &mut Handle,
-    kind: u32,
-    number: u32,
+pub fn event(
+    device: &mut Device,
+    kind: usize,
+    number: usize,
     entry: &[u8],
     input: &[u8],
     reply: &mut ReplyHead,
     output: &mut [u8],
-) -> u32
-    ensures { Calls (record { kind = kind; number = number; entry = entry.now; input = input.now })
-        (record { handle = handle.old; reply = reply.old; output = output.old })
-        (record { handle = handle.new; reply = reply.new; output = output.new }) result }
+) -> usize
+    ensures { DoesEvent (record { kind = kind; number = number; entry = entry.now; input = input.now })
+        (record { device = device.old; reply = reply.old; out = output.old })
+        (record { device = device.new; reply = reply.new; out = output.new }) result }
 {
-    let Some(device) = &mut handle.device else {
-        return NO_DEVICE;
-    };
     if let Some(why) = refusal(kind, number, entry, output) {
         return why;
     }
@@ -55,7 +51,7 @@ pub fn call(
 }
 
 /// Why nothing can happen that is asked for.
-fn refusal(kind: u32, number: u32, entry: &[u8], output: &[u8]) -> Option<u32>
+fn refusal(kind: usize, number: usize, entry: &[u8], output: &[u8]) -> Option<usize>
     ensures { result ≡ refusal kind number (length entry.now) (length output.now) }
 {
     let Some(most) = most_number(kind) else {
@@ -74,7 +70,7 @@ fn refusal(kind: u32, number: u32, entry: &[u8], output: &[u8]) -> Option<u32>
 }
 
 /// The largest number that goes with a kind: of a queue, a run or a zone.
-fn most_number(kind: u32) -> Option<u32>
+fn most_number(kind: usize) -> Option<usize>
     ensures { result ≡ most_number kind }
 {
     if kind == SUBMIT {
@@ -82,7 +78,7 @@ fn most_number(kind: u32) -> Option<u32>
     } else if kind == TURN {
         Some(255)
     } else if kind == FAULT_READ_ONLY || kind == FAULT_OFFLINE {
-        Some(u32::MAX)
+        Some(u32::MAX as usize)
     } else {
         None
     }
@@ -91,8 +87,8 @@ fn most_number(kind: u32) -> Option<u32>
 /// Does an event that nothing refuses.
 fn happen(
     device: &mut Device,
-    kind: u32,
-    number: u32,
+    kind: usize,
+    number: usize,
     entry: &[u8],
     input: &[u8],
     output: &mut [u8],
@@ -111,7 +107,7 @@ fn happen(
 }
 
 /// The turn or fault of a kind.
-fn turn_or_fault(kind: u32, number: u32) -> Event
+fn turn_or_fault(kind: usize, number: usize) -> Event
     requires kind { kind ≢ SUBMIT }
     requires number { IfSome (most_number kind) (λ most. number ≤ most) }
     requires known { most_number kind ≢ None }
@@ -121,12 +117,12 @@ fn turn_or_fault(kind: u32, number: u32) -> Event
         Event::Turn { run: number as u8 }
     } else if kind == FAULT_READ_ONLY {
         Event::Fault {
-            zone: number,
+            zone: number as u32,
             state: FaultState::ReadOnly,
         }
     } else {
         Event::Fault {
-            zone: number,
+            zone: number as u32,
             state: FaultState::Offline,
         }
     }
@@ -160,7 +156,7 @@ fn head_of(reply: &Reply) -> ReplyHead
 }
 
 /// The number of a reply.
-fn reply_number(reply: &Reply) -> u32
+fn reply_number(reply: &Reply) -> usize
     ensures { result ≡ reply_number reply.now }
 {
     match reply {

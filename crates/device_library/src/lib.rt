@@ -1,16 +1,30 @@
-//! The device as a library for C: exports over a handle in memory that C brings. `hosts/c` has the header and what is C of it.
+//! The device as a library for C: exports over a handle in memory that C brings. A handle has a device in memory, a device in a file, or a
+//! target over NVMe/TCP before either. The library opens no file: it hands C the calls for it, and gives what answers requests once C has
+//! told that all are done. `hosts/c/pifnjarl_handle.h` has the numbers, and what C owes.
 #![tactic(auto)]
 
+mod calls;
 mod event;
 mod exports;
+mod files;
 mod handle;
+mod identity;
+mod kept;
+mod kept_answers;
+mod kind;
 pub mod laws;
+mod memory;
 mod numbers;
-mod save;
+mod opening;
+mod put;
+mod target;
+mod target_answers;
 
 pub use event::ReplyHead;
 pub use exports::{
-    device_library_end, device_library_event, device_library_handle_bytes,
-    device_library_lowest_run, device_library_open, device_library_opened, device_library_save,
+    pifnjarl_handle_bytes, pifnjarl_handle_call, pifnjarl_handle_end, pifnjarl_handle_open,
 };
-pub use handle::Handle;
+pub use handle::{Handle, Session};
+pub use kept::Kept;
+pub use kind::{Door, KeptKind, MemoryKind, Question, TargetKind};
+pub use target::{Committed, Folded, Target};

@@ -1,9 +1,10 @@
 -- A file for which a host makes the calls, as others see it.
-use Rattle.std.specs.Prelude.{List}
+use Rattle.std.specs.Prelude.{Bool, List}
 use Rattle.stored_file.specs.File.{FileState}
 use Rattle.stored_file.specs.Calls as calls
 use Rattle.stored_file.specs.Calls.{Call}
 use Rattle.durable_device.specs.Kept.{MayBeLeft}
+use Rattle.handed_file.specs.Handing.{has_refused, settles}
 use Rattle.handed_file.specs.declared.handed_file.FileCall.{FileCall}
 use Rattle.handed_file.specs.declared.handed_file.HandedFile.{HandedFile}
 
@@ -23,3 +24,7 @@ made_calls file = file.made.calls
 -- those that it is to make, in order
 abbrev pub waiting : HandedFile → List FileCall
 waiting file = file.calls.items
+
+-- has the host told each call as done, and was none refused?
+abbrev pub is_settled : HandedFile → Bool
+is_settled file = settles (waiting file) (has_refused (noted file))

@@ -1,5 +1,5 @@
 -- The calls that a host is to make for a file, and those that it told as made.
-use Rattle.std.specs.Prelude.{Bool, true, false, List, [], ◌∷◌, map, reverse}
+use Rattle.std.specs.Prelude.{ℕ, Bool, true, false, not, List, [], ◌∷◌, map, reverse}
 use Rattle.stored_file.specs.Calls.{Call}
 use Rattle.stored_file.specs.Calls as call
 use Rattle.handed_file.specs.declared.handed_file.FileCall.{FileCall}
@@ -29,3 +29,37 @@ abbrev pub has_refused : List Call → Bool
 has_refused [] = false
 has_refused (call.Refused ∷ calls) = true
 has_refused (c ∷ calls) = has_refused calls
+
+-- are all made that the host was handed, where it is so that one was refused?
+abbrev pub settles : List FileCall → Bool → Bool
+settles [] refused = not refused
+settles (call ∷ calls) refused = false
+
+-- ---- what a host is told of a call
+
+-- which it is
+abbrev pub call_kind : FileCall → ℕ
+call_kind (Write «at» bytes) = 1
+call_kind (Renew «at» bytes) = 1
+call_kind (Shorten len) = 2
+call_kind Sync = 3
+call_kind (Replace bytes) = 4
+call_kind (Want bytes) = 5
+
+-- at which offset it writes, or to which length it sets the file
+abbrev pub call_place : FileCall → ℕ
+call_place (Write «at» bytes) = «at»
+call_place (Renew «at» bytes) = «at»
+call_place (Shorten len) = len
+call_place Sync = 0
+call_place (Replace bytes) = 0
+call_place (Want bytes) = 0
+
+-- the bytes that it writes, or the new file has that wants room
+abbrev pub call_bytes : FileCall → List ℕ
+call_bytes (Write «at» bytes) = bytes.items
+call_bytes (Renew «at» bytes) = bytes.items
+call_bytes (Shorten len) = []
+call_bytes Sync = []
+call_bytes (Replace bytes) = bytes.items
+call_bytes (Want bytes) = bytes.items

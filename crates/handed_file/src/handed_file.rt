@@ -3,7 +3,7 @@
 ghost use Rattle.std.specs.Prelude.{◌≡◌, ◌∷◌, ◌++◌, ◌<◌, ◌^◌, ◌↔◌, ◌⊎◌, List, [], length, IfSome, IsNone, IsTrue, OnOk, OnErr};
 ghost use Rattle.stored_file.specs.Calls.{NotReplaced, Opened, Refused, told_of};
 ghost use Rattle.durable_device.specs.Kept.{IsRestarted, MayBeLeft};
-ghost use Rattle.handed_file.specs.Handing.{all_done, done_call, handed, has_refused};
+ghost use Rattle.handed_file.specs.Handing.{all_done, call_bytes, call_kind, call_place, done_call, handed, has_refused};
 ghost use Rattle.handed_file.specs.declared.handed_file.FileCall.{FileCall};
 
 use std::alloc::Global;
@@ -33,6 +33,45 @@ pub enum FileCall {
     Want { bytes: Vec<u8> },
 }
 
+impl FileCall {
+    /// Its number, by which hosts know which call it is; none has 0.
+    pub fn kind(&self) -> usize
+        ensures { result ≡ call_kind self.now }
+    {
+        match self {
+            FileCall::Write { .. } | FileCall::Renew { .. } => 1,
+            FileCall::Shorten { .. } => 2,
+            FileCall::Sync => 3,
+            FileCall::Replace { .. } => 4,
+            FileCall::Want { .. } => 5,
+        }
+    }
+
+    /// At which offset it writes, or to which length it sets the file; else 0.
+    pub fn place(&self) -> usize
+        ensures { result ≡ call_place self.now }
+    {
+        match self {
+            FileCall::Write { at, .. } | FileCall::Renew { at, .. } => *at,
+            FileCall::Shorten { len } => *len,
+            FileCall::Sync | FileCall::Replace { .. } | FileCall::Want { .. } => 0,
+        }
+    }
+
+    /// The bytes that are written by it, or are those of the new file that wants room.
+    pub fn bytes(&self) -> &[u8]
+        ensures { result.now ≡ call_bytes self.now }
+    {
+        match self {
+            FileCall::Write { bytes, .. }
+            | FileCall::Renew { bytes, .. }
+            | FileCall::Replace { bytes }
+            | FileCall::Want { bytes } => bytes.as_slice(),
+            FileCall::Shorten { .. } | FileCall::Sync => &[],
+        }
+    }
+}
+
 /// A file for which a host makes the calls, in order. Each is answered as done once it is handed over.
 #[derive(Drop)]
 pub struct HandedFile {
@@ -54,7 +93,7 @@ pub struct HandedFile {
 }
 
 impl HandedFile {
-    ghost use Rattle.handed_file.specs.Handed.{made_calls, noted, waiting};
+    ghost use Rattle.handed_file.specs.Handed.{is_settled, made_calls, noted, waiting};
 
     /// A file that the host has opened, and brought to the disk as far as it can be, with the bytes that it has read. They stay the
     /// host's: whoever opens the file is given them beside it. There is no room for a new file until the host says so.
@@ -92,7 +131,8 @@ impl HandedFile {
 
     /// Has the host told each call as done, and was none refused?
     pub fn is_settled(&self) -> bool
-        ensures { IsTrue result → (made_calls self.now ≡ noted self.now) }
+        ensures settled { result ≡ is_settled self.now }
+        ensures made { IsTrue result → (made_calls self.now ≡ noted self.now) }
     {
         self.next().is_none() && !self.failed
     }

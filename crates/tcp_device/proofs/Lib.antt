@@ -9,3 +9,5 @@ mod Reached
 mod Queues
 mod Cuts
 mod Order
+mod Events
+mod Deeds

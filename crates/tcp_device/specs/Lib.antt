@@ -7,3 +7,4 @@ pub mod Laws
 pub mod Pieces
 pub mod Order
 pub mod steps
+pub mod Resuming

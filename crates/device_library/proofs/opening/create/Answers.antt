@@ -1,0 +1,23 @@
+use Rattle.std.proofs.Common.{rules, ◌≡◌, List, subst}
+use Rattle.std.specs.Prelude.{Ok}
+use Rattle.handed_file.specs.Handed.{noted, told_of}
+use Rattle.stored_file.specs.File.{LeavesOnly}
+use Rattle.stored_file.specs.Calls.{Call}
+use Rattle.durable_device.specs.Kept.{IsOldOrStandsFor}
+use Rattle.image_text.specs.Reading.{namespace_in}
+use Rattle.device_meaning.specs.State.{new_state}
+use Rattle.device_library.proofs.opening.create.Goals as goal
+
+pub returns-in-Ok-create-clause-opened : goal.returns-in-Ok-create-clause-opened
+returns-in-Ok-create-clause-opened c =
+    let journal = c.in-Ok-create.device.store.events.journal in
+    let told : namespace_in c.args.bytes.now ≡ Ok c.in-Ok.image = search rules in
+    record {
+      namespace = c.in-Ok.image;
+      told = told;
+      state = c.in-Ok-create.ensures.new;
+      in_base = c.in-Ok-create.ensures.in_base;
+      moments =
+          subst (λ (calls : List Call). LeavesOnly (told_of calls) (told_of (noted journal.file)) (IsOldOrStandsFor (told_of calls) (new_state c.in-Ok.image)))
+          c.grant.ensures.noted c.in-Ok-create.ensures.any_moment;
+    }

@@ -1,0 +1,89 @@
+//! A device in memory, as C asks it.
+
+ghost use Rattle.std.specs.Prelude.{◌≡◌, IfOk, IfErr};
+ghost use Rattle.device_library.specs.Asked.{Asked};
+ghost use Rattle.device_library.specs.Events.{MemoryLent};
+ghost use Rattle.device_library.specs.Memory.{Answers, AnswersTo, lowest_number};
+ghost use Rattle.device_library.specs.Opening.{IsImageOf, IsRefusedImage};
+
+use crate::event::{ReplyHead, event};
+use crate::kind::{MemoryKind, nothing};
+use crate::numbers::NO_RUN;
+use crate::put::save;
+use image_store::Image;
+use image_text::ImageText;
+use runner::Device;
+use std::alloc::Global;
+
+/// The device of the image that these bytes tell.
+///
+/// # Errors
+///
+/// Why there is none, by number.
+pub fn open(alloc: Global, bytes: &[u8]) -> Result<Device, u32>
+    ensures opened { IfOk result (IsImageOf bytes.now) }
+    ensures refused { IfErr result (IsRefusedImage bytes.now) }
+{
+    let mut rest = bytes;
+    match Image::load(alloc, &mut rest) {
+        Ok(image) => Ok(Device::new(alloc, image)),
+        Err(fault) => Err(u32::from(fault.number())),
+    }
+}
+
+/// Does what a device is asked for by a number, and gives the answer.
+pub fn answer_to(
+    device: &mut Device,
+    alloc: Global,
+    kind: u32,
+    number: usize,
+    count: usize,
+    piece: &[u8],
+    beside: &[u8],
+    reply: &mut ReplyHead,
+    out: &mut [u8],
+) -> usize
+    ensures { AnswersTo kind (record { number = number; count = count; piece = piece.now; beside = beside.now })
+        (record { device = device.old; reply = reply.old; out = out.old })
+        (record { device = device.new; reply = reply.new; out = out.new }) result }
+{
+    match MemoryKind::from_number(kind) {
+        Some(kind) => answer(
+            device, alloc, kind, number, count, piece, beside, reply, out,
+        ),
+        None => nothing(kind),
+    }
+}
+
+/// Does what a device is asked for, and gives the answer.
+fn answer(
+    device: &mut Device,
+    alloc: Global,
+    kind: MemoryKind,
+    number: usize,
+    count: usize,
+    piece: &[u8],
+    beside: &[u8],
+    reply: &mut ReplyHead,
+    out: &mut [u8],
+) -> usize
+    ensures { Answers kind (record { number = number; count = count; piece = piece.now; beside = beside.now })
+        (record { device = device.old; reply = reply.old; out = out.old })
+        (record { device = device.new; reply = reply.new; out = out.new }) result }
+{
+    match kind {
+        MemoryKind::Event => event(device, count, number, piece, beside, reply, out),
+        MemoryKind::LowestRun => lowest_run(device),
+        MemoryKind::Save => save(alloc, device.image(), out),
+    }
+}
+
+/// The number of the lowest run that is active, or [`NO_RUN`].
+fn lowest_run(device: &Device) -> usize
+    ensures { result ≡ lowest_number device.now }
+{
+    match device.lowest_run() {
+        Some(run) => run as usize,
+        None => NO_RUN,
+    }
+}

@@ -1,2 +1,0 @@
-mod Deeds
-mod Events
