@@ -1,3 +1,2 @@
-pub mod Caused
 pub mod Ended
 pub mod Makes
