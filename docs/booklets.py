@@ -225,7 +225,7 @@ ACCEPTANCE = Booklet(
             {"common_definitions/specs/Readings.antt": "◌>>=◌ with_front", "common_definitions/specs/FirstCheck.antt": "*"},
         ),
         Section("How a program is judged", r"word_domain/|accepted_programs/"),
-        Section("The judge of the device", r"device_meaning/specs/Judging\."),
+        Section("Judges by facts, and the device's", r"device_meaning/specs/Judging\."),
     ],
 )
 

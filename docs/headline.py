@@ -42,8 +42,9 @@ The theorem is `Pushdown` of `pushdown/specs/Pushdown.antt`, which stands whole 
 It holds for every sound judge, by a law of `pushdown/src/laws.rt`. A law is a function that does nothing: what it ensures is proved.
 
 {law}
-The device judges by `interval_judge`, which is sound; [Acceptance](acceptance.md) has both. So the theorem holds of the device, and
-there is a Run of which it speaks (`device_laws/src/laws.rt`):
+The device judges by `interval_judge`, the judge by `intervals`. It is sound (`IsSoundJudge`), and the bytes of a Load spell the program
+that it accepts (`JudgedIsSpelled`); [Acceptance](acceptance.md) has all three. So the theorem holds of the device, and there is a Run of
+which it speaks (`device_laws/src/laws.rt`):
 
 {device_laws}
 The code is tied to the definitions by the contracts of `Device` (`runner/src/device.rt`). Its type names the domain whose facts it judges

@@ -29,7 +29,7 @@ MOST_LINES = 450
 MADE = "<!-- Made by docs/make.sh from here on; what stands above is written by hand. -->\n\n"
 STANDARDS = re.compile(r"RFC 9669|ZNS 1\.1|NVMe Base 2\.0|NVM Command Set 1\.0|BPF ABI 1\.0")
 # the words of docs/theorem.md that tell how much there is to read
-TOLD = re.compile(r"\d+ definitions of \d+ lines \(the theorem's: \d+ of \d+\)")
+TOLD = re.compile(r"\d+ definitions of \d+ lines \(the theorem's: \d+ of \d+\)(, \d+ Rust declarations of \d+)?")
 
 # the parts of a section: the items of one file that stand there
 Part = Tuple[At, str]
@@ -275,17 +275,24 @@ def made(pages: Pages, booklet: int) -> str:
     return text + glossary(pages, booklet)
 
 
-def counted(closure: Closure) -> str:
-    """How many definitions a closure has, and of how many lines."""
-    definitions = [item for item in closure.items.values() if isinstance(item, antt.Definition)]
-    return f"{len(definitions)} definitions of {sum(len(code_lines(item)) for item in definitions)}"
+def counted(items: List[Item], noun: str) -> str:
+    """How many items these are, and of how many lines."""
+    return f"{len(items)} {noun} of {sum(len(code_lines(item)) for item in items)}"
+
+
+def definitions_of(closure: Closure) -> List[Item]:
+    """The definitions of a closure, without the declarations in Rust."""
+    return [item for item in closure.items.values() if isinstance(item, antt.Definition)]
 
 
 def told(closure: Closure) -> str:
     """How much there is to read, as docs/theorem.md tells it."""
     law = Closure(CRATES)
     law.reach(LAW)
-    return f"{counted(closure)} lines (the theorem's: {counted(law).replace('definitions ', '')})"
+    every = definitions_of(closure)
+    declared = [item for item in closure.items.values() if isinstance(item, Declared)]
+    own = counted(definitions_of(law), "")
+    return f"{counted(every, 'definitions')} lines (the theorem's: {own.replace('  ', ' ')}), {counted(declared, 'Rust declarations')}"
 
 
 def all_pages() -> Dict[Path, str]:

@@ -282,7 +282,7 @@ SECTIONS: Dict[str, Dict[str, str]] = {
         "zone_checks": "NVMe Base 2.0, 3.3.3.2; ZNS 1.1, 3.4.3",
     },
     "zns_commands/specs/Write.antt": {
-        "write_checks": "NVMe Base 2.0, 3.3.3.2 and 5.17; ZNS 1.1, 3.3.2",
+        "write_checks": "NVMe Base 2.0, 3.3.3.2 and 5.17; ZNS 1.1, 2.1.1 and 3.3.6",
     },
     "zone_resources/specs/Admission.antt": {
         "open_admission IsWithin": "ZNS 1.1, 2.1.1",

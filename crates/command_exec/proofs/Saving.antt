@@ -24,19 +24,21 @@ use Rattle.command_exec.specs.declared.watched.Tally.{Tally}
 use Rattle.command_exec.specs.declared.watched.Watched.{Watched}
 use Rattle.command_exec.specs.Executed.{AreExecutedBy, AreInFiles, AreLeft, ExecutesBy, ExecutesFirstBy, HasBegun, HasDone, HasPrinted, HasServedAsked, HasTold, IsDoneUnsaved, IsntSavedBy, SavesAll, SavesFirst, Untold, asks_words, commands_of, told_unless}
 use Rattle.command_exec.specs.Refused.{asks_stop}
-use Rattle.command_exec.specs.steps.Tallied.{Watches, none_tallied, tallied, told_of_tally}
+use Rattle.command_exec.specs.steps.Tallied.{PrintsAndTallies, Watches, none_tallied, tallied, told_of_tally}
 use Rattle.command_exec.proofs.Stopping.{asked_weaker, drained_weaker, first_begun}
 use Rattle.command_exec.proofs.Tallies.{told_is}
 
 -- what is told of the refused commands of replies that were counted, and what was printed of them
-pub tells : {T : Type 0} (took : T → T → List ReplyWithData → Type 0) (numbers : List ℕ) (old new : Watched T) (refused : Option Refused) (before after : Option (List ℕ))
-    → length numbers < 2 ^ 64 → old.tally ≡ none_tallied → refused ≡ told_of_tally numbers new.tally
-    → ((replies : List ReplyWithData) → took old.out new.out replies → HasPrinted before after replies)
-    → (replies : List ReplyWithData) → Watches took old new replies → HasTold numbers refused before after replies
-tells took numbers old new refused before after few begins is prints replies did = (
-  prints replies did.0,
-  is ∙ ap (told_of_tally numbers) (did.1 ∙ ap (λ (tally : Tally). tallied tally replies) begins) ∙ told_is numbers replies few,
-)
+pub tells : (numbers : List ℕ) (tally : Tally) (refused : Option Refused) (before after : Option (List ℕ))
+    → length numbers < 2 ^ 64 → refused ≡ told_of_tally numbers tally
+    → (replies : List ReplyWithData) → PrintsAndTallies before after tally replies → HasTold numbers refused before after replies
+tells numbers tally refused before after few is replies did =
+    (did.0, is ∙ ap (told_of_tally numbers) did.1 ∙ told_is numbers replies few)
+
+-- replies that were counted from none on come to this tally
+tallies : {T : Type 0} (took : T → T → List ReplyWithData → Type 0) (old new : Watched T) (tally : Tally) → old.tally ≡ none_tallied → tally ≡ new.tally
+    → (replies : List ReplyWithData) → Watches took old new replies → tally ≡ tallied none_tallied replies
+tallies took old new tally begins is replies did = is ∙ did.1 ∙ ap (λ (t : Tally). tallied t replies) begins
 
 -- lines were printed of all replies, since none was refused; the writer held so much before them, and so much then
 module _ {W : Type 0} (contents : W → Option (List ℕ)) (old new : Watched (Lines W)) (before after : Option (List ℕ))
@@ -47,20 +49,25 @@ module _ {W : Type 0} (contents : W → Option (List ℕ)) (old new : Watched (L
       subst (λ (held : Option (List ℕ)). HasPrinted held after replies) first
       (subst (λ (held : Option (List ℕ)). HasPrinted (contents old.out.out.now) held replies) last (took.1.texts count))
 
-  pub prints_lines : {E : Type 0} (judge : Judge) (stops : Bool) (events : List Event) (s left : State) (result : Result (Unit {0}) E)
-      → CountsFailure old.out.refusals new.out.refusals result
+  pub prints_lines : {E : Type 0} (judge : Judge) (stops : Bool) (events : List Event) (s left : State) (tally : Tally) (result : Result (Unit {0}) E)
+      → CountsFailure old.out.refusals new.out.refusals result → old.tally ≡ none_tallied → tally ≡ new.tally
       → OnOk result (HasServedAsked judge stops events s left (Watches (λ then now. Took (printed_by contents then) (printed_by contents now)) old new))
-      → OnOk result (HasServedAsked judge stops events s left (HasPrinted before after))
-  prints_lines judge stops events s left (Err error) count did = tt
-  prints_lines judge stops events s left (Ok done) count did =
-      asked_weaker judge stops events s left (Watches (λ then now. Took (printed_by contents then) (printed_by contents now)) old new) (HasPrinted before after)
-      (λ replies took. lines_printed count replies took.0) did
+      → OnOk result (HasServedAsked judge stops events s left (PrintsAndTallies before after tally))
+  prints_lines judge stops events s left tally (Err error) count begins is did = tt
+  prints_lines judge stops events s left tally (Ok done) count begins is did =
+      let took : Lines W → Lines W → List ReplyWithData → Type 0 = λ then now. Took (printed_by contents then) (printed_by contents now) in
+      asked_weaker judge stops events s left (Watches took old new) (PrintsAndTallies before after tally)
+      (λ replies took_them. (lines_printed count replies took_them.0, tallies took old new tally begins is replies took_them)) did
 
 -- something is printed of which nothing is said
-pub prints_something : {E : Type 0} (judge : Judge) (stops : Bool) (events : List Event) (s left : State) (took : List ReplyWithData → Type 0) (result : Result (Unit {0}) E)
-    → OnOk result (HasServedAsked judge stops events s left took) → OnOk result (HasServedAsked judge stops events s left (HasPrinted None None))
-prints_something judge stops events s left took (Err error) did = tt
-prints_something judge stops events s left took (Ok done) did = asked_weaker judge stops events s left took (HasPrinted None None) (λ replies took. tt) did
+pub prints_something : {T E : Type 0} (took : T → T → List ReplyWithData → Type 0) (old new : Watched T) (judge : Judge) (stops : Bool) (events : List Event)
+    (s left : State) (tally : Tally) (result : Result (Unit {0}) E) → old.tally ≡ none_tallied → tally ≡ new.tally
+    → OnOk result (HasServedAsked judge stops events s left (Watches took old new))
+    → OnOk result (HasServedAsked judge stops events s left (PrintsAndTallies None None tally))
+prints_something took old new judge stops events s left tally (Err error) begins is did = tt
+prints_something took old new judge stops events s left tally (Ok done) begins is did =
+    asked_weaker judge stops events s left (Watches took old new) (PrintsAndTallies None None tally)
+    (λ replies took_them. (tt, tallies took old new tally begins is replies took_them)) did
 
 -- a device began with a namespace
 pub begins_new : (judge : Judge) (stops : Bool) (events : List Event) (namespace : ZonedNamespace) (old left : State) (took tooks : List ReplyWithData → Type 0)
@@ -71,12 +78,12 @@ begins_new judge stops events namespace old left took tooks begins so did =
 
 -- what it has done then isn't saved
 pub done_unsaved : {T E : Type 0} (judge : Judge) (stops : Bool) (result : Result T E) (events : List Event) (namespace : ZonedNamespace) (old left : State)
-    (before after : Option (List ℕ)) → old ≡ new_state namespace
-    → OnOk result (HasServedAsked judge stops events old left (HasPrinted before after)) → OnErr result (HasBegun judge events old left)
+    (before after : Option (List ℕ)) (tally : Tally) → old ≡ new_state namespace
+    → OnOk result (HasServedAsked judge stops events old left (PrintsAndTallies before after tally)) → OnErr result (HasBegun judge events old left)
     → IsDoneUnsaved judge stops events namespace before after
-done_unsaved judge stops (Ok done) events namespace old left before after begins did begun =
-    record { left = left; done = inl (begins_new judge stops events namespace old left (HasPrinted before after) (HasPrinted before after) begins (λ replies printed. printed) did) }
-done_unsaved judge stops (Err error) events namespace old left before after begins did begun =
+done_unsaved judge stops (Ok done) events namespace old left before after tally begins did begun =
+    record { left = left; done = inl (begins_new judge stops events namespace old left (PrintsAndTallies before after tally) (HasPrinted before after) begins (λ replies told. told.0) did) }
+done_unsaved judge stops (Err error) events namespace old left before after tally begins did begun =
     record { left = left; done = inr (subst (λ (s : State). HasBegun judge events s left) begins begun) }
 
 -- the namespace is saved that a device shows

@@ -31,7 +31,8 @@ use Rattle.device_events.specs.declared.reply.Reply.TheVariants as reply
 
 -- ---- Load
 
--- the checks, in order: the data beside the entry, the limit, and that no active run uses the slot
+-- the checks, in order: that the data is at most a transfer, and as long as the entry says; the limit; that no active run uses
+-- the slot
 abbrev pub load_checks : State → LoadCommand → List ℕ → List (Option Status)
 load_checks s load input =
     demand (nat_le load.bytes MOST_TRANSFER) INVALID_FIELD_IN_COMMAND
@@ -72,7 +73,7 @@ result_by slot (Some status) sub s = refused sub status s
 result_by None None sub s = refused sub NO_SUCH_PROGRAM s
 result_by (Some loaded) None sub s = completed sub SUCCESS 0 0 loaded.result s
 
--- what a Result of a slot comes to; its one check is that no data stands beside the entry
+-- what a Result of a slot comes to: data beside the entry is refused first, then a slot without a program
 abbrev pub giving_result : Submission → State → ℕ → Happening
 giving_result sub s slot =
     result_by (loaded_at s slot) (first_failed (demand (length sub.input == 0) INVALID_FIELD_IN_COMMAND ∷ [])) sub s

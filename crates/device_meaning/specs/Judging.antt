@@ -84,8 +84,8 @@ module _ {D : Type 0} (operations : Operations D) where
     pub first : IsFirstRefusal operations program sizes found
     pub told : why ≡ refused_for_reason found
 
--- the bytes spell the program that the judge by the facts of a domain accepts (RFC 9669, 3), as they do no other: all that it chooses
--- is whether it accepts what they spell
+-- what the judge by the facts of a domain accepts is a program that the bytes spell (RFC 9669, 3), the only one
+-- (BytesHaveOneProgram): all that it chooses is whether it accepts what they spell
 abbrev pub JudgedIsSpelled : {D : Type 0} → Operations D → Type 0
 JudgedIsSpelled operations =
     (bytes : List ℕ) (sizes : Sizes) (program : List (Option Instruction)) → AreBytes bytes → judge_by operations bytes sizes ≡ Ok program

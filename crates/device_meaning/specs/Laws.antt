@@ -116,8 +116,8 @@ pub record IsAppended (ns : ZonedNamespace) (z : ℕ) (blocks : List (List ℕ))
   pub effect : added ns z blocks ≡ (append_effect ns no_holds (z * ns.size) (concat blocks)).namespace
 
 module _ (judge : Judge) where
-  -- the program of a slot is what the judge made of some bytes, for the sizes that it has there, of which the limit is at most a
-  -- block: it never traps over these
+  -- the program of a slot is what the judge made of some bytes for the slot's emit limit, at most a block, and the blocks of the
+  -- namespace; over these it never traps. (That the bytes spell it, JudgedIsSpelled says of judges by facts.)
   pub record IsAcceptedIn (ns : ZonedNamespace) (loaded : Loaded) : Type 0 where
     pub bytes : List ℕ
     pub are : AreBytes bytes

@@ -14,14 +14,15 @@ use device_events::Out;
 use ebpf_decode::laws::fault_is_first;
 use word_domain::Domain;
 
-/// A domain judges soundly: no program that its facts give no reason to refuse ever traps.
+/// A domain judges soundly: each program that its facts give no reason to refuse never traps, over blocks of the sizes for which it
+/// is judged.
 pub fn domains_judge_soundly<D: Domain>()
     ensures { IsSoundJudge (judge_by D.operations) }
 {
     accepted_never_traps::<D>();
 }
 
-/// The bytes spell each program that is accepted by the facts of a domain, as RFC 9669 spells programs, and they spell no other.
+/// What is accepted by the facts of a domain is a program, and the bytes spell it, as RFC 9669 spells programs.
 pub fn judged_is_spelled<D: Domain>()
     ensures { JudgedIsSpelled D.operations }
 {}

@@ -1,2 +1,3 @@
+pub mod Caused
 pub mod Ended
 pub mod Makes

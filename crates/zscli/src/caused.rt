@@ -1,6 +1,8 @@
 //! Standard output, and why it failed.
 
-ghost use Rattle.std.specs.Prelude.{◌≡◌};
+ghost use Rattle.std.specs.Prelude.{◌≡◌, IfErr, OnOk, None, Some};
+ghost use Rattle.std.specs.IoError.{error_kind};
+ghost use Rattle.zscli.specs.Caused.{cause_of};
 
 use command_files::{FileCause, FileFault};
 use std::io::{self, ErrorKind, Write};
@@ -14,12 +16,17 @@ pub struct Caused<W> {
 
 impl<W: Write> Caused<W> {
     /// What writes to this, where no write failed yet.
-    pub fn new(out: W) -> Caused<W> {
+    pub fn new(out: W) -> Caused<W>
+        ensures out { result.out ≡ out }
+        ensures none { result.failed ≡ None }
+    {
         Caused { out, failed: None }
     }
 
     /// Why the last write that failed did, as far as the system says.
-    pub fn cause(&self) -> FileCause {
+    pub fn cause(&self) -> FileCause
+        ensures { result ≡ cause_of self.now.failed }
+    {
         match self.failed {
             Some(kind) => match FileFault::from(io::Error::from(kind)) {
                 FileFault::Failed(cause) => cause,
@@ -33,6 +40,8 @@ impl<W: Write> Caused<W> {
     fn noted<T>(&mut self, done: io::Result<T>) -> io::Result<T>
         ensures same { result ≡ done }
         ensures kept { self.new.out ≡ self.old.out }
+        ensures noted { IfErr result (λ error. self.new.failed ≡ Some (error_kind error)) }
+        ensures before { OnOk result (self.new.failed ≡ self.old.failed) }
     {
         if let Err(error) = &done {
             self.failed = Some(error.kind());

@@ -4,6 +4,7 @@ use Rattle.device_events.specs.Replies.{ReplyWithData}
 use Rattle.command_exec.specs.declared.fail.Refused.{Refused}
 use Rattle.command_exec.specs.declared.watched.Tally.{Tally}
 use Rattle.command_exec.specs.declared.watched.Watched.{Watched}
+use Rattle.command_exec.specs.Executed.{HasPrinted}
 use Rattle.command_exec.specs.Refused.{is_refusal, line_at}
 
 -- one more, up to the largest number of 64 bits
@@ -36,3 +37,7 @@ told_of_tally numbers tally =
 -- these replies were handed on, as this says, and counted, and no other
 abbrev pub Watches : {T : Type 0} → (T → T → List ReplyWithData → Type 0) → Watched T → Watched T → List ReplyWithData → Type 0
 Watches took old new replies = took old.out new.out replies × (new.tally ≡ tallied old.tally replies)
+
+-- the lines of these replies were printed, where the output tells what it holds, and they come to this tally
+abbrev pub PrintsAndTallies : Option (List ℕ) → Option (List ℕ) → Tally → List ReplyWithData → Type 0
+PrintsAndTallies before after tally replies = HasPrinted before after replies × (tally ≡ tallied none_tallied replies)
