@@ -5,7 +5,7 @@
    - The memory of a handle has as many bytes as are told, is aligned to 16, and is used by one call at a time. Each handle is opened once,
      and ended once, whatever opening came to.
    - A pointer that comes with a number of bytes isn't null, and what a call writes to overlaps nothing else that it is given.
-   - The stack has room for 1 MiB.
+   - The stack has room for 1 MiB, and where a target is opened for 3 MiB.
    - Of a file: the bytes that a handle is opened on are all bytes of its file, all on the disk. The calls that are told are made in order,
      each whole, and told as done only where they are; none is made behind one that failed.
    - Of a target: what came on a connection, and what was sent, is told before the time that went by meanwhile. Names are given before the

@@ -1,5 +1,5 @@
 -- A device in a file, as C serves it, and what it does and answers by what it is asked for.
-use Rattle.std.specs.Prelude.{ℕ, ◌≡◌, ◌<◌, ◌⊎◌, Bool, true, false, not, ◌&&◌, List, [], drop, Option, Some, None, if◌then◌else◌}
+use Rattle.std.specs.Prelude.{ℕ, ◌≡◌, ◌<◌, ◌⊎◌, Bool, true, false, not, ◌&&◌, List, [], drop, Option, Some, None}
 use Rattle.event_frames.specs.declared.fault.StreamFault.{StreamFault}
 use Rattle.event_frames.specs.declared.fault.StreamFault.TheVariants as stream
 use Rattle.stored_file.specs.File.{FileState, LeavesOnly}

@@ -1,5 +1,5 @@
 -- What a device in memory does, and answers, by what it is asked for.
-use Rattle.std.specs.Prelude.{ℕ, ◌≡◌, List, Option, Some, None}
+use Rattle.std.specs.Prelude.{ℕ, ◌≡◌, Option, Some, None}
 use Rattle.image_text.specs.Text.{text}
 use Rattle.device_meaning.specs.Draining.{lowest_run}
 use Rattle.device_meaning.specs.State.{State}

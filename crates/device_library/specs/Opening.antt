@@ -176,6 +176,9 @@ HasOpened door bytes (Some session) number = IsOpenedBy door bytes session × (n
 HasOpened door bytes None number = IsRefusedBy door bytes number
 
 -- a handle is made so, and what stands between calls stands
-pub record IsMade (door : ℕ) (bytes : List ℕ) (handle : Handle) : Type 0 where
-  pub opened : HasOpened (door_of door) bytes handle.session handle.opened
+pub record IsMadeBy (door : Option Door) (bytes : List ℕ) (handle : Handle) : Type 0 where
+  pub opened : HasOpened door bytes handle.session handle.opened
   pub kept : KeepsAll handle
+
+abbrev pub IsMade : ℕ → List ℕ → Handle → Type 0
+IsMade door bytes handle = IsMadeBy (door_of door) bytes handle

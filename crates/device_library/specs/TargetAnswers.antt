@@ -1,5 +1,5 @@
 -- What a target does, and answers, by what it is asked for.
-use Rattle.std.specs.Prelude.{ℕ, Bool, true, false, ◌≡◌, ◌≤◌, ◌<◌, ◌⊎◌, List, ◌++◌, [], ◌∷◌, length, take, drop, min, nat_lt, Option, Some, None, if◌then◌else◌, is_some}
+use Rattle.std.specs.Prelude.{ℕ, Bool, true, false, ◌≡◌, List, length, min, nat_lt, Option, Some, None, if◌then◌else◌, is_some}
 use Rattle.image_text.specs.Text.{text}
 use Rattle.tcp_connection.specs.Queue.{is_ended}
 use Rattle.tcp_queues.specs.Queues.{free_number, place_at}

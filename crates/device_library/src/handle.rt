@@ -1,8 +1,7 @@
 //! What lies in C's memory.
 
-ghost use Rattle.std.specs.Prelude.{◌≡◌, IfOk, IfErr, None, Some};
-ghost use Rattle.device_library.specs.Opening.{IsMade, IsOpenedBy, IsRefusedBy};
-ghost use Rattle.device_library.specs.Sessions.{KeepsSession};
+ghost use Rattle.std.specs.Prelude.{Some};
+ghost use Rattle.device_library.specs.Opening.{IsMade, IsMadeBy};
 
 use crate::kept::Kept;
 use crate::kind::Door;
@@ -39,10 +38,36 @@ pub struct Handle {
 pub fn make(alloc: Global, door: u32, bytes: &[u8]) -> Handle
     ensures { IsMade door bytes.now result }
 {
-    match open(alloc, Door::from_number(door), bytes) {
-        Ok(session) => Handle {
+    open(alloc, Door::from_number(door), bytes)
+}
+
+/// A handle that is opened by a door. Each has a function that isn't inlined, and makes the handle at once, since a device takes much of
+/// the stack on its way.
+fn open(alloc: Global, door: Option<Door>, bytes: &[u8]) -> Handle
+    ensures { IsMadeBy door bytes.now result }
+{
+    match door {
+        Some(Door::Memory) => in_memory(alloc, bytes),
+        Some(Door::File) => in_file(alloc, bytes),
+        Some(Door::Target) => target(alloc, bytes),
+        Some(Door::TargetFile) => target_in_file(alloc, bytes),
+        None => Handle {
             alloc,
-            session: Some(session),
+            session: None,
+            opened: NO_DOOR,
+        },
+    }
+}
+
+/// A device in memory.
+#[inline(never)]
+fn in_memory(alloc: Global, bytes: &[u8]) -> Handle
+    ensures { IsMadeBy (Some Door.Memory) bytes.now result }
+{
+    match memory::open(alloc, bytes) {
+        Ok(device) => Handle {
+            alloc,
+            session: Some(Session::Memory(device)),
             opened: DONE,
         },
         Err(why) => Handle {
@@ -53,74 +78,60 @@ pub fn make(alloc: Global, door: u32, bytes: &[u8]) -> Handle
     }
 }
 
-/// What is opened by a door. Each has a function that isn't inlined, since a device takes much of the stack on its way.
-///
-/// # Errors
-///
-/// Why there is none, by number.
-fn open(alloc: Global, door: Option<Door>, bytes: &[u8]) -> Result<Session, u32>
-    ensures opened { IfOk result (IsOpenedBy door bytes.now) }
-    ensures kept { IfOk result KeepsSession }
-    ensures refused { IfErr result (IsRefusedBy door bytes.now) }
-{
-    match door {
-        Some(Door::Memory) => in_memory(alloc, bytes),
-        Some(Door::File) => in_file(alloc, bytes),
-        Some(Door::Target) => target(alloc, bytes),
-        Some(Door::TargetFile) => target_in_file(alloc, bytes),
-        None => Err(NO_DOOR),
-    }
-}
-
-/// A device in memory.
-#[inline(never)]
-fn in_memory(alloc: Global, bytes: &[u8]) -> Result<Session, u32>
-    ensures opened { IfOk result (IsOpenedBy (Some Door.Memory) bytes.now) }
-    ensures kept { IfOk result KeepsSession }
-    ensures refused { IfErr result (IsRefusedBy (Some Door.Memory) bytes.now) }
-{
-    match memory::open(alloc, bytes) {
-        Ok(device) => Ok(Session::Memory(device)),
-        Err(why) => Err(why),
-    }
-}
-
 /// A device in a file.
 #[inline(never)]
-fn in_file(alloc: Global, bytes: &[u8]) -> Result<Session, u32>
-    ensures opened { IfOk result (IsOpenedBy (Some Door.File) bytes.now) }
-    ensures kept { IfOk result KeepsSession }
-    ensures refused { IfErr result (IsRefusedBy (Some Door.File) bytes.now) }
+fn in_file(alloc: Global, bytes: &[u8]) -> Handle
+    ensures { IsMadeBy (Some Door.File) bytes.now result }
 {
     match open_file(alloc, bytes) {
-        Ok(kept) => Ok(Session::Kept(kept)),
-        Err(why) => Err(why),
+        Ok(kept) => Handle {
+            alloc,
+            session: Some(Session::Kept(kept)),
+            opened: DONE,
+        },
+        Err(why) => Handle {
+            alloc,
+            session: None,
+            opened: why,
+        },
     }
 }
 
 /// A target before a device in memory.
 #[inline(never)]
-fn target(alloc: Global, bytes: &[u8]) -> Result<Session, u32>
-    ensures opened { IfOk result (IsOpenedBy (Some Door.Target) bytes.now) }
-    ensures kept { IfOk result KeepsSession }
-    ensures refused { IfErr result (IsRefusedBy (Some Door.Target) bytes.now) }
+fn target(alloc: Global, bytes: &[u8]) -> Handle
+    ensures { IsMadeBy (Some Door.Target) bytes.now result }
 {
     match open_target(alloc, bytes) {
-        Ok(target) => Ok(Session::Target(target)),
-        Err(why) => Err(why),
+        Ok(target) => Handle {
+            alloc,
+            session: Some(Session::Target(target)),
+            opened: DONE,
+        },
+        Err(why) => Handle {
+            alloc,
+            session: None,
+            opened: why,
+        },
     }
 }
 
 /// A target before a device in a file.
 #[inline(never)]
-fn target_in_file(alloc: Global, bytes: &[u8]) -> Result<Session, u32>
-    ensures opened { IfOk result (IsOpenedBy (Some Door.TargetFile) bytes.now) }
-    ensures kept { IfOk result KeepsSession }
-    ensures refused { IfErr result (IsRefusedBy (Some Door.TargetFile) bytes.now) }
+fn target_in_file(alloc: Global, bytes: &[u8]) -> Handle
+    ensures { IsMadeBy (Some Door.TargetFile) bytes.now result }
 {
     match open_target_file(alloc, bytes) {
-        Ok(target) => Ok(Session::Target(target)),
-        Err(why) => Err(why),
+        Ok(target) => Handle {
+            alloc,
+            session: Some(Session::Target(target)),
+            opened: DONE,
+        },
+        Err(why) => Handle {
+            alloc,
+            session: None,
+            opened: why,
+        },
     }
 }
 

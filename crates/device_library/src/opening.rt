@@ -102,7 +102,8 @@ fn kept_target(alloc: Global, device: DurableDevice<HandedFile>) -> Result<Targe
     })
 }
 
-/// The device of a file, which is a journal where it begins as one, and else an image, from which a journal is made.
+/// The device of a file, which is a journal where it begins as one, and else an image, from which a journal is made. Either has a function
+/// that isn't inlined, since a device takes much of the stack on its way.
 fn device_of(alloc: Global, bytes: &[u8]) -> Result<DurableDevice<HandedFile>, u32>
     ensures opened { IfOk result (λ device. IsDeviceOf bytes.now (state_of device) (journal_of device)) }
     ensures kept { IfOk result (λ device. IsKept (state_of device) (journal_of device).gate (promised_of (journal_of device).file)) }
@@ -117,6 +118,7 @@ fn device_of(alloc: Global, bytes: &[u8]) -> Result<DurableDevice<HandedFile>, u
 }
 
 /// The device of a journal.
+#[inline(never)]
 fn reopen(alloc: Global, bytes: &[u8], file: HandedFile) -> Result<DurableDevice<HandedFile>, u32>
     requires restarted { IsRestarted (told_of (noted file)) }
     requires read { bytes.now ≡ (told_of (noted file)).seen }
@@ -131,6 +133,7 @@ fn reopen(alloc: Global, bytes: &[u8], file: HandedFile) -> Result<DurableDevice
 }
 
 /// The device of an image, and a journal that takes its place.
+#[inline(never)]
 fn create(
     alloc: Global,
     bytes: &[u8],

@@ -9,5 +9,5 @@ mod Reached
 mod Queues
 mod Cuts
 mod Order
-mod Events
+mod NotedEvents
 mod Deeds

@@ -1,6 +1,6 @@
 use Rattle.std.proofs.Common.{rules, ℕ, List, ◌≡◌, ◌<◌, ◌^◌, length, arith, subst, sym, ◌∙◌}
 use Rattle.tcp_device.proofs.Deeds.{was_turned}
-use Rattle.tcp_device.proofs.Events.{idled, turned}
+use Rattle.tcp_device.proofs.NotedEvents.{idled, turned}
 use Rattle.tcp_device.proofs.keeper.Keeper.give_turn.Goals as goal
 
 pub returns-then-is_idle-clause-kept : goal.returns-then-is_idle-clause-kept

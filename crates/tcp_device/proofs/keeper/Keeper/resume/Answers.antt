@@ -1,6 +1,6 @@
 use Rattle.std.proofs.Common.{rules, ℕ, List, ◌≡◌, ◌<◌, ◌^◌, length, arith, subst, sym, ◌∙◌}
 use Rattle.tcp_device.proofs.Deeds.{was_resumed}
-use Rattle.tcp_device.proofs.Events.{resumed, resumed_idle}
+use Rattle.tcp_device.proofs.NotedEvents.{resumed, resumed_idle}
 use Rattle.tcp_device.proofs.keeper.Keeper.resume.Goals as goal
 
 pub returns-then-is_idle-clause-kept : goal.returns-then-is_idle-clause-kept

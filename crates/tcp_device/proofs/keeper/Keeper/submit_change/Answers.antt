@@ -1,6 +1,6 @@
 use Rattle.std.proofs.Common.{rules, ℕ, List, ◌≡◌, ◌<◌, ◌^◌, length, arith, subst, sym, ◌∙◌}
 use Rattle.tcp_device.proofs.Deeds.{was_submitted}
-use Rattle.tcp_device.proofs.Events.{changed, refused}
+use Rattle.tcp_device.proofs.NotedEvents.{changed, refused}
 use Rattle.tcp_device.proofs.keeper.Keeper.submit_change.Goals as goal
 
 pub returns-then-is_refusal-clause-kept : goal.returns-then-is_refusal-clause-kept
