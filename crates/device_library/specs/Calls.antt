@@ -40,7 +40,7 @@ pub record TargetAnswers (kind : ℕ) (asked : Asked) (t : Target) (old new : Le
   pub left : Target
   pub session_is : new.session ≡ session.Target left
   pub reply : new.reply ≡ old.reply
-  pub answers : target.AnswersTo kind asked.number asked.count asked.piece (record { session = t; out = old.out })
+  pub answers : target.AnswersTo kind asked (record { session = t; out = old.out })
       (record { session = left; out = new.out }) answer
 
 -- what is there answers

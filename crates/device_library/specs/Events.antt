@@ -12,6 +12,7 @@ use Rattle.device_events.specs.declared.reply.Reply.TheVariants as reply
 use Rattle.device_meaning.specs.Events.{HasHappened}
 use Rattle.device_meaning.specs.Judging.{interval_judge}
 use Rattle.device_meaning.specs.State.{State}
+use Rattle.device_library.specs.Asked.{Asked}
 use Rattle.device_library.specs.declared.event.ReplyHead.{ReplyHead}
 use Rattle.device_library.specs.declared.numbers.TheConstants.{SUBMIT, TURN, FAULT_READ_ONLY, FAULT_OFFLINE}
 use Rattle.device_library.specs.declared.numbers.TheConstants.{COMPLETION, PENDING, IDLE, FAULT_TAKEN, FAULT_REFUSED}
@@ -23,6 +24,10 @@ pub record EventAsked : Type 0 where
   pub number : ℕ
   pub entry : List ℕ
   pub input : List ℕ
+
+-- of a call its kind is told as a count, and its entry and data as two pieces
+abbrev pub event_of : Asked → EventAsked
+event_of asked = record { kind = asked.count; number = asked.number; entry = asked.piece; input = asked.beside }
 
 -- the kind of a fault
 abbrev pub fault_kind : FaultState → ℕ

@@ -5,7 +5,7 @@ use Rattle.device_meaning.specs.Draining.{lowest_run}
 use Rattle.device_meaning.specs.State.{State}
 use Rattle.device_library.specs.Asked.{Asked}
 use Rattle.device_library.specs.Bytes.{SavesText}
-use Rattle.device_library.specs.Events.{DoesEvent, EventAsked, IsTold, MemoryLent}
+use Rattle.device_library.specs.Events.{DoesEvent, IsTold, MemoryLent, event_of}
 use Rattle.device_library.specs.Kinds.{memory_kind, nothing_of}
 use Rattle.device_library.specs.declared.kind.MemoryKind.{MemoryKind}
 use Rattle.device_library.specs.declared.kind.MemoryKind.TheVariants as kind
@@ -19,10 +19,6 @@ run_number None = NO_RUN
 -- the number of the lowest active run
 abbrev pub lowest_number : State → ℕ
 lowest_number device = run_number (lowest_run device)
-
--- the event: its kind is told as a count, and its entry and data as two pieces
-abbrev pub event_of : Asked → EventAsked
-event_of asked = record { kind = asked.count; number = asked.number; entry = asked.piece; input = asked.beside }
 
 -- the text of the device's image is saved as it is now, or not, and nothing happens to the device
 pub record Saves (old new : MemoryLent) (answer : ℕ) : Type 0 where

@@ -18,6 +18,7 @@ use Rattle.stored_file.specs.declared.stored_file.FileError.{FileError}
 use Rattle.stored_file.specs.declared.stored_file.FileError.TheVariants as file
 use Rattle.durable_machine.specs.declared.in_file.InFile.{InFile}
 use Rattle.tcp_device.specs.declared.keeper.Keeper.{Keeper}
+use Rattle.device_library.specs.Asked.{Asked}
 use Rattle.device_library.specs.Bytes.{IsFront, SavesText}
 use Rattle.device_library.specs.Files.{TellsNext, next_of}
 use Rattle.device_library.specs.Kinds.{nothing_of, target_kind}
@@ -158,41 +159,39 @@ pub record Asks (question : Question) (from : ℕ) (old new : TargetLent) (answe
 -- ---- kinds
 
 -- what a kind comes to
-abbrev pub Answers : TargetKind → ℕ → ℕ → List ℕ → TargetLent → TargetLent → ℕ → Type 0
-Answers kind.Accept number count piece old new answer = Did Opened (number_or (free_number old.session.served.target.queues)) old new answer
-Answers kind.Receive number count piece old new answer =
-    Did (Received number piece) (count_of number piece old.session.served.target) old new answer
-Answers kind.Command number count piece old new answer =
-    DoesBy (session.Does (Served number) (is_ready number old.session.served.target)) old new answer
-Answers kind.Unsent number count piece old new answer = GivesUnsent number old new answer
-Answers kind.Sent number count piece old new answer =
-    Forgets number (sent_of number count old.session.served) old new answer
-Answers kind.Ending number count piece old new answer = Told (ending_of number old.session.served) old new answer
-Answers kind.Close number count piece old new answer = Did (Closed number) 0 old new answer
-Answers kind.Tick number count piece old new answer = Did (Ticked (milliseconds_of count)) 0 old new answer
-Answers kind.Turn number count piece old new answer = DoesBy (session.Does Turned (is_some (next_run old.session.served))) old new answer
-Answers kind.Save number count piece old new answer = Saves old new answer
-Answers kind.Commit number count piece old new answer = CommitsAt old new answer
-Answers (kind.Ask question) number count piece old new answer = Asks question count old new answer
-Answers kind.Fold number count piece old new answer = FoldsAt old new answer
-Answers kind.Resume number count piece old new answer = DoesBy (GoesOnAt number) old new answer
-Answers kind.Done number count piece old new answer = Notes TakesDone old new answer
-Answers kind.Failed number count piece old new answer = Notes TakesFailed old new answer
-Answers kind.Name number count piece old new answer = DoesBy (IsNamed piece) old new answer
-Answers kind.Nqn number count piece old new answer = Gave old.session.served.target.subsystem.nqn old new answer
+abbrev pub Answers : TargetKind → Asked → TargetLent → TargetLent → ℕ → Type 0
+Answers kind.Accept asked old new answer = Did Opened (number_or (free_number old.session.served.target.queues)) old new answer
+Answers kind.Receive asked old new answer =
+    Did (Received asked.number asked.piece) (count_of asked.number asked.piece old.session.served.target) old new answer
+Answers kind.Command asked old new answer =
+    DoesBy (session.Does (Served asked.number) (is_ready asked.number old.session.served.target)) old new answer
+Answers kind.Unsent asked old new answer = GivesUnsent asked.number old new answer
+Answers kind.Sent asked old new answer =
+    Forgets asked.number (sent_of asked.number asked.count old.session.served) old new answer
+Answers kind.Ending asked old new answer = Told (ending_of asked.number old.session.served) old new answer
+Answers kind.Close asked old new answer = Did (Closed asked.number) 0 old new answer
+Answers kind.Tick asked old new answer = Did (Ticked (milliseconds_of asked.count)) 0 old new answer
+Answers kind.Turn asked old new answer = DoesBy (session.Does Turned (is_some (next_run old.session.served))) old new answer
+Answers kind.Save asked old new answer = Saves old new answer
+Answers kind.Commit asked old new answer = CommitsAt old new answer
+Answers (kind.Ask question) asked old new answer = Asks question asked.count old new answer
+Answers kind.Fold asked old new answer = FoldsAt old new answer
+Answers kind.Resume asked old new answer = DoesBy (GoesOnAt asked.number) old new answer
+Answers kind.Done asked old new answer = Notes TakesDone old new answer
+Answers kind.Failed asked old new answer = Notes TakesFailed old new answer
+Answers kind.Name asked old new answer = DoesBy (IsNamed asked.piece) old new answer
+Answers kind.Nqn asked old new answer = Gave old.session.served.target.subsystem.nqn old new answer
 
 -- where a connection may have the number,
-abbrev pub AnswersIfNumbered : Bool → TargetKind → ℕ → ℕ → List ℕ → TargetLent → TargetLent → ℕ → Type 0
-AnswersIfNumbered true kind number count piece old new answer = Answers kind number count piece old new answer
-AnswersIfNumbered false kind number count piece old new answer = Told 0 old new answer
+abbrev pub AnswersIfNumbered : Bool → TargetKind → Asked → TargetLent → TargetLent → ℕ → Type 0
+AnswersIfNumbered true kind asked old new answer = Answers kind asked old new answer
+AnswersIfNumbered false kind asked old new answer = Told 0 old new answer
 
 -- and the kind is known
-abbrev pub AnswersIfKnown : Option TargetKind → ℕ → ℕ → ℕ → List ℕ → TargetLent → TargetLent → ℕ → Type 0
-AnswersIfKnown (Some kind) kind_number number count piece old new answer =
-    AnswersIfNumbered (nat_lt number 40) kind number count piece old new answer
-AnswersIfKnown None kind_number number count piece old new answer = Told (nothing_of kind_number) old new answer
+abbrev pub AnswersIfKnown : Option TargetKind → ℕ → Asked → TargetLent → TargetLent → ℕ → Type 0
+AnswersIfKnown (Some kind) number asked old new answer = AnswersIfNumbered (nat_lt asked.number 40) kind asked old new answer
+AnswersIfKnown None number asked old new answer = Told (nothing_of number) old new answer
 
 -- what a number of a kind comes to
-abbrev pub AnswersTo : ℕ → ℕ → ℕ → List ℕ → TargetLent → TargetLent → ℕ → Type 0
-AnswersTo kind_number number count piece old new answer =
-    AnswersIfKnown (target_kind kind_number) kind_number number count piece old new answer
+abbrev pub AnswersTo : ℕ → Asked → TargetLent → TargetLent → ℕ → Type 0
+AnswersTo number asked old new answer = AnswersIfKnown (target_kind number) number asked old new answer

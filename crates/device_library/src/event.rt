@@ -2,9 +2,11 @@
 
 ghost use Rattle.std.specs.Prelude.{ℕ, ◌≡◌, ◌≤◌, ◌≢◌, List, length, IfSome, None};
 ghost use Rattle.nvme_entry.specs.declared.command.TheConstants.{MOST_TRANSFER};
-ghost use Rattle.device_library.specs.Events.{DoesEvent, EventAsked, Happens, IsAsked, MemoryLent, head_of, most_number, refusal, reply_number};
+ghost use Rattle.device_library.specs.Asked.{told_by};
+ghost use Rattle.device_library.specs.Events.{DoesEvent, EventAsked, Happens, IsAsked, MemoryLent, event_of, head_of, most_number, refusal, reply_number};
 ghost use Rattle.device_library.specs.declared.numbers.TheConstants.{SUBMIT};
 
+use crate::asked::AskedBy;
 use crate::numbers::{
     COMPLETION, FAULT_OFFLINE, FAULT_READ_ONLY, FAULT_REFUSED, FAULT_TAKEN, IDLE, NUMBER_TOO_LARGE,
     PENDING, SUBMIT, TURN, UNKNOWN_KIND, WRONG_SIZE,
@@ -28,20 +30,23 @@ pub struct ReplyHead {
     pub completion: [u8; 16],
 }
 
-/// Does the event that is asked for, and gives the number of what became of it.
+/// Does the event that is asked for, of the kind that is told as the count, and gives the number of what became of it.
 pub fn event(
     device: &mut Device,
-    kind: usize,
-    number: usize,
-    entry: &[u8],
-    input: &[u8],
+    asked: &AskedBy<'_>,
     reply: &mut ReplyHead,
     output: &mut [u8],
 ) -> usize
-    ensures { DoesEvent (record { kind = kind; number = number; entry = entry.now; input = input.now })
+    ensures { DoesEvent (event_of (told_by asked.now))
         (record { device = device.old; reply = reply.old; out = output.old })
         (record { device = device.new; reply = reply.new; out = output.new }) result }
 {
+    let AskedBy {
+        number,
+        count: kind,
+        piece: entry,
+        beside: input,
+    } = *asked;
     if let Some(why) = refusal(kind, number, entry, output) {
         return why;
     }

@@ -3,6 +3,7 @@
 //! told that all are done. `hosts/c/pifnjarl_handle.h` has the numbers, and what C owes.
 #![tactic(auto)]
 
+mod asked;
 mod calls;
 mod event;
 mod exports;

@@ -1,11 +1,12 @@
 //! A device in memory, as C asks it.
 
 ghost use Rattle.std.specs.Prelude.{◌≡◌, IfOk, IfErr};
-ghost use Rattle.device_library.specs.Asked.{Asked};
+ghost use Rattle.device_library.specs.Asked.{told_by};
 ghost use Rattle.device_library.specs.Events.{MemoryLent};
 ghost use Rattle.device_library.specs.Memory.{Answers, AnswersTo, lowest_number};
 ghost use Rattle.device_library.specs.Opening.{IsImageOf, IsRefusedImage};
 
+use crate::asked::AskedBy;
 use crate::event::{ReplyHead, event};
 use crate::kind::{MemoryKind, nothing};
 use crate::numbers::NO_RUN;
@@ -36,21 +37,16 @@ pub fn answer_to(
     device: &mut Device,
     alloc: Global,
     kind: u32,
-    number: usize,
-    count: usize,
-    piece: &[u8],
-    beside: &[u8],
+    asked: &AskedBy<'_>,
     reply: &mut ReplyHead,
     out: &mut [u8],
 ) -> usize
-    ensures { AnswersTo kind (record { number = number; count = count; piece = piece.now; beside = beside.now })
+    ensures { AnswersTo kind (told_by asked.now)
         (record { device = device.old; reply = reply.old; out = out.old })
         (record { device = device.new; reply = reply.new; out = out.new }) result }
 {
     match MemoryKind::from_number(kind) {
-        Some(kind) => answer(
-            device, alloc, kind, number, count, piece, beside, reply, out,
-        ),
+        Some(kind) => answer(device, alloc, kind, asked, reply, out),
         None => nothing(kind),
     }
 }
@@ -60,19 +56,16 @@ fn answer(
     device: &mut Device,
     alloc: Global,
     kind: MemoryKind,
-    number: usize,
-    count: usize,
-    piece: &[u8],
-    beside: &[u8],
+    asked: &AskedBy<'_>,
     reply: &mut ReplyHead,
     out: &mut [u8],
 ) -> usize
-    ensures { Answers kind (record { number = number; count = count; piece = piece.now; beside = beside.now })
+    ensures { Answers kind (told_by asked.now)
         (record { device = device.old; reply = reply.old; out = out.old })
         (record { device = device.new; reply = reply.new; out = out.new }) result }
 {
     match kind {
-        MemoryKind::Event => event(device, count, number, piece, beside, reply, out),
+        MemoryKind::Event => event(device, asked, reply, out),
         MemoryKind::LowestRun => lowest_run(device),
         MemoryKind::Save => save(alloc, device.image(), out),
     }

@@ -3,9 +3,11 @@
 ghost use Rattle.std.specs.Prelude.{◌≡◌, ◌<◌};
 ghost use Rattle.tcp_device.specs.Deeds.{Closed, Does, Opened, Sent, Ticked};
 ghost use Rattle.tcp_queues.specs.Queues.{free_number};
+ghost use Rattle.device_library.specs.Asked.{told_by};
 ghost use Rattle.device_library.specs.Target.{TakesDone, TakesFailed, WillBeKept};
 ghost use Rattle.device_library.specs.TargetAnswers.{Answers, AnswersTo, Folds, GoesOnAt, TargetLent, TellsIn, as_number, commit_number, ending_of, error_number, milliseconds_of, number_or, sent_of};
 
+use crate::asked::AskedBy;
 use crate::files::tell_next;
 use crate::kind::{Question, TargetKind, nothing};
 use crate::put::{put, save};
@@ -21,20 +23,16 @@ pub fn answer_to(
     session: &mut Target,
     alloc: Global,
     kind: u32,
-    number: usize,
-    count: usize,
-    piece: &[u8],
+    asked: &AskedBy<'_>,
     out: &mut [u8],
 ) -> usize
     requires { WillBeKept session.old }
-    ensures answered { AnswersTo kind number count piece.now (record { session = session.old; out = out.old })
+    ensures answered { AnswersTo kind (told_by asked.now) (record { session = session.old; out = out.old })
         (record { session = session.new; out = out.new }) result }
     ensures kept { WillBeKept session.new }
 {
     match TargetKind::from_number(kind) {
-        Some(kind) if number < MOST_CONNECTIONS => {
-            answer(session, alloc, kind, number, count, piece, out)
-        }
+        Some(kind) if asked.number < MOST_CONNECTIONS => answer(session, alloc, kind, asked, out),
         Some(_) => 0,
         None => nothing(kind),
     }
@@ -45,17 +43,21 @@ fn answer(
     session: &mut Target,
     alloc: Global,
     kind: TargetKind,
-    number: usize,
-    count: usize,
-    piece: &[u8],
+    asked: &AskedBy<'_>,
     out: &mut [u8],
 ) -> usize
-    requires number { number < MOST_CONNECTIONS }
+    requires number { asked.now.number < MOST_CONNECTIONS }
     requires kept { WillBeKept session.old }
-    ensures answered { Answers kind number count piece.now (record { session = session.old; out = out.old })
+    ensures answered { Answers kind (told_by asked.now) (record { session = session.old; out = out.old })
         (record { session = session.new; out = out.new }) result }
     ensures kept { WillBeKept session.new }
 {
+    let AskedBy {
+        number,
+        count,
+        piece,
+        ..
+    } = *asked;
     match kind {
         TargetKind::Save => save(alloc, session.served.image(), out),
         TargetKind::Fold => fold(session, alloc, count),

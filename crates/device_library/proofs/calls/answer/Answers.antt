@@ -1,5 +1,5 @@
 use Rattle.std.proofs.Common.{refl, subst, sym}
-use Rattle.device_library.specs.Asked.{Asked}
+use Rattle.device_library.specs.Asked.{Asked, told_by}
 use Rattle.device_library.specs.Calls.{AnswersAs, Lent}
 use Rattle.device_library.specs.declared.handle.Session.{Session}
 use Rattle.device_library.specs.declared.handle.Session.TheVariants as session
@@ -7,7 +7,7 @@ use Rattle.device_library.proofs.calls.answer.Goals as goal
 
 pub returns-in-Memory-clause-answered : goal.returns-in-Memory-clause-answered
 returns-in-Memory-clause-answered c =
-    let asked : Asked = record { number = c.args.number; count = c.args.count; piece = c.args.piece.now; beside = c.args.beside.now } in
+    let asked : Asked = told_by c.args.asked.now in
     let old : Lent = record { session = c.args.session.now; reply = c.args.reply.now; out = c.args.out.now } in
     let new : Lent = record { session = session.Memory c.answer_to.new.device; reply = c.answer_to.new.reply; out = c.answer_to.new.out } in
     subst (λ (s : Session). AnswersAs s c.args.kind asked old new c.answer_to.result) (sym c.in-Memory.is)
@@ -16,7 +16,7 @@ returns-in-Memory-clause-answered c =
 pub returns-in-Kept-clause-answered : goal.returns-in-Kept-clause-answered
 returns-in-Kept-clause-answered c =
     let answered = c.answer_to-in-Kept in
-    let asked : Asked = record { number = c.args.number; count = c.args.count; piece = c.args.piece.now; beside = c.args.beside.now } in
+    let asked : Asked = told_by c.args.asked.now in
     let old : Lent = record { session = c.args.session.now; reply = c.args.reply.now; out = c.args.out.now } in
     let new : Lent = record { session = session.Kept answered.new.session; reply = c.args.reply.now; out = answered.new.out } in
     subst (λ (s : Session). AnswersAs s c.args.kind asked old new answered.result) (sym c.in-Kept.is)
@@ -25,7 +25,7 @@ returns-in-Kept-clause-answered c =
 pub returns-in-Target-clause-answered : goal.returns-in-Target-clause-answered
 returns-in-Target-clause-answered c =
     let answered = c.answer_to-in-Target in
-    let asked : Asked = record { number = c.args.number; count = c.args.count; piece = c.args.piece.now; beside = c.args.beside.now } in
+    let asked : Asked = told_by c.args.asked.now in
     let old : Lent = record { session = c.args.session.now; reply = c.args.reply.now; out = c.args.out.now } in
     let new : Lent = record { session = session.Target answered.new.session; reply = c.args.reply.now; out = answered.new.out } in
     subst (λ (s : Session). AnswersAs s c.args.kind asked old new answered.result) (sym c.in-Target.is)

@@ -1,11 +1,11 @@
 use Rattle.std.proofs.Common.{arith}
-use Rattle.device_library.specs.Asked.{Asked}
+use Rattle.device_library.specs.Asked.{Asked, told_by}
 use Rattle.device_library.proofs.Calling.{calls_some}
-use Rattle.device_library.proofs.calls.call.Goals as goal
+use Rattle.device_library.proofs.calls.do_asked.Goals as goal
 
 pub returns-in-Some : goal.returns-in-Some
 returns-in-Some c =
-    let asked : Asked = record { number = c.args.number; count = c.args.count; piece = c.args.piece.now; beside = c.args.beside.now } in
+    let asked : Asked = told_by c.args.asked.now in
     record {
       calls = calls_some c.args.kind asked c.args.handle.now c.in-Some.session c.answer.new.session c.args.reply.now c.answer.new.reply
           c.args.out.now c.answer.new.out c.answer.result (omega (arith, c.if-kind-eq-OPENED.false)) c.in-Some.is c.answer.ensures.answered;
