@@ -1,4 +1,4 @@
-`serve --durable --frames` keeps what it answers in a journal, which `fold` makes short again. Frames are made from words, and shown in
+`serve --durable` keeps what it answers in a journal, which `fold` makes short again. Frames are made from words, and shown in
 words, by frames.py.
 
   $ frames() { python3 "$TESTDIR/frames.py" "$1"; }
@@ -167,29 +167,30 @@ byte; so is one after others.
   [3]
   $ cmp image idle
 
-Words that ask for what there isn't: lines, and turns as they come.
+By lines the same event is answered by its line, and the journal is the same. A line that is rejected ends it: what came before it is kept.
 
   $ fresh
-  $ zscli serve image --durable < asked
-  error: the following required arguments were not provided:
-    --frames
-  
-  Usage: zscli serve --frames --durable <IMAGE>
-  
-  For more information, try '--help'.
-  [2]
-  $ zscli serve image --durable --frames --drain < asked
-  error: the argument '--durable' cannot be used with '--drain'
-  
-  Usage: zscli serve --durable --frames <IMAGE>
-  
-  For more information, try '--help'.
-  [2]
-  $ cmp image empty
+  $ zscli serve image --durable < append
+  cpl 1 00000000000000000000010001000000
+  $ cmp image journal
+  $ zscli serve image --durable < read
+  cpl 1 00000000000000000000010002000000 (?:42){512} (re)
+  $ cmp image journal
+  $ printf 'fault 3 readonly\nturn x\n' | zscli serve image --durable
+  done
+  -, line 2: "x": no run; a number from 0 to 255 is expected
+  line 2 refused
+  [3]
+  $ zscli zones image
+  0 implicit 1
+  1 empty 0
+  2 empty 0
+  3 readonly 0
 
 A device with two blocks and a program, which adds the first byte of a block to a sum in scratch, and emits the block's first 8 bytes.
 A run over the second block ends, and one over both has had one of two turns, when a byte comes that no request has.
 
+  $ fresh
   $ printf 'ldxb r4, [r2]\nldxdw r5, [r3]\nadd r5, r4\nstxdw [r3], r5\nmov r1, r2\nmov r2, 8\ncall 1\nmov r0, 0\nexit\n' > text
   $ zscli asm text program
   $ tr B A < block > block_of_a
@@ -253,6 +254,27 @@ The device goes on from there: the result of the first run, the turn that is lef
   cpl 1 02000000010000000000010005000000
   cpl 1 00000000000000000000010007000000 83 00x1023
   cpl 1 00000000000000000000010002000000 0800414141414141414108004242424242424242 00x492
+
+By lines, with the same program: the run over both blocks has one of its two turns by a line, and the other at the end of the input; the
+next call finds its result. With `--drain` it has both after the line of the Run, and none is left for the turn that is asked for.
+
+  $ fresh
+  $ zscli serve image --durable < used > first
+  $ tail -n 3 first
+  pending 0
+  pending 0
+  cpl 1 02000000010000000000010005000000
+  $ zscli entry result --slot 0 --cid 7 > asks
+  $ zscli serve image --durable < asks | head -c 44
+  cpl 1 00000000000000000000010007000000 83000 (no-eol)
+  $ fresh
+  $ zscli serve image --durable --drain < used > second
+  $ tail -n 3 second
+  pending 0
+  cpl 1 02000000010000000000010005000000
+  idle
+  $ zscli serve image --durable --drain < asks | head -c 44
+  cpl 1 00000000000000000000010007000000 83000 (no-eol)
 
 An image that is no journal stays as it is, and a damaged journal is refused, and left alone.
 

@@ -122,11 +122,10 @@ An image that can't be saved ends it: here no file may have a byte, and the answ
   image
   $ cmp image empty
 
-Without the trap the system ends the command in the midst of the new file. The old image is there, and the next command that saves it
-removes the rest of the new one. A folder with that name is left alone.
+Without the trap the system ends the command in the midst of the new file, before what has come is answered. The old image is there, and
+the next command that saves it removes the rest of the new one. A folder with that name is left alone.
 
   $ sh -c 'ulimit -f 0; zscli serve image --frames < asked; exit' 2> /dev/null | frames show
-  cpl 1 00000000000000000000010001000000
   $ ls image*
   image
   image.unfinished

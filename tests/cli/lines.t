@@ -51,7 +51,7 @@ A line that is refused: the events of the lines before it are done, answered and
   $ cat printed
   idle
 
-Standard output takes no line: the event is done, and saved, and no later one is.
+Standard output takes no line: what has come is done, and saved.
 
   $ fresh
   $ printf 'fault 3 readonly\nfault 2 readonly\n' > lines
@@ -59,10 +59,12 @@ Standard output takes no line: the event is done, and saved, and no later one is
   -: no room is left
   cannot write -
   [1]
-  $ cmp image one_fault
+  $ zones
+  0 empty 0,1 empty 0,2 readonly 0,3 readonly 0,
 
 Standard input that can't be read: the image stays as it is.
 
+  $ cp one_fault image
   $ zscli serve image < .
   cannot read -
   [1]
@@ -155,7 +157,7 @@ Over two pipes: a line is answered before the next one comes, and the image is s
   $ exec 4<&-
   $ cmp image one_fault
 
-Where the reader has left, the next event is done and saved, and no later one is.
+Where the reader has left, what has come is done and saved, and nothing later is.
 
   $ fresh
   $ zscli serve image < to > from 2> said &
@@ -170,7 +172,8 @@ Where the reader has left, the next event is done and saved, and no later one is
   $ exec 3>&-
   $ cat said
   cannot write -
-  $ cmp image one_fault
+  $ zones
+  0 empty 0,1 empty 0,2 readonly 0,3 readonly 0,
 
 A signal ends it at once, and the image is as it was.
 

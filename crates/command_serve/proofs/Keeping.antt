@@ -1,19 +1,10 @@
 -- Files of which those with one name change.
-use Rattle.std.proofs.Common.{◌≡◌, ℕ, List, [], Option, Result, Ok, Err, IfErr, OnOk, OnErr, ◌∙◌, ap, subst, sym}
-use Rattle.std.proofs.lemmas.Result.{IfErr-weaker, on_ok_weaker}
-use Rattle.std.specs.Borrow.{Bor}
+use Rattle.std.proofs.Common.{◌≡◌, ℕ, List, [], Option, Result, Ok, Err, OnOk, OnErr, ap, subst}
 use Rattle.image_store.specs.Namespace.{ZonedNamespace}
 use Rattle.image_text.specs.Text.{text}
-use Rattle.live_serve.specs.Served.{Server, seen}
-use Rattle.live_serve.specs.declared.fault.ServeFault.{ServeFault}
-use Rattle.command_images.specs.Images.{HasText}
-use Rattle.command_serve.specs.Served.{FilesThen, IsSaved, ServesAndDrains, StopsBefore, standing}
-use Rattle.command_serve.specs.declared.image_keeper.ImageKeeper.{ImageKeeper}
-use Rattle.command_serve.specs.steps.Keeping.{HasKept}
-use Rattle.command_serve.proofs.Told.{before_told, drains_told}
 use Rattle.command_files.specs.Crash.{AreAnImage, AreWritten, LeavesOldOrNew}
 use Rattle.command_files.specs.Made.{KeepsModes, KeepsOthers, MakesAtMost}
-use Rattle.command_files.specs.Surroundings.{ChangesOnly, around}
+use Rattle.command_files.specs.Surroundings.{ChangesOnly}
 use Rattle.command_files.specs.declared.files.Files.{Ghosts}
 use Rattle.command_files.proofs.Proved.{leaves_as_before, leaves_weaker, modes_stay, only_one}
 
@@ -69,37 +60,3 @@ changed_or_not files writes path old new shown (Err error) made kept crash other
 pub named : {F R W : Type 0} (files : Ghosts F R W) (writes : Type 0) (path wanted : List ℕ) (old new : F) → path ≡ wanted → ChangesOnly files writes path old new
     → ChangesOnly files writes wanted old new
 named files writes path wanted old new same changes = subst (λ (name : List ℕ). ChangesOnly files writes name old new) same changes
-
--- ---- images that are kept in a file
-
-module _ {F R W : Type 0} (files : Ghosts F R W) (reads writes : Type 0) (path : Bor (List ℕ)) (first : F) where
-  abbrev pub as_files : ImageKeeper F → FilesThen
-  as_files keeper = standing files keeper.files.now
-
-  abbrev InPath : ImageKeeper F → Type 0
-  InPath keeper = keeper.path ≡ path
-
-  abbrev Kept : FilesThen → FilesThen → ZonedNamespace → Type 0
-  Kept = IsSaved (around files reads writes first first) path.now
-
-  keeps_in : (old new : ImageKeeper F) (namespace : ZonedNamespace) → InPath old → HasKept files reads writes old new namespace
-      → InPath new × Kept (as_files old) (as_files new) namespace
-  keeps_in old new namespace is kept = (
-    kept.same_path ∙ is,
-    subst (λ (p : Bor (List ℕ)). HasText (around files reads writes old.files.now new.files.now) p.now (text namespace)) is kept.saved,
-  )
-
-  module _ (turns : ℕ) (unread : Option (List ℕ)) (old new : Server (ImageKeeper F)) (last : F) (result : Result (Unit {0}) ServeFault)
-      (is : old.keeper.path ≡ path) (same : last ≡ new.keeper.files.now) where
-    -- what is seen of the files behind what was served
-    pub serves_in : OnOk result (ServesAndDrains (HasKept files reads writes) turns unread old new)
-        → OnOk result (ServesAndDrains Kept turns unread (seen old.state old.written (as_files old.keeper)) (seen new.state new.written (standing files last)))
-    serves_in done =
-        subst (λ (f : F). OnOk result (ServesAndDrains Kept turns unread (seen old.state old.written (as_files old.keeper)) (seen new.state new.written (standing files f)))) (sym same)
-        (on_ok_weaker result (drains_told (HasKept files reads writes) Kept as_files InPath keeps_in turns unread old new is) done)
-
-    pub stops_in : IfErr result (StopsBefore (HasKept files reads writes) turns unread old new)
-        → IfErr result (StopsBefore Kept turns unread (seen old.state old.written (as_files old.keeper)) (seen new.state new.written (standing files last)))
-    stops_in stops =
-        subst (λ (f : F). IfErr result (StopsBefore Kept turns unread (seen old.state old.written (as_files old.keeper)) (seen new.state new.written (standing files f)))) (sym same)
-        (IfErr-weaker result _ _ (λ why before. before_told (HasKept files reads writes) Kept as_files InPath keeps_in turns unread old new why is before) stops)

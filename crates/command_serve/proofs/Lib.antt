@@ -1,4 +1,4 @@
-mod Told
+mod Endings
 mod Keeping
-mod Serving
-mod ByLineServing
+mod Openings
+mod Rounds

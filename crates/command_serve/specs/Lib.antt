@@ -1,4 +1,7 @@
 pub mod Asked
+pub mod Opening
+pub mod Folding
+pub mod Keeping
+pub mod Streams
 pub mod Served
-pub mod ByLine
 pub mod steps

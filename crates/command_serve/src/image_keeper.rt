@@ -5,20 +5,20 @@ ghost use Rattle.std.specs.Borrow.{Bor};
 ghost use Rattle.std.proofs.Common.{◌∙◌, ap, refl, subst};
 ghost use Rattle.command_files.specs.Surroundings.{ChangesOnly};
 ghost use Rattle.command_files.proofs.Proved.{changes_join, changes_none};
-ghost use Rattle.command_serve.specs.steps.Keeping.{HasKept, HoldsName, KeepsIn};
+ghost use Rattle.command_serve.specs.Keeping.{HasKept, HoldsName, KeepsIn};
 
 use command_files::{Failure, Files};
 use command_images::image_file;
+use device_serve::{Keep, NotKept};
 use image_store::Image;
-use live_serve::{Keep, NotKept};
 
 /// Saves images in the file whose name is held.
 #[derive(Drop)]
-pub(crate) struct ImageKeeper<'f, 'a, F> {
-    pub(crate) files: &'f mut F,
-    pub(crate) path: &'a str,
+pub struct ImageKeeper<'f, 'a, F> {
+    pub files: &'f mut F,
+    pub path: &'a str,
     /// Why an image wasn't saved: none is saved from then on.
-    pub(crate) failure: Option<Failure<'a>>,
+    pub failure: Option<Failure<'a>>,
 }
 
 impl<F: Files> Keep for ImageKeeper<'_, '_, F> {

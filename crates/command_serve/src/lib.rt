@@ -1,6 +1,16 @@
-//! The command that serves a device as requests come.
+//! The commands that serve a device as requests come, and that fold the journal of one.
 #![tactic(auto)]
 
+mod durable_files;
+pub mod fold;
+mod form;
 mod image_keeper;
-mod lines;
+mod imaged;
+mod journaled;
+mod opening;
 pub mod serve;
+mod told;
+
+pub use durable_files::DurableFiles;
+pub use form::Form;
+pub use image_keeper::ImageKeeper;

@@ -1,41 +1,33 @@
-//! The command `serve`: what standard input asks for as it comes, done on an image.
+//! The command `serve`: what standard input asks for as it comes, done on an image, or durably.
 
-ghost use Rattle.std.specs.Prelude.{◌≡◌, ◌≤◌, ◌<◌, ◌+◌, ◌^◌, true, false, length, IfErr, IfSome, IsSome, OnErr, OnOk, None, Some};
+ghost use Rattle.std.specs.Prelude.{◌≡◌, true, false, IfErr, IfOk, IsSome, OnOk, None};
 ghost use Rattle.std.specs.Option.{option_map_or};
-ghost use Rattle.nvme_entry.specs.declared.command.TheConstants.{MOST_TRANSFER};
-ghost use Rattle.device_meaning.specs.Draining.{HasStoppedDraining};
-ghost use Rattle.device_meaning.specs.State.{new_state};
-ghost use Rattle.live_serve.specs.Served.{seen};
+ghost use Rattle.command_files.specs.Made.{KeepsModes, KeepsOthers, MakesOnly};
 ghost use Rattle.command_files.specs.Surroundings.{ChangesOnly, around};
-ghost use Rattle.command_images.specs.Images.{HasText, image_of};
-ghost use Rattle.command_images.specs.UserTold.{IsUnheld};
-ghost use Rattle.image_text.specs.Text.{text};
-ghost use Rattle.command_serve.specs.Asked.{asks_drain, asks_durable, asks_for, asks_frames};
-ghost use Rattle.command_serve.specs.ByLine.{FailsByLine, ServesByLine};
-ghost use Rattle.command_serve.specs.Served.{EndsRuns, FailsFrames, FailsOfTaken, IsInputTaken, IsSaved, IsSilent, Serves, ServesAndDrains};
-ghost use Rattle.command_serve.specs.Served.{ServesFirst, ServesImage, ServesUnsaved, StoppedBy, StopsBefore, StopsEnding, Untold, standing, turns_between};
-ghost use Rattle.command_serve.specs.steps.Keeping.{HasKept, HoldsName, KeepsIn};
-ghost use Rattle.command_serve.specs.steps.Told.{IsTold, IsToldOf};
+ghost use Rattle.command_images.specs.Images.{image_of};
+ghost use Rattle.command_serve.specs.Asked.{asks_durable, asks_for};
+ghost use Rattle.command_serve.specs.Served.{FailsDurably, FailsImage, FailsOfTaken, IsInputTaken, ServesDurably, ServesImage};
+ghost use Rattle.command_serve.specs.Streams.{IsAsked, IsReadyIn};
 
-use crate::image_keeper::ImageKeeper;
-use crate::lines::{self, INPUT};
+use crate::DurableFiles;
+use crate::form::Form;
+use crate::imaged::serve_image;
+use crate::journaled::serve_journal;
 use clap::ArgMatches;
 use command_files::arguments::required;
-use command_files::{Failure, FileCause, Files};
-use command_images::device_file;
-use command_images::image_file::{self, IMAGE};
+use command_files::{Failure, FileCause};
+use command_images::image_file::IMAGE;
 use command_words::{Argument, Takes, Words};
-use event_frames::{FrameRoom, Frames, StreamFault};
-use image_store::Image;
-use live_serve::ServeFault;
-use nvme_entry::MOST_TRANSFER;
-use runner::{Device, Stopped};
-use std::alloc::Global;
+use device_serve::{FrameStreamRoom, LineCodec};
+use std::alloc::{AllocError, Global};
 use std::io::{Read, Write};
 use std::mem;
 
 /// The command's name.
 pub const NAME: &str = "serve";
+
+/// The name of standard input, as that of standard output is in what is told.
+pub(crate) const INPUT: &str = "-";
 
 const FRAMES: &str = "frames";
 
@@ -73,11 +65,11 @@ What answers them:
   kind 6, drained         number: how many turns were given; behind the answers to these
   kind 7, saved
 
-Where an answer cannot be written, no later request is done. Where a byte is none of a request, or the input ends within a frame or \
+Where answers cannot be written, nothing is done that has not come by then. Where a byte is none of a request, or the input ends within a frame or \
 cannot be read further, what was asked for before is done. In each case, and where memory is wanting for a request, the image is \
 written as that left it. Where it cannot be written, it is as it was when it was last saved.
 
-With --durable what is answered is on the disk: IMAGE becomes a journal, a base and the events behind it, which is written as they come. What has come when the last answers are written is one batch, and nothing of a batch is answered before it is on the disk. After a crash at any moment the next command finds the device after all that was answered, with its programs, results and runs. A save answers at once. Of a journal that grows long a new base is written.
+With --durable what is answered is on the disk: IMAGE becomes a journal, a base and the events behind it, which is written as they come. What has come when the last answers are written is one batch, of lines or of frames, and nothing of a batch is answered before it is on the disk. After a crash at any moment the next command finds the device after all that was answered, with its programs, results and runs. A save answers at once. Of a journal that grows long a new base is written.
 
 Without --durable IMAGE may be a journal too: an image takes its place. Where its device has a program or a run, which no image keeps, \
 it is refused (`device refused`).";
@@ -121,24 +113,24 @@ pub static WORDS: Words = Words {
             id: DURABLE,
             long: DURABLE,
             short: None,
-            takes: Takes::NothingWithout(FRAMES, DRAIN),
+            takes: Takes::Nothing,
             help: "Answers nothing before it is on the disk, by a journal in the image's file",
         },
     ],
     one_of: &[],
 };
 
-/// Does what the input asks of the namespace of the image file, as it comes, and then the turns that end all runs, and makes
-/// the file anew, unless it has the text of the namespace that they leave already; also where the input asks for that. The input is
-/// taken.
+/// Does what the input asks for, as it comes, and then the turns that end all runs: of the namespace of the image file, which is made anew
+/// then, unless it has the text of the namespace that they leave already, and also where the input asks for that; or, where it is asked for,
+/// durably, so that nothing is answered before it is on the disk. The input is taken.
 ///
 /// # Errors
 ///
-/// The image can't be read, is refused or can't be written; the input can't be read, or is refused; standard output fails; or
+/// The file is in use, can't be read or written, or is refused; the input can't be read, or is refused; standard output fails; or
 /// memory is wanting. Where a line or a byte of the input is refused, it ends within a frame, or standard output fails, what was done
-/// before is saved. Where no device is loaded of the image file, or by lines memory is wanting before the first is read, nothing is
+/// before is saved, or kept. Where no device is loaded or opened of the file, or memory is wanting before anything is read, nothing is
 /// read and nothing written.
-pub fn serve<'a, F: Files, I: Read + Drop, O: Write>(
+pub fn serve<'a, F: DurableFiles, I: Read + Drop, O: Write>(
     alloc: Global,
     matches: &ArgMatches<'a>,
     files: &mut F,
@@ -146,21 +138,25 @@ pub fn serve<'a, F: Files, I: Read + Drop, O: Write>(
     out: &mut O,
 ) -> Result<(), Failure<'a>>
     ensures served { let here = around F.Files F.Reader.tells F.Writer.tells files.old files.new in
-        asks_frames matches.now ≡ true
-        → OnOk result (Serves here matches.now (option_map_or I.remaining input.old None) (O.contents out.old) (O.contents out.new)) }
+        asks_durable matches.now ≡ false
+        → OnOk result (ServesImage F.Files here matches.now (option_map_or I.remaining input.old None) (O.contents out.old) (O.contents out.new)) }
     ensures stopped { let here = around F.Files F.Reader.tells F.Writer.tells files.old files.new in
-        asks_frames matches.now ≡ true
-        → IsSome input.old → IfErr result (FailsOfTaken (λ left. FailsFrames here matches.now
-        (option_map_or I.remaining input.old None) left (O.contents out.old) (O.contents out.new))) }
-    ensures served_lines { let here = around F.Files F.Reader.tells F.Writer.tells files.old files.new in
-        asks_frames matches.now ≡ false
-        → OnOk result (ServesByLine here matches.now (asks_drain matches.now) (option_map_or I.remaining input.old None)
-        (O.contents out.old) (O.contents out.new)) }
-    ensures stopped_lines { let here = around F.Files F.Reader.tells F.Writer.tells files.old files.new in
-        asks_frames matches.now ≡ false
-        → IsSome input.old → IfErr result (FailsOfTaken (λ left. FailsByLine here matches.now (asks_drain matches.now)
-        (option_map_or I.remaining input.old None) left (O.contents out.old) (O.contents out.new))) }
-    ensures changes { ChangesOnly F.Files F.Writer.tells (image_of matches.now) files.old files.new }
+        asks_durable matches.now ≡ false → IsSome input.old
+        → IfErr result (FailsOfTaken (FailsImage F.Files here matches.now (option_map_or I.remaining input.old None)
+        (O.contents out.old) (O.contents out.new))) }
+    ensures changes { asks_durable matches.now ≡ false
+        → ChangesOnly F.Files F.Writer.tells (image_of matches.now) files.old files.new }
+    ensures served_durably { let path = image_of matches.now in
+        asks_durable matches.now ≡ true
+        → OnOk result (ServesDurably F.Stored.told (F.contents files.old path) (F.contents files.new path) matches.now
+        (option_map_or I.remaining input.old None) (O.contents out.old) (O.contents out.new)) }
+    ensures stopped_durably { let path = image_of matches.now in
+        asks_durable matches.now ≡ true → IsSome input.old
+        → IfErr result (FailsOfTaken (FailsDurably F.Stored.told (F.contents files.old path) (F.contents files.new path) matches.now
+        (option_map_or I.remaining input.old None) (O.contents out.old) (O.contents out.new))) }
+    ensures made { MakesOnly (image_of matches.now) (F.made files.old) (F.made files.new) }
+    ensures others { KeepsOthers (image_of matches.now) (F.contents files.old) (F.contents files.new) }
+    ensures modes { KeepsModes (F.modes files.old) (F.modes files.new) }
     ensures taken { input.new ≡ None }
     ensures untaken { input.old ≡ None → files.new ≡ files.old }
     ensures silent { input.old ≡ None → O.contents out.new ≡ O.contents out.old }
@@ -172,8 +168,9 @@ pub fn serve<'a, F: Files, I: Read + Drop, O: Write>(
     }
 }
 
-/// Does what an input asks of the namespace of the image file, in frames where they are asked for, and else by lines.
-fn serve_asked<'a, F: Files, I: Read, O: Write>(
+/// Does what an input asks for, durably where that is asked for. What reads it is made first, so that memory is wanting for it before
+/// anything is touched.
+fn serve_asked<'a, F: DurableFiles, I: Read, O: Write>(
     alloc: Global,
     matches: &ArgMatches<'a>,
     files: &mut F,
@@ -181,35 +178,47 @@ fn serve_asked<'a, F: Files, I: Read, O: Write>(
     out: &mut O,
 ) -> Result<(), Failure<'a>>
     ensures served { let here = around F.Files F.Reader.tells F.Writer.tells files.old files.new in
-        asks_frames matches.now ≡ true
-        → OnOk result (Serves here matches.now (I.remaining input.old) (O.contents out.old) (O.contents out.new)) }
+        asks_durable matches.now ≡ false
+        → OnOk result (ServesImage F.Files here matches.now (I.remaining input.old) (O.contents out.old) (O.contents out.new)) }
     ensures stopped { let here = around F.Files F.Reader.tells F.Writer.tells files.old files.new in
-        asks_frames matches.now ≡ true
-        → IfErr result (FailsFrames here matches.now (I.remaining input.old) (I.remaining input.new)
-        (O.contents out.old) (O.contents out.new)) }
-    ensures served_lines { let here = around F.Files F.Reader.tells F.Writer.tells files.old files.new in
-        asks_frames matches.now ≡ false
-        → OnOk result (ServesByLine here matches.now (asks_drain matches.now) (I.remaining input.old)
-        (O.contents out.old) (O.contents out.new)) }
-    ensures stopped_lines { let here = around F.Files F.Reader.tells F.Writer.tells files.old files.new in
-        asks_frames matches.now ≡ false
-        → IfErr result (FailsByLine here matches.now (asks_drain matches.now)
-        (I.remaining input.old) (I.remaining input.new) (O.contents out.old) (O.contents out.new)) }
-    ensures changes { ChangesOnly F.Files F.Writer.tells (image_of matches.now) files.old files.new }
+        asks_durable matches.now ≡ false
+        → IfErr result (FailsImage F.Files here matches.now (I.remaining input.old) (O.contents out.old) (O.contents out.new)
+        (I.remaining input.new)) }
+    ensures changes { asks_durable matches.now ≡ false
+        → ChangesOnly F.Files F.Writer.tells (image_of matches.now) files.old files.new }
+    ensures served_durably { let path = image_of matches.now in
+        asks_durable matches.now ≡ true
+        → OnOk result (ServesDurably F.Stored.told (F.contents files.old path) (F.contents files.new path) matches.now
+        (I.remaining input.old) (O.contents out.old) (O.contents out.new)) }
+    ensures stopped_durably { let path = image_of matches.now in
+        asks_durable matches.now ≡ true
+        → IfErr result (FailsDurably F.Stored.told (F.contents files.old path) (F.contents files.new path) matches.now
+        (I.remaining input.old) (O.contents out.old) (O.contents out.new) (I.remaining input.new)) }
+    ensures made { MakesOnly (image_of matches.now) (F.made files.old) (F.made files.new) }
+    ensures others { KeepsOthers (image_of matches.now) (F.contents files.old) (F.contents files.new) }
+    ensures modes { KeepsModes (F.modes files.old) (F.modes files.new) }
 {
-    if asks_for(matches, FRAMES) {
-        serve_from(alloc, matches, files, input, out)
+    let form = asked_form(alloc, matches)?;
+    if asks_for(matches, DURABLE) {
+        serve_journal(alloc, matches, form, files, input, out)
     } else {
-        let drains = asks_for(matches, DRAIN);
-        lines::serve_from(alloc, matches, drains, files, input, out)
+        serve_image(alloc, matches, form, files, input, out)
     }
 }
 
-/// Is the image to be written durably?
-pub fn asks_durable<'a>(matches: &ArgMatches<'a>) -> bool
-    ensures { result ≡ asks_durable matches.now }
+/// The form of the stream that is asked for.
+fn asked_form<'a>(alloc: Global, matches: &ArgMatches<'a>) -> Result<Form, AllocError>
+    ensures asked { IfOk result (IsAsked matches.now) }
+    ensures ready { IfOk result IsReadyIn }
 {
-    asks_for(matches, DURABLE)
+    let drains = asks_for(matches, DRAIN);
+    if asks_for(matches, FRAMES) {
+        let room = FrameStreamRoom::new(alloc)?;
+        let turns = if drains { u32::MAX } else { 0 };
+        Ok(Form::Frames(room, turns))
+    } else {
+        Ok(Form::Lines(LineCodec::new(alloc, drains)?))
+    }
 }
 
 /// Is a flag with this name given?
@@ -217,201 +226,4 @@ fn asks_for<'a>(matches: &ArgMatches<'a>, name: &'static str) -> bool
     ensures { result ≡ asks_for matches.now name.now }
 {
     required(matches, name) == "true"
-}
-
-/// Does what the frames of an input ask of the namespace of the image file, and then the turns that end all runs, and saves what they
-/// leave.
-fn serve_from<'a, F: Files, I: Read, O: Write>(
-    alloc: Global,
-    matches: &ArgMatches<'a>,
-    files: &mut F,
-    input: &mut I,
-    out: &mut O,
-) -> Result<(), Failure<'a>>
-    ensures served { let here = around F.Files F.Reader.tells F.Writer.tells files.old files.new in
-        OnOk result (Serves here matches.now (I.remaining input.old) (O.contents out.old) (O.contents out.new)) }
-    ensures stopped { let here = around F.Files F.Reader.tells F.Writer.tells files.old files.new in
-        IfErr result (FailsFrames here matches.now (I.remaining input.old) (I.remaining input.new)
-        (O.contents out.old) (O.contents out.new)) }
-    ensures changes { ChangesOnly F.Files F.Writer.tells (image_of matches.now) files.old files.new }
-{
-    let path = required(matches, IMAGE);
-    let mut device = device_file::load_to_replace(alloc, path, files)?;
-    let turns = turns_between(matches);
-    run(alloc, &mut *device, turns, path, files, input, out)
-}
-
-/// How many turns the runs are given at most between two reads.
-fn turns_between<'a>(matches: &ArgMatches<'a>) -> u32
-    ensures { result ≡ turns_between matches.now }
-{
-    if asks_for(matches, DRAIN) {
-        u32::MAX
-    } else {
-        0
-    }
-}
-
-/// Does what the input asks of a device, ends the runs that are left, and saves the image as they left it; or as what was done
-/// left it by then, where the input or standard output fails.
-fn run<'a, F: Files, I: Read, O: Write>(
-    alloc: Global,
-    device: &mut Device,
-    turns: u32,
-    path: &'a str,
-    files: &mut F,
-    input: &mut I,
-    out: &mut O,
-) -> Result<(), Failure<'a>>
-    requires held { F.held files.old ≡ Some path.now }
-    requires new { device.old ≡ new_state device.old.namespace }
-    ensures served { let here = around F.Files F.Reader.tells F.Writer.tells files.old files.new in
-        OnOk result (ServesImage here device.old.namespace path.now turns (I.remaining input.old) (O.contents out.old) (O.contents out.new)) }
-    ensures stopped { let here = around F.Files F.Reader.tells F.Writer.tells files.old files.new in
-        IfErr result (StoppedBy path.now (λ failure. ⊥)
-        (ServesFirst here device.old.namespace path.now turns (I.remaining input.old) (O.contents out.old) (O.contents out.new))
-        (ServesUnsaved here device.old.namespace path.now turns (I.remaining input.old) (O.contents out.old) (O.contents out.new))
-        (IsSilent (I.remaining input.old) (I.remaining input.new) (O.contents out.old) (O.contents out.new))) }
-    ensures changes { ChangesOnly F.Files F.Writer.tells path.now files.old files.new }
-{
-    let (done, failure) = serve_in(alloc, device, turns, path, files, input, out);
-    save_at_last(device.image(), path, files, failure)?;
-    told(done)
-}
-
-/// Does what the input asks for, saves images where it asks for that, and then gives turns until no run is left. Beside how that
-/// ends it says why an image wasn't saved, where one wasn't.
-fn serve_in<'a, F: Files, I: Read, O: Write>(
-    alloc: Global,
-    device: &mut Device,
-    turns: u32,
-    path: &'a str,
-    files: &mut F,
-    input: &mut I,
-    out: &mut O,
-) -> (Result<(), ServeFault>, Option<Failure<'a>>)
-    requires { F.held files.old ≡ Some path.now }
-    ensures done { let here = around F.Files F.Reader.tells F.Writer.tells files.old files.old in
-        OnOk result.0 (ServesAndDrains (IsSaved here path.now) turns (I.remaining input.old)
-        (seen device.old (O.contents out.old) (standing F.Files files.old))
-        (seen device.new (O.contents out.new) (standing F.Files files.new))) }
-    ensures stopped { let here = around F.Files F.Reader.tells F.Writer.tells files.old files.old in
-        IfErr result.0 (StopsBefore (IsSaved here path.now) turns (I.remaining input.old)
-        (seen device.old (O.contents out.old) (standing F.Files files.old))
-        (seen device.new (O.contents out.new) (standing F.Files files.new))) }
-    ensures changes { ChangesOnly F.Files F.Writer.tells path.now files.old files.new }
-    ensures held { result.1 ≡ None → F.held files.new ≡ Some path.now }
-    ensures failed { IfSome result.1 (IsUnheld path.entry) }
-{
-    let mut keeper = ImageKeeper {
-        files,
-        path,
-        failure: None,
-    };
-    let done = serve_and_drain(alloc, device, turns, input, out, &mut keeper);
-    let ImageKeeper { files, failure, .. } = keeper;
-    // No effect at run time. The proof reads what files there are from this use of `files`.
-    let _ = &*files;
-    (done, failure)
-}
-
-/// Saves an image, unless saving one failed before.
-fn save_at_last<'a, F: Files>(
-    image: &Image,
-    path: &'a str,
-    files: &mut F,
-    failure: Option<Failure<'a>>,
-) -> Result<(), Failure<'a>>
-    requires held { failure ≡ None → F.held files.old ≡ Some path.now }
-    requires failed { IfSome failure (IsUnheld path) }
-    ensures saved { OnOk result (HasText (around F.Files F.Reader.tells F.Writer.tells files.old files.new) path.now (text image.now)) }
-    ensures failed { IfErr result (IsUnheld path.entry) }
-    ensures none_made { OnErr result (F.made files.new ≡ F.made files.old) }
-    ensures changes { ChangesOnly F.Files F.Writer.tells path.now files.old files.new }
-{
-    match failure {
-        Some(failure) => Err(failure),
-        None => image_file::save_changes(image, path, files),
-    }
-}
-
-/// Does what the input asks for, and then gives turns until no run is left.
-fn serve_and_drain<'a, F: Files, I: Read, O: Write>(
-    alloc: Global,
-    device: &mut Device,
-    turns: u32,
-    input: &mut I,
-    out: &mut O,
-    keeper: &mut ImageKeeper<'_, 'a, F>,
-) -> Result<(), ServeFault>
-    requires { HoldsName F.Files keeper.old }
-    ensures holds { HoldsName F.Files keeper.new }
-    ensures keeps { KeepsIn F.Files F.Writer.tells keeper.old keeper.new }
-    ensures done { OnOk result (ServesAndDrains (HasKept F.Files F.Reader.tells F.Writer.tells) turns (I.remaining input.old)
-        (seen device.old (O.contents out.old) keeper.old) (seen device.new (O.contents out.new) keeper.new)) }
-    ensures stopped { IfErr result (StopsBefore (HasKept F.Files F.Reader.tells F.Writer.tells) turns (I.remaining input.old)
-        (seen device.old (O.contents out.old) keeper.old) (seen device.new (O.contents out.new) keeper.new)) }
-{
-    live_serve::serve(alloc, device, turns, input, out, keeper)?;
-    end_runs(alloc, device, out)
-}
-
-/// Gives turns until no run is left, and writes the frame of the reply to each.
-fn end_runs<O: Write>(alloc: Global, device: &mut Device, out: &mut O) -> Result<(), ServeFault>
-    ensures ended { OnOk result (EndsRuns device.old device.new (O.contents out.old) (O.contents out.new)) }
-    ensures stopped { IfErr result (StopsEnding device.old device.new (O.contents out.old) (O.contents out.new)) }
-{
-    let mut output = vec![in alloc; 0; MOST_TRANSFER]?;
-    let room = FrameRoom::new(alloc)?;
-    let mut frames = Frames::over(room, out);
-    let ended = drain(device, output.as_mut_slice(), &mut frames);
-    let out = frames.into_writer();
-    // No effect at run time. The proof reads what was written from this use of `out`.
-    let _ = &*out;
-    match ended {
-        Ok(()) => Ok(()),
-        Err(Stopped { .. }) => Err(ServeFault::Write),
-    }
-}
-
-/// Gives these turns, and has `frames` write the frame of the reply to each.
-fn drain<O: Write>(
-    device: &mut Device,
-    output: &mut [u8],
-    frames: &mut Frames<'_, O>,
-) -> Result<(), Stopped>
-    requires room { MOST_TRANSFER ≤ length output.old }
-    requires counts { frames.old.refusals + 1 < 2 ^ 64 }
-    ensures same_writer { frames.new.out.ghost_name ≡ frames.old.out.ghost_name }
-    ensures ended { OnOk result (EndsRuns device.old device.new (O.contents frames.old.out.now) (O.contents frames.new.out.now)) }
-    ensures stopped { IfErr result (λ stopped. HasStoppedDraining device.old device.new Untold stopped.done) }
-{
-    device.drain(output, frames)
-}
-
-/// What the command comes to, by how serving ended.
-fn told<'a>(done: Result<(), ServeFault>) -> Result<(), Failure<'a>>
-    ensures { IsTold done result }
-{
-    match done {
-        Ok(()) => Ok(()),
-        Err(fault) => Err(failure_of(fault)),
-    }
-}
-
-/// What the user is told where the input is served no further.
-fn failure_of<'a>(fault: ServeFault) -> Failure<'a>
-    ensures { IsToldOf fault result }
-{
-    match fault {
-        ServeFault::Read => Failure::CannotRead(INPUT, FileCause::Other),
-        ServeFault::Stream(StreamFault::Byte { place, field }) => {
-            Failure::StreamRefused { place, field }
-        }
-        ServeFault::Stream(StreamFault::CutOff { place }) => Failure::StreamCutOff { place },
-        ServeFault::Write => Failure::CannotPrint,
-        ServeFault::Stream(StreamFault::Memory) | ServeFault::Memory | ServeFault::Save => {
-            Failure::NoMemory
-        }
-    }
 }

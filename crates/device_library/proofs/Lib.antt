@@ -1,3 +1,5 @@
 mod Calling
 mod Committing
 mod Reopening
+mod Refusing
+mod ServedRounds

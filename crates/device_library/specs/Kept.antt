@@ -9,34 +9,44 @@ use Rattle.device_meaning.specs.State.{State}
 use Rattle.durable_device.specs.Kept.{IsKept, IsKeptInBase, StandsFor}
 use Rattle.durable_device.specs.declared.durable_device.Folding.{Folding}
 use Rattle.durable_device.specs.declared.durable_device.Folding.TheVariants.{Done, NoRoom, NoMemory}
-use Rattle.durable_serve.specs.Served.{ServesStream, StopsServing, seen}
-use Rattle.durable_serve.specs.declared.fault.ServeFault.{ServeFault}
-use Rattle.durable_serve.specs.declared.fault.ServeFault.TheVariants as fault
+use Rattle.durable_machine.specs.declared.journal.Journal.{Journal}
+use Rattle.device_serve.specs.declared.fault.ServeFault.{ServeFault}
+use Rattle.device_serve.specs.declared.fault.ServeFault.TheVariants as fault
 use Rattle.device_library.specs.Bytes.{IsFront}
+use Rattle.device_library.specs.Devices.{IsCommitted}
 use Rattle.device_library.specs.Devices as devices
 use Rattle.device_library.specs.Files.{IsToldDone, TellsNext, next_of, promised_of, told_by}
 use Rattle.device_library.specs.Kinds.{kept_kind, nothing_of}
+use Rattle.device_library.specs.Serving.{IsBetweenFrames, ServesFrames, StopsFrames, site}
 use Rattle.device_library.specs.declared.kept.Kept.{Kept}
 use Rattle.device_library.specs.declared.kind.KeptKind.{KeptKind}
 use Rattle.device_library.specs.declared.kind.KeptKind.TheVariants as kind
 
 -- the device's state, its file, and up to where that is taken
 abbrev pub state_of : Kept → State
-state_of s = devices.state_of s.device
+state_of s = devices.state_in s.device
+
+abbrev pub journal_of : Kept → Journal HandedFile
+journal_of s = devices.journal_in s.device
 
 abbrev pub file_of : Kept → HandedFile
-file_of s = (devices.journal_of s.device).file
+file_of s = (journal_of s).file
 
 abbrev pub gate_of : Kept → ℕ
-gate_of s = (devices.journal_of s.device).gate
+gate_of s = (journal_of s).gate
+
+-- what came of the last fold of its journal
+abbrev pub last_fold_of : Kept → Folding
+last_fold_of s = s.device.last_fold
 
 -- what is known of the file once C has made each call that it was handed, as long as none was refused
 abbrev pub promised : Kept → FileState
 promised s = promised_of (file_of s)
 
--- all that was done is kept once C has made the calls that it was handed, as long as the file hasn't to be opened again
+-- all that was done is kept once C has made the calls that it was handed, as long as the file hasn't to be opened again; and each
+-- call's frames are read from the first on
 abbrev pub WillBeKept : Kept → Type 0
-WillBeKept s = s.failed ≡ false → IsKept (state_of s) (gate_of s) (promised s)
+WillBeKept s = s.failed ≡ false → IsCommitted s.device × IsBetweenFrames s.codec
 
 -- all that was done is on the disk, by what C told
 abbrev pub IsOnTheDisk : Kept → Type 0
@@ -56,44 +66,47 @@ replies_of s = replies_if (is_on_disk s) s.answer.items
 
 -- ---- what is done
 
--- what these bytes ask for is done, and the frames of the replies are kept. While C makes the calls for it, a crash leaves the device
--- after the first of its batches
+-- what these bytes ask for is done, and the frames of the replies are kept
 pub record HasServed (bytes : List ℕ) (old new : Kept) : Type 0 where
-  pub serves : ServesStream (Some bytes) (seen (state_of old) (Some [])) (seen (state_of new) (Some new.answer.items)) (promised old)
-      (promised new)
+  pub serves : ServesFrames bytes (site old.device old.codec []) (site new.device new.codec new.answer.items)
   pub usable : new.failed ≡ false
 
--- it is done no further: of the bytes the first ask for steps that are done, and then it stops; and the file has to be opened again
+-- it is done no further, and the file has to be opened again
 pub record HasStopped (bytes : List ℕ) (old new : Kept) (why : ServeFault) : Type 0 where
-  pub left : Option (List ℕ)
-  pub stops : StopsServing (Some bytes) left (seen (state_of old) (Some [])) (seen (state_of new) (Some new.answer.items)) (promised old)
-      (promised new) why
+  pub stops : StopsFrames bytes (site old.device old.codec []) (site new.device new.codec new.answer.items) why
   pub disk : why ≡ fault.Disk → (promised old).faults < (promised new).faults
   pub failed : new.failed ≡ true
 
--- the journal is folded: while C makes the calls for it, a crash leaves the same device, and then the base alone stands for it
+-- the journal is folded: while C makes the calls for it, a crash leaves the same device, and then the base alone stands for it. The replies
+-- to what was served before go out as before
 pub record HasFolded (old new : Kept) : Type 0 where
   pub same : state_of new ≡ state_of old
+  pub answer : new.answer ≡ old.answer
+  pub usable : new.failed ≡ false
   pub in_base : IsKeptInBase (state_of new) (gate_of new) (promised new)
+  pub told : last_fold_of new ≡ Done
   pub moments : LeavesOnly (promised old) (promised new) (λ c. StandsFor c (state_of old))
 
 -- it isn't, since the new file would be longer than C has room for, or memory is wanting: the device is kept as it was
-pub record IsUsedOn (old new : Kept) : Type 0 where
+pub record IsUsedOn (folding : Folding) (old new : Kept) : Type 0 where
   pub same : state_of new ≡ state_of old
+  pub answer : new.answer ≡ old.answer
   pub usable : new.failed ≡ false
+  pub told : last_fold_of new ≡ folding
   pub moments : LeavesOnly (promised old) (promised new) (λ c. StandsFor c (state_of old))
 
 -- it can't be used on: the file has to be opened again, which stands for the same device
 pub record FailsToFold (old new : Kept) : Type 0 where
   pub same : state_of new ≡ state_of old
+  pub answer : new.answer ≡ old.answer
   pub failed : new.failed ≡ true
   pub moments : LeavesOnly (promised old) (promised new) (λ c. StandsFor c (state_of old))
 
 -- what folding comes to
 abbrev pub FoldsTo : Kept → Kept → Option Folding → Type 0
 FoldsTo old new (Some Done) = HasFolded old new
-FoldsTo old new (Some NoRoom) = IsUsedOn old new
-FoldsTo old new (Some NoMemory) = IsUsedOn old new
+FoldsTo old new (Some NoRoom) = IsUsedOn NoRoom old new
+FoldsTo old new (Some NoMemory) = IsUsedOn NoMemory old new
 FoldsTo old new None = FailsToFold old new
 
 -- the next call is noted as done, and nothing else happens
@@ -101,6 +114,7 @@ pub record TakesDone (old new : Kept) : Type 0 where
   pub state : state_of new ≡ state_of old
   pub gate : gate_of new ≡ gate_of old
   pub file : IsToldDone (file_of old) (file_of new)
+  pub last_fold : last_fold_of new ≡ last_fold_of old
   pub answer : new.answer ≡ old.answer
   pub failed : new.failed ≡ old.failed
 
@@ -146,7 +160,9 @@ stream_number stream.Memory = 3
 abbrev pub fault_number : ServeFault → ℕ
 fault_number fault.Read = 0
 fault_number (fault.Stream f) = stream_number f
+fault_number (fault.Line number f) = 0
 fault_number fault.Write = 3
+fault_number fault.Save = 0
 fault_number fault.Disk = 0
 fault_number fault.Memory = 3
 
@@ -198,7 +214,7 @@ abbrev pub Answers : KeptKind → ℕ → List ℕ → KeptLent → KeptLent →
 Answers kind.Serve count piece old new answer = Keeps (Serves piece) old new answer
 Answers kind.Replies count piece old new answer = GivesReplies count old new answer
 Answers kind.Fold count piece old new answer = Keeps Folds old new answer
-Answers kind.Folded count piece old new answer = Told (fold_number old.session.device.last_fold) old new answer
+Answers kind.Folded count piece old new answer = Told (fold_number (last_fold_of old.session)) old new answer
 Answers (kind.Ask question) count piece old new answer =
     Asks (TellsNext question (next_of old.session.failed (waiting (file_of old.session))) count) old new answer
 Answers kind.Done count piece old new answer = Keeps (Notes TakesDone) old new answer

@@ -4,6 +4,7 @@ pub mod Asked
 pub mod Bytes
 pub mod Files
 pub mod Devices
+pub mod Serving
 pub mod Events
 pub mod Memory
 pub mod Kept

@@ -24,8 +24,8 @@ use Rattle.tcp_device.specs.Format.{IsFormatOf}
 use Rattle.tcp_device.specs.State.{ServedState, begun, begun_on}
 use Rattle.durable_machine.specs.declared.in_file.InFile.{InFile}
 use Rattle.tcp_device.specs.declared.keeper.Keeper.{Keeper}
-use Rattle.device_library.specs.Devices as devices
 use Rattle.device_library.specs.Files.{promised_of}
+use Rattle.device_library.specs.Kept.{journal_of, state_of}
 use Rattle.device_library.specs.Kinds.{door_of}
 use Rattle.device_library.specs.Sessions.{KeepsAll}
 use Rattle.device_library.specs.Target.{IsInMemory}
@@ -109,7 +109,7 @@ IsDeviceOf bytes device journal = IsDeviceBy (begin_a_journal bytes) bytes devic
 
 -- the device is that of the file
 pub record IsKeptOf (bytes : List ℕ) (kept : Kept) : Type 0 where
-  pub device : IsDeviceOf bytes (devices.state_of kept.device) (devices.journal_of kept.device)
+  pub device : IsDeviceOf bytes (state_of kept) (journal_of kept)
   pub answer : kept.answer.items ≡ []
   pub usable : kept.failed ≡ false
 

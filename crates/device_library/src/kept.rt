@@ -3,10 +3,12 @@
 ghost use Rattle.std.specs.Prelude.{◌≡◌, [], false, true, IfErr, IsTrue, OnOk};
 ghost use Rattle.durable_device.specs.Kept.{IsKept};
 ghost use Rattle.handed_file.specs.Handed.{noted, told_of};
-ghost use Rattle.device_library.specs.Devices.{journal_of, state_of};
+ghost use Rattle.device_library.specs.Devices as opened;
 
+use crate::serving::{handed, serve};
+use device_serve::{FrameCodec, FrameStreamRoom, KeepsNothing, KeptDevice, ServeFault};
 use durable_device::{DurableDevice, Folding};
-use durable_serve::{ServeFault, serve};
+use durable_machine::InFile;
 use handed_file::HandedFile;
 use std::alloc::Global;
 
@@ -14,7 +16,9 @@ use std::alloc::Global;
 #[derive(Drop)]
 pub struct Kept {
     /// The device and its journal.
-    pub device: DurableDevice<HandedFile>,
+    pub device: KeptDevice<InFile<HandedFile>>,
+    /// What reads the frames.
+    pub codec: FrameCodec<KeepsNothing>,
     /// The frames of the replies to what was served last.
     pub answer: Vec<u8>,
     /// Whether the file has to be opened again.
@@ -22,18 +26,20 @@ pub struct Kept {
 }
 
 impl Kept {
-    ghost use Rattle.device_library.specs.Kept.{FoldsTo, HasServed, HasStopped, IsOnTheDisk, TakesDone, TakesFailed, WillBeKept, is_on_disk, replies_of};
+    ghost use Rattle.device_library.specs.Kept.{FoldsTo, HasServed, HasStopped, IsOnTheDisk, TakesDone, TakesFailed, WillBeKept, file_of, is_on_disk, journal_of, replies_of, state_of};
 
-    /// A device that was opened.
-    pub fn new(alloc: Global, device: DurableDevice<HandedFile>) -> Kept
-        requires { IsKept (state_of device) (journal_of device).gate (told_of (noted (journal_of device).file)) }
-        ensures device { result.device ≡ device }
+    /// A device that was opened, with room for frames.
+    pub fn new(alloc: Global, device: DurableDevice<HandedFile>, room: FrameStreamRoom) -> Kept
+        requires { IsKept (opened.state_of device) (opened.journal_of device).gate (told_of (noted (opened.journal_of device).file)) }
+        ensures state { state_of result ≡ opened.state_of device }
+        ensures journal { journal_of result ≡ opened.journal_of device }
         ensures answer { result.answer.items ≡ [] }
         ensures usable { result.failed ≡ false }
         ensures kept { WillBeKept result }
     {
         Kept {
-            device,
+            device: handed(alloc, device),
+            codec: FrameCodec::over(room, 0, false, KeepsNothing),
             answer: Vec::new(alloc),
             failed: false,
         }
@@ -41,9 +47,9 @@ impl Kept {
 
     /// Its file.
     pub fn file(&self) -> &HandedFile
-        ensures { result.now ≡ (journal_of self.now.device).file }
+        ensures { result.now ≡ file_of self.now }
     {
-        &self.device.store.events.journal.file
+        &self.device.events.journal.file
     }
 
     /// Does what frames ask for, and keeps the frames of the replies.
@@ -51,7 +57,7 @@ impl Kept {
     /// # Errors
     ///
     /// Why it isn't done. The file has to be opened again.
-    pub fn serve(&mut self, alloc: Global, mut frames: &[u8]) -> Result<(), ServeFault>
+    pub fn serve(&mut self, alloc: Global, frames: &[u8]) -> Result<(), ServeFault>
         requires usable { self.old.failed ≡ false }
         requires kept { WillBeKept self.old }
         ensures served { OnOk result (HasServed frames.now self.old self.new) }
@@ -59,7 +65,13 @@ impl Kept {
         ensures kept { WillBeKept self.new }
     {
         self.answer.clear();
-        let done = serve(alloc, &mut self.device, &mut frames, &mut self.answer);
+        let done = serve(
+            alloc,
+            &mut self.device,
+            &mut self.codec,
+            frames,
+            &mut self.answer,
+        );
         self.failed = done.is_err();
         done
     }
@@ -92,7 +104,7 @@ impl Kept {
         ensures done { TakesDone self.old self.new }
         ensures kept { WillBeKept self.new }
     {
-        self.device.store.events.journal.file.tell_done();
+        self.device.events.journal.file.tell_done();
     }
 
     /// Takes it for failed: the file has to be opened again.
@@ -110,7 +122,7 @@ impl Kept {
         ensures folds { FoldsTo self.old self.new result }
         ensures kept { WillBeKept self.new }
     {
-        self.device.store.events.journal.file.grant(room);
+        self.device.events.journal.file.grant(room);
         match self.device.fold(alloc) {
             Ok(folding) => Some(folding),
             Err(_) => {

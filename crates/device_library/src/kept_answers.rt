@@ -9,8 +9,8 @@ use crate::files::tell_next;
 use crate::kept::Kept;
 use crate::kind::{KeptKind, nothing};
 use crate::put::{behind, put};
+use device_serve::ServeFault;
 use durable_device::Folding;
-use durable_serve::ServeFault;
 use event_frames::StreamFault;
 use std::alloc::Global;
 
@@ -81,7 +81,7 @@ fn fault_number(why: ServeFault) -> usize
     match why {
         ServeFault::Stream(fault) => stream_number(fault),
         ServeFault::Write | ServeFault::Memory => 3,
-        ServeFault::Read | ServeFault::Disk => 0,
+        ServeFault::Read | ServeFault::Line { .. } | ServeFault::Save | ServeFault::Disk => 0,
     }
 }
 

@@ -18,6 +18,7 @@ mod memory;
 mod numbers;
 mod opening;
 mod put;
+mod serving;
 mod target;
 mod target_answers;
 

@@ -10,9 +10,8 @@ use crate::asked::AskedBy;
 use crate::event::{ReplyHead, event};
 use crate::kind::{MemoryKind, nothing};
 use crate::numbers::NO_RUN;
+use crate::opening::image_of;
 use crate::put::save;
-use image_store::Image;
-use image_text::ImageText;
 use runner::Device;
 use std::alloc::Global;
 
@@ -25,11 +24,7 @@ pub fn open(alloc: Global, bytes: &[u8]) -> Result<Device, u32>
     ensures opened { IfOk result (IsImageOf bytes.now) }
     ensures refused { IfErr result (IsRefusedImage bytes.now) }
 {
-    let mut rest = bytes;
-    match Image::load(alloc, &mut rest) {
-        Ok(image) => Ok(Device::new(alloc, image)),
-        Err(fault) => Err(u32::from(fault.number())),
-    }
+    Ok(Device::new(alloc, image_of(alloc, bytes)?))
 }
 
 /// Does what a device is asked for by a number, and gives the answer.

@@ -1,20 +1,22 @@
 //! Doors: what a handle is opened on.
 
-ghost use Rattle.std.specs.Prelude.{◌≡◌, ◌⊎◌, IfOk, IfErr};
+ghost use Rattle.std.specs.Prelude.{◌≡◌, ◌⊎◌, IfOk, IfErr, Ok};
 ghost use Rattle.durable_device.specs.Kept.{IsKept, IsRestarted};
 ghost use Rattle.handed_file.specs.Handed.{noted, told_of};
 ghost use Rattle.image_text.specs.Fault.{load_number};
+ghost use Rattle.image_text.specs.Reading.{namespace_in};
 ghost use Rattle.image_text.specs.declared.fault.LoadFault.TheVariants.{Memory};
 ghost use Rattle.device_library.specs.Devices.{journal_of, state_of};
 ghost use Rattle.device_library.specs.Files.{promised_of};
 ghost use Rattle.device_library.specs.Kept as kept;
-ghost use Rattle.device_library.specs.Opening.{IsBegun, IsCreated, IsDeviceOf, IsKeptOf, IsKeptTargetOf, IsNoImage, IsNoJournal, IsRefusedFile, IsRefusedTarget, IsReopened, IsServed, IsTargetOf, fault_number};
+ghost use Rattle.device_library.specs.Opening.{IsBegun, IsCreated, IsDeviceOf, IsKeptOf, IsKeptTargetOf, IsNoImage, IsNoJournal, IsRefusedFile, IsRefusedImage, IsRefusedTarget, IsReopened, IsServed, IsTargetOf, fault_number};
 ghost use Rattle.device_library.specs.Target as target;
 
 use crate::identity::{format_of, subsystem};
 use crate::kept::Kept;
 use crate::numbers::DAMAGED;
 use crate::target::Target;
+use device_serve::FrameStreamRoom;
 use durable_device::DurableDevice;
 use durable_machine::Fault;
 use handed_file::HandedFile;
@@ -29,14 +31,19 @@ use tcp_device::{ServedTarget, target_of};
 /// # Errors
 ///
 /// Why there is none, by number.
+#[inline(never)]
 pub fn open_file(alloc: Global, bytes: &[u8]) -> Result<Kept, u32>
     ensures opened { IfOk result (IsKeptOf bytes.now) }
     ensures kept { IfOk result kept.WillBeKept }
     ensures refused { IfErr result (IsRefusedFile bytes.now) }
 {
-    match device_of(alloc, bytes) {
-        Ok(device) => Ok(Kept::new(alloc, device)),
-        Err(why) => Err(why),
+    // The room is made first: a device that would be dropped where it can't be made takes much of the stack.
+    match FrameStreamRoom::new(alloc) {
+        Ok(room) => match device_of(alloc, bytes) {
+            Ok(device) => Ok(Kept::new(alloc, device, room)),
+            Err(why) => Err(why),
+        },
+        Err(AllocError) => Err(u32::from(LoadFault::Memory.number())),
     }
 }
 
@@ -45,18 +52,15 @@ pub fn open_file(alloc: Global, bytes: &[u8]) -> Result<Kept, u32>
 /// # Errors
 ///
 /// Why there is none, by number.
+#[tactic(auto, using(crate::proofs::Refusing::refused_target))]
 pub fn open_target(alloc: Global, bytes: &[u8]) -> Result<Target, u32>
     ensures opened { IfOk result (IsTargetOf bytes.now) }
     ensures kept { IfOk result target.WillBeKept }
     ensures refused { IfErr result (IsRefusedTarget bytes.now) }
 {
-    let mut rest = bytes;
-    match Image::load(alloc, &mut rest) {
-        Ok(image) => match target_on(alloc, image) {
-            Ok(served) => Ok(Target::in_memory(served)),
-            Err(_) => Err(u32::from(LoadFault::Memory.number())),
-        },
-        Err(fault) => Err(u32::from(fault.number())),
+    match target_on(alloc, image_of(alloc, bytes)?) {
+        Ok(served) => Ok(Target::in_memory(served)),
+        Err(AllocError) => Err(u32::from(LoadFault::Memory.number())),
     }
 }
 
@@ -76,6 +80,22 @@ pub fn open_target_file(alloc: Global, bytes: &[u8]) -> Result<Target, u32>
             Err(AllocError) => Err(u32::from(LoadFault::Memory.number())),
         },
         Err(why) => Err(why),
+    }
+}
+
+/// The image that these bytes tell.
+///
+/// # Errors
+///
+/// Why there is none, by number.
+pub fn image_of(alloc: Global, bytes: &[u8]) -> Result<Image, u32>
+    ensures told { IfOk result (λ image. namespace_in bytes.now ≡ Ok image) }
+    ensures refused { IfErr result (IsRefusedImage bytes.now) }
+{
+    let mut rest = bytes;
+    match Image::load(alloc, &mut rest) {
+        Ok(image) => Ok(image),
+        Err(fault) => Err(u32::from(fault.number())),
     }
 }
 
@@ -134,6 +154,7 @@ fn reopen(alloc: Global, bytes: &[u8], file: HandedFile) -> Result<DurableDevice
 
 /// The device of an image, and a journal that takes its place.
 #[inline(never)]
+#[tactic(auto, using(crate::proofs::Refusing::refused_target))]
 fn create(
     alloc: Global,
     bytes: &[u8],
@@ -143,11 +164,7 @@ fn create(
     ensures kept { IfOk result (λ device. IsKept (state_of device) (journal_of device).gate (promised_of (journal_of device).file)) }
     ensures refused { IfErr result (λ why. IsNoImage bytes.now why ⊎ (why ≡ load_number Memory)) }
 {
-    let mut rest = bytes;
-    let image = match Image::load(alloc, &mut rest) {
-        Ok(image) => image,
-        Err(fault) => return Err(u32::from(fault.number())),
-    };
+    let image = image_of(alloc, bytes)?;
     file.grant(usize::MAX);
     match DurableDevice::create(alloc, image, file) {
         Ok(device) => Ok(device),

@@ -13,7 +13,7 @@ mod words;
 
 pub use command_file::{EventFault, ParseFault, event_of, parse};
 pub use fault::LineFault;
-pub use lines::{LineRoom, Lines};
+pub use lines::{LineRoom, Lines, push_line};
 pub use positions::event_lines;
 pub use reply_file::{RepliesFault, Told, ToldReply, replies};
 pub use submission::submission_line;

@@ -125,8 +125,12 @@ fn print<W: Write>(out: &mut W, line: &mut Vec<u8>, reply: Reply, bytes: &[u8]) 
     out.write_all(line.as_slice())
 }
 
-/// Adds the line of a reply.
-fn push_line(line: &mut Vec<u8>, reply: Reply, bytes: &[u8]) -> io::Result<()>
+/// Adds the line of a reply with its data, and its end, after what is there.
+///
+/// # Errors
+///
+/// No memory: a part of the line may have been added.
+pub fn push_line(line: &mut Vec<u8>, reply: Reply, bytes: &[u8]) -> io::Result<()>
     ensures { OnOk result (line.new.items ≡ line.old.items ++ line_text reply bytes.now) }
 {
     push_reply(line, reply, bytes)?;

@@ -10,7 +10,6 @@ use crate::streams::Streams;
 use clap::error::ErrorKind;
 use clap::{ArgMatches, Command};
 use command_demo::demo;
-use command_durable::{DurableFiles, fold};
 use command_entry::{entries, entry};
 use command_exec::{exec, fail};
 use command_explain::explain;
@@ -19,7 +18,7 @@ use command_files::{Failure, Files, Shown, printed};
 use command_images::{format, report, upgrade, zones};
 use command_link::link;
 use command_programs::{asm, disasm, trace, unpack, verify};
-use command_serve::serve;
+use command_serve::{DurableFiles, fold, serve};
 use command_words::{Words, command_over, laid_out};
 use std::alloc::{AllocError, Global};
 use std::io::{Read, Write};
@@ -138,7 +137,7 @@ fn perform<'a, F: DurableFiles, I: Read + Drop, O: Write, E: Write>(
     }
 }
 
-/// Does `serve`, durably where that is asked for.
+/// Does `serve`.
 fn perform_serve<'a, F: DurableFiles, I: Read + Drop, O: Write>(
     alloc: Global,
     matches: &ArgMatches<'a>,
@@ -150,28 +149,7 @@ fn perform_serve<'a, F: DurableFiles, I: Read + Drop, O: Write>(
     ensures made { input.new ≡ input.old → F.made files.new ≡ F.made files.old }
     ensures contents { input.new ≡ input.old → F.contents files.new ≡ F.contents files.old }
 {
-    if serve::asks_durable(matches) {
-        return perform_durably(alloc, matches, files, input, out);
-    }
     match serve::serve(alloc, matches, files, input, out) {
-        Ok(()) => Ok(None),
-        Err(failure) => Err(failure),
-    }
-}
-
-/// Does `serve --durable`.
-fn perform_durably<'a, F: DurableFiles, I: Read + Drop, O: Write>(
-    alloc: Global,
-    matches: &ArgMatches<'a>,
-    files: &mut F,
-    input: &mut Option<I>,
-    out: &mut O,
-) -> Result<Option<Failure<'a>>, Failure<'a>>
-    ensures name { MakesOneName (F.made files.old) (F.made files.new) }
-    ensures made { input.new ≡ input.old → F.made files.new ≡ F.made files.old }
-    ensures contents { input.new ≡ input.old → F.contents files.new ≡ F.contents files.old }
-{
-    match command_durable::serve::serve(alloc, matches, files, input, out) {
         Ok(()) => Ok(None),
         Err(failure) => Err(failure),
     }

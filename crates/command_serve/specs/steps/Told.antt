@@ -1,35 +1,55 @@
--- What the user is told of how serving ended.
-use Rattle.std.specs.Prelude.{◌≡◌, ◌⊎◌, Ok, Err}
-use Rattle.std.specs.declared.result.Result.{Result}
-use Rattle.event_frames.specs.declared.fault.StreamFault.TheVariants as stream
-use Rattle.live_lines.specs.declared.fault.LinesFault.{LinesFault}
-use Rattle.live_lines.specs.declared.fault.LinesFault.TheVariants as lines
-use Rattle.live_serve.specs.declared.fault.ServeFault.{ServeFault}
-use Rattle.live_serve.specs.declared.fault.ServeFault.TheVariants as fault
+-- What the user is told of a file that isn't opened, and of a stream that is served.
+use Rattle.std.specs.Prelude.{◌≡◌, List, ℕ, Result, Ok, Err}
+use Rattle.stored_file.specs.declared.stored_file.FileError.{FileError}
+use Rattle.stored_file.specs.declared.stored_file.FileError.TheVariants.{Memory, NoRoom, Failed}
+use Rattle.durable_machine.specs.declared.fault.Fault.{Fault}
+use Rattle.durable_machine.specs.declared.fault.Fault.TheVariants.{Unreadable, Damaged, Undone, OfFile}
+use Rattle.durable_device.specs.declared.durable_device.Folding.{Folding}
+use Rattle.durable_device.specs.declared.durable_device.Folding.TheVariants as folding
+use Rattle.device_serve.specs.declared.fault.ServeFault.{ServeFault}
+use Rattle.command_files.specs.declared.file_cause.FileCause.TheVariants as cause
 use Rattle.command_files.specs.declared.failure.Failure.{Failure}
-use Rattle.command_files.specs.declared.failure.Failure.TheVariants.{CannotPrint, CannotRead, LineRefused, NoMemory, StreamCutOff, StreamRefused}
-use Rattle.command_serve.specs.declared.lines.TheConstants.{INPUT}
+use Rattle.command_files.specs.declared.journal_fault.JournalFault.{JournalFault}
+use Rattle.command_files.specs.declared.journal_fault.JournalFault.TheVariants as journal
+use Rattle.command_files.specs.declared.failure.Failure.TheVariants.{CannotRead, CannotWrite, ImageRefused, JournalRefused, NoMemory}
+use Rattle.command_serve.specs.Served.{IsToldOf}
 
--- a failure by which one knows why, but for which memory was wanting
-abbrev pub IsToldOf : ServeFault → Failure → Type 0
-IsToldOf why (StreamRefused place name) = why ≡ fault.Stream (stream.Byte place name)
-IsToldOf why (StreamCutOff place) = why ≡ fault.Stream (stream.CutOff place)
-IsToldOf why CannotPrint = why ≡ fault.Write
-IsToldOf why (CannotRead told cause) = (told.now ≡ INPUT.now) × (why ≡ fault.Read)
-IsToldOf why NoMemory = (why ≡ fault.Memory) ⊎ (why ≡ fault.Stream stream.Memory) ⊎ (why ≡ fault.Save)
-IsToldOf why _ = ⊥
+-- a disk that fails, or has no room
+abbrev pub TellsError : FileError → List ℕ → Failure → Type 0
+TellsError Memory path NoMemory = Unit {0}
+TellsError NoRoom path (CannotWrite name why) = (name.now ≡ path) × (why ≡ cause.NoRoom)
+TellsError Failed path (CannotWrite name cause) = name.now ≡ path
+TellsError error path _ = ⊥
 
--- nothing where it ended well; else such a failure
-abbrev pub IsTold : Result (Unit {0}) ServeFault → Result (Unit {0}) Failure → Type 0
-IsTold (Ok done) (Ok told) = Unit {0}
-IsTold (Ok done) (Err failure) = ⊥
-IsTold (Err why) (Ok told) = ⊥
-IsTold (Err why) (Err failure) = IsToldOf why failure
+-- a journal that isn't folded
+abbrev pub TellsUnfolded : Result Folding FileError → List ℕ → Failure → Type 0
+TellsUnfolded (Ok folding.NoRoom) path (CannotWrite name why) = (name.now ≡ path) × (why ≡ cause.NoNewFile)
+TellsUnfolded (Ok folding.NoMemory) path NoMemory = Unit {0}
+TellsUnfolded (Ok came) path _ = ⊥
+TellsUnfolded (Err error) path failure = TellsError error path failure
 
--- of lines
-abbrev pub IsToldOfLines : LinesFault → Failure → Type 0
-IsToldOfLines why (LineRefused told line cause) = (told.now ≡ INPUT.now) × (why ≡ lines.Line line cause)
-IsToldOfLines why CannotPrint = why ≡ lines.Write
-IsToldOfLines why (CannotRead told cause) = (told.now ≡ INPUT.now) × (why ≡ lines.Read)
-IsToldOfLines why NoMemory = why ≡ lines.Memory
-IsToldOfLines why _ = ⊥
+-- a file that can't be read, or is no image
+abbrev pub TellsUnread : List ℕ → Failure → Type 0
+TellsUnread path (ImageRefused name fault) = name.now ≡ path
+TellsUnread path (CannotRead name cause) = name.now ≡ path
+TellsUnread path NoMemory = Unit {0}
+TellsUnread path _ = ⊥
+
+-- a journal with this fault at a byte
+abbrev pub TellsDamage : JournalFault → ℕ → List ℕ → Failure → Type 0
+TellsDamage fault place path (JournalRefused name at said) = (name.now ≡ path) × (at ≡ place) × (said ≡ fault)
+TellsDamage fault place path _ = ⊥
+
+-- a journal that isn't opened; one without a base has its fault at the front
+abbrev pub TellsFault : Fault → List ℕ → Failure → Type 0
+TellsFault Unreadable path failure = TellsDamage journal.NoBase 0 path failure
+TellsFault (Damaged place) path failure = TellsDamage journal.OpenGate place path failure
+TellsFault (Undone place) path failure = TellsDamage journal.Undone place path failure
+TellsFault (OfFile error) path failure = TellsError error path failure
+
+-- of a stream nothing, where it ended well; else why it stopped
+abbrev pub IsTold : List ℕ → Result (Unit {0}) ServeFault → Result (Unit {0}) Failure → Type 0
+IsTold path (Ok done) (Ok told) = Unit {0}
+IsTold path (Ok done) (Err failure) = ⊥
+IsTold path (Err why) (Ok told) = ⊥
+IsTold path (Err why) (Err failure) = IsToldOf path why failure

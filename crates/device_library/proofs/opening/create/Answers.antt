@@ -8,16 +8,16 @@ use Rattle.image_text.specs.Reading.{namespace_in}
 use Rattle.device_meaning.specs.State.{new_state}
 use Rattle.device_library.proofs.opening.create.Goals as goal
 
-pub returns-in-Ok-create-clause-opened : goal.returns-in-Ok-create-clause-opened
-returns-in-Ok-create-clause-opened c =
-    let journal = c.in-Ok-create.device.store.events.journal in
-    let told : namespace_in c.args.bytes.now ≡ Ok c.in-Ok.image = search rules in
+pub returns-in-Ok-clause-opened : goal.returns-in-Ok-clause-opened
+returns-in-Ok-clause-opened c =
+    let journal = c.in-Ok.device.store.events.journal in
+    let told : namespace_in c.args.bytes.now ≡ Ok c.in_ok-image.image = search rules in
     record {
-      namespace = c.in-Ok.image;
+      namespace = c.in_ok-image.image;
       told = told;
-      state = c.in-Ok-create.ensures.new;
-      in_base = c.in-Ok-create.ensures.in_base;
+      state = c.in-Ok.ensures.new;
+      in_base = c.in-Ok.ensures.in_base;
       moments =
-          subst (λ (calls : List Call). LeavesOnly (told_of calls) (told_of (noted journal.file)) (IsOldOrStandsFor (told_of calls) (new_state c.in-Ok.image)))
-          c.grant.ensures.noted c.in-Ok-create.ensures.any_moment;
+          subst (λ (calls : List Call). LeavesOnly (told_of calls) (told_of (noted journal.file)) (IsOldOrStandsFor (told_of calls) (new_state c.in_ok-image.image)))
+          c.grant.ensures.noted c.in-Ok.ensures.any_moment;
     }

@@ -1,2 +1,0 @@
-mod Openings
-mod Endings

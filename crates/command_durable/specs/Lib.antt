@@ -1,4 +1,0 @@
-pub mod Opening
-pub mod Durably
-pub mod Folding
-pub mod steps

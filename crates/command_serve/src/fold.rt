@@ -1,0 +1,141 @@
+//! The command `fold`: the events of a journal become a part of its base.
+
+ghost use Rattle.std.specs.Prelude.{◌≡◌, ℕ, List, Option, IfErr, IfOk, IfSome, IsNone, Ok, OnErr, OnOk, Some};
+ghost use Rattle.stored_file.specs.File.{LeavesOnly};
+ghost use Rattle.durable_device.specs.Kept.{IsKept, IsKeptInBase, StandsFor};
+ghost use Rattle.command_files.specs.Made.{KeepsModes, KeepsOthers, MakesAtMost};
+ghost use Rattle.command_images.specs.Images.{image_of};
+ghost use Rattle.command_serve.specs.Folding.{Folds, FoldsJournal, IsntFolded};
+ghost use Rattle.command_serve.specs.Opening.{FailsToOpen, Opens};
+ghost use Rattle.command_serve.specs.steps.Told.{TellsUnfolded};
+
+use crate::DurableFiles;
+use crate::opening::{failed, into_file, is_journal, reopen, stored};
+use clap::ArgMatches;
+use command_files::arguments::required;
+use command_files::{Failure, FileCause, Files};
+use command_images::image_file::{self, IMAGE};
+use command_words::{Argument, Takes, Words};
+use durable_device::{DurableDevice, Folding};
+use std::alloc::Global;
+use stored_file::{FileError, StoredFile};
+
+/// The command's name.
+pub const NAME: &str = "fold";
+
+const LONG_ABOUT: &str = "\
+Makes of a journal, as `serve --durable` writes it, a new base, which has the device as the events behind the old one left it, with its \
+programs, results and runs, and an empty journal. The new file is written beside the old one, as IMAGE.unfinished, and takes its place \
+when it is whole. So the file is no longer than its device wants, and is opened as fast as that is read. An image that is no journal \
+stays as it is.
+
+No other command works on the image meanwhile: one that tries to is told that it is in use.";
+
+const EXAMPLE: &str = "\
+Example, of a frame by which zone 3 becomes read only, as `serve --help` has it:
+
+  zscli format zoned.img --block 512 --zones 4 --size 64 --capacity 64 --open 3 --active 3
+  printf '\\3\\1\\0\\0\\3\\0\\0\\0\\0\\0\\0\\0\\0\\0\\0\\0' | zscli serve zoned.img --durable --frames | xxd
+  zscli fold zoned.img";
+
+/// How the command stands on the command line.
+pub static WORDS: Words = Words {
+    name: NAME,
+    about: "Makes of a journal's base and events a new base",
+    long_about: LONG_ABOUT,
+    example: EXAMPLE,
+    arguments: &[Argument {
+        id: IMAGE,
+        long: "",
+        short: None,
+        takes: Takes::Place,
+        help: "The image, which `serve --durable` writes as a journal",
+    }],
+    one_of: &[],
+};
+
+/// Folds the journal of the image file into a new base. An image that is no journal stays as it is.
+///
+/// # Errors
+///
+/// The file is in use, can't be read or written, or is refused; or memory is wanting.
+pub fn fold<'a, F: DurableFiles>(
+    alloc: Global,
+    matches: &ArgMatches<'a>,
+    files: &mut F,
+) -> Result<(), Failure<'a>>
+    ensures folded { let path = image_of matches.now in
+        OnOk result (Folds F.Stored.told F.Reader.tells (F.contents files.old path) (F.contents files.new path)) }
+    ensures failed { let path = image_of matches.now in
+        IfErr result (IsntFolded F.Stored.told F.Reader.tells path (F.contents files.old path)) }
+    ensures made { OnOk result (MakesAtMost (image_of matches.now) (F.made files.old) (F.made files.new)) }
+    ensures kept { OnErr result (F.made files.new ≡ F.made files.old) }
+    ensures contents { OnErr result (F.contents files.new ≡ F.contents files.old) }
+    ensures others { OnOk result (KeepsOthers (image_of matches.now) (F.contents files.old) (F.contents files.new)) }
+    ensures modes { OnOk result (KeepsModes (F.modes files.old) (F.modes files.new)) }
+{
+    let path = required(matches, IMAGE);
+    image_file::hold(path, files)?;
+    if is_journal(path, files)? {
+        fold_held(alloc, path, files)
+    } else {
+        // An image has no journal to be folded.
+        let _image = image_file::load_held(alloc, path, files)?;
+        Ok(())
+    }
+}
+
+/// Folds the journal of the file whose name is held.
+fn fold_held<'a, F: DurableFiles>(
+    alloc: Global,
+    path: &'a str,
+    files: &mut F,
+) -> Result<(), Failure<'a>>
+    requires { F.held files.old ≡ Some path.now }
+    ensures folded { OnOk result (FoldsJournal F.Stored.told (F.contents files.old path.now) (F.contents files.new path.now)) }
+    ensures failed { IfErr result (IsntFolded F.Stored.told F.Reader.tells path.now (F.contents files.old path.now)) }
+    ensures made { OnOk result (MakesAtMost path.now (F.made files.old) (F.made files.new)) }
+    ensures kept { OnErr result (F.made files.new ≡ F.made files.old) }
+    ensures contents { OnErr result (F.contents files.new ≡ F.contents files.old) }
+    ensures others { OnOk result (KeepsOthers path.now (F.contents files.old) (F.contents files.new)) }
+    ensures modes { OnOk result (KeepsModes (F.modes files.old) (F.modes files.new)) }
+{
+    let file = stored(alloc, path, files)?;
+    let device = reopen(alloc, path, file)?;
+    let file = folded(alloc, path, device)?;
+    files.keep(path, file)?;
+    Ok(())
+}
+
+/// The file of a durable device whose journal is folded.
+fn folded<'a, S: StoredFile + Drop>(
+    alloc: Global,
+    path: &'a str,
+    mut device: DurableDevice<S>,
+) -> Result<S, Failure<'a>>
+    requires { IsKept device.store.machine device.store.events.journal.gate (S.told device.store.events.journal.file) }
+    ensures kept { IfOk result (λ file. (gate : ℕ) × IsKeptInBase device.store.machine gate (S.told file)) }
+    ensures any_moment { IfOk result (λ file.
+        LeavesOnly (S.told device.store.events.journal.file) (S.told file) (λ c. StandsFor c device.store.machine)) }
+    ensures failed { (contents : Option (List ℕ)) → Opens S.told contents (S.told device.store.events.journal.file) device.store.machine
+        → IfErr result (FailsToOpen S.told contents path.now) }
+{
+    let came = device.fold(alloc);
+    match unfolded(path, came) {
+        None => Ok(into_file(device)),
+        Some(failure) => Err(failure),
+    }
+}
+
+/// What the user is told of a journal that isn't folded.
+fn unfolded<'a>(path: &'a str, came: Result<Folding, FileError>) -> Option<Failure<'a>>
+    ensures none { IsNone result → came ≡ Ok Folding.Done }
+    ensures told { IfSome result (TellsUnfolded came path.now) }
+{
+    match came {
+        Ok(Folding::Done) => None,
+        Ok(Folding::NoRoom) => Some(Failure::CannotWrite(path, FileCause::NoNewFile)),
+        Ok(Folding::NoMemory) => Some(Failure::NoMemory),
+        Err(error) => Some(failed(path, error)),
+    }
+}

@@ -1,0 +1,14 @@
+mod Events
+mod Serving
+mod Reading
+mod EndingRuns
+mod FrameSteps
+mod FrameTakes
+mod FrameTurns
+mod LongData
+mod LineDoing
+mod LineEnds
+mod LineTexts
+mod LinePieces
+mod LineCodecs
+mod LineRounds

@@ -1,0 +1,10 @@
+pub mod Rounds
+pub mod Faults
+pub mod EndingRuns
+pub mod FrameStream
+pub mod LongData
+pub mod LineStream
+pub mod LineSteps
+pub mod LineLaws
+pub mod WholeLines
+pub mod steps

@@ -1,0 +1,27 @@
+//! A device that is served a stream as it comes, by one loop: lines or frames, kept in a file or in memory alone.
+#![tactic(auto)]
+
+mod any_event;
+mod codec;
+mod draining;
+mod fault;
+mod folding;
+mod frames;
+mod keep;
+mod kept;
+pub mod laws;
+mod line_events;
+pub mod line_laws;
+mod line_spelling;
+mod lines;
+mod notes;
+mod stream;
+
+pub use codec::Codec;
+pub use fault::ServeFault;
+pub use folding::Folds;
+pub use frames::{FrameCodec, FrameStreamRoom};
+pub use keep::{Keep, KeepsNothing, NotKept};
+pub use kept::KeptDevice;
+pub use lines::LineCodec;
+pub use stream::serve;

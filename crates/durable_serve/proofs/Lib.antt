@@ -1,7 +1,0 @@
-mod Batches
-mod Frames
-mod Joining
-mod Pushed
-mod Rounds
-mod Shown
-mod Stopping

@@ -1,4 +1,0 @@
-mod Doing
-mod Ends
-mod ServedTexts
-mod Pieces
