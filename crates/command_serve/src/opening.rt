@@ -196,6 +196,6 @@ pub(crate) fn into_file<S: StoredFile + Drop>(device: DurableDevice<S>) -> S
         journal,
         waiting: _waiting,
     } = events;
-    let Journal { file, gate: _gate } = journal;
+    let Journal { file, .. } = journal;
     file
 }

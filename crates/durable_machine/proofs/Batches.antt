@@ -1,11 +1,12 @@
 -- How runs of batches go on.
-use Rattle.std.proofs.Common.{◌≡◌, inl, inr, ◌<◌, ◌+◌, ℕ, Bool, Vec, get_or, List, [], ◌∷◌, ◌++◌, length, map, take, refl, sym, ◌∙◌, ap, subst, arith}
+use Rattle.std.proofs.Common.{◌≡◌, inl, inr, ◌<◌, ◌≤◌, ◌+◌, ℕ, Bool, Vec, get_or, List, [], ◌∷◌, ◌++◌, length, map, take, refl, sym, ◌∙◌, ap, subst, arith}
 use Rattle.std.specs.declared.alloc.Global.{Global}
 use Rattle.std.proofs.lemmas.List.{append-nil, map-append, take_more, take-map}
 use Rattle.std.proofs.lemmas.List.Sums.{fold-append}
 use Rattle.durable_machine.specs.Runs.{Occurrence, state_after}
 use Rattle.durable_machine.specs.Files.{joined}
-use Rattle.durable_machine.specs.Batches.{IsBeforeOrAfter, IsAfterSome, HasServed, HaveServed, LedTo, bytes_of, batches_of, lists_of}
+use Rattle.durable_machine.specs.Waiting.{IsEither}
+use Rattle.durable_machine.specs.Batches.{IsAfterSome, HasServed, HaveServed, LedTo, bytes_of, batches_of, lists_of}
 use Rattle.durable_machine.proofs.Files.{joined-append}
 
 pub led_on : {S : Type 0} (next : S → Bool → List ℕ → S) (first later : List (List ℕ)) (old mid new : S) → LedTo next first old mid → LedTo next later mid new → LedTo next (first ++ later) old new
@@ -49,7 +50,13 @@ module _ {S : Type 0} (loads : List ℕ → S → Type 0) (next : S → Bool →
   pub led_further : (new : S) → LedTo next (bytes_of batch.items) mid new → LedTo next (joined (take (i + 1) (batches_of batches))) old new
   led_further new by = subst (λ (es : List (List ℕ)). LedTo next es old new) (sym (one_more_batch batches i batch within is)) (led_on next (joined (take i (batches_of batches))) (bytes_of batch.items) old mid new led by)
 
-  -- what a crash leaves while the next batch is served
-  pub while_next : (c : List ℕ) → IsBeforeOrAfter loads next (bytes_of batch.items) mid c → IsAfterSome loads next (batches_of batches) old c
-  while_next c (inl before) = (i, omega (arith, length-batches batches), mid, led, before)
-  while_next c (inr after) = (i + 1, omega (arith, length-batches batches), after.0, led_further after.0 after.1, after.2)
+-- some of the first i batches led there
+abbrev pub LedBySome : {S : Type 0} → (S → Bool → List ℕ → S) → List (List (List ℕ)) → ℕ → S → S → Type 0
+LedBySome next batches i old s = (k : ℕ) × (k ≤ i) × LedTo next (joined (take k batches)) old s
+
+-- what a crash leaves that leaves what these led to, or all of the first i
+pub either_some : {S : Type 0} (loads : List ℕ → S → Type 0) (next : S → Bool → List ℕ → S) (batches : List (Vec (Vec ℕ Global) Global)) (i : ℕ) → i ≤ length batches → (old acked handed : S)
+    → LedBySome next (batches_of batches) i old acked → LedTo next (joined (take i (batches_of batches))) old handed
+    → (c : List ℕ) → IsEither loads next acked handed c → IsAfterSome loads next (batches_of batches) old c
+either_some loads next batches i within old acked handed some led c (inl before) = (some.0, omega (arith, length-batches batches, within, some.1), acked, some.2, before)
+either_some loads next batches i within old acked handed some led c (inr after) = (i, omega (arith, length-batches batches, within), handed, led, after)

@@ -6,6 +6,8 @@ use Rattle.durable_machine.specs.Restart.{LacksBatch}
 use Rattle.durable_machine.specs.Runs.{state_again}
 use Rattle.durable_machine.specs.Batches.{LedTo}
 use Rattle.durable_machine.specs.Laws.{FirstBatchesComeBack, OpeningChangesNothing, RestartsComeBack, ComesBack}
+use Rattle.durable_machine.specs.Ahead.{IsAhead}
+use Rattle.durable_machine.proofs.Ahead.{left_ahead}
 use Rattle.durable_machine.proofs.Files.{rests_before}
 use Rattle.durable_machine.proofs.Restarting.{left_stands}
 
@@ -28,3 +30,6 @@ module _ {S : Type 0} (loads : List ℕ → S → Type 0) (next : S → Bool →
 
   pub comes_back : (machine : S) (gate : ℕ) (file : FileState) → IsDurable loads next machine gate file → ComesBack loads next file machine
   comes_back machine gate file durable left opened may is = is.no_other machine (rests_before loads next machine gate file durable left may)
+
+  pub comes_back_ahead : (acked handed : S) (gate after : ℕ) (file : FileState) → IsAhead loads next acked handed gate after file → ComesBack loads next file acked
+  comes_back_ahead acked handed gate after file ahead left opened may is = is.no_other acked (left_ahead loads next acked handed gate after file ahead left may)

@@ -43,7 +43,10 @@ module _ {S : Type 0} (loads : List ℕ → S → Type 0) (next : S → Bool →
       are = refl;
       sector = 0 ∷ replicate {A = ℕ} 4095 0;
       is_closed = record { behind = replicate {A = ℕ} 4095 0; size = length-replicate {A = ℕ} 4095 0; parts = refl };
-      parts = sees ∙ zeros_behind base bytes front 4095 n long counted is;
+      room = [];
+      parts =
+          sees ∙ zeros_behind base bytes front 4095 n long counted is
+          ∙ ap (λ (l : List ℕ). (base ++ replicate {A = ℕ} (front - length base) 0) ++ [] ++ l) (sym (append-nil (0 ∷ replicate {A = ℕ} 4095 0)));
       ends = sym length-padded ∙ ap length (sym (append-nil (base ++ replicate {A = ℕ} (front - length base) 0)));
       durable = durable;
     };

@@ -1,3 +1,4 @@
+pub mod Ahead
 pub mod Batches
 pub mod ComingBack
 pub mod Crash
@@ -11,7 +12,9 @@ pub mod Refusing
 pub mod Repairing
 pub mod Replaying
 pub mod Restarting
+pub mod Rounds
 pub mod Running
 pub mod Spelling
+pub mod Staged
 pub mod Steps
 pub mod Waiting

@@ -1,6 +1,6 @@
 -- What is left of a file while it is opened behind a program that may have failed to bring its last batch's gate to the disk.
-use Rattle.std.proofs.Common.{◌≡◌, ◌≢◌, ◌⊎◌, inl, inr, ⊎_elim, ◌≤◌, ◌+◌, ◌-◌, ◌%◌, min, max, ℕ, List, [], ◌∷◌, ◌++◌, length, take, drop, get_or, refl, sym, ◌∙◌, ap, subst, arith, append_assoc, length-append, length-take, length-drop, take-append-drop}
-use Rattle.std.proofs.lemmas.List.{take_at, drop_at, take_all, drop_all, take-take, drop-drop, drop-take, append-nil}
+use Rattle.std.proofs.Common.{◌≡◌, ◌⊎◌, inl, inr, ⊎_elim, ◌≤◌, ◌+◌, ◌-◌, ◌%◌, ℕ, List, [], ◌∷◌, ◌++◌, length, take, drop, get_or, refl, sym, ◌∙◌, ap, subst, arith, append_assoc, length-append, length-take, length-drop, take-append-drop}
+use Rattle.std.proofs.lemmas.List.{take_at, drop_at, take-take, drop-drop, drop-take}
 use Rattle.stored_file.specs.File.{FileState, MayLeave, IsOnDisk, LeavesNow, LeavesOnly, Follows, SyncsTo, Elapses, is_written, Torn, Cut, IsCut, IsMix, Mixed}
 use Rattle.stored_file.proofs.Moments.{started, then_on, weaken, goes_on}
 use Rattle.stored_file.proofs.Renewing.{mix_same, mix_size, written_again}

@@ -33,7 +33,7 @@ module _ {S : Type 0} (loads : List ℕ → S → Type 0) (next : S → Bool →
   all_committed waiting s gate file none durable =
       record { committed = s; durable = durable; events = []; sized = tt; are_spelled = none; leads = refl }
 
-  no_events : (events : List (List ℕ)) (s : S) → [] ≡ spelled events → state_again next events s ≡ s
+  pub no_events : (events : List (List ℕ)) (s : S) → [] ≡ spelled events → state_again next events s ≡ s
   no_events [] s is = refl
   no_events (event ∷ events) s is = absurd (cc)
 
@@ -95,7 +95,7 @@ module _ {S : Type 0} (loads : List ℕ → S → Type 0) (next : S → Bool →
 
     module _ (one : (a b x y : List ℕ) (s t : S) → loads a s → loads b t → a ++ x ≡ b ++ y → (a ≡ b) × (s ≡ t)) (before : S) (durable : IsDurable loads next before gate file) where
       -- one machine is kept in the file
-      same_machine : but.committed ≡ before
+      pub same_machine : but.committed ≡ before
       same_machine =
           one_state loads next one file.seen but.committed before
           (is_before loads next but.committed gate file but.durable file.seen (at_rest but.durable.front but.durable.batches gate file but.durable.rests))

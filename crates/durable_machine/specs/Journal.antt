@@ -77,14 +77,16 @@ pub record IsDamagedAt (front : List ℕ) (batches : List (List (List ℕ))) (da
 abbrev pub StandsFor : List ℕ → List (List (List ℕ)) → List ℕ → Type 0
 StandsFor front batches file = (end : ℕ) × HasBatches front batches end file
 
--- the file is the front, the batches and a sector with a closed gate, at this offset, all of it on the disk
+-- the file is the front, the batches and a sector with a closed gate, at this offset, and room of any bytes after it; all of it is on the
+-- disk
 pub record IsAt (front : List ℕ) (batches : List (List (List ℕ))) (gate : ℕ) (file : FileState) : Type 0 where
   pub whole : IsWhole (length front)
   pub frames : List ℕ
   pub are : AreFrames batches frames
   pub sector : List ℕ
   pub is_closed : IsSector 0 sector
-  pub parts : file.seen ≡ front ++ frames ++ sector
+  pub room : List ℕ
+  pub parts : file.seen ≡ front ++ frames ++ (sector ++ room)
   pub ends : gate ≡ length (front ++ frames)
   pub durable : IsOnDisk file
 

@@ -1,8 +1,9 @@
 -- What is opened after a crash.
 use Rattle.std.specs.Prelude.{◌≡◌, ◌⊎◌, ◌≤◌, ℕ, Bool, List, length, take}
 use Rattle.stored_file.specs.File.{FileState, MayLeave}
-use Rattle.durable_machine.specs.Files.{IsItsState, KeepsState, joined}
+use Rattle.durable_machine.specs.Files.{IsItsState, IsState, KeepsState, joined}
 use Rattle.durable_machine.specs.Batches.{IsAfterSome, LedTo}
+use Rattle.durable_machine.specs.Refused.{IsDamaged}
 use Rattle.durable_machine.specs.Restart.{MayBeLeft}
 use Rattle.durable_machine.specs.Runs.{state_again}
 
@@ -30,3 +31,7 @@ module _ {S : Type 0} (loads : List ℕ → S → Type 0) (next : S → Bool →
   -- of each that a crash leaves now, this machine
   abbrev pub ComesBack : FileState → S → Type 0
   ComesBack file s = (left : List ℕ) (opened : S) → MayLeave file left → IsItsState loads next left opened → opened ≡ s
+
+  -- what stands for a state, as all that a crash leaves, isn't damaged at any byte
+  abbrev pub NoStateIsDamaged : Type 0
+  NoStateIsDamaged = (file : List ℕ) (s : S) (n : ℕ) → IsState loads next file s → IsDamaged loads next n file → ⊥

@@ -1,3 +1,4 @@
+pub mod Ahead
 pub mod Applied
 pub mod Bases
 pub mod Batches
@@ -10,5 +11,6 @@ pub mod Refused
 pub mod Replay
 pub mod Restart
 pub mod Runs
+pub mod Staging
 pub mod Unkept
 pub mod Waiting

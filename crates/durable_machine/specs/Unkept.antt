@@ -1,5 +1,5 @@
 -- What a crash leaves of what is kept nowhere.
-use Rattle.std.specs.Prelude.{ℕ, List, []}
+use Rattle.std.specs.Prelude.{[]}
 use Rattle.stored_file.specs.File.{FileState}
 
 -- no file: a crash leaves nothing at any moment, and no disk fails

@@ -5,6 +5,7 @@ ghost use Rattle.stored_file.specs.File.{FileState, LeavesOnly, MayLeave};
 
 use crate::Machine;
 use crate::committing::commit;
+use crate::going_ahead::{settle, stage};
 use crate::journal::{Journal, add_parts};
 use crate::store::Store;
 use std::alloc::{AllocError, Global};
@@ -22,6 +23,7 @@ pub struct InFile<F: StoredFile + Drop> {
 impl<M: Machine, F: StoredFile + Drop> Store<M> for InFile<F> {
     ghost use Rattle.durable_machine.specs.Files.{IsDurable};
     ghost use Rattle.durable_machine.specs.Waiting.{IsCommittedBut};
+    ghost use Rattle.durable_machine.specs.Ahead.{IsAheadBut};
 
     type Disk = Journal<F>;
 
@@ -32,6 +34,9 @@ impl<M: Machine, F: StoredFile + Drop> Store<M> for InFile<F> {
     ghost waits = { λ store. store.waiting.items };
 
     ghost keeps = { λ machine waiting journal. IsCommittedBut M.loads M.next waiting machine journal.gate (F.told journal.file) };
+
+    ghost ahead = { λ acked handed machine waiting journal.
+        IsAheadBut M.loads M.next waiting acked handed machine journal.gate journal.next (F.told journal.file) };
 
     ghost settled = { λ machine journal. IsDurable M.loads M.next machine journal.gate (F.told journal.file) };
 
@@ -47,6 +52,23 @@ impl<M: Machine, F: StoredFile + Drop> Store<M> for InFile<F> {
 
     fn commit(&mut self, alloc: Global) -> Result<(), FileError> {
         commit::<M, F>(alloc, &mut self.journal, &mut self.waiting)
+    }
+
+    fn go_ahead(&mut self) {
+        self.journal.next = self.journal.gate;
+    }
+
+    fn stage(&mut self, alloc: Global) -> Result<(), FileError> {
+        stage::<M, F>(alloc, &mut self.journal, &mut self.waiting)
+    }
+
+    fn settle(&mut self) -> Result<(), FileError> {
+        settle::<M, F>(&mut self.journal)
+    }
+
+    fn make_room(&mut self, alloc: Global, sectors: usize) -> Result<(), FileError> {
+        self.journal.make_room(alloc, sectors)?;
+        Ok(())
     }
 
     fn is_committed(&self) -> bool {

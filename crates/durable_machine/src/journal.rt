@@ -7,17 +7,18 @@ ghost use Rattle.durable_machine.specs.Events.{spelled, AreSpelled, AreSized};
 ghost use Rattle.durable_machine.specs.Journal.{IsSector, HasBatches, StandsFor, IsAt, IsSettled};
 ghost use Rattle.durable_machine.specs.LastBatch.{IsSameBut};
 
-use crate::journal_reading::whole_payload;
 use std::alloc::AllocError;
 use stored_file::{FileError, SECTOR, StoredFile, write_durably};
 
-/// A journal that is at rest.
+/// A journal, at rest or with one batch that is staged.
 #[derive(Drop)]
 pub struct Journal<F: StoredFile> {
     /// Where it is kept.
     pub file: F,
     /// The offset of its closed gate.
     pub gate: usize,
+    /// The offset of the closed gate after the batch that is staged. It says something only while batches are staged.
+    pub next: usize,
 }
 
 /// Puts an event after those of a batch, whole or not at all.
@@ -106,7 +107,7 @@ impl<F: StoredFile> Journal<F> {
     /// # Errors
     ///
     /// No memory, or the disk's.
-    pub fn append(&mut self, mut events: Vec<u8>) -> Result<(), FileError>
+    pub fn append(&mut self, events: Vec<u8>) -> Result<(), FileError>
         requires settled { IsSettled self.old.gate (F.told self.old.file) }
         requires spelled { AreSpelled events.items }
 
@@ -122,12 +123,8 @@ impl<F: StoredFile> Journal<F> {
         // It doesn't give up by itself.
         ensures cause { HasCause (F.told self.old.file) (F.told self.new.file) result }
     {
-        let whole = whole_payload(events.len());
-        events.resize(whole + SECTOR, 0)?;
-        write_durably(&mut self.file, self.gate + SECTOR, &events)?;
-        write_durably(&mut self.file, self.gate, &sector(1))?;
-        self.gate += SECTOR + whole;
-        Ok(())
+        self.stage(events)?;
+        self.settle()
     }
 }
 
@@ -175,7 +172,7 @@ pub fn repair<F: StoredFile>(
 }
 
 /// A sector that begins with a gate.
-fn sector(gate: u8) -> [u8; SECTOR]
+pub(crate) fn sector(gate: u8) -> [u8; SECTOR]
     ensures gate { IsSector gate result }
     ensures size { length result ≡ 4096 }
 {

@@ -1,9 +1,16 @@
 //! What is opened after a crash, as laws: these functions do nothing.
 
 ghost use Rattle.durable_machine.specs.Files.{IsDurable};
-ghost use Rattle.durable_machine.specs.Laws.{FirstBatchesComeBack, OpeningChangesNothing, RestartsComeBack, ComesBack};
+ghost use Rattle.durable_machine.specs.Ahead.{IsAhead};
+ghost use Rattle.durable_machine.specs.Laws.{
+  FirstBatchesComeBack,
+  OpeningChangesNothing,
+  RestartsComeBack,
+  ComesBack,
+  NoStateIsDamaged,
+};
 
-use crate::{Durable, InFile, Machine};
+use crate::{Durable, InFile, Journal, Machine};
 use stored_file::StoredFile;
 
 /// Of a file that a crash left while batches were served, the machine after the first of them is opened: some of them, none
@@ -29,4 +36,16 @@ pub fn acknowledged_comes_back<M: Machine + Drop, F: StoredFile + Drop>(
 )
     requires { IsDurable M.loads M.next store.now.machine store.now.events.journal.gate (F.told store.now.events.journal.file) }
     ensures { ComesBack M.loads M.next (F.told store.now.events.journal.file) store.now.machine }
+{}
+
+/// Whatever a crash leaves of a journal whose machine is ahead of what is acknowledged, the machine is opened of it that was
+/// acknowledged: no event of the staged batch, and none that is lost.
+pub fn acknowledged_comes_back_ahead<M: Machine + Drop, F: StoredFile + Drop>(journal: &Journal<F>)
+    ensures { (acked handed : M) → IsAhead M.loads M.next acked handed journal.now.gate journal.now.next (F.told journal.now.file)
+        → ComesBack M.loads M.next (F.told journal.now.file) acked }
+{}
+
+/// What a crash leaves is never refused as damaged: it stands for a machine, and what is damaged stands for none.
+pub fn no_crash_is_damage<M: Machine>()
+    ensures { NoStateIsDamaged M.loads M.next }
 {}

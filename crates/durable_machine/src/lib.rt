@@ -9,17 +9,18 @@
 //! of their own: a sector with an open gate (1), and the events, of which each has a 1 and its length before it (8 bytes, the lowest
 //! first), with zeros behind. At the end stands a sector with a closed gate (0). What stands behind a gate that isn't open doesn't count.
 //!
-//! A batch is written behind the closed gate, with a closed gate of its own behind it. When that is on the disk, the
-//! gate is opened. So what is torn stands behind a closed gate, or is a gate that was to be opened and has whole events
-//! behind it; no checksum is trusted, and no length that isn't known is followed. As a gate has a sector of its own, a
-//! disk may tear the whole sector where it writes one byte of it. An open gate with more than its sector, where no batch
-//! stands whole, is nothing that a crash leaves: it is damage.
+//! A batch is written behind the closed gate, with a closed gate of its own behind it. When that is on the disk, the gate is opened: at
+//! once, or, under load, in the round of writes that brings the next batch to the disk. So what is torn stands behind a closed gate, or
+//! is a gate that was to be opened and has whole events behind it; no checksum is trusted, and no length that isn't known is followed. As
+//! a gate has a sector of its own, a disk may tear the whole sector where it writes one byte of it. An open gate with more than its
+//! sector, where no batch stands whole, is nothing that a crash leaves: it is damage.
 #![tactic(auto)]
 
 mod base;
 mod committing;
 mod durable;
 mod fault;
+mod going_ahead;
 mod in_file;
 mod in_memory;
 mod journal;
@@ -29,7 +30,9 @@ mod machine;
 mod opening;
 mod reading;
 mod replay;
+mod room;
 mod sectors;
+mod staging;
 mod store;
 
 pub use base::put_base;

@@ -70,7 +70,11 @@ impl<M: Machine + Drop, F: StoredFile + Drop> Durable<M, InFile<F>> {
             Ok((machine, gate)) => Ok(Durable {
                 machine,
                 events: InFile {
-                    journal: Journal { file, gate },
+                    journal: Journal {
+                        file,
+                        gate,
+                        next: gate,
+                    },
                     waiting: Vec::new(alloc),
                 },
             }),
@@ -113,7 +117,11 @@ impl<M: Machine + Drop, F: StoredFile + Drop> Durable<M, InFile<F>> {
             Ok(gate) => Ok(Durable {
                 machine,
                 events: InFile {
-                    journal: Journal { file, gate },
+                    journal: Journal {
+                        file,
+                        gate,
+                        next: gate,
+                    },
                     waiting: Vec::new(alloc),
                 },
             }),

@@ -134,6 +134,36 @@ fn each_batch_is_cut_off_at_each_moment(rt: HostRuntime) -> Result<(), Fail> {
 }
 
 #[test]
+fn rounds_are_cut_off_at_each_moment(rt: HostRuntime) -> Result<(), Fail> {
+    let alloc = rt.alloc();
+    let mut store = created(alloc)?;
+    let from = store.events.journal.file.moment();
+    let mut number = store.machine;
+    let mut numbers = vec![in alloc; number; 1]?;
+    let mut batches = Vec::new(alloc);
+    for index in [1, 2, 3, 5] {
+        let events = batch(alloc, index)?;
+        number = after(number, &events);
+        numbers.push(number)?;
+        batches.push(events)?;
+    }
+    store.serve_all(alloc, &batches)?;
+    assert!(rt; store.machine == number);
+    let file = &store.events.journal.file;
+    // A round is two writes and a sync; the first round and the last have one write.
+    assert_eq!(rt; file.moment().saturating_sub(from), 13);
+    for moment in from..=file.moment() {
+        for seed in 0..SEEDS {
+            let left = file.crashed(alloc, moment, seed)?;
+            let found = opened(alloc, &left)?.machine;
+            assert!(rt; numbers.contains(&found));
+            assert!(rt; moment < file.moment() || found == number);
+        }
+    }
+    Ok(())
+}
+
+#[test]
 fn what_was_done_waits_for_the_commit(rt: HostRuntime) -> Result<(), Fail> {
     let alloc = rt.alloc();
     let mut store = created(alloc)?;

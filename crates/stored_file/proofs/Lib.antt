@@ -2,4 +2,5 @@ pub mod Changes
 pub mod Moments
 pub mod Opened
 pub mod Renewing
+pub mod Rounds
 mod Unsynced

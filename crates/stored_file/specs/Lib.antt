@@ -1,5 +1,6 @@
 pub mod Calls
 pub mod Cause
 pub mod File
+pub mod Rounds
 pub mod Tearing
 pub mod Unsynced

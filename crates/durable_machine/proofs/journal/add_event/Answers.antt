@@ -1,4 +1,4 @@
-use Rattle.std.proofs.Common.{ap, subst, ◌≡◌, ◌++◌, [], ◌∷◌, List, ℕ, rules}
+use Rattle.std.proofs.Common.{subst, ◌≡◌, ◌++◌, [], ◌∷◌, List, ℕ}
 use Rattle.std.specs.Prelude.{OnOk}
 use Rattle.durable_machine.specs.Events.{spelled}
 use Rattle.durable_machine.proofs.Spelling.{alone}

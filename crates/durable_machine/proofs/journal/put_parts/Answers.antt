@@ -1,4 +1,4 @@
-use Rattle.std.proofs.Common.{rules, ◌≡◌, ◌<◌, ◌^◌, ◌+◌, ◌++◌, length, length-append, arith, sym, ap, ◌∙◌}
+use Rattle.std.proofs.Common.{rules, ◌≡◌, ◌<◌, ◌^◌, ◌++◌, length, length-append, arith, ap, ◌∙◌}
 use Rattle.std.specs.Int.{to_le_bytes, w64}
 use Rattle.durable_machine.proofs.Numbers.{are_number_bytes}
 use Rattle.durable_machine.proofs.Spelling.{parts_added}

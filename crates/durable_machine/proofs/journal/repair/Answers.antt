@@ -1,5 +1,4 @@
-use Rattle.std.proofs.Common.{rules, ◌≡◌, ◌∙◌, ap, sym, ℕ, List, length, take, drop, arith, length-take, ◌≤◌, ◌+◌}
-use Rattle.stored_file.specs.File.{IsOnDisk}
+use Rattle.std.proofs.Common.{◌≡◌, ◌∙◌, ap, ℕ, List, length, take, drop, arith, length-take}
 use Rattle.durable_machine.proofs.Repairing.{part, cut_only, cut_long, renewed_only, synced_only, closed_only, on_disk, same_mixed, same_again, looser}
 use Rattle.durable_machine.proofs.Steps.{is_repaired}
 use Rattle.durable_machine.proofs.journal.repair.Goals as goal

@@ -1,23 +1,4 @@
-use Rattle.std.proofs.Common.{rules, ◌≡◌, ℕ, List, true, false, length, subst, sym, ◌∙◌}
-use Rattle.durable_machine.specs.Applied.{HasApplied}
-use Rattle.durable_machine.proofs.Spelling.{alone}
 use Rattle.durable_machine.proofs.durable.Durable.apply.Goals as goal
 
-pub returns-then-done-clause-kept : goal.returns-then-done-clause-kept
-returns-then-done-clause-kept g c =
-    let store = g.S.Store in
-    let applied : HasApplied g.M.Machine.next g.M.Machine.replies c.args.event.now c.args.self.now.machine c.in-Ok.done c.apply-result.new.self = search rules in
-    let changes : c.in-Ok.done.changes ≡ true = search rules in
-    subst (λ s. store.keeps s (store.waits c.note.new.self) (store.disk c.note.new.self)) (sym (applied.again changes))
-    (c.in_ok-before.ensures.noted c.args.self.now.machine c.args.event.now (sym (alone c.args.event.now)) c.requires.kept)
-
-pub returns-else-done-clause-kept : goal.returns-else-done-clause-kept
-returns-else-done-clause-kept g c =
-    let store = g.S.Store in
-    let applied : HasApplied g.M.Machine.next g.M.Machine.replies c.args.event.now c.args.self.now.machine c.in-Ok.done c.apply-result.new.self = search rules in
-    let idle : c.in-Ok.done.changes ≡ false = search rules in
-    let back : store.waits c.take_back.new.self ≡ store.waits c.args.self.now.events = search rules in
-    let same : store.disk c.take_back.new.self ≡ store.disk c.args.self.now.events = search rules in
-    subst (λ s. store.keeps s (store.waits c.take_back.new.self) (store.disk c.take_back.new.self)) (sym (applied.idle idle))
-    (subst (λ w. store.keeps c.args.self.now.machine w (store.disk c.take_back.new.self)) (sym back)
-    (subst (λ d. store.keeps c.args.self.now.machine (store.waits c.args.self.now.events) d) (sym same) c.requires.kept))
+pub returns-clause-kept : goal.returns-clause-kept
+returns-clause-kept g c = c.happen.ensures.kept c.requires.kept

@@ -10,20 +10,27 @@ loop-event-init g c =
     let replies = g.M.Machine.replies in
     let s = c.args.self.now.machine in
     let none : c.new-replies.result.items ≡ [] = search rules in
-    (subst (λ given. HasServed next replies [] s s given) (sym none) ([], none_run next replies s), c.requires.kept, refl)
+    record {
+      served = subst (λ given. HasServed next replies [] s s given) (sym none) ([], none_run next replies s);
+      kept = λ kept. kept;
+      ahead = λ acked handed ahead. ahead;
+      same = refl;
+    }
 
 pub loop-event-preserved : goal.loop-event-preserved
 loop-event-preserved g c =
     let next = g.M.Machine.next in
     let replies = g.M.Machine.replies in
     let old = c.args.self.now.machine in
-    let new = c.apply.new.self.machine in
+    let new = c.happen.new.self.machine in
     let event = c.deref.result.now in
     let sized : length event < 2 ^ 64 = search rules in
-    let served = served_more next replies (bytes_of (take c.loop-event.event-index c.args.events.now)) event old c.loop-event.self.machine new c.loop-event.replies.items c.in_ok-apply.field-0 c.loop-event.invariant.0 c.in_ok-apply.ensures.done sized in
+    let served = served_more next replies (bytes_of (take c.loop-event.event-index c.args.events.now)) event old c.loop-event.self.machine new c.loop-event.replies.items c.in_ok-happen.field-0 c.loop-event.invariant.served c.in_ok-happen.ensures.done sized in
     let more = bytes_more c.args.events.now c.loop-event.event-index c.event-item.result event (search rules) c.event-item.is c.deref.ensures.value in
-    let moved = subst (λ (es : List (List ℕ)). HasServed next replies es old new (c.loop-event.replies.items ++ c.in_ok-apply.field-0 ∷ [])) (sym more) served in (
-      subst (λ given. HasServed next replies (bytes_of (take (c.loop-event.event-index + 1) c.args.events.now)) old new given) (sym c.in_ok-push.ensures.items) moved,
-      c.in_ok-apply.ensures.kept,
-      c.apply.ensures.same ∙ c.loop-event.invariant.2,
-    )
+    let moved = subst (λ (es : List (List ℕ)). HasServed next replies es old new (c.loop-event.replies.items ++ c.in_ok-happen.field-0 ∷ [])) (sym more) served in
+    record {
+      served = subst (λ given. HasServed next replies (bytes_of (take (c.loop-event.event-index + 1) c.args.events.now)) old new given) (sym c.in_ok-push.ensures.items) moved;
+      kept = λ kept. c.happen.ensures.kept (c.loop-event.invariant.kept kept);
+      ahead = λ acked handed ahead. c.happen.ensures.ahead acked handed (c.loop-event.invariant.ahead acked handed ahead);
+      same = c.happen.ensures.same ∙ c.loop-event.invariant.same;
+    }

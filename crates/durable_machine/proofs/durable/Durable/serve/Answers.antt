@@ -1,19 +1,20 @@
-use Rattle.std.proofs.Common.{rules, ◌≡◌, inl, sym, subst, ◌∙◌, [], take}
+use Rattle.std.proofs.Common.{◌≡◌, inl, sym, subst, ◌∙◌, []}
 use Rattle.stored_file.specs.File.{LeavesOnly}
 use Rattle.stored_file.proofs.Moments.{started, weaken}
 use Rattle.durable_machine.specs.Batches.{IsBeforeOrAfter, bytes_of}
 use Rattle.durable_machine.proofs.Waiting.{before_or_after}
 use Rattle.durable_machine.proofs.durable.Durable.serve.Goals as goal
 
-pub apply_all-requires : goal.apply_all-requires
-apply_all-requires g c =
+pub commit-requires : goal.commit-requires
+commit-requires g c =
     let store = g.S.Store in
     let s = c.args.self.now.machine in
     let none : store.waits c.take_back.new.self ≡ [] = c.take_back.ensures.back in
     record {
       kept =
-          subst (λ w. store.keeps s w (store.disk c.take_back.new.self)) (sym none)
-          (subst (λ d. store.keeps s [] d) (sym c.take_back.ensures.same) (c.rests.ensures.at_rest s (store.disk c.args.self.now.events) c.requires));
+          c.in_ok-replies.ensures.kept
+          (subst (λ w. store.keeps s w (store.disk c.take_back.new.self)) (sym none)
+          (subst (λ d. store.keeps s [] d) (sym c.take_back.ensures.same) (c.rests.ensures.at_rest s (store.disk c.args.self.now.events) c.requires)));
     }
 
 pub returns-in_err-replies-clause-any_moment : goal.returns-in_err-replies-clause-any_moment

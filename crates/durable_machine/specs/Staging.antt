@@ -1,0 +1,50 @@
+-- A journal of which one batch may be staged: it is on the disk, whole, and not counted, since its gate is closed.
+use Rattle.std.specs.Prelude.{◌≡◌, ℕ, ◌+◌, List, [], ◌∷◌, ◌++◌, length}
+use Rattle.stored_file.specs.File.{FileState, IsOnDisk, IsWhole}
+use Rattle.durable_machine.specs.Events.{spelled, AreSized}
+use Rattle.durable_machine.specs.Journal.{IsSector, AreFrames, IsAt, payload_length}
+
+-- what is written after a closed gate for a batch: whole sectors, of its events and a 0 after them, and a sector with a closed gate
+pub record IsPayload (added : List (List ℕ)) (bytes : List ℕ) : Type 0 where
+  pub padding : List ℕ
+  pub size : length (spelled added ++ 0 ∷ padding) ≡ payload_length (length (spelled added))
+  pub sector : List ℕ
+  pub is_closed : IsSector 0 sector
+  pub parts : bytes ≡ (spelled added ++ 0 ∷ padding) ++ sector
+
+-- the file is the front, the batches and a sector with a closed gate, at this offset; after it a further batch stands whole, and a sector
+-- with a closed gate, at the next offset, and room of any bytes; all of it is on the disk
+pub record IsStaged (front : List ℕ) (batches : List (List (List ℕ))) (staged : List (List ℕ)) (gate next : ℕ) (file : FileState) : Type 0 where
+  pub whole : IsWhole (length front)
+  pub frames : List ℕ
+  pub are : AreFrames batches frames
+  pub sector : List ℕ
+  pub is_closed : IsSector 0 sector
+  pub sized : AreSized staged
+  pub bytes : List ℕ
+  pub payload : IsPayload staged bytes
+  pub room : List ℕ
+  pub parts : file.seen ≡ front ++ frames ++ (sector ++ (bytes ++ room))
+  pub ends : gate ≡ length (front ++ frames)
+  pub goes_on : next ≡ gate + 4096 + payload_length (length (spelled staged))
+  pub durable : IsOnDisk file
+
+-- and it is so with some front, some batches and some batch after them
+pub record HasStaged (gate next : ℕ) (file : FileState) : Type 0 where
+  pub front : List ℕ
+  pub batches : List (List (List ℕ))
+  pub staged : List (List ℕ)
+  pub rests : IsStaged front batches staged gate next file
+
+-- at rest, with both offsets at its gate, or with one batch staged
+abbrev pub IsPending : List ℕ → List (List (List ℕ)) → List (List (List ℕ)) → ℕ → ℕ → FileState → Type 0
+IsPending front batches [] gate next file = IsAt front batches gate file × (next ≡ gate)
+IsPending front batches (staged ∷ []) gate next file = IsStaged front batches staged gate next file
+IsPending front batches (staged ∷ second ∷ more) gate next file = ⊥
+
+-- and it is so with some front, some batches and some that are pending
+pub record IsUnderWay (gate next : ℕ) (file : FileState) : Type 0 where
+  pub front : List ℕ
+  pub batches : List (List (List ℕ))
+  pub pending : List (List (List ℕ))
+  pub rests : IsPending front batches pending gate next file

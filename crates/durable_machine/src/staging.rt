@@ -1,0 +1,173 @@
+//! A journal that waits for the disk once a batch.
+//!
+//! A batch is *staged* when it is on the disk, whole, behind its closed gate, with a closed gate after it. In one round the gate of the
+//! staged batch is opened, and the next batch is written after the closed gate that follows, with a closed gate of its own after it; then
+//! one sync. Whatever of the two writes comes to the disk, the staged batch is whole either way, and the new one stands behind a gate that
+//! nothing writes in this round.
+
+ghost use Rattle.std.specs.Prelude.{◌≡◌, ◌⊎◌, ◌≤◌, ◌+◌, ◌++◌, [], ◌∷◌, List, ℕ, length, IfOk, OnOk};
+ghost use Rattle.stored_file.specs.File.{LeavesOnly};
+ghost use Rattle.stored_file.specs.Cause.{HasCause};
+ghost use Rattle.durable_machine.specs.Events.{spelled, AreSpelled, AreSized};
+ghost use Rattle.durable_machine.specs.Journal.{StandsFor, IsAt, IsSettled, payload_length};
+ghost use Rattle.durable_machine.specs.Staging.{IsPayload, IsStaged, HasStaged, IsPending, IsUnderWay};
+
+use crate::journal::{Journal, sector};
+use crate::journal_reading::whole_payload;
+use std::alloc::AllocError;
+use stored_file::{FileError, SECTOR, StoredFile, write_both, write_durably};
+
+/// What is written after a closed gate for a batch: its events and zeros up to the end of a sector, and a sector with a closed gate.
+///
+/// # Errors
+///
+/// No memory.
+fn payload_of(mut events: Vec<u8>) -> Result<Vec<u8>, AllocError>
+    ensures is { IfOk result (λ payload. (added : List (List ℕ)) → events.items ≡ spelled added → IsPayload added payload.items) }
+    ensures size { IfOk result (λ payload. length payload.items ≡ payload_length (length events.items) + 4096) }
+{
+    let whole = whole_payload(events.len());
+    events.resize(whole + SECTOR, 0)?;
+    Ok(events)
+}
+
+impl<F: StoredFile> Journal<F> {
+    /// Hands in a batch of events: adds the one that is staged, if one is, and stages this one, with one sync. At `Ok` the first is
+    /// acknowledged, and the new one isn't yet. At `Err`, the file has to be opened again.
+    ///
+    /// # Errors
+    ///
+    /// No memory, or the disk's.
+    pub fn hand_in(&mut self, events: Vec<u8>) -> Result<(), FileError>
+        requires under_way { IsUnderWay self.old.gate self.old.next (F.told self.old.file) }
+        requires spelled { AreSpelled events.items }
+
+        ensures acknowledged { OnOk result ((front : List ℕ) (before pending : List (List (List ℕ))) (added : List (List ℕ))
+            → IsPending front before pending self.old.gate self.old.next (F.told self.old.file) → AreSized added → events.items ≡ spelled added
+            → IsPending front (before ++ pending) (added ∷ []) self.new.gate self.new.next (F.told self.new.file)) }
+
+        // A crash at any moment of the call leaves the batches from before it, with the staged one or without, and never the new one.
+        ensures any_moment { (front : List ℕ) (before pending : List (List (List ℕ)))
+            → IsPending front before pending self.old.gate self.old.next (F.told self.old.file)
+            → LeavesOnly (F.told self.old.file) (F.told self.new.file) (λ c. StandsFor front before c ⊎ StandsFor front (before ++ pending) c) }
+
+        ensures cause { HasCause (F.told self.old.file) (F.told self.new.file) result }
+    {
+        if self.next == self.gate {
+            self.stage(events)
+        } else {
+            self.advance(events)
+        }
+    }
+
+    /// Adds the batch that is staged, if one is, with one sync. At `Ok` it is acknowledged, and the journal is at rest. At `Err`, the file
+    /// has to be opened again.
+    ///
+    /// # Errors
+    ///
+    /// No memory, or the disk's.
+    pub fn finish(&mut self) -> Result<(), FileError>
+        requires under_way { IsUnderWay self.old.gate self.old.next (F.told self.old.file) }
+
+        ensures acknowledged { OnOk result ((front : List ℕ) (before pending : List (List (List ℕ)))
+            → IsPending front before pending self.old.gate self.old.next (F.told self.old.file)
+            → IsPending front (before ++ pending) [] self.new.gate self.new.next (F.told self.new.file)) }
+
+        // A crash at any moment of the call leaves the batches from before it, with the staged one or without.
+        ensures any_moment { (front : List ℕ) (before pending : List (List (List ℕ)))
+            → IsPending front before pending self.old.gate self.old.next (F.told self.old.file)
+            → LeavesOnly (F.told self.old.file) (F.told self.new.file) (λ c. StandsFor front before c ⊎ StandsFor front (before ++ pending) c) }
+
+        ensures cause { HasCause (F.told self.old.file) (F.told self.new.file) result }
+    {
+        if self.next == self.gate {
+            return Ok(());
+        }
+        self.settle()
+    }
+
+    /// Stages a batch of events, in a journal that is at rest. It isn't acknowledged yet. At `Err`, the file has to be opened again.
+    ///
+    /// # Errors
+    ///
+    /// No memory, or the disk's.
+    pub(crate) fn stage(&mut self, events: Vec<u8>) -> Result<(), FileError>
+        requires settled { IsSettled self.old.gate (F.told self.old.file) }
+        requires spelled { AreSpelled events.items }
+
+        ensures staged { OnOk result ((front : List ℕ) (before : List (List (List ℕ))) (added : List (List ℕ))
+            → IsAt front before self.old.gate (F.told self.old.file) → AreSized added → events.items ≡ spelled added
+            → IsStaged front before added self.new.gate self.new.next (F.told self.new.file)) }
+
+        // A crash at any moment of the call leaves the batches from before it.
+        ensures any_moment { (front : List ℕ) (before : List (List (List ℕ)))
+            → IsAt front before self.old.gate (F.told self.old.file)
+            → LeavesOnly (F.told self.old.file) (F.told self.new.file) (StandsFor front before) }
+
+        ensures cause { HasCause (F.told self.old.file) (F.told self.new.file) result }
+    {
+        let payload = payload_of(events)?;
+        write_durably(&mut self.file, self.gate + SECTOR, &payload)?;
+        self.next = self.gate + payload.len();
+        Ok(())
+    }
+
+    /// Adds the batch that is staged, and stages a further one. At `Ok` the first is acknowledged: from then on each crash leaves a file
+    /// that has it. At `Err`, the file has to be opened again.
+    ///
+    /// # Errors
+    ///
+    /// No memory, or the disk's.
+    fn advance(&mut self, events: Vec<u8>) -> Result<(), FileError>
+        requires staged { HasStaged self.old.gate self.old.next (F.told self.old.file) }
+        requires spelled { AreSpelled events.items }
+
+        ensures acknowledged { OnOk result ((front : List ℕ) (before : List (List (List ℕ))) (staged added : List (List ℕ))
+            → IsStaged front before staged self.old.gate self.old.next (F.told self.old.file) → AreSized added → events.items ≡ spelled added
+            → IsStaged front (before ++ staged ∷ []) added self.new.gate self.new.next (F.told self.new.file)) }
+
+        // A crash at any moment of the call leaves the batches from before it, with the staged one or without, and never the new one.
+        ensures any_moment { (front : List ℕ) (before : List (List (List ℕ))) (staged : List (List ℕ))
+            → IsStaged front before staged self.old.gate self.old.next (F.told self.old.file)
+            → LeavesOnly (F.told self.old.file) (F.told self.new.file) (λ c. StandsFor front before c ⊎ StandsFor front (before ++ staged ∷ []) c) }
+
+        ensures cause { HasCause (F.told self.old.file) (F.told self.new.file) result }
+    {
+        let payload = payload_of(events)?;
+        write_both(
+            &mut self.file,
+            self.gate,
+            &sector(1),
+            self.next + SECTOR,
+            &payload,
+        )?;
+        self.gate = self.next;
+        self.next += payload.len();
+        Ok(())
+    }
+
+    /// Adds the batch that is staged. At `Ok` it is acknowledged, and the journal is at rest. At `Err`, the file has to be opened again.
+    ///
+    /// # Errors
+    ///
+    /// No memory, or the disk's.
+    pub(crate) fn settle(&mut self) -> Result<(), FileError>
+        requires staged { HasStaged self.old.gate self.old.next (F.told self.old.file) }
+
+        ensures acknowledged { OnOk result ((front : List ℕ) (before : List (List (List ℕ))) (staged : List (List ℕ))
+            → IsStaged front before staged self.old.gate self.old.next (F.told self.old.file)
+            → IsAt front (before ++ staged ∷ []) self.new.gate (F.told self.new.file)) }
+        ensures at_rest { OnOk result (self.new.next ≡ self.new.gate) }
+
+        // A crash at any moment of the call leaves the batches from before it, with the staged one or without.
+        ensures any_moment { (front : List ℕ) (before : List (List (List ℕ))) (staged : List (List ℕ))
+            → IsStaged front before staged self.old.gate self.old.next (F.told self.old.file)
+            → LeavesOnly (F.told self.old.file) (F.told self.new.file) (λ c. StandsFor front before c ⊎ StandsFor front (before ++ staged ∷ []) c) }
+
+        ensures cause { HasCause (F.told self.old.file) (F.told self.new.file) result }
+    {
+        write_durably(&mut self.file, self.gate, &sector(1))?;
+        self.gate = self.next;
+        Ok(())
+    }
+}
