@@ -10,12 +10,13 @@ ghost use Rattle.command_serve.specs.Opening.{FailsToOpen, Opens};
 ghost use Rattle.command_serve.specs.steps.Told.{TellsUnfolded};
 
 use crate::DurableFiles;
-use crate::opening::{failed, into_file, is_journal, reopen, stored};
+use crate::opening::{failed, is_journal, reopen, stored};
 use clap::ArgMatches;
 use command_files::arguments::required;
 use command_files::{Failure, FileCause, Files};
 use command_images::image_file::{self, IMAGE};
 use command_words::{Argument, Takes, Words};
+use device_serve::KeptDevice;
 use durable_device::{DurableDevice, Folding};
 use std::alloc::Global;
 use stored_file::{FileError, StoredFile};
@@ -111,7 +112,7 @@ fn fold_held<'a, F: DurableFiles>(
 fn folded<'a, S: StoredFile + Drop>(
     alloc: Global,
     path: &'a str,
-    mut device: DurableDevice<S>,
+    device: DurableDevice<S>,
 ) -> Result<S, Failure<'a>>
     requires { IsKept device.store.machine device.store.events.journal.gate (S.told device.store.events.journal.file) }
     ensures kept { IfOk result (λ file. (gate : ℕ) × IsKeptInBase device.store.machine gate (S.told file)) }
@@ -120,9 +121,10 @@ fn folded<'a, S: StoredFile + Drop>(
     ensures failed { (contents : Option (List ℕ)) → Opens S.told contents (S.told device.store.events.journal.file) device.store.machine
         → IfErr result (FailsToOpen S.told contents path.now) }
 {
-    let came = device.fold(alloc);
+    let mut kept = KeptDevice::opened(alloc, device);
+    let came = kept.fold(alloc);
     match unfolded(path, came) {
-        None => Ok(into_file(device)),
+        None => Ok(kept.into_file()),
         Some(failure) => Err(failure),
     }
 }

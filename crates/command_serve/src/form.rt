@@ -3,7 +3,8 @@
 ghost use Rattle.std.specs.Prelude.{◌≡◌, []};
 ghost use Rattle.command_serve.specs.Streams.{IsReadyIn, ServesIn, end_of, seen, shelf};
 
-use device_serve::{Folds, FrameCodec, FrameStreamRoom, Keep, KeptDevice, LineCodec, ServeFault};
+use device_serve::{FrameCodec, FrameStreamRoom, Keep, KeptDevice, LineCodec, ServeFault};
+use durable_device::Folds;
 use std::alloc::Global;
 use std::io::{Read, Write};
 
@@ -32,7 +33,8 @@ pub(crate) fn serve_in<S: Folds + Drop, K: Keep + Drop, I: Read, O: Write>(
     requires form { IsReadyIn form }
     ensures ready { K.is_ready result.1 }
     ensures becomes { K.becomes keeper result.1 }
-    ensures serves { ServesIn K.has_kept K.becomes (shelf S.told S.settled) form (I.remaining input.old) (end_of result.0 (I.remaining input.new))
+    ensures serves { ServesIn K.has_kept K.becomes (shelf S.told S.settled) form
+        (I.remaining input.old) (end_of result.0 (I.remaining input.new))
         (seen kept.old.device.value (O.contents out.old) (S.disk kept.old.events) keeper)
         (seen kept.new.device.value (O.contents out.new) (S.disk kept.new.events) result.1) }
 {

@@ -1,6 +1,6 @@
 //! A stream that is served by the device of a journal.
 
-ghost use Rattle.std.specs.Prelude.{◌≡◌, [], IfErr, OnOk};
+ghost use Rattle.std.specs.Prelude.{IfErr, OnOk};
 ghost use Rattle.command_files.specs.Made.{KeepsModes, KeepsOthers, MakesOnly};
 ghost use Rattle.command_images.specs.Images.{image_of};
 ghost use Rattle.command_serve.specs.Served.{FailsDurably, ServesDurably};
@@ -15,11 +15,8 @@ use command_files::Failure;
 use command_files::arguments::required;
 use command_images::image_file::IMAGE;
 use device_serve::{KeepsNothing, KeptDevice};
-use durable_device::DurableDevice;
-use durable_machine::{Durable, InFile, Journal};
 use std::alloc::Global;
 use std::io::{Read, Write};
-use stored_file::StoredFile;
 
 /// Does what a stream asks of the device that the image file stands for, which is made durable where it is an image yet, and ends the runs
 /// that are left: nothing is answered before it is on the disk.
@@ -45,51 +42,8 @@ pub(crate) fn serve_journal<'a, F: DurableFiles, I: Read, O: Write>(
 {
     let path = required(matches, IMAGE);
     let device = open(alloc, path, files)?;
-    let mut kept = kept_of(alloc, device);
+    let mut kept = KeptDevice::opened(alloc, device);
     let (done, _keeper) = serve_in(alloc, &mut kept, form, KeepsNothing, input, out);
-    files.keep(path, into_file(kept))?;
+    files.keep(path, kept.into_file())?;
     told(path, done)
-}
-
-/// The device, and the journal that keeps its events on.
-fn kept_of<S: StoredFile + Drop>(alloc: Global, device: DurableDevice<S>) -> KeptDevice<InFile<S>>
-    ensures device { result.device.value ≡ device.store.machine }
-    ensures journal { result.events.journal ≡ device.store.events.journal }
-    ensures none { result.events.waiting.items ≡ [] }
-{
-    let DurableDevice {
-        store,
-        folded,
-        last_fold,
-    } = device;
-    let Durable { machine, events } = store;
-    let InFile {
-        journal,
-        waiting: _waiting,
-    } = events;
-    // The device is on the disk as it is, so nothing waits.
-    let waiting = Vec::new(alloc);
-    KeptDevice {
-        device: machine.into_device(),
-        events: InFile { journal, waiting },
-        folded,
-        last_fold,
-    }
-}
-
-/// The file of the journal, which is written no more.
-fn into_file<S: StoredFile + Drop>(kept: KeptDevice<InFile<S>>) -> S
-    ensures { result ≡ kept.events.journal.file }
-{
-    let KeptDevice {
-        device: _device,
-        events,
-        ..
-    } = kept;
-    let InFile {
-        journal,
-        waiting: _waiting,
-    } = events;
-    let Journal { file, gate: _gate } = journal;
-    file
 }

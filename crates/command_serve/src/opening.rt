@@ -12,7 +12,7 @@ use crate::DurableFiles;
 use command_files::{Failure, FileCause, JournalFault, cannot_read};
 use command_images::image_file;
 use durable_device::DurableDevice;
-use durable_machine::{Durable, Fault, InFile, Journal};
+use durable_machine::Fault;
 use image_base::MAGIC;
 use image_store::Image;
 use std::alloc::Global;
@@ -181,21 +181,4 @@ pub(crate) fn failed<'a>(path: &'a str, error: FileError) -> Failure<'a>
         FileError::NoRoom => Failure::CannotWrite(path, FileCause::NoRoom),
         FileError::Failed => Failure::CannotWrite(path, FileCause::Other),
     }
-}
-
-/// The file of a durable device, which is written no more.
-pub(crate) fn into_file<S: StoredFile + Drop>(device: DurableDevice<S>) -> S
-    ensures { result ≡ device.store.events.journal.file }
-{
-    let DurableDevice { store, .. } = device;
-    let Durable {
-        machine: _machine,
-        events,
-    } = store;
-    let InFile {
-        journal,
-        waiting: _waiting,
-    } = events;
-    let Journal { file, .. } = journal;
-    file
 }

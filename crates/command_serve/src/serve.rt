@@ -139,7 +139,8 @@ pub fn serve<'a, F: DurableFiles, I: Read + Drop, O: Write>(
 ) -> Result<(), Failure<'a>>
     ensures served { let here = around F.Files F.Reader.tells F.Writer.tells files.old files.new in
         asks_durable matches.now ≡ false
-        → OnOk result (ServesImage F.Files here matches.now (option_map_or I.remaining input.old None) (O.contents out.old) (O.contents out.new)) }
+        → OnOk result (ServesImage F.Files here matches.now (option_map_or I.remaining input.old None)
+        (O.contents out.old) (O.contents out.new)) }
     ensures stopped { let here = around F.Files F.Reader.tells F.Writer.tells files.old files.new in
         asks_durable matches.now ≡ false → IsSome input.old
         → IfErr result (FailsOfTaken (FailsImage F.Files here matches.now (option_map_or I.remaining input.old None)

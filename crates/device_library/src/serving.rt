@@ -8,9 +8,9 @@ ghost use Rattle.device_library.specs.Files.{promised_of};
 ghost use Rattle.device_library.specs.Serving.{IsBetweenFrames, ServesFrames, StopsFrames, site};
 
 use device_serve::laws::crash_leaves_rounds;
-use device_serve::{FrameCodec, KeepsNothing, KeptDevice, ServeFault};
+use device_serve::{FrameCodec, KeepsNothing, KeptDevice, ServeFault, serve_whole};
 use durable_device::DurableDevice;
-use durable_machine::{Durable, InFile};
+use durable_machine::InFile;
 use handed_file::HandedFile;
 use std::alloc::Global;
 
@@ -21,24 +21,7 @@ pub fn handed(alloc: Global, device: DurableDevice<HandedFile>) -> KeptDevice<In
     ensures journal { journal_in result ≡ journal_of device }
     ensures kept { IsCommitted result }
 {
-    let DurableDevice {
-        store,
-        folded,
-        last_fold,
-    } = device;
-    let Durable { machine, events } = store;
-    let InFile {
-        journal,
-        waiting: _waiting,
-    } = events;
-    // The device is on the disk as it is, so nothing waits.
-    let waiting = Vec::new(alloc);
-    KeptDevice {
-        device: machine.into_device(),
-        events: InFile { journal, waiting },
-        folded,
-        last_fold,
-    }
+    KeptDevice::opened(alloc, device)
 }
 
 /// Does what frames ask for, and adds the frames of the replies to `answer`.
@@ -50,7 +33,7 @@ pub fn serve(
     alloc: Global,
     device: &mut KeptDevice<InFile<HandedFile>>,
     codec: &mut FrameCodec<KeepsNothing>,
-    mut frames: &[u8],
+    frames: &[u8],
     answer: &mut Vec<u8>,
 ) -> Result<(), ServeFault>
     requires kept { IsCommitted device.old }
@@ -65,7 +48,7 @@ pub fn serve(
 {
     // Brings in what a crash leaves of rounds.
     crash_leaves_rounds::<InFile<HandedFile>, FrameCodec<KeepsNothing>>();
-    match device_serve::serve(alloc, device, codec, &mut frames, answer) {
+    match serve_whole(alloc, device, codec, frames, answer) {
         Ok(()) => Ok(()),
         Err(why) => Err(why),
     }

@@ -263,7 +263,7 @@ fn fold(
     ensures folded { OnOk result (IsFoldedTo keeper.old keeper.new served.now.device) }
     ensures in_base { IfOk result (λ folding. folding ≡ Done
         → IsKeptInBase served.now.device keeper.new.events.journal.gate (promised keeper.new)) }
-    ensures waiting { keeper.new.events.waiting ≡ keeper.old.events.waiting }
+    ensures waiting { keeper.new.events.waiting.items ≡ keeper.old.events.waiting.items }
 {
     keeper.events.journal.file.grant(room);
     keeper.fold(alloc, served)

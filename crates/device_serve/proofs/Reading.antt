@@ -1,5 +1,5 @@
 -- What was read of a stream so far, and how that goes on.
-use Rattle.std.proofs.Common.{◌≡◌, ℕ, List, Option, [], ◌++◌, append-nil, append_assoc, ap, refl, sym, subst, ◌∙◌, take, drop, take-append-drop}
+use Rattle.std.proofs.Common.{◌≡◌, ℕ, List, Option, Some, [], ◌++◌, append-nil, append_assoc, ap, refl, sym, subst, ◌∙◌, take, drop, take-append-drop}
 use Rattle.std.specs.Io.KnownBytes.{Consumes, IsAtEnd, Keeps}
 use Rattle.std.proofs.KnownBytes.{Consumes-kept, Consumes-nil, Consumes-trans, Consumes-whole}
 use Rattle.stored_file.specs.File.{FileState}
@@ -39,6 +39,10 @@ module _ {C D : Type 0} (does : Doing C) (told : D → FileState) (settled : Sta
 
   pub none_read : (unread : Option (List ℕ)) (s : Site C D) → ReadSoFar unread unread s s
   none_read unread s = record { bytes = []; read = Consumes-nil unread; served = in_none does told settled s }
+
+  -- a stream that has come whole is served
+  pub whole_read : (bytes : List ℕ) (a b : Site C D) → InRounds does told settled bytes a b → ReadSoFar (Some bytes) (Some []) a b
+  whole_read bytes a b served = record { bytes = bytes; read = sym (append-nil bytes); served = served }
 
   pub piece_read : (unread left less : Option (List ℕ)) (piece : List ℕ) (a b c : Site C D) → ReadSoFar unread left a b → Consumes left less piece
       → InRounds does told settled piece b c → ReadSoFar unread less a c

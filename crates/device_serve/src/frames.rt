@@ -15,7 +15,7 @@ use crate::codec::Codec;
 use crate::draining::end_runs;
 use crate::fault::ServeFault;
 use crate::frames::requests::do_request;
-use crate::frames::spelling::FrameSpelling;
+use crate::frames::spelling::AsFrames;
 use crate::frames::turns::give_turns;
 use crate::keep::Keep;
 use crate::kept::KeptDevice;
@@ -33,13 +33,12 @@ const MOST_WAITING: usize = 1 << 20;
 pub struct FrameStreamRoom {
     session: Session,
     output: Vec<u8>,
-    spelling: FrameSpelling,
     ghost fresh: { session ≡ record { pending = []; place = 0; fault = None } },
     ghost room: { length output.items ≡ MOST_TRANSFER },
 }
 
 impl FrameStreamRoom {
-    /// Room for the longest frames and for the data of a reply.
+    /// Room for the longest request and for the data of a reply.
     ///
     /// # Errors
     ///
@@ -48,7 +47,6 @@ impl FrameStreamRoom {
         Ok(FrameStreamRoom {
             session: Session::new(alloc)?,
             output: vec![in alloc; 0; MOST_TRANSFER]?,
-            spelling: FrameSpelling::new(alloc)?,
         })
     }
 }
@@ -62,7 +60,6 @@ pub struct FrameCodec<K: Keep + Drop> {
     keeper: K,
     /// Where the data of a reply goes.
     output: Vec<u8>,
-    spelling: FrameSpelling,
 }
 
 impl<K: Keep + Drop> FrameCodec<K> {
@@ -77,7 +74,6 @@ impl<K: Keep + Drop> FrameCodec<K> {
         let FrameStreamRoom {
             session,
             output,
-            spelling,
             ..
         } = room;
         FrameCodec {
@@ -86,7 +82,6 @@ impl<K: Keep + Drop> FrameCodec<K> {
             ends_runs,
             keeper,
             output,
-            spelling,
         }
     }
 
@@ -201,14 +196,7 @@ fn do_next<S: Store<FrameDevice> + Drop, K: Keep + Drop>(
     };
     let before = answer.len();
     let output = codec.output.as_mut_slice();
-    match do_request(
-        kept,
-        &request,
-        &mut codec.spelling,
-        output,
-        answer,
-        &mut codec.keeper,
-    ) {
+    match do_request(kept, &request, output, answer, &mut codec.keeper) {
         Ok(()) => {
             codec.session.reuse(request);
             Ok(count)
@@ -243,7 +231,7 @@ fn rest<S: Store<FrameDevice> + Drop, K: Keep + Drop>(
     ensures codecs { IfErr result IsCodecs }
 {
     let output = codec.output.as_mut_slice();
-    match give_turns(kept, codec.turns, &mut codec.spelling, output, answer) {
+    match give_turns(kept, codec.turns, output, answer) {
         Ok(_) => Ok(()),
         Err(_) => {
             answer.clear();
@@ -279,6 +267,6 @@ fn end<S: Store<FrameDevice> + Drop, K: Keep + Drop>(
         return Ok(());
     }
     let output = codec.output.as_mut_slice();
-    end_runs(kept, &mut codec.spelling, output, answer)?;
+    end_runs(kept, &mut AsFrames, output, answer)?;
     Ok(())
 }

@@ -11,14 +11,13 @@ ghost use Rattle.device_meaning.specs.State.{State};
 ghost use Rattle.durable_device.specs.Kept.{IsEither};
 ghost use Rattle.event_frames.specs.Requests.{Fits, told_event};
 
-use crate::notes::{may_change, note};
 use durable_device::laws::changes_come_again;
-use durable_device::{Folding, FrameDevice};
-use durable_machine::Store;
+use durable_device::{DurableDevice, Folding, FrameDevice, may_change, note};
+use durable_machine::{Durable, InFile, Journal, Store};
 use nvme_entry::MOST_TRANSFER;
 use runner::{Device, Event, Reply};
 use std::alloc::{AllocError, Global};
-use stored_file::FileError;
+use stored_file::{FileError, StoredFile};
 
 /// A device, and what keeps its events: a journal in a file, or nothing. What is done may be answered once [`KeptDevice::commit`] has
 /// answered `Ok`, and not before.
@@ -32,6 +31,41 @@ pub struct KeptDevice<S: Drop> {
     pub folded: usize,
     /// What came of the last fold; [`Folding::Done`] where there was none yet.
     pub last_fold: Folding,
+}
+
+impl<F: StoredFile + Drop> KeptDevice<InFile<F>> {
+    /// A device that was opened, with its journal. It is on the disk as it is, so nothing waits for a commit.
+    pub fn opened(alloc: Global, device: DurableDevice<F>) -> KeptDevice<InFile<F>>
+        ensures device { result.device.value ≡ device.store.machine }
+        ensures journal { result.events.journal ≡ device.store.events.journal }
+        ensures none { result.events.waiting.items ≡ [] }
+        ensures counted { (result.folded ≡ device.folded) × (result.last_fold ≡ device.last_fold) }
+    {
+        let DurableDevice {
+            store,
+            folded,
+            last_fold,
+        } = device;
+        let Durable { machine, events } = store;
+        let InFile { journal, .. } = events;
+        let waiting = Vec::new(alloc);
+        KeptDevice {
+            device: machine.into_device(),
+            events: InFile { journal, waiting },
+            folded,
+            last_fold,
+        }
+    }
+
+    /// The file of its journal, which is written no more.
+    pub fn into_file(self) -> F
+        ensures { result ≡ self.events.journal.file }
+    {
+        let KeptDevice { events, .. } = self;
+        let InFile { journal, .. } = events;
+        let Journal { file, .. } = journal;
+        file
+    }
 }
 
 impl<S: Store<FrameDevice> + Drop> KeptDevice<S> {

@@ -14,14 +14,12 @@ mod line_events;
 pub mod line_laws;
 mod line_spelling;
 mod lines;
-mod notes;
 mod stream;
 
 pub use codec::Codec;
 pub use fault::ServeFault;
-pub use folding::Folds;
 pub use frames::{FrameCodec, FrameStreamRoom};
 pub use keep::{Keep, KeepsNothing, NotKept};
 pub use kept::KeptDevice;
 pub use lines::LineCodec;
-pub use stream::serve;
+pub use stream::{serve, serve_whole};

@@ -1,6 +1,6 @@
 //! A stream that is served as it comes.
 
-ghost use Rattle.std.specs.Prelude.{◌≡◌, ◌≤◌, ◌<◌, ◌⊎◌, [], length, take, List, ℕ, Option, IfErr, IfOk, OnErr, OnOk};
+ghost use Rattle.std.specs.Prelude.{◌≡◌, ◌≤◌, ◌<◌, ◌⊎◌, [], length, take, List, ℕ, Option, Some, IfErr, IfOk, OnErr, OnOk};
 ghost use Rattle.std.specs.Io.KnownBytes.{Appends, Consumes, IsAtEnd, Keeps};
 ghost use Rattle.stored_file.specs.File.{LeavesOnly};
 ghost use Rattle.device_meaning.specs.State.{State};
@@ -11,15 +11,14 @@ ghost use Rattle.device_serve.specs.declared.fault.ServeFault.TheVariants.{Disk,
 
 use crate::codec::Codec;
 use crate::fault::ServeFault;
-use crate::folding::Folds;
 use crate::kept::KeptDevice;
-use durable_device::FrameDevice;
+use durable_device::{Folds, FrameDevice};
 use durable_machine::Store;
 use std::alloc::Global;
 use std::io::{ErrorKind, Read, Write};
 
 /// How much is read at a time.
-const PIECE: usize = 1 << 18;
+const PIECE: usize = 1 << 20;
 
 /// Serves a stream as it comes, in rounds: does what was read, then waits until all of it is on the disk, where there is one, then writes
 /// what answers it. All that was read is served before more is read, and a journal that has grown long is folded then.
@@ -93,6 +92,39 @@ fn serve_pieces<R: Read, S: Folds + Drop, C: Codec<S>, W: Write>(
         fold(alloc, kept)?;
     }
     Err(ServeFault::Read)
+}
+
+/// Serves a stream that has come whole, as [`serve`] does one that comes in pieces. It isn't copied first.
+///
+/// # Errors
+///
+/// Why the stream is served no further. What was served before is done, on the disk and answered.
+pub fn serve_whole<S: Folds + Drop, C: Codec<S>, W: Write>(
+    alloc: Global,
+    kept: &mut KeptDevice<S>,
+    codec: &mut C,
+    bytes: &[u8],
+    out: &mut W,
+) -> Result<(), ServeFault>
+    requires none { S.waits kept.old.events ≡ [] }
+    requires settled { S.settled kept.old.device.value (S.disk kept.old.events) }
+    requires ready { C.is_ready codec.old }
+    ensures ready { C.is_ready codec.new }
+    ensures none { OnOk result (S.waits kept.new.events ≡ []) }
+    ensures settled { OnOk result (S.settled kept.new.device.value (S.disk kept.new.events)) }
+    ensures blames { BlamesDisk (S.told (S.disk kept.old.events)) (S.told (S.disk kept.new.events)) result }
+    ensures served { OnOk result (ServesStream C.does S.told S.settled C.ends (Some bytes.now)
+        (on codec.old kept.old.device.value (W.contents out.old) (S.disk kept.old.events))
+        (on codec.new kept.new.device.value (W.contents out.new) (S.disk kept.new.events))) }
+    ensures stopped { IfErr result (StopsServing C.does S.told S.settled C.ends C.stops (Some bytes.now) (Some [])
+        (on codec.old kept.old.device.value (W.contents out.old) (S.disk kept.old.events))
+        (on codec.new kept.new.device.value (W.contents out.new) (S.disk kept.new.events))) }
+{
+    let mut answer = Vec::new(alloc);
+    serve_piece(alloc, kept, codec, bytes, &mut answer, out)?;
+    rest(alloc, kept, codec, &mut answer, out)?;
+    fold(alloc, kept)?;
+    end(alloc, kept, codec, &mut answer, out)
 }
 
 /// Reads a piece, again where a signal interrupts it. Nothing comes only at the end.

@@ -275,53 +275,6 @@ impl<F: StoredFile + Drop> DurableDevice<F> {
         self.store.serve_all(alloc, batches)
     }
 
-    /// Puts a new file in the place of the old one, with a base that tells the device as it is, and an empty journal. A crash at any
-    /// moment leaves a file that stands for the same device. Without room for the new file, or memory for its base, the old file is
-    /// used on. At an `Err` the file has to be opened again.
-    ///
-    /// # Errors
-    ///
-    /// The disk's, or no memory to hand the file over.
-    pub fn fold(&mut self, alloc: Global) -> Result<Folding, FileError>
-        requires { IsKept self.old.store.machine self.old.store.events.journal.gate (F.told self.old.store.events.journal.file) }
-        ensures same { self.new.store.machine ≡ self.old.store.machine }
-        ensures counted { OnOk result (self.new.folded ≡ self.new.store.events.journal.gate) }
-        ensures kept { OnOk result
-            (IsKept self.new.store.machine self.new.store.events.journal.gate (F.told self.new.store.events.journal.file)) }
-        ensures told { IfOk result (λ folding. self.new.last_fold ≡ folding) }
-        ensures in_base { IfOk result (λ folding. folding ≡ Folding.Done →
-            IsKeptInBase self.new.store.machine self.new.store.events.journal.gate (F.told self.new.store.events.journal.file)) }
-        ensures any_moment { LeavesOnly (F.told self.old.store.events.journal.file) (F.told self.new.store.events.journal.file)
-            (λ c. StandsFor c self.old.store.machine) }
-
-        // It doesn't give up by itself.
-        ensures cause { HasCause (F.told self.old.store.events.journal.file) (F.told self.new.store.events.journal.file) result }
-        ensures no_room { IfOk result (λ folding. folding ≡ Folding.NoRoom →
-            (F.told self.old.store.events.journal.file).faults < (F.told self.new.store.events.journal.file).faults) }
-    {
-        let Ok(base) = self.store.machine.base(alloc) else {
-            return Ok(self.note_fold(Folding::NoMemory));
-        };
-        match self.store.fold(base) {
-            Ok(()) => Ok(self.note_fold(Folding::Done)),
-            Err(FileError::NoRoom) => Ok(self.note_fold(Folding::NoRoom)),
-            Err(FileError::Memory) => Err(FileError::Memory),
-            Err(FileError::Failed) => Err(FileError::Failed),
-        }
-    }
-
-    /// Notes what came of a fold, and gives it. Growth counts from here on.
-    fn note_fold(&mut self, folding: Folding) -> Folding
-        ensures told { result ≡ folding }
-        ensures noted { self.new.last_fold ≡ folding }
-        ensures counted { self.new.folded ≡ self.new.store.events.journal.gate }
-        ensures same { self.new.store ≡ self.old.store }
-    {
-        self.last_fold = folding;
-        self.folded = self.store.events.journal.gate;
-        folding
-    }
-
     /// The device.
     pub fn device(&self) -> &Device
         ensures { result.now ≡ self.now.store.machine }

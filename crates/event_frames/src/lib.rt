@@ -2,7 +2,7 @@
 #![tactic(auto)]
 
 mod fault;
-mod header;
+mod frame_header;
 mod laws;
 mod parts;
 mod replies;
@@ -10,8 +10,8 @@ mod request;
 mod session;
 
 pub use fault::{Field, StreamFault};
-pub use header::HEADER_BYTES;
+pub use frame_header::{HEADER_BYTES, header};
 pub use laws::{frames_read_back, streams_split_in_one_way};
 pub use replies::{FrameRoom, Frames, push_drained, push_reply, push_saved};
-pub use request::{Request, push_request};
+pub use request::{Request, push_request, state_number};
 pub use session::{Session, Taken};

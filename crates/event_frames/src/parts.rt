@@ -6,7 +6,7 @@ ghost use Rattle.event_frames.specs.Streams.{IsFirstWrong};
 ghost use Rattle.event_frames.specs.steps.Held.{Grows, HasFlaw, IsHeld, come, entry_bytes, input_bytes, is_submission, pending_of, request_in, state_numbered, wanted};
 ghost use Rattle.event_frames.specs.declared.parts.Flaw.TheVariants.{Memory};
 
-use crate::header::{HEADER_BYTES, first_wrong};
+use crate::frame_header::{HEADER_BYTES, first_wrong};
 use crate::request::Request;
 use byteorder::{ByteOrder, LittleEndian};
 use device_events::Event;

@@ -1,6 +1,6 @@
 //! What answers requests, as frames.
 
-ghost use Rattle.std.specs.Prelude.{◌≡◌, ◌≤◌, ◌+◌, ◌<◌, ◌^◌, ◌++◌, length, vec_capacity, IfOk, OnOk};
+ghost use Rattle.std.specs.Prelude.{◌≡◌, ◌≤◌, ◌+◌, ◌<◌, ◌^◌, ◌++◌, length, take, vec_capacity, IfOk, OnErr, OnOk};
 ghost use Rattle.std.proofs.Common.{◌∙◌, refl};
 ghost use Rattle.std.specs.Io.KnownBytes.{Appends};
 ghost use Rattle.common_definitions.specs.Failures.{CountsFailure};
@@ -8,7 +8,7 @@ ghost use Rattle.device_events.proofs.Proved.{prints_in_parts, prints_none};
 ghost use Rattle.event_frames.specs.Frames.{drained_frame, frame_of, reply_frame, reply_header, saved_frame};
 ghost use Rattle.event_frames.specs.Written.{Took, written_by};
 
-use crate::header::{HEADER_BYTES, header};
+use crate::frame_header::{HEADER_BYTES, header};
 use device_events::{NotTaken, Out, Reply};
 use nvme_entry::MOST_TRANSFER;
 use std::alloc::{AllocError, Global};
@@ -117,10 +117,11 @@ fn write<W: Write>(out: &mut W, frame: &mut Vec<u8>, reply: Reply, bytes: &[u8])
 ///
 /// # Errors
 ///
-/// Want of memory.
+/// Want of memory: a part of the frame may have been added.
 pub fn push_reply(frame: &mut Vec<u8>, reply: Reply, bytes: &[u8]) -> Result<(), AllocError>
     requires { length bytes.now < 2 ^ 32 }
-    ensures { OnOk result (frame.new.items ≡ frame.old.items ++ frame_of reply bytes.now) }
+    ensures added { OnOk result (frame.new.items ≡ frame.old.items ++ frame_of reply bytes.now) }
+    ensures begins { take (length frame.old.items) frame.new.items ≡ frame.old.items }
 {
     frame.extend_from_slice(&reply_header(&reply, bytes.len() as u32))?;
     match &reply {
@@ -148,9 +149,10 @@ fn reply_header(reply: &Reply, size: u32) -> [u8; HEADER_BYTES]
 ///
 /// # Errors
 ///
-/// Want of memory.
+/// Want of memory. Then nothing is added.
 pub fn push_drained(frame: &mut Vec<u8>, turns: u32) -> Result<(), AllocError>
-    ensures { OnOk result (frame.new.items ≡ frame.old.items ++ drained_frame turns) }
+    ensures added { OnOk result (frame.new.items ≡ frame.old.items ++ drained_frame turns) }
+    ensures refused { OnErr result (frame.new.items ≡ frame.old.items) }
 {
     frame.extend_from_slice(&header(6, 0, 0, turns, 0))
 }
@@ -159,9 +161,10 @@ pub fn push_drained(frame: &mut Vec<u8>, turns: u32) -> Result<(), AllocError>
 ///
 /// # Errors
 ///
-/// Want of memory.
+/// Want of memory. Then nothing is added.
 pub fn push_saved(frame: &mut Vec<u8>) -> Result<(), AllocError>
-    ensures { OnOk result (frame.new.items ≡ frame.old.items ++ saved_frame) }
+    ensures added { OnOk result (frame.new.items ≡ frame.old.items ++ saved_frame) }
+    ensures refused { OnErr result (frame.new.items ≡ frame.old.items) }
 {
     frame.extend_from_slice(&header(7, 0, 0, 0, 0))
 }

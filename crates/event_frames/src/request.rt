@@ -4,7 +4,7 @@ ghost use Rattle.std.specs.Prelude.{◌≡◌, ◌++◌, OnOk};
 ghost use Rattle.event_frames.specs.Frames.{request_frame, request_header, state_number};
 ghost use Rattle.event_frames.specs.Requests.{Fits, told_of};
 
-use crate::header::{HEADER_BYTES, header};
+use crate::frame_header::{HEADER_BYTES, header};
 use device_events::Event;
 use std::alloc::AllocError;
 use zone_state::FaultState;
@@ -23,8 +23,8 @@ pub enum Request {
     Save,
 }
 
-/// How a state is numbered.
-fn state_number(state: FaultState) -> u8
+/// How the state of a fault is numbered.
+pub fn state_number(state: FaultState) -> u8
     ensures { result ≡ state_number state }
 {
     match state {

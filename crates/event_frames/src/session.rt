@@ -6,7 +6,7 @@ ghost use Rattle.event_frames.specs.Streams.{Breaks, IsPartial, Takes, behind};
 ghost use Rattle.event_frames.specs.steps.Held.{Finishes, IsHeld, fault_at};
 
 use crate::fault::StreamFault;
-use crate::header::{HEADER_BYTES, field_at};
+use crate::frame_header::{HEADER_BYTES, field_at};
 use crate::parts::{ENTRY_BYTES, Flaw, Parts, clear, grow, is_whole, request_in};
 use crate::request::Request;
 use device_events::Event;

@@ -8,7 +8,7 @@ ghost use Rattle.image_store.specs.Namespace.{shape};
 ghost use Rattle.device_meaning.specs.State.{State};
 ghost use Rattle.nvme_entry.specs.Entry.{decoded};
 ghost use Rattle.durable_device.specs.Changing.{asks_change, is_idle};
-ghost use Rattle.durable_device.specs.Kept.{IsCommittedBut, IsEither, IsKept, IsKeptInBase, StandsFor};
+ghost use Rattle.durable_device.specs.Kept.{IsCommittedBut, IsEither, IsKept, StandsFor};
 ghost use Rattle.tcp_queues.specs.Commands.{given_to_device};
 ghost use Rattle.tcp_target.specs.Ready.{is_ready};
 ghost use Rattle.tcp_device.specs.Deeds.{Does, Served, Turned};
@@ -17,14 +17,14 @@ ghost use Rattle.tcp_device.specs.Served.{can_go, next_run};
 ghost use Rattle.tcp_device.specs.State.{begun_on};
 ghost use Rattle.tcp_device.specs.Resuming.{Resumes};
 
-use crate::notes::{note_submission, note_turn};
 use crate::served::ServedTarget;
 use durable_device::laws::changes_come_again;
 use durable_device::{
-    DurableDevice, Folding, FrameDevice, MOST_JOURNAL, asks_change, base_of, is_refusal,
+    DurableDevice, Folding, Folds, FrameDevice, MOST_JOURNAL, asks_change, is_refusal,
+    note_submission, note_turn,
 };
-use durable_machine::{Durable, InFile, Store, put_base};
-use nvme_entry::Entry;
+use durable_machine::{Durable, InFile, Store};
+use nvme_entry::{Entry, MOST_TRANSFER};
 use runner::Reply;
 use std::alloc::{AllocError, Global};
 use stored_file::{FileError, StoredFile};
@@ -63,10 +63,7 @@ pub fn target_of<F: StoredFile + Drop>(
 {
     let DurableDevice { store, folded, .. } = device;
     let Durable { machine, events } = store;
-    let InFile {
-        journal,
-        waiting: _waiting,
-    } = events;
+    let InFile { journal, .. } = events;
     let served = ServedTarget::on(
         alloc,
         Box::into_inner(machine.into_device()),
@@ -152,6 +149,9 @@ impl<S: Store<FrameDevice> + Drop> Keeper<S> {
         changes_come_again();
         let _identifier = Entry::cid(entry);
         let input = served.given_data(number);
+        if input.len() > MOST_TRANSFER {
+            return Err(AllocError);
+        }
         let before = note_submission(&mut self.events, number as u16, entry, input)?;
         let reply = served.submit(number, entry);
         if is_refusal(&reply) {
@@ -259,7 +259,7 @@ impl<S: Store<FrameDevice> + Drop> Keeper<S> {
     }
 }
 
-impl<F: StoredFile + Drop> Keeper<InFile<F>> {
+impl<S: Folds + Drop> Keeper<S> {
     /// Folds the journal where the file has grown by more than [`MOST_JOURNAL`] since it was made, opened or to be folded last, and gives
     /// what came of that; else nothing happens, and there is `None`. Without room or memory for the new file, the old one is used on, and
     /// its growth counts from now on.
@@ -272,26 +272,26 @@ impl<F: StoredFile + Drop> Keeper<InFile<F>> {
         alloc: Global,
         served: &ServedTarget,
     ) -> Result<Option<Folding>, FileError>
-        requires kept { IsKept served.now.device self.old.events.journal.gate (F.told self.old.events.journal.file) }
-        ensures same { self.new.events.waiting ≡ self.old.events.waiting }
-        ensures idle { self.old.events.journal.gate - self.old.folded ≤ MOST_JOURNAL → (self.new ≡ self.old) × (result ≡ Ok None) }
-        ensures due { MOST_JOURNAL < self.old.events.journal.gate - self.old.folded
-            → IfOk result (λ folding. IsSome folding) }
-        ensures short { OnOk result (self.new.events.journal.gate - self.new.folded ≤ MOST_JOURNAL) }
+        requires settled { S.settled served.now.device (S.disk self.old.events) }
+        ensures same { S.waits self.new.events ≡ S.waits self.old.events }
+        ensures idle { S.length (S.disk self.old.events) - self.old.folded ≤ MOST_JOURNAL → (self.new ≡ self.old) × (result ≡ Ok None) }
+        ensures due { MOST_JOURNAL < S.length (S.disk self.old.events) - self.old.folded → IfOk result (λ folding. IsSome folding) }
+        ensures short { OnOk result (S.length (S.disk self.new.events) - self.new.folded ≤ MOST_JOURNAL) }
         ensures untried { IfOk result (λ folding. folding ≡ None → self.new ≡ self.old) }
-        ensures tried { IfOk result (λ folding. IsSome folding → self.new.folded ≡ self.new.events.journal.gate) }
-        ensures in_base { IfOk result (λ folding. folding ≡ Some Folding.Done
-            → IsKeptInBase served.now.device self.new.events.journal.gate (F.told self.new.events.journal.file)) }
+        ensures tried { IfOk result (λ folding. IsSome folding → self.new.folded ≡ S.length (S.disk self.new.events)) }
+        ensures in_base { IfOk result (λ folding. folding ≡ Some Folding.Done → S.in_base served.now.device (S.disk self.new.events)) }
         ensures no_room { IfOk result (λ folding. folding ≡ Some Folding.NoRoom
-            → (F.told self.old.events.journal.file).faults < (F.told self.new.events.journal.file).faults) }
-        ensures kept { OnOk result (IsKept served.now.device self.new.events.journal.gate (F.told self.new.events.journal.file)) }
-        ensures any_moment { LeavesOnly (F.told self.old.events.journal.file) (F.told self.new.events.journal.file)
+            → (S.told (S.disk self.old.events)).faults < (S.told (S.disk self.new.events)).faults) }
+        ensures settled { OnOk result (S.settled served.now.device (S.disk self.new.events)) }
+        ensures any_moment { LeavesOnly (S.told (S.disk self.old.events)) (S.told (S.disk self.new.events))
             (λ c. StandsFor c served.now.device) }
 
         // It doesn't give up by itself.
-        ensures cause { HasCause (F.told self.old.events.journal.file) (F.told self.new.events.journal.file) result }
+        ensures cause { HasCause (S.told (S.disk self.old.events)) (S.told (S.disk self.new.events)) result }
     {
-        if self.events.journal.gate.saturating_sub(self.folded) <= MOST_JOURNAL {
+        // Brings in that a crash leaves what is committed.
+        S::rests();
+        if self.events.length().saturating_sub(self.folded) <= MOST_JOURNAL {
             return Ok(None);
         }
         match self.fold(alloc, served) {
@@ -300,42 +300,29 @@ impl<F: StoredFile + Drop> Keeper<InFile<F>> {
         }
     }
 
-    /// Puts a new file in the place of the old one, with a base that tells the device as it is, where all that was done is committed, and
-    /// an empty journal. A crash at any moment leaves a file that stands for the same device. Without room for the new file, or memory for
-    /// its base, the old file is used on. At an `Err` the file has to be opened again.
+    /// Folds the journal, however short it is. A crash at any moment leaves a file that stands for the same device. Without room or memory
+    /// for the new file, the old one is used on.
     ///
     /// # Errors
     ///
-    /// The disk's, or no memory to hand the file over.
+    /// The disk's, or no memory to hand the file over: then the file has to be opened again.
     pub fn fold(&mut self, alloc: Global, served: &ServedTarget) -> Result<Folding, FileError>
-        requires kept { IsKept served.now.device self.old.events.journal.gate (F.told self.old.events.journal.file) }
-        ensures same { self.new.events.waiting ≡ self.old.events.waiting }
-        ensures counted { OnOk result (self.new.folded ≡ self.new.events.journal.gate) }
-        ensures kept { OnOk result (IsKept served.now.device self.new.events.journal.gate (F.told self.new.events.journal.file)) }
-        ensures in_base { IfOk result (λ folding. folding ≡ Folding.Done
-            → IsKeptInBase served.now.device self.new.events.journal.gate (F.told self.new.events.journal.file)) }
-        ensures any_moment { LeavesOnly (F.told self.old.events.journal.file) (F.told self.new.events.journal.file)
+        requires settled { S.settled served.now.device (S.disk self.old.events) }
+        ensures same { S.waits self.new.events ≡ S.waits self.old.events }
+        ensures counted { OnOk result (self.new.folded ≡ S.length (S.disk self.new.events)) }
+        ensures settled { OnOk result (S.settled served.now.device (S.disk self.new.events)) }
+        ensures in_base { IfOk result (λ folding. folding ≡ Folding.Done → S.in_base served.now.device (S.disk self.new.events)) }
+        ensures any_moment { LeavesOnly (S.told (S.disk self.old.events)) (S.told (S.disk self.new.events))
             (λ c. StandsFor c served.now.device) }
 
         // It doesn't give up by itself.
-        ensures cause { HasCause (F.told self.old.events.journal.file) (F.told self.new.events.journal.file) result }
+        ensures cause { HasCause (S.told (S.disk self.old.events)) (S.told (S.disk self.new.events)) result }
         ensures no_room { IfOk result (λ folding. folding ≡ Folding.NoRoom
-            → (F.told self.old.events.journal.file).faults < (F.told self.new.events.journal.file).faults) }
+            → (S.told (S.disk self.old.events)).faults < (S.told (S.disk self.new.events)).faults) }
     {
-        self.folded = self.events.journal.gate;
-        let Ok(base) = base_of(alloc, served.device()) else {
-            return Ok(Folding::NoMemory);
-        };
-        match put_base::<FrameDevice, F>(base, &mut self.events.journal.file) {
-            Ok(gate) => {
-                self.events.journal.gate = gate;
-                self.folded = gate;
-                Ok(Folding::Done)
-            }
-            Err(FileError::NoRoom) => Ok(Folding::NoRoom),
-            Err(FileError::Memory) => Err(FileError::Memory),
-            Err(FileError::Failed) => Err(FileError::Failed),
-        }
+        let folding = self.events.fold(alloc, served.device())?;
+        self.folded = self.events.length();
+        Ok(folding)
     }
 }
 

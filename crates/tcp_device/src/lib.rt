@@ -5,7 +5,6 @@
 mod events;
 mod keeper;
 pub mod laws;
-mod notes;
 mod outcome;
 mod pending;
 mod pieces;

@@ -8,15 +8,14 @@ ghost use Rattle.device_serve.specs.FrameStream.{Answers, Began, Drains, Fails, 
 ghost use Rattle.device_serve.specs.declared.fault.ServeFault.TheVariants.{Memory, Save};
 ghost use Rattle.device_serve.specs.steps.FrameParts.{HasGrown};
 
-use crate::draining::Spells;
 use crate::fault::ServeFault;
-use crate::frames::spelling::FrameSpelling;
+use crate::frames::spelling::add_frame;
 use crate::frames::turns::give_turns;
 use crate::keep::Keep;
 use crate::kept::KeptDevice;
 use durable_device::FrameDevice;
 use durable_machine::Store;
-use event_frames::Request;
+use event_frames::{Request, push_drained, push_saved};
 use runner::{Device, Event};
 
 /// Does a request, and adds what answers it to the answer.
@@ -28,7 +27,6 @@ use runner::{Device, Event};
 pub(crate) fn do_request<S: Store<FrameDevice> + Drop, K: Keep>(
     kept: &mut KeptDevice<S>,
     request: &Request,
-    spelling: &mut FrameSpelling,
     output: &mut [u8],
     answer: &mut Vec<u8>,
     keeper: &mut K,
@@ -48,19 +46,14 @@ pub(crate) fn do_request<S: Store<FrameDevice> + Drop, K: Keep>(
     ensures grown { HasGrown answer.old.items answer.new.items }
 {
     match request {
-        Request::Event(event) => answer_event(kept, event, spelling, output, answer),
-        Request::Drain { turns } => drain(kept, *turns, spelling, output, answer),
-        Request::Save => save(&kept.device, spelling, answer, keeper),
+        Request::Event(event) => answer_event(kept, event, output, answer),
+        Request::Drain { turns } => drain(kept, *turns, output, answer),
+        Request::Save => save(&kept.device, answer, keeper),
     }
 }
 
 /// Has the image kept, and adds that it was to the answer.
-fn save<K: Keep>(
-    device: &Device,
-    spelling: &mut FrameSpelling,
-    answer: &mut Vec<u8>,
-    keeper: &mut K,
-) -> Result<(), ServeFault>
+fn save<K: Keep>(device: &Device, answer: &mut Vec<u8>, keeper: &mut K) -> Result<(), ServeFault>
     requires ready { K.is_ready keeper.old }
     ensures ready { K.is_ready keeper.new }
     ensures keeper { K.becomes keeper.old keeper.new }
@@ -72,7 +65,7 @@ fn save<K: Keep>(
     if keeper.keep(device.image()).is_err() {
         return Err(ServeFault::Save);
     }
-    spelling.add_saved(answer)?;
+    push_saved(answer)?;
     Ok(())
 }
 
@@ -80,7 +73,6 @@ fn save<K: Keep>(
 fn answer_event<S: Store<FrameDevice> + Drop>(
     kept: &mut KeptDevice<S>,
     event: &Event,
-    spelling: &mut FrameSpelling,
     output: &mut [u8],
     answer: &mut Vec<u8>,
 ) -> Result<(), ServeFault>
@@ -96,7 +88,7 @@ fn answer_event<S: Store<FrameDevice> + Drop>(
     ensures grown { HasGrown answer.old.items answer.new.items }
 {
     let reply = kept.apply(event, output)?;
-    spelling.add(answer, reply, &output[..reply.data_length()])?;
+    add_frame(answer, reply, &output[..reply.data_length()])?;
     Ok(())
 }
 
@@ -104,7 +96,6 @@ fn answer_event<S: Store<FrameDevice> + Drop>(
 fn drain<S: Store<FrameDevice> + Drop>(
     kept: &mut KeptDevice<S>,
     turns: u32,
-    spelling: &mut FrameSpelling,
     output: &mut [u8],
     answer: &mut Vec<u8>,
 ) -> Result<(), ServeFault>
@@ -117,7 +108,7 @@ fn drain<S: Store<FrameDevice> + Drop>(
     ensures starved { IfErr result (λ why. why ≡ Memory) }
     ensures grown { HasGrown answer.old.items answer.new.items }
 {
-    let given = give_turns(kept, turns, spelling, output, answer)?;
-    spelling.add_drained(answer, given)?;
+    let given = give_turns(kept, turns, output, answer)?;
+    push_drained(answer, given)?;
     Ok(())
 }

@@ -6,8 +6,7 @@ ghost use Rattle.device_events.specs.declared.event.Event.TheVariants.{Turn};
 ghost use Rattle.device_serve.specs.FrameStream.{Began, GivesTurns, WentRound, is_idle};
 ghost use Rattle.device_serve.specs.steps.FrameParts.{GaveTurn, HasGrown};
 
-use crate::draining::Spells;
-use crate::frames::spelling::FrameSpelling;
+use crate::frames::spelling::add_frame;
 use crate::kept::KeptDevice;
 use durable_device::FrameDevice;
 use durable_machine::Store;
@@ -28,7 +27,6 @@ const NUMBERS: u8 = RUNS as u8;
 pub(crate) fn give_turns<S: Store<FrameDevice> + Drop>(
     kept: &mut KeptDevice<S>,
     turns: u32,
-    spelling: &mut FrameSpelling,
     output: &mut [u8],
     answer: &mut Vec<u8>,
 ) -> Result<u32, AllocError>
@@ -45,7 +43,7 @@ pub(crate) fn give_turns<S: Store<FrameDevice> + Drop>(
     let mut idle = 0;
     let mut run = 0;
     while given < turns && idle < NUMBERS {
-        let was = give_turn(kept, run, spelling, output, answer)?;
+        let was = give_turn(kept, run, output, answer)?;
         (given, idle) = counted(was, given, idle);
         run = (run + 1) % NUMBERS;
     }
@@ -56,7 +54,6 @@ pub(crate) fn give_turns<S: Store<FrameDevice> + Drop>(
 fn give_turn<S: Store<FrameDevice> + Drop>(
     kept: &mut KeptDevice<S>,
     run: u8,
-    spelling: &mut FrameSpelling,
     output: &mut [u8],
     answer: &mut Vec<u8>,
 ) -> Result<bool, AllocError>
@@ -72,7 +69,7 @@ fn give_turn<S: Store<FrameDevice> + Drop>(
     if is_idle(reply) {
         return Ok(false);
     }
-    spelling.add(answer, reply, &output[..reply.data_length()])?;
+    add_frame(answer, reply, &output[..reply.data_length()])?;
     Ok(true)
 }
 

@@ -33,9 +33,9 @@ returns-clause-served g c =
     let wanted = image_of c.args.matches.now in
     let contents = g.F.Files.contents c.args.files.now in
     let now = g.F.Files.contents c.keep.new.self in
-    let kept = c.kept_of-kept.result in
-    let opens = subst (λ j. Opens told (contents path) (told j.file) kept.device.value) (sym c.kept_of-kept.ensures.journal)
-    (subst (λ (s : State). Opens told (contents path) (told c.in_ok-device.device.store.events.journal.file) s) (sym c.kept_of-kept.ensures.device)
+    let kept = c.opened-kept.result in
+    let opens = subst (λ j. Opens told (contents path) (told j.file) kept.device.value) (sym c.opened-kept.ensures.journal)
+    (subst (λ (s : State). Opens told (contents path) (told c.in_ok-device.device.store.events.journal.file) s) (sym c.opened-kept.ensures.device)
     c.in_ok-device.ensures.opened) in
     let all = journal_told told contents now c.args.matches.now path (g.I.Read.remaining c.args.input.now) (g.I.Read.remaining c.serve_in-done.new.input)
     (g.O.Write.contents c.args.out.now) (g.O.Write.contents c.serve_in-done.new.out) c.args.form kept.events.journal c.serve_in-done.new.kept.events.journal
@@ -51,9 +51,9 @@ returns-clause-stopped g c =
     let wanted = image_of c.args.matches.now in
     let contents = g.F.Files.contents c.args.files.now in
     let now = g.F.Files.contents c.keep.new.self in
-    let kept = c.kept_of-kept.result in
-    let opens = subst (λ j. Opens told (contents path) (told j.file) kept.device.value) (sym c.kept_of-kept.ensures.journal)
-    (subst (λ (s : State). Opens told (contents path) (told c.in_ok-device.device.store.events.journal.file) s) (sym c.kept_of-kept.ensures.device)
+    let kept = c.opened-kept.result in
+    let opens = subst (λ j. Opens told (contents path) (told j.file) kept.device.value) (sym c.opened-kept.ensures.journal)
+    (subst (λ (s : State). Opens told (contents path) (told c.in_ok-device.device.store.events.journal.file) s) (sym c.opened-kept.ensures.device)
     c.in_ok-device.ensures.opened) in
     let all = journal_told told contents now c.args.matches.now path (g.I.Read.remaining c.args.input.now) (g.I.Read.remaining c.serve_in-done.new.input)
     (g.O.Write.contents c.args.out.now) (g.O.Write.contents c.serve_in-done.new.out) c.args.form kept.events.journal c.serve_in-done.new.kept.events.journal

@@ -5,13 +5,13 @@ use Rattle.device_library.proofs.serving.serve.Goals as goal
 pub returns-in-Ok-clause-between : goal.returns-in-Ok-clause-between
 returns-in-Ok-clause-between c =
     let old : Handed = site c.args.device.now c.args.codec.now c.args.answer.now.items in
-    let new : Handed = site c.serve.new.kept c.serve.new.codec c.serve.new.out.items in
-    between_again _ old new c.requires.between c.in-Ok.ensures.served c.serve.ensures.ready
+    let new : Handed = site c.serve_whole.new.kept c.serve_whole.new.codec c.serve_whole.new.out.items in
+    between_again _ old new c.requires.between c.in-Ok.ensures.served c.serve_whole.ensures.ready
 
 pub returns-in-Ok-clause-served : goal.returns-in-Ok-clause-served
 returns-in-Ok-clause-served c =
     let old : Handed = site c.args.device.now c.args.codec.now c.args.answer.now.items in
-    let new : Handed = site c.serve.new.kept c.serve.new.codec c.serve.new.out.items in
+    let new : Handed = site c.serve_whole.new.kept c.serve_whole.new.codec c.serve_whole.new.out.items in
     let serves = c.in-Ok.ensures.served in
     record {
       serves = serves;
@@ -23,7 +23,7 @@ returns-in-Ok-clause-served c =
 pub returns-in-Err-clause-stopped : goal.returns-in-Err-clause-stopped
 returns-in-Err-clause-stopped c =
     let old : Handed = site c.args.device.now c.args.codec.now c.args.answer.now.items in
-    let new : Handed = site c.serve.new.kept c.serve.new.codec c.serve.new.out.items in
+    let new : Handed = site c.serve_whole.new.kept c.serve_whole.new.codec c.serve_whole.new.out.items in
     let stops = c.in-Err.ensures.stopped in
     let breaks = stops.off in
     record {

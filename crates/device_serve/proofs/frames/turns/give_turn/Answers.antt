@@ -12,6 +12,6 @@ returns-then-is_idle-clause-gave g c =
 pub returns-clause-gave : goal.returns-clause-gave
 returns-clause-gave g c =
     let r : ReplyWithData = record { reply = c.in_ok-reply.reply; bytes = take (data_length c.in_ok-reply.reply) c.apply.new.output } in
-    let added : c.add.new.answer.items ≡ c.args.answer.now.items ++ reply_frame r = search rules in
-    gave_one c.args.run c.args.kept.now.device.value c.apply.new.self.device.value r c.args.answer.now.items c.add.new.answer.items
+    let added : c.add_frame.new.answer.items ≡ c.args.answer.now.items ++ reply_frame r = search rules in
+    gave_one c.args.run c.args.kept.now.device.value c.apply.new.self.device.value r c.args.answer.now.items c.add_frame.new.answer.items
     c.in_ok-reply.ensures.happened (sym c.is_idle.ensures ∙ c.if-is_idle.false) added

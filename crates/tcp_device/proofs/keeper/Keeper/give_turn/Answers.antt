@@ -1,4 +1,4 @@
-use Rattle.std.proofs.Common.{rules, ℕ, List, ◌≡◌, ◌<◌, ◌^◌, length, arith, subst, sym, ◌∙◌}
+use Rattle.std.proofs.Common.{rules, ◌≡◌, ◌<◌, ◌^◌, arith, subst, sym, ◌∙◌}
 use Rattle.tcp_device.proofs.Deeds.{was_turned}
 use Rattle.tcp_device.proofs.NotedEvents.{idled, turned}
 use Rattle.tcp_device.proofs.keeper.Keeper.give_turn.Goals as goal

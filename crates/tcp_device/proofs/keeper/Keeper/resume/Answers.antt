@@ -1,4 +1,4 @@
-use Rattle.std.proofs.Common.{rules, ℕ, List, ◌≡◌, ◌<◌, ◌^◌, length, arith, subst, sym, ◌∙◌}
+use Rattle.std.proofs.Common.{rules, ◌≡◌, ◌<◌, ◌^◌, arith, subst, sym, ◌∙◌}
 use Rattle.tcp_device.proofs.Deeds.{was_resumed}
 use Rattle.tcp_device.proofs.NotedEvents.{resumed, resumed_idle}
 use Rattle.tcp_device.proofs.keeper.Keeper.resume.Goals as goal

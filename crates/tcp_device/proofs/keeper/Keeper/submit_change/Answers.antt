@@ -1,4 +1,4 @@
-use Rattle.std.proofs.Common.{rules, ℕ, List, ◌≡◌, ◌<◌, ◌^◌, length, arith, subst, sym, ◌∙◌}
+use Rattle.std.proofs.Common.{rules, ℕ, ◌≡◌, ◌<◌, ◌≤◌, ◌^◌, length, arith, subst, sym, ◌∙◌}
 use Rattle.tcp_device.proofs.Deeds.{was_submitted}
 use Rattle.tcp_device.proofs.NotedEvents.{changed, refused}
 use Rattle.tcp_device.proofs.keeper.Keeper.submit_change.Goals as goal
@@ -26,6 +26,7 @@ returns-else-is_refusal-clause-kept g c =
     c.requires.given c.given_data-input.ensures c.submit-reply.ensures in
     let whole : length c.args.entry.now ≡ 64 = search rules in
     let numbered : c.args.number < 2 ^ 16 = omega (arith, c.requires.number) in
+    let fits : length c.given_data-input.result.now ≤ 131072 = search rules in
     subst (λ s. store.keeps s (store.waits c.note_submission.new.events) (store.disk c.note_submission.new.events)) (sym (changed c.changes_come_again.ensures c.args.served.now.device c.submit-reply.new.self.device c.submit-reply.result c.args.number c.args.entry.now c.given_data-input.result.now identified was
-    c.requires.asks (sym c.is_refusal.ensures ∙ c.if-is_refusal.false) numbered whole c.in_ok-before.ensures.fits))
+    c.requires.asks (sym c.is_refusal.ensures ∙ c.if-is_refusal.false) numbered whole fits))
     (c.in_ok-before.ensures.noted c.args.served.now.device c.requires.kept)
