@@ -1,8 +1,9 @@
 #!/bin/sh
 # Times Appends of 4 KiB in batches of 32 by `zscli serve --frames`, with --durable and without, beside a program that appends the
-# same blocks to a file with an fdatasync behind each batch. Prints the least nanoseconds of an Append of several rounds. The files
-# are in memory (/dev/shm) unless FOLDER names another folder: in memory no disk is waited for, so what is seen is what the journal
-# costs beside it. Then the nanoseconds of each when the journal is opened and done again, and by `zscli exec` of the same as text.
+# same blocks to a file with an fdatasync behind each batch. Prints the least nanoseconds of an Append of several rounds, of batches
+# that are asked for one at a time, and eight at once. The files are in memory (/dev/shm) unless FOLDER names another folder: in memory
+# no disk is waited for, so what is seen is what the journal costs beside it. Then the nanoseconds of each when the journal is opened and
+# done again, and by `zscli exec` of the same as text.
 set -eu
 here=$(cd "$(dirname "$0")" && pwd)
 work=$(mktemp -d "${FOLDER:-/dev/shm}/durable.XXXXXX")
@@ -32,26 +33,27 @@ frames = (struct.pack("<BBHII4x", 1, 0, 1, 0, BLOCK) + entry + data) * BATCH
 blocks = data * BATCH
 
 
-def served(*words: str) -> float:
-    """The seconds that all batches take by the program."""
+def served(*words: str, at_once: int = 1) -> float:
+    """The seconds that all batches take by the program, so many asked for at once."""
     shutil.copy(work / "empty.img", work / "zoned.img")
     program = subprocess.Popen([zscli, "serve", work / "zoned.img", *words], stdin=subprocess.PIPE, stdout=subprocess.PIPE, bufsize=0)
     fcntl.fcntl(program.stdin, F_SETPIPE_SZ, ROOM)
     spent = 0.0
-    for batch in range(BATCHES + 1):
+    for batch in range(BATCHES // at_once + 1):
+        # the first batch finds the program starting
+        count = at_once if batch else 1
         begun = time.perf_counter()
-        left = memoryview(frames)
+        left = memoryview(frames * count)
         while left:
             left = left[program.stdin.write(left) :]
         answers = b""
-        while len(answers) < 32 * BATCH:
+        while len(answers) < 32 * BATCH * count:
             more = program.stdout.read(65536)
             if not more:
                 sys.exit("the program ended")
             answers += more
         if any(answers[at + 30] or answers[at + 31] for at in range(0, len(answers), 32)):
             sys.exit("an Append was refused")
-        # the first batch finds the program starting
         spent += time.perf_counter() - begun if batch else 0
     program.stdin.close()
     if program.wait():
@@ -95,6 +97,8 @@ def least(what) -> int:
 
 durable, held, file = least(lambda: served("--durable", "--frames")), least(lambda: served("--frames")), least(plain)
 print(f"an Append of 4 KiB in batches of {BATCH}: durable {durable} ns, not durable {held} ns, a file that is synced {file} ns")
+durable, held = least(lambda: served("--durable", "--frames", at_once=8)), least(lambda: served("--frames", at_once=8))
+print(f"the same, eight batches asked for at once: durable {durable} ns, not durable {held} ns")
 (work / "data").write_bytes(data)
 line = subprocess.run([zscli, "entry", "append", "--lba", "0", "--data", work / "data"], stdout=subprocess.PIPE, check=True).stdout
 (work / "commands").write_bytes(line * (BATCH * (BATCHES + 1)))
