@@ -1,6 +1,6 @@
 #!/bin/sh
 # Times Appends of 4 KiB in batches of 32 by `zscli serve --frames`, with --durable and without, beside a program that appends the
-# same blocks to a file with an fdatasync behind each batch. Prints the least nanoseconds of an Append of several rounds, of batches
+# same blocks to a file with an fdatasync after each batch. Prints the least nanoseconds of an Append of several rounds, of batches
 # that are asked for one at a time, and eight at once. The files are in memory (/dev/shm) unless FOLDER names another folder: in memory
 # no disk is waited for, so what is seen is what the journal costs beside it. Then the nanoseconds of each when the journal is opened and
 # done again, and by `zscli exec` of the same as text.
