@@ -174,6 +174,15 @@ fn advance_by_slot<D: Domain>(
     Some(answer)
 }
 
+/// Frees a place. A function clears the room of its large values as it begins, and an empty place is as large as a run: so it is made
+/// here alone, and a turn after which the run goes on doesn't pay for it.
+#[inline(never)]
+fn free(place: &mut Option<ActiveRun>)
+    ensures { place.new ≡ None }
+{
+    *place = None;
+}
+
 /// Gives the run at a place a turn, where there is one. The place is free once the run has ended.
 fn turn_place<D: Domain>(
     namespace: &mut Namespace,
@@ -197,7 +206,7 @@ fn turn_place<D: Domain>(
         return Reply::Pending { run };
     };
     let reply = complete(active.queue, active.cid, answer);
-    *place = None;
+    free(place);
     reply
 }
 

@@ -15,7 +15,7 @@ returns-in_default-advance_by_slot-clause-turned g c = λ runs at ready.
 
 pub returns-clause-turned : goal.returns-clause-turned
 returns-clause-turned g c = λ runs at ready.
-    rw c.complete-reply.ensures
+    rw (c.complete-reply.ensures, c.free.ensures)
     (last_there c.args.namespace.now c.advance_by_slot.new.namespace c.args.slots.now c.args.run c.index-slot.result c.in-Some.active
     c.advance_by_slot.new.active c.index-slots-slot.result c.advance_by_slot.new.slot c.index-slot.ensures.value (omega arith) runs (at ∙ c.in-Some.is) ready
     c.in-Some-advance_by_slot.answer c.in-Some-advance_by_slot.ensures.turned)
