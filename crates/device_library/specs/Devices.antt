@@ -5,6 +5,7 @@ use Rattle.device_meaning.specs.State.{State}
 use Rattle.device_serve.specs.declared.kept.KeptDevice.{KeptDevice}
 use Rattle.durable_device.specs.Kept.{IsKept}
 use Rattle.durable_device.specs.declared.durable_device.DurableDevice.{DurableDevice}
+use Rattle.durable_machine.specs.Seals.{events_of}
 use Rattle.durable_machine.specs.declared.in_file.InFile.{InFile}
 use Rattle.durable_machine.specs.declared.journal.Journal.{Journal}
 use Rattle.handed_file.specs.declared.handed_file.HandedFile.{HandedFile}
@@ -33,4 +34,4 @@ promised_in device = promised_of (journal_in device).file
 -- all that was done is kept once C has made the calls that it was handed, and nothing waits for a commit
 pub record IsCommitted (device : KeptDevice (InFile HandedFile)) : Type 0 where
   pub kept : IsKept (state_in device) (journal_in device).gate (promised_in device)
-  pub none : device.events.waiting.items ≡ []
+  pub none : events_of device.events.waiting ≡ []

@@ -17,6 +17,7 @@ use Rattle.tcp_queues.specs.Queues.{place_at}
 use Rattle.tcp_admin.specs.Identity.{IsNamedBy}
 use Rattle.tcp_admin.specs.declared.subsystem.Subsystem.{Subsystem}
 use Rattle.tcp_device.specs.Resuming.{Resumes}
+use Rattle.durable_machine.specs.Seals.{events_of}
 use Rattle.durable_machine.specs.declared.in_file.InFile.{InFile}
 use Rattle.tcp_device.specs.declared.keeper.Keeper.{Keeper}
 use Rattle.device_library.specs.Files.{IsToldDone, promised_of, told_by}
@@ -41,7 +42,7 @@ told k = told_by k.events.journal.file
 -- what was committed is kept once C has made the calls that it was handed, and the rest waits for a commit
 abbrev pub Keeps : Option (Keeper (InFile HandedFile)) → State → Type 0
 Keeps None device = Unit {0}
-Keeps (Some k) device = IsCommittedBut k.events.waiting.items device k.events.journal.gate (promised k)
+Keeps (Some k) device = IsCommittedBut (events_of k.events.waiting) device k.events.journal.gate (promised k)
 
 -- it is so as long as the file hasn't to be opened again
 abbrev pub WillBeKept : Target → Type 0
@@ -59,7 +60,7 @@ is_empty (x ∷ xs) = false
 
 abbrev pub is_settled_in : Option (Keeper (InFile HandedFile)) → Bool
 is_settled_in None = true
-is_settled_in (Some k) = is_settled k.events.journal.file && is_empty k.events.waiting.items
+is_settled_in (Some k) = is_settled k.events.journal.file && is_empty (events_of k.events.waiting)
 
 abbrev pub may_send : Target → Bool
 may_send s = not s.failed && is_settled_in s.keeper

@@ -4,6 +4,7 @@ ghost use Rattle.std.specs.Prelude.{◌≡◌, ◌⊎◌, ◌<◌, [], false, tr
 ghost use Rattle.durable_device.specs.declared.durable_device.Folding.TheVariants.{Done};
 ghost use Rattle.stored_file.specs.Cause.{HasCause};
 ghost use Rattle.durable_device.specs.Kept.{IsCommittedBut, IsKept, IsKeptInBase};
+ghost use Rattle.durable_machine.specs.Seals.{events_of};
 ghost use Rattle.device_library.specs.Target.{IsCommitted, IsFoldedTo, promised};
 ghost use Rattle.tcp_device.specs.Deeds.{Served, Turned};
 ghost use Rattle.tcp_device.specs.Served.{next_run};
@@ -242,9 +243,9 @@ fn commit_and_fold(
     alloc: Global,
     served: &ServedTarget,
 ) -> Result<(), FileError>
-    requires { IsCommittedBut keeper.old.events.waiting.items served.now.device keeper.old.events.journal.gate (promised keeper.old) }
+    requires { IsCommittedBut (events_of keeper.old.events.waiting) served.now.device keeper.old.events.journal.gate (promised keeper.old) }
     ensures committed { OnOk result (IsCommitted keeper.old keeper.new served.now.device) }
-    ensures waiting { OnOk result (keeper.new.events.waiting.items ≡ []) }
+    ensures waiting { OnOk result (events_of keeper.new.events.waiting ≡ []) }
     ensures cause { HasCause (promised keeper.old) (promised keeper.new) result }
 {
     keeper.commit(alloc, served)?;
@@ -263,7 +264,7 @@ fn fold(
     ensures folded { OnOk result (IsFoldedTo keeper.old keeper.new served.now.device) }
     ensures in_base { IfOk result (λ folding. folding ≡ Done
         → IsKeptInBase served.now.device keeper.new.events.journal.gate (promised keeper.new)) }
-    ensures waiting { keeper.new.events.waiting.items ≡ keeper.old.events.waiting.items }
+    ensures waiting { events_of keeper.new.events.waiting ≡ events_of keeper.old.events.waiting }
 {
     keeper.events.journal.file.grant(room);
     keeper.fold(alloc, served)

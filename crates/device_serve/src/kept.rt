@@ -3,6 +3,7 @@
 ghost use Rattle.std.specs.Prelude.{◌≡◌, ◌≤◌, [], length, take, IfOk, OnErr, OnOk};
 ghost use Rattle.stored_file.specs.File.{LeavesOnly};
 ghost use Rattle.stored_file.specs.Cause.{HasCause};
+ghost use Rattle.durable_machine.specs.Seals.{events_of};
 ghost use Rattle.nvme_entry.specs.declared.command.TheConstants.{MOST_TRANSFER};
 ghost use Rattle.device_events.specs.Replies.{data_length};
 ghost use Rattle.device_meaning.specs.Events.{HasHappened};
@@ -13,7 +14,7 @@ ghost use Rattle.event_frames.specs.Requests.{Fits, told_event};
 
 use durable_device::laws::changes_come_again;
 use durable_device::{DurableDevice, Folding, FrameDevice, may_change, note};
-use durable_machine::{Durable, InFile, Journal, Store};
+use durable_machine::{Batch, Durable, InFile, Journal, Store};
 use nvme_entry::MOST_TRANSFER;
 use runner::{Device, Event, Reply};
 use std::alloc::{AllocError, Global};
@@ -38,7 +39,7 @@ impl<F: StoredFile + Drop> KeptDevice<InFile<F>> {
     pub fn opened(alloc: Global, device: DurableDevice<F>) -> KeptDevice<InFile<F>>
         ensures device { result.device.value ≡ device.store.machine }
         ensures journal { result.events.journal ≡ device.store.events.journal }
-        ensures none { result.events.waiting.items ≡ [] }
+        ensures none { events_of result.events.waiting ≡ [] }
         ensures counted { (result.folded ≡ device.folded) × (result.last_fold ≡ device.last_fold) }
     {
         let DurableDevice {
@@ -48,7 +49,7 @@ impl<F: StoredFile + Drop> KeptDevice<InFile<F>> {
         } = device;
         let Durable { machine, events } = store;
         let InFile { journal, .. } = events;
-        let waiting = Vec::new(alloc);
+        let waiting = Batch::new(alloc);
         KeptDevice {
             device: machine.into_device(),
             events: InFile { journal, waiting },

@@ -32,13 +32,14 @@ events_are_bytes (event ∷ events) are =
       events_are_bytes events (rest_fit (front ++ event) (spelled events) are),
     )
 
-pub batches_are_bytes : (batches : List (List (List ℕ))) (frames : List ℕ) → AreFrames batches frames → AreBytes frames → AllByRecursion AreBytes (joined batches)
-batches_are_bytes [] frames is are = tt
-batches_are_bytes (batch ∷ batches) frames (frame, behind, is, later, parts) are =
+pub batches_are_bytes : (at : ℕ) (batches : List (List (List ℕ))) (frames : List ℕ) → AreFrames at batches frames → AreBytes frames → AllByRecursion AreBytes (joined batches)
+batches_are_bytes at [] frames is are = tt
+batches_are_bytes at (batch ∷ batches) frames (frame, behind, is, later, parts) are =
     let both : AreBytes (frame ++ behind) = subst AreBytes parts are in
-    let payload : AreBytes (is.sector ++ (spelled batch ++ 0 ∷ is.padding)) = subst AreBytes is.parts (front_fit frame behind both) in
-    let events : AreBytes (spelled batch) = front_fit (spelled batch) (0 ∷ is.padding) (rest_fit is.sector (spelled batch ++ 0 ∷ is.padding) payload) in
-    all_append AreBytes batch (joined batches) (events_are_bytes batch events) (batches_are_bytes batches behind later (rest_fit frame behind both))
+    let payload : AreBytes (is.sector ++ (is.seal ++ spelled batch ++ 0 ∷ is.padding)) = subst AreBytes is.parts (front_fit frame behind both) in
+    let told : AreBytes (is.seal ++ spelled batch) = front_fit (is.seal ++ spelled batch) (0 ∷ is.padding) (rest_fit is.sector (is.seal ++ spelled batch ++ 0 ∷ is.padding) payload) in
+    let events : AreBytes (spelled batch) = rest_fit is.seal (spelled batch) told in
+    all_append AreBytes batch (joined batches) (events_are_bytes batch events) (batches_are_bytes (at + length frame) batches behind later (rest_fit frame behind both))
 
 -- ---- bases
 

@@ -119,7 +119,7 @@ files_are_reached file s bytes (end, is) =
     let base : AreBytes is.begins.base = front_fit is.begins.base is.begins.padding (subst AreBytes is.begins.parts (front_fit is.front is.has.frames front)) in
     let begins : MayBegin interval_judge is.first = base_may_begin is.begins.base is.first is.begins.loaded base in
     let after : s ≡ state_after interval_judge (file_occurrences frames) is.first = is.leads ∙ file_state frames is.first in
-    let events = occurrences_carry frames (batches_are_bytes is.batches is.has.frames is.has.are (rest_fit is.front is.has.frames front)) in
+    let events = occurrences_carry frames (batches_are_bytes (length is.front) is.batches is.has.frames is.has.are (rest_fit is.front is.has.frames front)) in
     let first : IsReached interval_judge is.first = beginning_is_reached interval_judge is.first begins in
     record {
       first = is.first;

@@ -6,6 +6,7 @@ ghost use Rattle.stored_file.specs.Cause.{HasCause};
 ghost use Rattle.stored_file.specs.declared.stored_file.FileError.TheVariants.{NoRoom, Failed};
 ghost use Rattle.durable_machine.specs.Batches.{batches_of, bytes_of, lists_of};
 ghost use Rattle.durable_machine.specs.Files.{joined};
+ghost use Rattle.durable_machine.specs.Seals.{events_of};
 ghost use Rattle.device_meaning.specs.Judging.{interval_judge};
 ghost use Rattle.device_meaning.specs.Reached.{IsReached};
 ghost use Rattle.device_meaning.specs.State.{State, new_state};
@@ -168,14 +169,14 @@ impl<F: StoredFile + Drop> DurableDevice<F> {
     ///
     /// No memory. Then the device is as it was, and nothing is noted.
     pub fn apply(&mut self, alloc: Global, frame: &[u8]) -> Result<Option<Given>, AllocError>
-        requires kept { IsCommittedBut self.old.store.events.waiting.items self.old.store.machine self.old.store.events.journal.gate
+        requires kept { IsCommittedBut (events_of self.old.store.events.waiting) self.old.store.machine self.old.store.events.journal.gate
             (F.told self.old.store.events.journal.file) }
         ensures done { IfOk result (λ given.
             HasAnswered frame.now self.old.store.machine self.new.store.machine given) }
         ensures refused { OnErr result (self.new.store.machine ≡ self.old.store.machine) }
-        ensures not_noted { OnErr result (self.new.store.events.waiting.items ≡ self.old.store.events.waiting.items) }
+        ensures not_noted { OnErr result (events_of self.new.store.events.waiting ≡ events_of self.old.store.events.waiting) }
         ensures same { self.new.store.events.journal ≡ self.old.store.events.journal }
-        ensures kept { IsCommittedBut self.new.store.events.waiting.items self.new.store.machine self.new.store.events.journal.gate
+        ensures kept { IsCommittedBut (events_of self.new.store.events.waiting) self.new.store.machine self.new.store.events.journal.gate
             (F.told self.new.store.events.journal.file) }
         ensures counted { self.new.folded ≡ self.old.folded }
     {
@@ -189,13 +190,13 @@ impl<F: StoredFile + Drop> DurableDevice<F> {
     ///
     /// No memory, or the disk's. Then the file has to be opened again, and nothing may go out.
     pub fn commit(&mut self, alloc: Global) -> Result<(), FileError>
-        requires kept { IsCommittedBut self.old.store.events.waiting.items self.old.store.machine self.old.store.events.journal.gate
+        requires kept { IsCommittedBut (events_of self.old.store.events.waiting) self.old.store.machine self.old.store.events.journal.gate
             (F.told self.old.store.events.journal.file) }
         ensures same { self.new.store.machine ≡ self.old.store.machine }
-        ensures none { OnOk result (self.new.store.events.waiting.items ≡ []) }
+        ensures none { OnOk result (events_of self.new.store.events.waiting ≡ []) }
         ensures committed { OnOk result
             (IsKept self.new.store.machine self.new.store.events.journal.gate (F.told self.new.store.events.journal.file)) }
-        ensures kept { OnOk result (IsCommittedBut self.new.store.events.waiting.items self.new.store.machine
+        ensures kept { OnOk result (IsCommittedBut (events_of self.new.store.events.waiting) self.new.store.machine
             self.new.store.events.journal.gate (F.told self.new.store.events.journal.file)) }
 
         // A crash at any moment of it leaves the device that was committed before, or the one after all that was done since.

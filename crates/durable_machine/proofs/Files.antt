@@ -103,7 +103,7 @@ module _ {S : Type 0} (loads : List ℕ → S → Type 0) (next : S → Bool →
 pub end_whole : {S : Type 0} (loads : List ℕ → S → Type 0) (next : S → Bool → List ℕ → S) (end : ℕ) (file : List ℕ) (s : S) (is : IsStateAt loads next end file s) → IsWhole end × IsWhole (length is.front) × (end ≤ length file)
 end_whole loads next end file s is =
     let front : IsWhole (length is.front) = omega (arith, is.begins.size) in (
-      omega (arith, is.has.ends, front, length-append is.front is.has.frames, frames_whole is.batches is.has.frames is.has.are),
+      omega (arith, is.has.ends, front, length-append is.front is.has.frames, frames_whole (length is.front) is.batches is.has.frames is.has.are),
       front,
       omega (arith, is.has.ends, ap length is.has.parts, length-append (is.front ++ is.has.frames) is.has.rest),
     )

@@ -1,25 +1,26 @@
 -- What a new base with an empty journal stands for.
-use Rattle.std.proofs.Common.{◌≡◌, arith, ◌+◌, ◌-◌, ◌≤◌, ℕ, Bool, List, [], ◌∷◌, ◌++◌, length, take, replicate, refl, sym, ◌∙◌, ap, append_assoc, length-append}
+use Rattle.std.proofs.Common.{◌≡◌, arith, ◌+◌, ◌-◌, ◌≤◌, ℕ, Bool, List, [], ◌++◌, length, take, replicate, refl, sym, ◌∙◌, ap, append_assoc, length-append}
 use Rattle.std.proofs.lemmas.List.{append-nil, take_all, length-replicate, replicate-append-replicate}
 use Rattle.stored_file.specs.File.{FileState, IsOnDisk}
 use Rattle.durable_machine.proofs.Steps.{at_rest}
+use Rattle.durable_machine.specs.Journal.{closed_gate}
 use Rattle.durable_machine.specs.Files.{IsFront, IsState, IsDurable, IsInBase, whole_sectors}
 use Rattle.durable_machine.proofs.Files.{is_before}
 
--- a base, and zeros up to a length and one byte and some bytes more
-zeros_behind : (base bytes : List ℕ) (front m n : ℕ) → length base ≤ front → n ≡ length base → bytes ≡ take (front + (1 + m)) base ++ replicate {A = ℕ} (front + (1 + m) - n) 0
-    → bytes ≡ (base ++ replicate {A = ℕ} (front - length base) 0) ++ [] ++ (0 ∷ replicate {A = ℕ} m 0)
-zeros_behind base bytes front m n long counted is =
+-- a base, and zeros up to a length and a closed gate
+zeros_behind : (base bytes : List ℕ) (front n : ℕ) → length base ≤ front → n ≡ length base → bytes ≡ take (front + 4096) base ++ replicate {A = ℕ} (front + 4096 - n) 0
+    → bytes ≡ (base ++ replicate {A = ℕ} (front - length base) 0) ++ [] ++ closed_gate
+unfolding closed_gate
+zeros_behind base bytes front n long counted is =
     is
-    ∙ ap (λ (k : ℕ). take (front + (1 + m)) base ++ replicate {A = ℕ} (front + (1 + m) - k) 0) counted
-    ∙ ap (λ (l : List ℕ). l ++ replicate {A = ℕ} (front + (1 + m) - length base) 0) (take_all (front + (1 + m)) base (omega (arith, long)))
+    ∙ ap (λ (k : ℕ). take (front + 4096) base ++ replicate {A = ℕ} (front + 4096 - k) 0) counted
+    ∙ ap (λ (l : List ℕ). l ++ replicate {A = ℕ} (front + 4096 - length base) 0) (take_all (front + 4096) base (omega (arith, long)))
     ∙ ap (λ (k : ℕ). base ++ replicate {A = ℕ} k 0) zeros
-    ∙ ap (λ (l : List ℕ). base ++ l) (sym (replicate-append-replicate {A = ℕ} (front - length base) (1 + m) 0))
-    ∙ sym (append_assoc base (replicate {A = ℕ} (front - length base) 0) (replicate {A = ℕ} (1 + m) 0))
-    ∙ ap (λ (l : List ℕ). (base ++ replicate {A = ℕ} (front - length base) 0) ++ l) (sym (replicate-append-replicate {A = ℕ} 1 m 0))
-    ∙ ap (λ (l : List ℕ). l ++ (0 ∷ replicate {A = ℕ} m 0)) (sym (append-nil (base ++ replicate {A = ℕ} (front - length base) 0)))
+    ∙ ap (λ (l : List ℕ). base ++ l) (sym (replicate-append-replicate {A = ℕ} (front - length base) 4096 0))
+    ∙ sym (append_assoc base (replicate {A = ℕ} (front - length base) 0) (replicate {A = ℕ} 4096 0))
+    ∙ ap (λ (l : List ℕ). l ++ replicate {A = ℕ} 4096 0) (sym (append-nil (base ++ replicate {A = ℕ} (front - length base) 0)))
   where
-    zeros : front + (1 + m) - length base ≡ (front - length base) + (1 + m)
+    zeros : front + 4096 - length base ≡ (front - length base) + 4096
     zeros = omega (arith, long)
 
 module _ {S : Type 0} (loads : List ℕ → S → Type 0) (next : S → Bool → List ℕ → S) (base bytes : List ℕ) (s : S) (loaded : loads base s) (front n : ℕ) (size : front ≡ whole_sectors (length base)) (counted : n ≡ length base)
@@ -41,12 +42,10 @@ module _ {S : Type 0} (loads : List ℕ → S → Type 0) (next : S → Bool →
       whole = omega (arith, length-padded, size);
       frames = [];
       are = refl;
-      sector = 0 ∷ replicate {A = ℕ} 4095 0;
-      is_closed = record { behind = replicate {A = ℕ} 4095 0; size = length-replicate {A = ℕ} 4095 0; parts = refl };
       room = [];
       parts =
-          sees ∙ zeros_behind base bytes front 4095 n long counted is
-          ∙ ap (λ (l : List ℕ). (base ++ replicate {A = ℕ} (front - length base) 0) ++ [] ++ l) (sym (append-nil (0 ∷ replicate {A = ℕ} 4095 0)));
+          sees ∙ zeros_behind base bytes front n long counted is
+          ∙ ap (λ (l : List ℕ). (base ++ replicate {A = ℕ} (front - length base) 0) ++ [] ++ l) (sym (append-nil closed_gate));
       ends = sym length-padded ∙ ap length (sym (append-nil (base ++ replicate {A = ℕ} (front - length base) 0)));
       durable = durable;
     };

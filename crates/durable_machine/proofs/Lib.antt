@@ -1,6 +1,7 @@
 pub mod Ahead
 pub mod Batches
 pub mod ComingBack
+pub mod Comparing
 pub mod Crash
 pub mod Files
 pub mod FirstEvents
@@ -14,7 +15,10 @@ pub mod Replaying
 pub mod Restarting
 pub mod Rounds
 pub mod Running
+pub mod Salvaging
+pub mod Sealing
 pub mod Spelling
 pub mod Staged
 pub mod Steps
+pub mod Unwritten
 pub mod Waiting

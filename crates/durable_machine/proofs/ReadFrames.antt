@@ -1,79 +1,139 @@
 -- What is read behind a gate tells whether a batch stands there.
-use Rattle.std.proofs.Common.{◌≡◌, ◌≢◌, ◌<◌, ◌≤◌, ◌+◌, ◌-◌, ℕ, List, [], ◌∷◌, ◌++◌, length, take, drop, get_or, refl, sym, ◌∙◌, ap, subst, arith, append_assoc, length-append, length-take, length-drop, take-append-drop}
-use Rattle.std.proofs.lemmas.List.{take_at, drop_at, drop_more, take_all, get_or-append_right}
+use Rattle.std.proofs.Common.{◌≡◌, ◌≢◌, ◌⊎◌, inl, inr, ◌<◌, ◌≤◌, ◌+◌, ◌-◌, ℕ, List, ◌∷◌, ◌++◌, length, take, drop, get_or, refl, sym, ◌∙◌, ap, subst, arith, append_assoc, length-append, length-take, length-drop, take-append-drop}
+use Rattle.std.proofs.lemmas.List.{take_at, drop_at, drop_more, take_all}
 use Rattle.durable_machine.specs.Events.{spelled, AreEvents}
-use Rattle.durable_machine.specs.Journal.{BeginsBatch, BeginsNoBatch, payload_length}
+use Rattle.durable_machine.specs.Seals.{HasSealLength, IsSealOf}
+use Rattle.durable_machine.specs.Journal.{BeginsBatch, BeginsClosed, BeginsNoBatch, payload_length}
 use Rattle.durable_machine.proofs.Frames.{same_events, payload_of}
+use Rattle.durable_machine.proofs.Sealing.{begins_closed, read_length}
 
 -- the bytes of a slice from an offset on
 pub rest_of : (n : ℕ) (bytes : List ℕ) → take (length bytes - n) (drop n bytes) ≡ drop n bytes
 rest_of n bytes = take_all (length bytes - n) (drop n bytes) (omega (arith, length-drop n bytes))
 
-module _ (bytes payload : List ℕ) (is_payload : payload ≡ drop 4096 bytes) (events : List (List ℕ)) (taken : ℕ) (are : AreEvents events taken payload) where
-  at_sector : AreEvents events taken (drop 4096 bytes)
-  at_sector = subst (AreEvents events taken) is_payload are
+-- a seal has 21 bytes or none
+pub seal_sizes : (payload seal : List ℕ) (n : ℕ) → HasSealLength n payload → n ≤ length payload → seal ≡ take n payload → (length seal ≡ 0) ⊎ (length seal ≡ 21)
+seal_sizes payload seal n (inl has) room is = inr (omega (arith, has.0, room, ap length is, length-take n payload))
+seal_sizes payload seal n (inr has) room is = inl (omega (arith, has.0, room, ap length is, length-take n payload))
 
-  module _ (es : List (List ℕ)) (rest : List ℕ) (begins : BeginsBatch es rest bytes) where
-    same : length (spelled es) ≡ taken
-    same = ap (λ (l : List (List ℕ)). length (spelled l)) (same_events es events begins.frame rest bytes [] taken begins.is begins.parts at_sector) ∙ sym are.counted
+-- a payload's seal is read by its first byte
+module _ (at : ℕ) (bytes payload : List ℕ) (n : ℕ) (is_payload : payload ≡ drop 4096 bytes) (has : HasSealLength n payload) where
+  module _ (es : List (List ℕ)) (rest : List ℕ) (begins : BeginsBatch at es rest bytes) where
+    payload_parts : payload ≡ begins.is.seal ++ (spelled es ++ 0 ∷ (begins.is.padding ++ rest))
+    payload_parts = is_payload ∙ ap (λ (l : List ℕ). drop 4096 l) begins.parts ∙ payload_of at es begins.frame rest begins.is
 
-    behind : payload ≡ (spelled es ++ 0 ∷ begins.is.padding) ++ rest
-    behind = is_payload ∙ ap (λ (l : List ℕ). drop 4096 l) begins.parts ∙ payload_of es begins.frame rest begins.is ∙ sym (append_assoc (spelled es) (0 ∷ begins.is.padding) rest)
+    seal_size : n ≡ length begins.is.seal
+    seal_size = read_length at es begins.is.seal (0 ∷ (begins.is.padding ++ rest)) payload n begins.is.sealed payload_parts has
 
-    enough : payload_length taken ≤ length payload
-    enough =
-        omega (arith, ap payload_length same, begins.is.size, ap length behind, length-append (spelled es ++ 0 ∷ begins.is.padding) rest)
+  -- which the payload has
+  pub no_room : length payload < n → BeginsNoBatch at bytes
+  no_room short es rest begins =
+      absurd (omega (
+        arith,
+        short,
+        seal_size es rest begins,
+        ap length (payload_parts es rest begins),
+        length-append begins.is.seal (spelled es ++ 0 ∷ (begins.is.padding ++ rest)),
+      ))
 
-    closes : get_or payload taken 0 ≡ 0
-    closes =
-        ap (λ (l : List ℕ). get_or l taken 0) (behind ∙ append_assoc (spelled es) (0 ∷ begins.is.padding) rest)
-        ∙ get_or-append_right (spelled es) (0 ∷ begins.is.padding ++ rest) taken taken 0 same (omega arith)
-        ∙ ap (λ (n : ℕ). get_or (0 ∷ begins.is.padding ++ rest) n 0) none
-      where
-        none : taken - taken ≡ 0
-        none = omega arith
+  module _ (seal body told tail : List ℕ) (is_seal : seal ≡ take n payload) (is_body : body ≡ drop n payload) (events : List (List ℕ)) (taken : ℕ) (are : AreEvents events taken body)
+      (is_told : told ≡ take taken body) (is_tail : tail ≡ drop taken body) where
+    pub front_events : told ≡ spelled events
+    front_events = is_told ∙ ap (λ (l : List ℕ). take taken l) are.parts ∙ take_at (spelled events) are.rest taken (sym are.counted)
 
-  pub too_short : length payload < payload_length taken → BeginsNoBatch bytes
-  too_short short es rest begins = absurd (omega (arith, short, enough es rest begins))
+    size_told : length told ≡ taken
+    size_told = ap length front_events ∙ sym are.counted
 
-  pub not_closed : get_or payload taken 0 ≢ 0 → BeginsNoBatch bytes
-  not_closed other es rest begins = other (closes es rest begins)
+    joins : body ≡ told ++ tail
+    joins = sym (take-append-drop taken body) ∙ ap (λ (l : List ℕ). l ++ drop taken body) (sym is_told) ∙ ap (λ (l : List ℕ). told ++ l) (sym is_tail)
 
-  pub front_events : take taken payload ≡ spelled events
-  front_events = ap (λ (l : List ℕ). take taken l) are.parts ∙ take_at (spelled events) are.rest taken (sym are.counted)
+    all : payload ≡ seal ++ body
+    all = sym (take-append-drop n payload) ∙ ap (λ (l : List ℕ). l ++ drop n payload) (sym is_seal) ∙ ap (λ (l : List ℕ). seal ++ l) (sym is_body)
 
-  pub begins : (gate : ℕ) (rest : List ℕ) → bytes ≡ gate ∷ rest → gate ≡ 1 → 4096 ≤ length bytes → payload_length taken ≤ length payload → get_or payload taken 0 ≡ 0 → BeginsBatch events (drop (payload_length taken) payload) bytes
-  begins gate rest first is_open long whole zero_behind =
-      let sector = take 4096 bytes in
-      let tail = drop 1 are.rest in
-      let n = payload_length taken - taken - 1 in
-      let size : length payload ≡ taken + length are.rest = omega (arith, ap length are.parts, length-append (spelled events) are.rest, are.counted) in
-      let zero_first : get_or are.rest 0 0 ≡ 0 =
-      sym (ap (λ (n : ℕ). get_or are.rest n 0) none) ∙ sym (get_or-append_right (spelled events) are.rest taken taken 0 (sym are.counted) (omega arith)) ∙ ap (λ (l : List ℕ). get_or l taken 0) (sym are.parts) ∙ zero_behind in
-      let behind : are.rest ≡ 0 ∷ tail = drop_more are.rest 0 0 (omega (arith, size, whole)) ∙ ap (λ (n : ℕ). n ∷ tail) zero_first in
-      let framed : length (spelled events ++ 0 ∷ take n tail) ≡ payload_length taken =
-      omega (arith, length-append (spelled events) (0 ∷ take n tail), length-take n tail, length-drop 1 are.rest, size, whole, are.counted) in
-      let parts : payload ≡ (spelled events ++ 0 ∷ take n tail) ++ drop n tail =
-      are.parts ∙ ap (λ (l : List ℕ). spelled events ++ l) (behind ∙ ap (λ (l : List ℕ). 0 ∷ l) (sym (take-append-drop n tail))) ∙ sym (append_assoc (spelled events) (0 ∷ take n tail) (drop n tail)) in
-      let left : drop (payload_length taken) payload ≡ drop n tail =
-      ap (λ (l : List ℕ). drop (payload_length taken) l) parts ∙ drop_at (spelled events ++ 0 ∷ take n tail) (drop n tail) (payload_length taken) framed in
-      record {
-        frame = sector ++ (spelled events ++ 0 ∷ take n tail);
-        is = record {
-          sized = are.sized;
-          sector = sector;
-          is_open = record { behind = take 4095 rest; size = omega (arith, length-take 4095 rest, long, ap length first); parts = sector_parts };
-          padding = take n tail;
-          size = framed ∙ ap payload_length are.counted;
-          parts = refl;
-        };
-        parts =
-            sym (take-append-drop 4096 bytes) ∙ ap (λ (l : List ℕ). sector ++ l) (sym is_payload ∙ parts ∙ ap (λ (l : List ℕ). (spelled events ++ 0 ∷ take n tail) ++ l) (sym left))
-            ∙ sym (append_assoc sector (spelled events ++ 0 ∷ take n tail) (drop (payload_length taken) payload));
-      }
-    where
-      none : taken - taken ≡ 0
-      none = omega arith
+    module _ (es : List (List ℕ)) (rest : List ℕ) (begins : BeginsBatch at es rest bytes) where
+      same : spelled es ≡ told
+      same =
+          ap spelled (same_events at es events (begins.is.padding ++ rest) payload body begins.frame n taken begins.is (payload_parts es rest begins) (seal_size es rest begins) is_body are)
+          ∙ sym front_events
 
-      sector_parts : take 4096 bytes ≡ 1 ∷ take 4095 rest
-      sector_parts = ap (λ (l : List ℕ). take 4096 l) first ∙ ap (λ (g : ℕ). g ∷ take 4095 rest) is_open
+      the_seal : seal ≡ begins.is.seal
+      the_seal =
+          is_seal ∙ ap (λ (l : List ℕ). take n l) (payload_parts es rest begins)
+          ∙ take_at begins.is.seal (spelled es ++ 0 ∷ (begins.is.padding ++ rest)) n (sym (seal_size es rest begins))
+
+      sealed : IsSealOf at told seal
+      sealed = subst (λ (l : List ℕ). IsSealOf at l seal) same (subst (λ (l : List ℕ). IsSealOf at (spelled es) l) (sym the_seal) begins.is.sealed)
+
+      behind : tail ≡ 0 ∷ (begins.is.padding ++ rest)
+      behind =
+          is_tail
+          ∙ ap (λ (l : List ℕ). drop taken l)
+          (is_body ∙ ap (λ (l : List ℕ). drop n l) (payload_parts es rest begins)
+          ∙ drop_at begins.is.seal (spelled es ++ 0 ∷ (begins.is.padding ++ rest)) n (sym (seal_size es rest begins)))
+          ∙ drop_at (spelled es) (0 ∷ (begins.is.padding ++ rest)) taken (ap length same ∙ size_told)
+
+      whole_size : length (begins.is.seal ++ spelled es) ≡ n + taken
+      whole_size = omega (arith, length-append begins.is.seal (spelled es), ap length same, size_told, seal_size es rest begins)
+
+      enough : payload_length (n + taken) ≤ length payload
+      enough =
+          omega (
+            arith,
+            ap payload_length whole_size,
+            begins.is.size,
+            ap length (payload_parts es rest begins),
+            length-append begins.is.seal (spelled es ++ 0 ∷ (begins.is.padding ++ rest)),
+            length-append (spelled es) (0 ∷ (begins.is.padding ++ rest)),
+            length-append begins.is.padding rest,
+            length-append begins.is.seal (spelled es),
+            length-append (begins.is.seal ++ spelled es) (0 ∷ begins.is.padding),
+          )
+
+    pub not_sealed : (IsSealOf at told seal → ⊥) → BeginsNoBatch at bytes
+    not_sealed other es rest begins = other (sealed es rest begins)
+
+    pub too_short : length payload < payload_length (n + taken) → BeginsNoBatch at bytes
+    too_short short es rest begins = absurd (omega (arith, short, enough es rest begins))
+
+    pub not_closed : get_or tail 0 0 ≢ 0 → BeginsNoBatch at bytes
+    not_closed other es rest begins = other (ap (λ (l : List ℕ). get_or l 0 0) (behind es rest begins))
+
+    pub begins : IsSealOf at told seal → (BeginsClosed bytes → ⊥) → 4096 ≤ length bytes → n ≤ length payload → payload_length (n + taken) ≤ length payload → get_or tail 0 0 ≡ 0
+        → (begins : BeginsBatch at events (drop (payload_length (n + taken)) payload) bytes) × (4096 + n ≡ 4096 + length begins.is.seal)
+    begins is_sealed not_shut long has_room whole zero_behind =
+        let sector = take 4096 bytes in
+        let past = drop 1 tail in
+        let k = payload_length (n + taken) - (n + taken) - 1 in
+        let size_seal : length seal ≡ n = omega (arith, ap length is_seal, length-take n payload, has_room) in
+        let size : length payload ≡ n + taken + length tail = omega (arith, ap length all, length-append seal body, ap length joins, length-append told tail, size_told, size_seal) in
+        let tail_parts : tail ≡ 0 ∷ past = drop_more tail 0 0 (omega (arith, size, whole)) ∙ ap (λ (z : ℕ). z ∷ drop 1 tail) zero_behind in
+        let told_size : length (seal ++ spelled events) ≡ n + taken = omega (arith, length-append seal (spelled events), size_seal, are.counted) in
+        let framed : length (seal ++ spelled events ++ 0 ∷ take k past) ≡ payload_length (n + taken) =
+        omega (arith, length-append (seal ++ spelled events) (0 ∷ take k past), length-take k past, length-drop 1 tail, size, whole, told_size) in
+        let parts : payload ≡ (seal ++ spelled events ++ 0 ∷ take k past) ++ drop k past =
+        all
+        ∙ ap (λ (l : List ℕ). seal ++ l) (joins ∙ ap (λ (l : List ℕ). l ++ tail) front_events)
+        ∙ ap (λ (l : List ℕ). seal ++ (spelled events ++ l)) (tail_parts ∙ ap (λ (l : List ℕ). 0 ∷ l) (sym (take-append-drop k past)))
+        ∙ sym (append_assoc seal (spelled events) (0 ∷ (take k past ++ drop k past)))
+        ∙ sym (append_assoc (seal ++ spelled events) (0 ∷ take k past) (drop k past)) in
+        let left : drop (payload_length (n + taken)) payload ≡ drop k past =
+        ap (λ (l : List ℕ). drop (payload_length (n + taken)) l) parts ∙ drop_at (seal ++ spelled events ++ 0 ∷ take k past) (drop k past) (payload_length (n + taken)) framed in (
+          record {
+            frame = sector ++ (seal ++ spelled events ++ 0 ∷ take k past);
+            is = record {
+              sized = are.sized;
+              sector = sector;
+              is_open = record { size = omega (arith, length-take 4096 bytes, long); written = λ shut_gate. not_shut (begins_closed bytes shut_gate) };
+              seal = seal;
+              sealed = subst (λ (l : List ℕ). IsSealOf at l seal) front_events is_sealed;
+              padding = take k past;
+              size = framed ∙ ap payload_length (sym told_size);
+              parts = refl;
+            };
+            parts =
+                sym (take-append-drop 4096 bytes)
+                ∙ ap (λ (l : List ℕ). sector ++ l) (sym is_payload ∙ parts ∙ ap (λ (l : List ℕ). (seal ++ spelled events ++ 0 ∷ take k past) ++ l) (sym left))
+                ∙ sym (append_assoc sector (seal ++ spelled events ++ 0 ∷ take k past) (drop (payload_length (n + taken)) payload));
+          },
+          ap (λ (m : ℕ). 4096 + m) (sym size_seal),
+        )

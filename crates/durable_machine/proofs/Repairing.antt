@@ -1,15 +1,15 @@
 -- What is left of a file while it is opened behind a program that may have failed to bring its last batch's gate to the disk.
-use Rattle.std.proofs.Common.{◌≡◌, ◌⊎◌, inl, inr, ⊎_elim, ◌≤◌, ◌+◌, ◌-◌, ◌%◌, ℕ, List, [], ◌∷◌, ◌++◌, length, take, drop, get_or, refl, sym, ◌∙◌, ap, subst, arith, append_assoc, length-append, length-take, length-drop, take-append-drop}
+use Rattle.std.proofs.Common.{◌≡◌, ◌≢◌, ◌⊎◌, inl, inr, ⊎_elim, ◌≤◌, ◌+◌, ◌-◌, ◌%◌, ℕ, List, ◌∷◌, ◌++◌, length, take, drop, refl, sym, ◌∙◌, ap, subst, arith, append_assoc, length-append, length-take, length-drop, take-append-drop}
 use Rattle.std.proofs.lemmas.List.{take_at, drop_at, take-take, drop-drop, drop-take}
 use Rattle.stored_file.specs.File.{FileState, MayLeave, IsOnDisk, LeavesNow, LeavesOnly, Follows, SyncsTo, Elapses, is_written, Torn, Cut, IsCut, IsMix, Mixed}
 use Rattle.stored_file.proofs.Moments.{started, then_on, weaken, goes_on}
 use Rattle.stored_file.proofs.Renewing.{mix_same, mix_size, written_again}
-use Rattle.std.proofs.lemmas.Bool.{cases_eq}
 use Rattle.durable_machine.specs.Events.{spelled}
-use Rattle.durable_machine.specs.Journal.{AreFrames, HasBatches, IsEnd, IsFrame, IsSector, StandsFor}
+use Rattle.durable_machine.specs.Journal.{closed_gate, AreFrames, HasBatches, IsEnd, IsFrame, StandsFor}
 use Rattle.durable_machine.specs.LastBatch.{HasLast, IsSameBut}
-use Rattle.durable_machine.proofs.Frames.{frames-append, frames_whole, front_end, length-frame, one_frame}
-use Rattle.durable_machine.proofs.Crash.{as_sector, length-sector, without}
+use Rattle.durable_machine.proofs.Frames.{frames_whole, front_end, length-frame, one_more_frame}
+use Rattle.durable_machine.proofs.Crash.{without}
+use Rattle.durable_machine.proofs.Sealing.{same_or_not}
 
 -- the first n bytes behind an offset, of the first m
 pub part : (at n m : ℕ) (file : List ℕ) → at + n ≤ m → take n (drop at (take m file)) ≡ take n (drop at file)
@@ -216,29 +216,29 @@ module _ (front : List ℕ) (batches : List (List (List ℕ))) (end : ℕ) (file
       ∙ ap (λ (l : List ℕ). take at (take end file) ++ l) after
       ∙ take-append-drop at (take end file)) is.last
 
-  module _ (offset : ℕ) (l : HasLast batches has.frames offset) where
+  module _ (offset : ℕ) (l : HasLast (length front) batches has.frames offset) where
     size_first : length front + offset ≡ length (front ++ l.first)
     size_first = omega (arith, l.begins, length-append front l.first)
 
     pub room : length front + offset + 4096 ≤ end
-    room = omega (arith, has.ends, ap length l.parts, length-append front has.frames, length-append l.first l.frame, length-frame l.batch l.frame l.is, l.begins)
+    room = omega (arith, has.ends, ap length l.parts, length-append front has.frames, length-append l.first l.frame, length-frame (length front + length l.first) l.batch l.frame l.is, l.begins)
 
     pub offset_whole : length front % 4096 ≡ 0 → (length front + offset) % 4096 ≡ 0
-    offset_whole whole = omega (arith, whole, l.begins, frames_whole l.before l.first l.are)
+    offset_whole whole = omega (arith, whole, l.begins, frames_whole (length front) l.before l.first l.are)
 
     payload : List ℕ
-    payload = spelled l.batch ++ 0 ∷ l.is.padding
+    payload = l.is.seal ++ spelled l.batch ++ 0 ∷ l.is.padding
 
     in_parts : take end file ≡ ((front ++ l.first) ++ l.is.sector) ++ payload
     unfolding payload
     in_parts =
         front_is
         ∙ ap (λ (k : List ℕ). front ++ k) (l.parts ∙ ap (λ (k : List ℕ). l.first ++ k) l.is.parts)
-        ∙ sym (append_assoc front l.first (l.is.sector ++ (spelled l.batch ++ 0 ∷ l.is.padding)))
-        ∙ sym (append_assoc (front ++ l.first) l.is.sector (spelled l.batch ++ 0 ∷ l.is.padding))
+        ∙ sym (append_assoc front l.first (l.is.sector ++ (l.is.seal ++ spelled l.batch ++ 0 ∷ l.is.padding)))
+        ∙ sym (append_assoc (front ++ l.first) l.is.sector (l.is.seal ++ spelled l.batch ++ 0 ∷ l.is.padding))
 
     size_sector : length ((front ++ l.first) ++ l.is.sector) ≡ length front + offset + 4096
-    size_sector = omega (arith, size_first, length-append (front ++ l.first) l.is.sector, length-sector 1 l.is.sector l.is.is_open)
+    size_sector = omega (arith, size_first, length-append (front ++ l.first) l.is.sector, l.is.is_open.size)
 
     behind_gate : drop (length front + offset + 4096) (take end file) ≡ payload
     behind_gate = ap (λ (k : List ℕ). drop (length front + offset + 4096) k) in_parts ∙ drop_at ((front ++ l.first) ++ l.is.sector) payload (length front + offset + 4096) size_sector
@@ -264,29 +264,37 @@ module _ (front : List ℕ) (batches : List (List (List ℕ))) (end : ℕ) (file
           ∙ append_assoc (front ++ l.first) (take 4096 (drop (length front + offset) c) ++ payload) (drop end c)
           ∙ ap (λ (k : List ℕ). (front ++ l.first) ++ k) (append_assoc (take 4096 (drop (length front + offset) c)) payload (drop end c))
 
-      torn_sector : IsSector (get_or torn 0 0) torn
+      torn_size : length torn ≡ 4096
       unfolding torn
-      torn_sector = as_sector (take 4096 (drop (length front + offset) c)) (omega (arith, length-take 4096 (drop (length front + offset) c), length-drop (length front + offset) c, same.no_shorter, room))
+      torn_size = omega (arith, length-take 4096 (drop (length front + offset) c), length-drop (length front + offset) c, same.no_shorter, room)
 
-      frame_of_torn : get_or torn 0 0 ≡ 1 → IsFrame l.batch (torn ++ payload)
+      frame_of_torn : torn ≢ closed_gate → IsFrame (length front + length l.first) l.batch (torn ++ payload)
       unfolding payload
-      frame_of_torn is_open = record {
+      frame_of_torn written = record {
         sized = l.is.sized;
         sector = torn;
-        is_open = subst (λ (gate : ℕ). IsSector gate torn) is_open torn_sector;
+        is_open = record { size = torn_size; written = written };
+        seal = l.is.seal;
+        sealed = l.is.sealed;
         padding = l.is.padding;
         size = l.is.size;
         parts = refl;
       }
 
+      length-torn : IsFrame (length front + length l.first) l.batch (torn ++ payload) → length (torn ++ payload) ≡ length l.frame
+      unfolding payload
+      length-torn frame =
+          omega (arith, torn_size, ap length l.is.parts, l.is.is_open.size, length-append torn (l.is.seal ++ spelled l.batch ++ 0 ∷ l.is.padding), length-append l.is.sector (l.is.seal ++ spelled l.batch ++ 0 ∷ l.is.padding))
+
       -- the gate is open still
-      stands_open : get_or torn 0 0 ≡ 1 → StandsFor front batches c
-      stands_open is_open =
-          let frame = frame_of_torn is_open in (
+      stands_open : torn ≢ closed_gate → StandsFor front batches c
+      stands_open written =
+          let frame = frame_of_torn written in (
             end,
             record {
               frames = l.first ++ (torn ++ payload);
-              are = subst (λ (bs : List (List (List ℕ))). AreFrames bs (l.first ++ (torn ++ payload))) (sym l.all) (frames-append l.before (l.batch ∷ []) l.first (torn ++ payload) l.are (one_frame l.batch (torn ++ payload) frame));
+              are = subst (λ (bs : List (List (List ℕ))). AreFrames (length front) bs (l.first ++ (torn ++ payload))) (sym l.all)
+                  (one_more_frame (length front) (length front + length l.first) l.before l.batch l.first (torn ++ payload) l.are refl frame);
               rest = drop end c;
               parts =
                   torn_parts
@@ -294,14 +302,14 @@ module _ (front : List ℕ) (batches : List (List (List ℕ))) (end : ℕ) (file
                   ∙ sym (append_assoc (front ++ l.first) (torn ++ payload) (drop end c))
                   ∙ ap (λ (k : List ℕ). k ++ drop end c) (append_assoc front l.first (torn ++ payload));
               last = same.last;
-              ends = omega (arith, has.ends, ap length l.parts, length-append front has.frames, length-append l.first l.frame, length-frame l.batch l.frame l.is, length-frame l.batch (torn ++ payload) frame, length-append front (l.first ++ (torn ++ payload)), length-append l.first (torn ++ payload));
+              ends = omega (arith, has.ends, ap length l.parts, length-append front has.frames, length-append l.first l.frame, length-frame (length front + length l.first) l.batch l.frame l.is, length-torn frame, length-append front (l.first ++ (torn ++ payload)), length-append l.first (torn ++ payload));
             },
           )
 
       pub stands_either : StandsFor front batches c ⊎ StandsFor front l.before c
-      stands_either = elim (cases_eq (get_or torn 0 0) 1) [
-        | inl is_open ↦ inl (stands_open is_open)
-        | inr not_open ↦ inr (without front l.first l.before l.are (length front + offset) size_first (get_or torn 0 0) torn (payload ++ drop end c) c not_open torn_sector torn_parts)
+      stands_either = elim (same_or_not torn closed_gate) [
+        | inl is_closed ↦ inr (without front l.first l.before l.are (length front + offset) size_first (payload ++ drop end c) c (torn_parts ∙ ap (λ (k : List ℕ). (front ++ l.first) ++ (k ++ (payload ++ drop end c))) is_closed))
+        | inr written ↦ inl (stands_open written)
       ]
 
   -- where there is no batch, they end there

@@ -1,12 +1,11 @@
 -- What is opened behind an earlier program.
 use Rattle.std.proofs.Common.{IfOk, IfErr, Result, Ok, Err, ◌≡◌, ◌⊎◌, inl, inr, ⊎_elim, ◌≤◌, ◌+◌, ℕ, Bool, List, [], ◌∷◌, ◌++◌, length, take, drop, refl, sym, ◌∙◌, ap, subst, arith, append_assoc, length-append}
-use Rattle.std.proofs.lemmas.List.{drop_at}
+use Rattle.std.proofs.lemmas.List.{take_at, drop_at}
 use Rattle.stored_file.specs.File.{FileState, IsAsBefore, IsWhole, LeavesNow, LeavesOnly, MayLeave}
 use Rattle.stored_file.proofs.Moments.{then_on, weaken}
-use Rattle.durable_machine.specs.Events.{spelled}
-use Rattle.durable_machine.specs.Journal.{StandsFor, payload_length}
+use Rattle.durable_machine.specs.Journal.{AreFrames, StandsFor}
 use Rattle.durable_machine.specs.LastBatch.{IsLast, IsSameBut}
-use Rattle.durable_machine.proofs.Frames.{length-frame, no_further, one_list_of_batches}
+use Rattle.durable_machine.proofs.Frames.{no_further, one_list_of_batches, same_length}
 use Rattle.durable_machine.proofs.Repairing.{end_within, offset_whole, room, same_front, same_itself, stands_either, stands_none, stands_same}
 use Rattle.durable_machine.specs.Runs.{state_again}
 use Rattle.durable_machine.specs.Files.{IsState, KeepsState, joined}
@@ -33,21 +32,25 @@ err_so (Err e) P Q is so = so e is
 
 -- ---- the last of some batches
 
-last_of : (xs ys : List (List (List ℕ))) (x y : List (List ℕ)) → xs ++ x ∷ [] ≡ ys ++ y ∷ [] → x ≡ y
-last_of [] [] x y is = cc
-last_of [] (w ∷ ys) x y is = absurd (omega (arith, ap length is, length-append ys (y ∷ [])))
-last_of (z ∷ xs) [] x y is = absurd (omega (arith, ap length is, length-append xs (x ∷ [])))
-last_of (z ∷ xs) (w ∷ ys) x y is = last_of xs ys x y (ap (λ (l : List (List (List ℕ))). drop 1 l) is)
+first_of : (xs ys : List (List (List ℕ))) (x y : List (List ℕ)) → xs ++ x ∷ [] ≡ ys ++ y ∷ [] → xs ≡ ys
+first_of [] [] x y is = refl
+first_of [] (w ∷ ys) x y is = absurd (omega (arith, ap length is, length-append ys (y ∷ [])))
+first_of (z ∷ xs) [] x y is = absurd (omega (arith, ap length is, length-append xs (x ∷ [])))
+first_of (z ∷ xs) (w ∷ ys) x y is = cc (first_of xs ys x y (ap (λ (l : List (List (List ℕ))). drop 1 l) is), heads is)
+  where
+    heads : {l m : List (List (List ℕ))} → z ∷ l ≡ w ∷ m → z ≡ w
+    heads is = cc
 
 -- it begins in one place
-one_last : (bs cs : List (List (List ℕ))) (f g : List ℕ) (m n : ℕ) → bs ≡ cs → length f ≡ length g → IsLast bs f m → IsLast cs g n → m ≡ n
-one_last bs cs f g m n same size (inl none) (inl nothing) = none.1 ∙ size ∙ sym nothing.1
-one_last bs cs f g m n same size (inl none) (inr l) = absurd (omega (arith, ap length (sym none.0 ∙ same ∙ l.all), length-append l.before (l.batch ∷ [])))
-one_last bs cs f g m n same size (inr l) (inl none) = absurd (omega (arith, ap length (sym none.0 ∙ sym same ∙ l.all), length-append l.before (l.batch ∷ [])))
-one_last bs cs f g m n same size (inr a) (inr b) =
-    let batch : a.batch ≡ b.batch = last_of a.before b.before a.batch b.batch (sym a.all ∙ same ∙ b.all) in
-    let frames : length a.frame ≡ length b.frame = length-frame a.batch a.frame a.is ∙ ap (λ (events : List (List ℕ)). 4096 + payload_length (length (spelled events))) batch ∙ sym (length-frame b.batch b.frame b.is) in
-    omega (arith, size, frames, a.begins, b.begins, ap length a.parts, ap length b.parts, length-append a.first a.frame, length-append b.first b.frame)
+one_last : (begin : ℕ) (bs cs : List (List (List ℕ))) (f g : List ℕ) (m n : ℕ) → bs ≡ cs → f ≡ g → IsLast begin bs f m → IsLast begin cs g n → m ≡ n
+one_last begin bs cs f g m n same frames (inl none) (inl nothing) = none.1 ∙ ap length frames ∙ sym nothing.1
+one_last begin bs cs f g m n same frames (inl none) (inr l) = absurd (omega (arith, ap length (sym none.0 ∙ same ∙ l.all), length-append l.before (l.batch ∷ [])))
+one_last begin bs cs f g m n same frames (inr l) (inl none) = absurd (omega (arith, ap length (sym none.0 ∙ sym same ∙ l.all), length-append l.before (l.batch ∷ [])))
+one_last begin bs cs f g m n same frames (inr a) (inr b) =
+    let before : a.before ≡ b.before = first_of a.before b.before a.batch b.batch (sym a.all ∙ same ∙ b.all) in
+    let size : length a.first ≡ length b.first =
+    same_length begin b.before a.first b.first a.frame b.frame (subst (λ (l : List (List (List ℕ))). AreFrames begin l a.first) before a.are) b.are (sym a.parts ∙ frames ∙ b.parts) in
+    omega (arith, size, a.begins, b.begins)
 
 module _ {S : Type 0} (loads : List ℕ → S → Type 0) (next : S → Bool → List ℕ → S) (one : (a b x y : List ℕ) (s t : S) → loads a s → loads b t → a ++ x ≡ b ++ y → (a ≡ b) × (s ≡ t)) where
   -- a file is read in one way
@@ -61,10 +64,15 @@ module _ {S : Type 0} (loads : List ℕ → S → Type 0) (next : S → Bool →
       sym (drop_at a.front (a.has.frames ++ a.has.rest) (length a.front) refl)
       ∙ ap (λ (l : List ℕ). drop (length a.front) l) (sym (append_assoc a.front a.has.frames a.has.rest) ∙ sym a.has.parts ∙ b.has.parts ∙ append_assoc b.front b.has.frames b.has.rest)
       ∙ drop_at b.front (b.has.frames ++ b.has.rest) (length a.front) (sym (ap length fronts.0)) in
-      let same = one_list_of_batches a.batches b.batches a.has.frames b.has.frames a.has.rest b.has.rest a.has.are b.has.are (no_further a.has.rest a.has.last) (no_further b.has.rest b.has.last) behind in
+      let are : AreFrames (length a.front) b.batches b.has.frames = subst (λ (l : List ℕ). AreFrames (length l) b.batches b.has.frames) (sym fronts.0) b.has.are in
+      let same = one_list_of_batches (length a.front) a.batches b.batches a.has.frames b.has.frames a.has.rest b.has.rest (length a.front + length a.has.frames) (length a.front + length b.has.frames) a.has.are are
+      (no_further (length a.front + length a.has.frames) a.has.rest a.has.last) (no_further (length a.front + length b.has.frames) b.has.rest b.has.last) refl refl behind in
       let size : length a.has.frames ≡ length b.has.frames =
       omega (arith, ap length behind, ap length same.1, length-append a.has.frames a.has.rest, length-append b.has.frames b.has.rest) in
-      let offsets : x.offset ≡ y.offset = one_last a.batches b.batches a.has.frames b.has.frames x.offset y.offset same.0 size x.gate y.gate in (
+      let frames : a.has.frames ≡ b.has.frames =
+      sym (take_at a.has.frames a.has.rest (length a.has.frames) refl) ∙ ap (λ (l : List ℕ). take (length a.has.frames) l) behind ∙ take_at b.has.frames b.has.rest (length a.has.frames) (sym size) in
+      let offsets : x.offset ≡ y.offset =
+      one_last (length a.front) a.batches b.batches a.has.frames b.has.frames x.offset y.offset same.0 frames x.gate (subst (λ (l : List ℕ). IsLast (length l) b.batches b.has.frames y.offset) (sym fronts.0) y.gate) in (
         omega (arith, a.has.ends, b.has.ends, size, ap length fronts.0, length-append a.front a.has.frames, length-append b.front b.has.frames),
         omega (arith, x.last_is, y.last_is, offsets, ap length fronts.0),
       )
@@ -76,7 +84,7 @@ module _ {S : Type 0} (loads : List ℕ → S → Type 0) (next : S → Bool →
     pub gate_room : (last ≡ end) ⊎ (last + 4096 ≤ end)
     gate_room = of found.gate
       where
-        of : IsLast found.is.batches found.is.has.frames found.offset → (last ≡ end) ⊎ (last + 4096 ≤ end)
+        of : IsLast (length found.is.front) found.is.batches found.is.has.frames found.offset → (last ≡ end) ⊎ (last + 4096 ≤ end)
         of (inl none) = inl (omega (arith, found.last_is, none.1, found.is.has.ends, length-append found.is.front found.is.has.frames))
         of (inr l) = inr (let long = room found.is.front found.is.batches end file found.is.has found.offset l in omega (arith, long, found.last_is))
 
@@ -96,7 +104,7 @@ module _ {S : Type 0} (loads : List ℕ → S → Type 0) (next : S → Bool →
     pub gate_whole : IsWhole last
     gate_whole = of found.gate
       where
-        of : IsLast found.is.batches found.is.has.frames found.offset → IsWhole last
+        of : IsLast (length found.is.front) found.is.batches found.is.has.frames found.offset → IsWhole last
         of (inl none) = (let same : last ≡ end = omega (arith, found.last_is, none.1, found.is.has.ends, length-append found.is.front found.is.has.frames) in subst IsWhole (sym same) end_at_sector)
         of (inr l) = (let whole = offset_whole found.is.front found.is.batches end file found.is.has found.offset l (end_whole loads next end file s found.is).1 in subst IsWhole (sym found.last_is) whole)
 
@@ -250,7 +258,7 @@ module _ {S : Type 0} (loads : List ℕ → S → Type 0) (next : S → Bool →
       all : StandsFor found.is.front found.is.batches c → IsState loads next c s
       all stands = (stands.0, record { front = found.is.front; first = found.is.first; begins = found.is.begins; batches = found.is.batches; has = stands.1; leads = found.is.leads })
 
-      of : IsLast found.is.batches found.is.has.frames found.offset → IsState loads next c s ⊎ LacksBatch loads next c s
+      of : IsLast (length found.is.front) found.is.batches found.is.has.frames found.offset → IsState loads next c s ⊎ LacksBatch loads next c s
       of (inl none) = inl (all (stands_none found.is.front found.is.batches end file found.is.has found.offset none.1 c at_gate))
       of (inr l) = ⊎_elim (λ (stands : StandsFor found.is.front found.is.batches c). inl (all stands))
           (λ (stands : StandsFor found.is.front l.before c).

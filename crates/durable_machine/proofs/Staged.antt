@@ -1,32 +1,27 @@
 -- A batch is staged and added, over the states of the file.
-use Rattle.std.proofs.Common.{◌≡◌, ◌≢◌, ◌⊎◌, inl, ◌≤◌, ◌+◌, ℕ, List, [], ◌∷◌, ◌++◌, length, take, drop, refl, sym, ◌∙◌, ap, subst, arith, append_assoc, length-append, length-take, length-drop}
+use Rattle.std.proofs.Common.{OnOk, Result, Ok, Err, ◌≡◌, ◌≢◌, ◌⊎◌, inl, ◌≤◌, ◌+◌, ℕ, List, [], ◌∷◌, ◌++◌, length, take, drop, refl, sym, ◌∙◌, ap, subst, arith, append_assoc, length-append, length-take, length-drop}
 use Rattle.std.proofs.lemmas.List.{append-nil}
 use Rattle.stored_file.specs.File.{FileState, MayLeave, IsOnDisk, IsWhole, LeavesOnly, is_written, Torn}
 use Rattle.stored_file.specs.Rounds.{TornBoth}
 use Rattle.stored_file.proofs.Moments.{started, weaken}
 use Rattle.stored_file.proofs.Rounds.{torn_one}
 use Rattle.durable_machine.specs.Events.{spelled, AreSized}
-use Rattle.durable_machine.specs.Journal.{IsSector, AreFrames, StandsFor, IsAt, payload_length}
+use Rattle.durable_machine.specs.Seals.{seal_of}
+use Rattle.durable_machine.specs.Journal.{closed_gate, IsOpenGate, AreFrames, StandsFor, IsAt, payload_length}
 use Rattle.durable_machine.specs.Staging.{IsPayload, IsStaged, IsPending}
 use Rattle.durable_machine.proofs.Frames.{frames_whole}
 use Rattle.durable_machine.proofs.Steps.{at_rest, gate_whole}
-use Rattle.durable_machine.proofs.Crash.{Around, length-sector, without, by_gate, opened, opened_parts, opened_end, frame_of}
+use Rattle.durable_machine.proofs.Crash.{Around, without, by_gate, opened, opened_parts, opened_end, frame_of}
+use Rattle.durable_machine.proofs.Sealing.{length-closed}
 use Rattle.durable_machine.proofs.Rounds.{length_is, put, over, torn_after, torn_round}
 
-length-payload : (added : List (List ℕ)) (bytes : List ℕ) → IsPayload added bytes → length bytes ≡ payload_length (length (spelled added)) + 4096
-length-payload added bytes is =
-    omega (arith, ap length is.parts, length-append (spelled added ++ 0 ∷ is.padding) is.sector, is.size, length-sector 0 is.sector is.is_closed)
-
--- where the closed gate after a batch stands
-pub gate_after : (gate n : ℕ) (added : List (List ℕ)) (bytes : List ℕ) → IsPayload added bytes → n ≡ length bytes → gate + n ≡ gate + 4096 + payload_length (length (spelled added))
-gate_after gate n added bytes payload is = omega (arith, is, length-payload added bytes payload)
+pub length-payload : (at : ℕ) (added : List (List ℕ)) (bytes : List ℕ) (is : IsPayload at added bytes) → length bytes ≡ payload_length (length (seal_of at (spelled added) ++ spelled added)) + 4096
+length-payload at added bytes is =
+    omega (arith, ap length is.parts, length-append (seal_of at (spelled added) ++ spelled added ++ 0 ∷ is.padding) closed_gate, is.size, length-closed)
 
 module _ (front : List ℕ) (before : List (List (List ℕ))) (gate : ℕ) (old : FileState) (rests : IsAt front before gate old) where
-  size : length rests.sector ≡ 4096
-  size = length-sector 0 rests.sector rests.is_closed
-
   pub room_after : gate + 4096 ≤ length old.seen
-  room_after = omega (arith, length_is (front ++ rests.frames) rests.sector gate rests.ends size old.seen rests.room rests.parts)
+  room_after = omega (arith, length_is (front ++ rests.frames) closed_gate gate rests.ends length-closed old.seen rests.room rests.parts)
 
   pub stage_begun : LeavesOnly old old (StandsFor front before)
   stage_begun = started old (StandsFor front before) (λ c left. subst (StandsFor front before) (sym (rests.durable.left c left)) (at_rest front before gate old rests))
@@ -34,53 +29,48 @@ module _ (front : List ℕ) (before : List (List (List ℕ))) (gate : ℕ) (old 
   pub stage_written : (m : ℕ) (new : FileState) → LeavesOnly old new (Torn (gate + 4096) m old.seen) → LeavesOnly old new (StandsFor front before)
   stage_written m new torn =
       weaken old new (Torn (gate + 4096) m old.seen) (StandsFor front before) torn
-      (λ c one. without front rests.frames before rests.are gate rests.ends 0 rests.sector (drop (gate + 4096) c) c (omega arith) rests.is_closed
-      (torn_after (front ++ rests.frames) rests.sector gate rests.ends size old.seen rests.room rests.parts m c one))
+      (λ c one. without front rests.frames before rests.are gate rests.ends (drop (gate + 4096) c) c
+      (torn_after (front ++ rests.frames) closed_gate gate rests.ends length-closed old.seen rests.room rests.parts m c one))
 
-  pub is_staged : (added : List (List ℕ)) (bytes : List ℕ) (next : ℕ) (new : FileState) → AreSized added → IsPayload added bytes
-      → next ≡ gate + 4096 + payload_length (length (spelled added)) → new.seen ≡ is_written (gate + 4096) bytes old.seen → IsOnDisk new
+  pub is_staged : (added : List (List ℕ)) (bytes : List ℕ) (next : ℕ) (new : FileState) → AreSized added → IsPayload gate added bytes
+      → next ≡ gate + length bytes → new.seen ≡ is_written (gate + 4096) bytes old.seen → IsOnDisk new
       → IsStaged front before added gate next new
   is_staged added bytes next new sized payload goes written durable = record {
     whole = rests.whole;
     frames = rests.frames;
     are = rests.are;
-    sector = rests.sector;
-    is_closed = rests.is_closed;
     sized = sized;
     bytes = bytes;
     payload = payload;
     room = drop (gate + 4096 + length bytes) old.seen;
-    parts = written ∙ put (front ++ rests.frames) rests.sector gate rests.ends size old.seen rests.room rests.parts bytes;
+    parts = written ∙ put (front ++ rests.frames) closed_gate gate rests.ends length-closed old.seen rests.room rests.parts bytes;
     ends = rests.ends;
     goes_on = goes;
     durable = durable;
   }
 
 module _ (front : List ℕ) (before : List (List (List ℕ))) (batch : List (List ℕ)) (gate next : ℕ) (old : FileState) (rests : IsStaged front before batch gate next old) where
-  size_of : length rests.sector ≡ 4096
-  size_of = length-sector 0 rests.sector rests.is_closed
-
   -- both gates stand at the start of a sector
   pub first_gate : IsWhole gate
-  first_gate = omega (arith, rests.ends, rests.whole, length-append front rests.frames, frames_whole before rests.frames rests.are)
+  first_gate = omega (arith, rests.ends, rests.whole, length-append front rests.frames, frames_whole (length front) before rests.frames rests.are)
 
   pub second_gate : IsWhole next
-  second_gate = omega (arith, first_gate, rests.goes_on)
+  second_gate = omega (arith, first_gate, rests.goes_on, length-payload gate batch rests.bytes rests.payload)
 
   far : next + 4096 ≡ gate + 4096 + length rests.bytes
-  far = omega (arith, rests.goes_on, length-payload batch rests.bytes rests.payload)
+  far = omega (arith, rests.goes_on)
 
   pub gates_apart : gate + 4096 ≤ next + 4096
-  gates_apart = omega (arith, rests.goes_on)
+  gates_apart = omega (arith, rests.goes_on, length-payload gate batch rests.bytes rests.payload)
 
   pub room_behind : next + 4096 ≤ length old.seen
   room_behind =
-      omega (arith, far, length-append rests.bytes rests.room, length_is (front ++ rests.frames) rests.sector gate rests.ends size_of old.seen (rests.bytes ++ rests.room) rests.parts)
+      omega (arith, far, length-append rests.bytes rests.room, length_is (front ++ rests.frames) closed_gate gate rests.ends length-closed old.seen (rests.bytes ++ rests.room) rests.parts)
 
   -- a crash between two calls leaves the batches from before
   pub stands_still : (c : List ℕ) → MayLeave old c → StandsFor front before c
   stands_still c left =
-      without front rests.frames before rests.are gate rests.ends 0 rests.sector (rests.bytes ++ rests.room) c (omega arith) rests.is_closed
+      without front rests.frames before rests.are gate rests.ends (rests.bytes ++ rests.room) c
       (rests.durable.left c left ∙ rests.parts)
 
   pub round_begun : LeavesOnly old old (Around front before batch)
@@ -91,7 +81,7 @@ module _ (front : List ℕ) (before : List (List (List ℕ))) (batch : List (Lis
       by_gate front rests.frames before rests.are gate rests.ends batch rests.sized rests.bytes rests.payload (take 4096 (drop gate c))
       (drop (length rests.bytes) (drop (gate + 4096) c)) c
       (omega (arith, length-take 4096 (drop gate c), length-drop gate c, torn.no_shorter, room_behind, gates_apart))
-      (torn_round (front ++ rests.frames) rests.sector gate rests.ends size_of old.seen (rests.bytes ++ rests.room) rests.parts rests.bytes rests.room refl second (is ∙ far) c torn)
+      (torn_round (front ++ rests.frames) closed_gate gate rests.ends length-closed old.seen (rests.bytes ++ rests.room) rests.parts rests.bytes rests.room refl second (is ∙ far) c torn)
 
   pub round_written : (n second : ℕ) (new : FileState) → n ≡ 4096 → second ≡ next + 4096 → LeavesOnly old new (TornBoth gate n second old.seen) → LeavesOnly old new (Around front before batch)
   round_written n second new same is torn =
@@ -103,19 +93,19 @@ module _ (front : List ℕ) (before : List (List (List ℕ))) (batch : List (Lis
       round_written n (next + 4096) new same refl
       (weaken old new (Torn gate n old.seen) (TornBoth gate n (next + 4096) old.seen) torn (torn_one gate n (next + 4096) old.seen))
 
-  module _ (gates : List ℕ) (is_open : IsSector 1 gates) where
+  module _ (gates : List ℕ) (is_open : IsOpenGate gates) where
     frames_now : List ℕ
     frames_now = rests.frames ++ frame_of front rests.frames before rests.are gate rests.ends batch rests.sized rests.bytes rests.payload gates
 
-    are_now : AreFrames (before ++ batch ∷ []) frames_now
+    are_now : AreFrames (length front) (before ++ batch ∷ []) frames_now
     unfolding frames_now
     are_now = opened front rests.frames before rests.are gate rests.ends batch rests.sized rests.bytes rests.payload gates is_open
 
-    parts_now : is_written gate gates old.seen ≡ front ++ frames_now ++ (rests.payload.sector ++ rests.room)
+    parts_now : is_written gate gates old.seen ≡ front ++ frames_now ++ (closed_gate ++ rests.room)
     unfolding frames_now
     parts_now =
         opened_parts front rests.frames before rests.are gate rests.ends batch rests.sized rests.bytes rests.payload gates rests.room (is_written gate gates old.seen)
-        (over (front ++ rests.frames) rests.sector gate rests.ends size_of old.seen (rests.bytes ++ rests.room) rests.parts gates (length-sector 1 gates is_open))
+        (over (front ++ rests.frames) closed_gate gate rests.ends length-closed old.seen (rests.bytes ++ rests.room) rests.parts gates is_open.size)
 
     ends_now : next ≡ length (front ++ frames_now)
     unfolding frames_now
@@ -127,8 +117,6 @@ module _ (front : List ℕ) (before : List (List (List ℕ))) (batch : List (Lis
       whole = rests.whole;
       frames = frames_now;
       are = are_now;
-      sector = rests.payload.sector;
-      is_closed = rests.payload.is_closed;
       room = rests.room;
       parts = written ∙ parts_now;
       ends = ends_now;
@@ -136,22 +124,20 @@ module _ (front : List ℕ) (before : List (List (List ℕ))) (batch : List (Lis
     }
 
     -- and a further one staged
-    pub is_advanced : (added : List (List ℕ)) (bytes : List ℕ) (after : ℕ) (new : FileState) → AreSized added → IsPayload added bytes
-        → after ≡ next + 4096 + payload_length (length (spelled added)) → new.seen ≡ is_written (next + 4096) bytes (is_written gate gates old.seen) → IsOnDisk new
+    pub is_advanced : (added : List (List ℕ)) (bytes : List ℕ) (after : ℕ) (new : FileState) → AreSized added → IsPayload next added bytes
+        → after ≡ next + length bytes → new.seen ≡ is_written (next + 4096) bytes (is_written gate gates old.seen) → IsOnDisk new
         → IsStaged front (before ++ batch ∷ []) added next after new
     is_advanced added bytes after new sized payload goes written durable = record {
       whole = rests.whole;
       frames = frames_now;
       are = are_now;
-      sector = rests.payload.sector;
-      is_closed = rests.payload.is_closed;
       sized = sized;
       bytes = bytes;
       payload = payload;
       room = drop (next + 4096 + length bytes) (is_written gate gates old.seen);
       parts =
           written
-          ∙ put (front ++ frames_now) rests.payload.sector next ends_now (length-sector 0 rests.payload.sector rests.payload.is_closed) (is_written gate gates old.seen) rests.room parts_now bytes;
+          ∙ put (front ++ frames_now) closed_gate next ends_now length-closed (is_written gate gates old.seen) rests.room parts_now bytes;
       ends = ends_now;
       goes_on = goes;
       durable = durable;
@@ -163,7 +149,7 @@ module _ (front : List ℕ) (before : List (List (List ℕ))) (batch : List (Lis
 pub by_rest : (front : List ℕ) (before pending : List (List (List ℕ))) (gate next : ℕ) (file : FileState) (P : List (List (List ℕ)) → Type 0)
     → IsPending front before pending gate next file → next ≡ gate → (IsAt front before gate file → P before) → P (before ++ pending)
 by_rest front before [] gate next file P is same so = subst P (sym (append-nil before)) (so is.0)
-by_rest front before (staged ∷ []) gate next file P is same so = absurd (omega (arith, is.goes_on, same))
+by_rest front before (staged ∷ []) gate next file P is same so = absurd (omega (arith, is.goes_on, same, length-payload gate staged is.bytes is.payload))
 by_rest front before (staged ∷ second ∷ more) gate next file P none same so = absurd none
 
 pub by_staged : (front : List ℕ) (before pending : List (List (List ℕ))) (gate next : ℕ) (file : FileState) (P : List (List (List ℕ)) → Type 0)
@@ -180,6 +166,11 @@ left_pending front before [] gate next file is c left = subst (StandsFor front b
 left_pending front before (staged ∷ []) gate next file is c left = stands_still front before staged gate next file is c left
 left_pending front before (staged ∷ second ∷ more) gate next file none c left = absurd none
 
+-- what holds of a call that has succeeded, by two things that do
+pub both_ok : {T E : Type 0} (r : Result T E) (P Q R : Type 0) → OnOk r P → OnOk r Q → (P → Q → R) → OnOk r R
+both_ok (Ok t) P Q R p q so = so p q
+both_ok (Err e) P Q R p q so = tt
+
 -- nothing is written
 pub nothing_pending : (front : List ℕ) (before pending : List (List (List ℕ))) (gate next : ℕ) (file : FileState) → IsPending front before pending gate next file
     → LeavesOnly file file (λ c. StandsFor front before c ⊎ StandsFor front (before ++ pending) c)
@@ -189,51 +180,43 @@ nothing_pending front before pending gate next file is =
 -- ---- room after the last closed gate
 
 module _ (front : List ℕ) (before : List (List (List ℕ))) (batch : List (List ℕ)) (gate next : ℕ) (old : FileState) (rests : IsStaged front before batch gate next old) where
-  closed_size : length rests.payload.sector ≡ 4096
-  closed_size = length-sector 0 rests.payload.sector rests.payload.is_closed
-
-  first_size : length rests.sector ≡ 4096
-  first_size = length-sector 0 rests.sector rests.is_closed
-
   -- what stands before the second gate
   up_to_next : List ℕ
-  up_to_next = front ++ rests.frames ++ (rests.sector ++ (spelled batch ++ 0 ∷ rests.payload.padding))
+  up_to_next = front ++ rests.frames ++ (closed_gate ++ (seal_of gate (spelled batch) ++ spelled batch ++ 0 ∷ rests.payload.padding))
 
-  parted : (past : List ℕ) → front ++ rests.frames ++ (rests.sector ++ (rests.bytes ++ past)) ≡ up_to_next ++ (rests.payload.sector ++ past)
+  parted : (past : List ℕ) → front ++ rests.frames ++ (closed_gate ++ (rests.bytes ++ past)) ≡ up_to_next ++ (closed_gate ++ past)
   unfolding up_to_next
   parted past =
-      let told = spelled batch ++ 0 ∷ rests.payload.padding in
-      ap (λ (l : List ℕ). front ++ rests.frames ++ (rests.sector ++ (l ++ past))) rests.payload.parts
-      ∙ ap (λ (l : List ℕ). front ++ rests.frames ++ (rests.sector ++ l)) (append_assoc told rests.payload.sector past)
-      ∙ ap (λ (l : List ℕ). front ++ rests.frames ++ l) (sym (append_assoc rests.sector told (rests.payload.sector ++ past)))
-      ∙ sym (append_assoc (front ++ rests.frames) (rests.sector ++ told) (rests.payload.sector ++ past))
+      let told = seal_of gate (spelled batch) ++ spelled batch ++ 0 ∷ rests.payload.padding in
+      ap (λ (l : List ℕ). front ++ rests.frames ++ (closed_gate ++ (l ++ past))) rests.payload.parts
+      ∙ ap (λ (l : List ℕ). front ++ rests.frames ++ (closed_gate ++ l)) (append_assoc told closed_gate past)
+      ∙ ap (λ (l : List ℕ). front ++ rests.frames ++ l) (sym (append_assoc closed_gate told (closed_gate ++ past)))
+      ∙ sym (append_assoc (front ++ rests.frames) (closed_gate ++ told) (closed_gate ++ past))
 
   begins_next : next ≡ length up_to_next
   unfolding up_to_next
   begins_next =
-      let told = spelled batch ++ 0 ∷ rests.payload.padding in
-      omega (arith, rests.goes_on, rests.ends, rests.payload.size, first_size, length-append (front ++ rests.frames) (rests.sector ++ told), length-append rests.sector told)
+      let told = seal_of gate (spelled batch) ++ spelled batch ++ 0 ∷ rests.payload.padding in
+      omega (arith, rests.goes_on, rests.ends, rests.payload.size, length-closed, length-payload gate batch rests.bytes rests.payload, length-append (front ++ rests.frames) (closed_gate ++ told), length-append closed_gate told)
 
   staged_room_written : (m : ℕ) (new : FileState) → LeavesOnly old new (Torn (next + 4096) m old.seen) → LeavesOnly old new (StandsFor front before)
   staged_room_written m new torn =
       weaken old new (Torn (next + 4096) m old.seen) (StandsFor front before) torn
-      (λ c one. without front rests.frames before rests.are gate rests.ends 0 rests.sector (rests.bytes ++ drop (next + 4096) c) c (omega arith) rests.is_closed
-      (torn_after up_to_next rests.payload.sector next begins_next closed_size old.seen rests.room (rests.parts ∙ parted rests.room) m c one ∙ sym (parted (drop (next + 4096) c))))
+      (λ c one. without front rests.frames before rests.are gate rests.ends (rests.bytes ++ drop (next + 4096) c) c
+      (torn_after up_to_next closed_gate next begins_next length-closed old.seen rests.room (rests.parts ∙ parted rests.room) m c one ∙ sym (parted (drop (next + 4096) c))))
 
   staged_room_made : (bytes : List ℕ) (new : FileState) → new.seen ≡ is_written (next + 4096) bytes old.seen → IsOnDisk new → IsStaged front before batch gate next new
   staged_room_made bytes new written durable = record {
     whole = rests.whole;
     frames = rests.frames;
     are = rests.are;
-    sector = rests.sector;
-    is_closed = rests.is_closed;
     sized = rests.sized;
     bytes = rests.bytes;
     payload = rests.payload;
     room = bytes ++ drop (next + 4096 + length bytes) old.seen;
     parts =
         written
-        ∙ put up_to_next rests.payload.sector next begins_next closed_size old.seen rests.room (rests.parts ∙ parted rests.room) bytes
+        ∙ put up_to_next closed_gate next begins_next length-closed old.seen rests.room (rests.parts ∙ parted rests.room) bytes
         ∙ sym (parted (bytes ++ drop (next + 4096 + length bytes) old.seen));
     ends = rests.ends;
     goes_on = rests.goes_on;
@@ -246,10 +229,8 @@ room_made_at_rest front before gate old rests bytes new written durable = record
   whole = rests.whole;
   frames = rests.frames;
   are = rests.are;
-  sector = rests.sector;
-  is_closed = rests.is_closed;
   room = bytes ++ drop (gate + 4096 + length bytes) old.seen;
-  parts = written ∙ put (front ++ rests.frames) rests.sector gate rests.ends (length-sector 0 rests.sector rests.is_closed) old.seen rests.room rests.parts bytes;
+  parts = written ∙ put (front ++ rests.frames) closed_gate gate rests.ends length-closed old.seen rests.room rests.parts bytes;
   ends = rests.ends;
   durable = durable;
 }

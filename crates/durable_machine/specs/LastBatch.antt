@@ -9,18 +9,18 @@ pub record IsSameBut (at n end : ℕ) (old new : List ℕ) : Type 0 where
   pub after : drop (at + n) (take end new) ≡ drop (at + n) (take end old)
   pub last : IsEnd (drop end new)
 
--- the last of these batches, and where its frame begins in theirs
-pub record HasLast (batches : List (List (List ℕ))) (frames : List ℕ) (at : ℕ) : Type 0 where
+-- the last of these batches, whose frames begin at an offset, and where its frame begins in theirs
+pub record HasLast (begin : ℕ) (batches : List (List (List ℕ))) (frames : List ℕ) (at : ℕ) : Type 0 where
   pub before : List (List (List ℕ))
   pub batch : List (List ℕ)
   pub all : batches ≡ before ++ batch ∷ []
   pub first : List ℕ
-  pub are : AreFrames before first
+  pub are : AreFrames begin before first
   pub frame : List ℕ
-  pub is : IsFrame batch frame
+  pub is : IsFrame (begin + length first) batch frame
   pub parts : frames ≡ first ++ frame
   pub begins : at ≡ length first
 
 -- the last batch's frame begins at this offset in the frames; where there is none, it is where they end
-abbrev pub IsLast : List (List (List ℕ)) → List ℕ → ℕ → Type 0
-IsLast batches frames at = ((batches ≡ []) × (at ≡ length frames)) ⊎ HasLast batches frames at
+abbrev pub IsLast : ℕ → List (List (List ℕ)) → List ℕ → ℕ → Type 0
+IsLast begin batches frames at = ((batches ≡ []) × (at ≡ length frames)) ⊎ HasLast begin batches frames at

@@ -11,6 +11,8 @@ pub mod Refused
 pub mod Replay
 pub mod Restart
 pub mod Runs
+pub mod Salvage
+pub mod Seals
 pub mod Staging
 pub mod Unkept
 pub mod Waiting

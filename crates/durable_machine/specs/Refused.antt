@@ -34,7 +34,7 @@ module _ {S : Type 0} (loads : List ℕ → S → Type 0) (next : S → Bool →
     pub behind : List ℕ
     pub parts : file ≡ front ++ behind
     pub offset : ℕ
-    pub idle : IsIdleAt next offset behind first
+    pub idle : IsIdleAt next (length front) offset behind first
     pub place : undone ≡ length front + offset
 
   -- these bytes are refused for this, or memory was wanting

@@ -10,7 +10,7 @@ module _ {S : Type 0} (loads : List ℕ → S → Type 0) (next : S → Bool →
   pub record IsReplayed (end last : ℕ) (file : List ℕ) (s : S) : Type 0 where
     pub is : IsStateAt loads next end file s
     pub offset : ℕ
-    pub gate : IsLast is.batches is.has.frames offset
+    pub gate : IsLast (length is.front) is.batches is.has.frames offset
     pub last_is : last ≡ length is.front + offset
 
   -- the file that is read stands for a state, and this one has its bytes, but for the sector of the last batch's gate, and for the end

@@ -2,31 +2,32 @@
 use Rattle.std.specs.Prelude.{◌≡◌, ℕ, ◌+◌, List, [], ◌∷◌, ◌++◌, length}
 use Rattle.stored_file.specs.File.{FileState, IsOnDisk, IsWhole}
 use Rattle.durable_machine.specs.Events.{spelled, AreSized}
-use Rattle.durable_machine.specs.Journal.{IsSector, AreFrames, IsAt, payload_length}
+use Rattle.durable_machine.specs.Journal.{AreFrames, IsAt, closed_gate, payload_length}
+use Rattle.durable_machine.specs.Seals.{seal_of}
 
--- what is written after a closed gate for a batch: whole sectors, of its events and a 0 after them, and a sector with a closed gate
-pub record IsPayload (added : List (List ℕ)) (bytes : List ℕ) : Type 0 where
+-- what is written after the closed gate at this offset for a batch: whole sectors, of the seal of its events, them and a 0 after them,
+-- and a further closed gate
+pub record IsPayload (at : ℕ) (added : List (List ℕ)) (bytes : List ℕ) : Type 0 where
   pub padding : List ℕ
-  pub size : length (spelled added ++ 0 ∷ padding) ≡ payload_length (length (spelled added))
-  pub sector : List ℕ
-  pub is_closed : IsSector 0 sector
-  pub parts : bytes ≡ (spelled added ++ 0 ∷ padding) ++ sector
+  pub size :
+      length (seal_of at (spelled added) ++ spelled added ++ 0 ∷ padding)
+      ≡ payload_length (length (seal_of at (spelled added) ++ spelled added))
+  pub parts : bytes ≡ (seal_of at (spelled added) ++ spelled added ++ 0 ∷ padding) ++ closed_gate
 
--- the file is the front, the batches and a sector with a closed gate, at this offset; after it a further batch stands whole, and a sector
--- with a closed gate, at the next offset, and room of any bytes; all of it is on the disk
-pub record IsStaged (front : List ℕ) (batches : List (List (List ℕ))) (staged : List (List ℕ)) (gate next : ℕ) (file : FileState) : Type 0 where
+-- the file is the front, the batches and a closed gate, at this offset; after it a further batch stands whole, and a closed gate, at the
+-- next offset, and room of any bytes; all of it is on the disk
+pub record IsStaged (front : List ℕ) (batches : List (List (List ℕ))) (staged : List (List ℕ)) (gate next : ℕ) (file : FileState)
+    : Type 0 where
   pub whole : IsWhole (length front)
   pub frames : List ℕ
-  pub are : AreFrames batches frames
-  pub sector : List ℕ
-  pub is_closed : IsSector 0 sector
+  pub are : AreFrames (length front) batches frames
   pub sized : AreSized staged
   pub bytes : List ℕ
-  pub payload : IsPayload staged bytes
+  pub payload : IsPayload gate staged bytes
   pub room : List ℕ
-  pub parts : file.seen ≡ front ++ frames ++ (sector ++ (bytes ++ room))
+  pub parts : file.seen ≡ front ++ frames ++ (closed_gate ++ (bytes ++ room))
   pub ends : gate ≡ length (front ++ frames)
-  pub goes_on : next ≡ gate + 4096 + payload_length (length (spelled staged))
+  pub goes_on : next ≡ gate + length bytes
   pub durable : IsOnDisk file
 
 -- and it is so with some front, some batches and some batch after them

@@ -309,8 +309,8 @@ impl<M: Machine + Drop, S: Store<M> + Drop> Durable<M, S> {
         Ok(replies)
     }
 
-    /// Does batches of events, one after another, with one sync a batch and one more. A crash at any moment leaves the state after the first of them, none
-    /// skipped and none in part. At `Ok`, all are acknowledged.
+    /// Does batches of events, one after another, with one sync a batch and one more. A crash at any moment leaves the state after the
+    /// first of them, none skipped and none in part. At `Ok`, all are acknowledged.
     ///
     /// # Errors
     ///

@@ -4,15 +4,15 @@ ghost use Rattle.std.specs.Prelude.{◌≡◌, [], OnOk};
 ghost use Rattle.stored_file.specs.File.{LeavesOnly};
 ghost use Rattle.stored_file.specs.Cause.{HasCause};
 ghost use Rattle.durable_machine.specs.Events.{AreSpelled};
+ghost use Rattle.durable_machine.specs.Seals.{events_of};
 ghost use Rattle.durable_machine.specs.Staging.{IsUnderWay};
 ghost use Rattle.durable_machine.specs.Files.{IsDurable};
 ghost use Rattle.durable_machine.specs.Waiting.{IsEither};
 ghost use Rattle.durable_machine.specs.Ahead.{IsAhead, IsAheadBut};
 
 use crate::Machine;
+use crate::batch::Batch;
 use crate::journal::Journal;
-use std::alloc::Global;
-use std::mem;
 use stored_file::{FileError, StoredFile};
 
 /// Hands in the events that wait, as one batch of a journal, in the round of writes that adds the batch that was handed in before. At
@@ -23,22 +23,21 @@ use stored_file::{FileError, StoredFile};
 ///
 /// No memory, or the disk's. Then the file has to be opened again, and nothing may go out.
 pub(crate) fn stage<M: Machine, F: StoredFile>(
-    alloc: Global,
     journal: &mut Journal<F>,
-    waiting: &mut Vec<u8>,
+    waiting: &mut Batch,
 ) -> Result<(), FileError>
     requires under_way { IsUnderWay journal.old.gate journal.old.next (F.told journal.old.file) }
-    requires spelled { AreSpelled waiting.old.items }
+    requires spelled { AreSpelled (events_of waiting.old) }
 
-    ensures none { OnOk result (waiting.new.items ≡ []) }
+    ensures none { OnOk result (events_of waiting.new ≡ []) }
 
     ensures staged { (acked handed machine : M)
-        → IsAheadBut M.loads M.next waiting.old.items acked handed machine journal.old.gate journal.old.next (F.told journal.old.file)
+        → IsAheadBut M.loads M.next (events_of waiting.old) acked handed machine journal.old.gate journal.old.next (F.told journal.old.file)
         → OnOk result (IsAhead M.loads M.next handed machine journal.new.gate journal.new.next (F.told journal.new.file)) }
 
     // A crash at any moment of it leaves what was acknowledged, or that and what was handed in before, and never what is handed in now.
     ensures any_moment { (acked handed machine : M)
-        → IsAheadBut M.loads M.next waiting.old.items acked handed machine journal.old.gate journal.old.next (F.told journal.old.file)
+        → IsAheadBut M.loads M.next (events_of waiting.old) acked handed machine journal.old.gate journal.old.next (F.told journal.old.file)
         → LeavesOnly (F.told journal.old.file) (F.told journal.new.file) (IsEither M.loads M.next acked handed) }
 
     // It doesn't give up by itself.
@@ -47,8 +46,7 @@ pub(crate) fn stage<M: Machine, F: StoredFile>(
     if waiting.is_empty() {
         return journal.finish();
     }
-    let events = mem::replace(waiting, Vec::new(alloc));
-    journal.hand_in(events)
+    journal.hand_in(waiting)
 }
 
 /// Adds the batch that was handed in last, if one was. At `Ok` it is acknowledged, and the journal is at rest.
@@ -66,7 +64,8 @@ pub(crate) fn settle<M: Machine, F: StoredFile>(journal: &mut Journal<F>) -> Res
         → OnOk result (IsAhead M.loads M.next handed handed journal.new.gate journal.new.next (F.told journal.new.file)) }
 
     // A crash at any moment of it leaves what was acknowledged, or that and what was handed in.
-    ensures any_moment { (acked handed : M) → IsAhead M.loads M.next acked handed journal.old.gate journal.old.next (F.told journal.old.file)
+    ensures any_moment { (acked handed : M)
+        → IsAhead M.loads M.next acked handed journal.old.gate journal.old.next (F.told journal.old.file)
         → LeavesOnly (F.told journal.old.file) (F.told journal.new.file) (IsEither M.loads M.next acked handed) }
 
     // It doesn't give up by itself.

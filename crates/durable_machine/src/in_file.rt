@@ -4,9 +4,10 @@ ghost use Rattle.std.specs.Prelude.{◌≡◌, ◌↔◌, ℕ, List, ◌++◌, [
 ghost use Rattle.stored_file.specs.File.{FileState, LeavesOnly, MayLeave};
 
 use crate::Machine;
+use crate::batch::Batch;
 use crate::committing::commit;
 use crate::going_ahead::{settle, stage};
-use crate::journal::{Journal, add_parts};
+use crate::journal::Journal;
 use crate::store::Store;
 use std::alloc::{AllocError, Global};
 use stored_file::{FileError, StoredFile};
@@ -16,11 +17,12 @@ use stored_file::{FileError, StoredFile};
 pub struct InFile<F: StoredFile + Drop> {
     /// The journal, which has what was committed: it is after the base from which the machine was led to its state.
     pub journal: Journal<F>,
-    /// The events that may have changed the machine since the last commit, as the journal spells them.
-    pub waiting: Vec<u8>,
+    /// The events that may have changed the machine since the last commit.
+    pub waiting: Batch,
 }
 
 impl<M: Machine, F: StoredFile + Drop> Store<M> for InFile<F> {
+    ghost use Rattle.durable_machine.specs.Seals.{events_of};
     ghost use Rattle.durable_machine.specs.Files.{IsDurable};
     ghost use Rattle.durable_machine.specs.Waiting.{IsCommittedBut};
     ghost use Rattle.durable_machine.specs.Ahead.{IsAheadBut};
@@ -31,7 +33,7 @@ impl<M: Machine, F: StoredFile + Drop> Store<M> for InFile<F> {
 
     ghost told = { λ journal. F.told journal.file };
 
-    ghost waits = { λ store. store.waiting.items };
+    ghost waits = { λ store. events_of store.waiting };
 
     ghost keeps = { λ machine waiting journal. IsCommittedBut M.loads M.next waiting machine journal.gate (F.told journal.file) };
 
@@ -42,7 +44,7 @@ impl<M: Machine, F: StoredFile + Drop> Store<M> for InFile<F> {
 
     fn note(&mut self, first: &[u8], second: &[u8], third: &[u8]) -> Result<usize, AllocError> {
         let before = self.waiting.len();
-        add_parts(&mut self.waiting, first, second, third)?;
+        self.waiting.add(first, second, third)?;
         Ok(before)
     }
 
@@ -50,16 +52,16 @@ impl<M: Machine, F: StoredFile + Drop> Store<M> for InFile<F> {
         self.waiting.truncate(before);
     }
 
-    fn commit(&mut self, alloc: Global) -> Result<(), FileError> {
-        commit::<M, F>(alloc, &mut self.journal, &mut self.waiting)
+    fn commit(&mut self, _: Global) -> Result<(), FileError> {
+        commit::<M, F>(&mut self.journal, &mut self.waiting)
     }
 
     fn go_ahead(&mut self) {
         self.journal.next = self.journal.gate;
     }
 
-    fn stage(&mut self, alloc: Global) -> Result<(), FileError> {
-        stage::<M, F>(alloc, &mut self.journal, &mut self.waiting)
+    fn stage(&mut self, _: Global) -> Result<(), FileError> {
+        stage::<M, F>(&mut self.journal, &mut self.waiting)
     }
 
     fn settle(&mut self) -> Result<(), FileError> {

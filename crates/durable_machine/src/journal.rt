@@ -1,12 +1,16 @@
 //! The journal.
 
-ghost use Rattle.std.specs.Prelude.{◌≡◌, ◌⊎◌, ◌<◌, ◌≤◌, ◌^◌, ◌+◌, ◌++◌, [], ◌∷◌, List, ℕ, length, take, drop, IfOk, OnOk, OnErr, IsErrOf};
+ghost use Rattle.std.specs.Prelude.{◌≡◌, ◌<◌, ◌≤◌, ◌^◌, ◌+◌, ◌++◌, [], ◌∷◌, List, ℕ, length, take, drop, IfOk, OnOk, OnErr, IsErrOf};
 ghost use Rattle.stored_file.specs.File.{IsWhole, LeavesNow, LeavesOnly};
 ghost use Rattle.stored_file.specs.Cause.{HasCause};
 ghost use Rattle.durable_machine.specs.Events.{spelled, AreSpelled, AreSized};
-ghost use Rattle.durable_machine.specs.Journal.{IsSector, HasBatches, StandsFor, IsAt, IsSettled};
+ghost use Rattle.durable_machine.specs.Seals.{events_of};
+ghost use Rattle.durable_machine.specs.Journal.{HasBatches, StandsWithOrWithout, IsAt, IsSettled};
 ghost use Rattle.durable_machine.specs.LastBatch.{IsSameBut};
 
+use crate::batch::Batch;
+use crate::gates::closed_sector;
+use crc32c::Sums;
 use std::alloc::AllocError;
 use stored_file::{FileError, SECTOR, StoredFile, write_durably};
 
@@ -19,6 +23,8 @@ pub struct Journal<F: StoredFile> {
     pub gate: usize,
     /// The offset of the closed gate after the batch that is staged. It says something only while batches are staged.
     pub next: usize,
+    /// What makes the sums of batches.
+    pub sums: Sums,
 }
 
 /// Puts an event after those of a batch, whole or not at all.
@@ -107,23 +113,27 @@ impl<F: StoredFile> Journal<F> {
     /// # Errors
     ///
     /// No memory, or the disk's.
-    pub fn append(&mut self, events: Vec<u8>) -> Result<(), FileError>
+    pub fn append(&mut self, batch: &mut Batch) -> Result<(), FileError>
         requires settled { IsSettled self.old.gate (F.told self.old.file) }
-        requires spelled { AreSpelled events.items }
+        requires spelled { AreSpelled (events_of batch.old) }
+
+        ensures emptied { OnOk result (events_of batch.new ≡ []) }
 
         ensures acknowledged { OnOk result ((front : List ℕ) (before : List (List (List ℕ))) (added : List (List ℕ))
-            → IsAt front before self.old.gate (F.told self.old.file) → AreSized added → events.items ≡ spelled added
+            → IsAt front before self.old.gate (F.told self.old.file)
+            → AreSized added → events_of batch.old ≡ spelled added
             → IsAt front (before ++ added ∷ []) self.new.gate (F.told self.new.file)) }
 
         // A crash at any moment of the call leaves the batches from before it, with the new one or without.
         ensures any_moment { (front : List ℕ) (before : List (List (List ℕ))) (added : List (List ℕ))
-            → IsAt front before self.old.gate (F.told self.old.file) → AreSized added → events.items ≡ spelled added
-            → LeavesOnly (F.told self.old.file) (F.told self.new.file) (λ c. StandsFor front before c ⊎ StandsFor front (before ++ added ∷ []) c) }
+            → IsAt front before self.old.gate (F.told self.old.file)
+            → AreSized added → events_of batch.old ≡ spelled added
+            → LeavesOnly (F.told self.old.file) (F.told self.new.file) (StandsWithOrWithout front before (added ∷ [])) }
 
         // It doesn't give up by itself.
         ensures cause { HasCause (F.told self.old.file) (F.told self.new.file) result }
     {
-        self.stage(events)?;
+        self.stage(batch)?;
         self.settle()
     }
 }
@@ -167,16 +177,6 @@ pub fn repair<F: StoredFile>(
     file.set_len(end)?;
     file.renew(at, gate)?;
     file.sync()?;
-    write_durably(file, end, &sector(0))?;
+    write_durably(file, end, &closed_sector())?;
     Ok(())
-}
-
-/// A sector that begins with a gate.
-pub(crate) fn sector(gate: u8) -> [u8; SECTOR]
-    ensures gate { IsSector gate result }
-    ensures size { length result ≡ 4096 }
-{
-    let mut sector = [0; SECTOR];
-    sector[0] = gate;
-    sector
 }

@@ -6,20 +6,26 @@
 //! batches of events that were handed in: none skipped, none in part, and all that were acknowledged.
 //!
 //! An event is a text of bytes; several of them are added to the journal at once, as a batch, all or none. The batches stand in sectors
-//! of their own: a sector with an open gate (1), and the events, of which each has a 1 and its length before it (8 bytes, the lowest
-//! first), with zeros behind. At the end stands a sector with a closed gate (0). What stands behind a gate that isn't open doesn't count.
+//! of their own: a gate, a sector that isn't all 0, the seal of the events, the events, of which each has a 1 and its length before it (8
+//! bytes, the lowest first), and zeros up to the end of a sector. At the end stands a closed gate, a sector of zeros. What stands behind
+//! it doesn't count.
 //!
 //! A batch is written behind the closed gate, with a closed gate of its own behind it. When that is on the disk, the gate is opened: at
 //! once, or, under load, in the round of writes that brings the next batch to the disk. So what is torn stands behind a closed gate, or
-//! is a gate that was to be opened and has whole events behind it; no checksum is trusted, and no length that isn't known is followed. As
-//! a gate has a sector of its own, a disk may tear the whole sector where it writes one byte of it. An open gate with more than its
-//! sector, where no batch stands whole, is nothing that a crash leaves: it is damage.
+//! is a gate that was to be opened and has a whole batch behind it; no sum is trusted, and no length that isn't known is followed. As
+//! a gate has a sector of its own, a disk may tear the whole sector where it writes one byte of it.
+//!
+//! The seal has the offset of the batch's gate in the file, how many bytes spell its events, and the CRC-32C of these numbers and of the
+//! events. A gate that isn't closed with more than its sector, where no batch stands whole and sealed, is nothing that a crash leaves: it
+//! is damage, which is reported, and nothing is cut off then. [`salvage`] gives what stands before it.
 #![tactic(auto)]
 
 mod base;
+mod batch;
 mod committing;
 mod durable;
 mod fault;
+mod gates;
 mod going_ahead;
 mod in_file;
 mod in_memory;
@@ -30,12 +36,15 @@ mod machine;
 mod opening;
 mod reading;
 mod replay;
+mod rescue;
 mod room;
+mod seal;
 mod sectors;
 mod staging;
 mod store;
 
 pub use base::put_base;
+pub use batch::Batch;
 pub use durable::Durable;
 pub use fault::Fault;
 pub use in_file::InFile;
@@ -44,4 +53,5 @@ pub use journal::{Journal, add_event, repair};
 pub use journal_reading::{first_batch, first_event, is_end};
 pub use machine::{Applied, Machine, Saves};
 pub use reading::machine_in;
+pub use rescue::{Salvaged, salvage};
 pub use store::Store;

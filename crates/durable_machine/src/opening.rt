@@ -4,14 +4,17 @@ ghost use Rattle.std.specs.Prelude.{◌≡◌, ◌⊎◌, ◌<◌, ◌≤◌, �
 ghost use Rattle.stored_file.specs.File.{LeavesOnly};
 ghost use Rattle.stored_file.specs.Cause.{HasCause};
 ghost use Rattle.stored_file.specs.declared.stored_file.FileError.TheVariants.{NoRoom, Failed};
+ghost use Rattle.durable_machine.specs.Seals.{events_of};
 ghost use Rattle.durable_machine.specs.Files.{IsState, IsItsState, IsDurable, IsInBase, IsOldOrStands};
 ghost use Rattle.durable_machine.specs.Restart.{IsRestarted, KeepsRestarted};
 ghost use Rattle.durable_machine.specs.Refused.{Refuses};
 
 use crate::base::put_base;
+use crate::batch::Batch;
 use crate::journal::{Journal, repair};
 use crate::replay::replay;
 use crate::{Durable, Fault, InFile, Machine};
+use crc32c::Sums;
 use std::alloc::Global;
 use stored_file::{FileError, SECTOR, StoredFile, read_whole};
 
@@ -31,7 +34,7 @@ impl<M: Machine + Drop, F: StoredFile + Drop> Durable<M, InFile<F>> {
         ensures state { IfOk result (λ store. IsItsState M.loads M.next (F.told file).seen store.machine) }
         ensures durable { IfOk result (λ store.
             IsDurable M.loads M.next store.machine store.events.journal.gate (F.told store.events.journal.file)) }
-        ensures none { IfOk result (λ store. store.events.waiting.items ≡ []) }
+        ensures none { IfOk result (λ store. events_of store.events.waiting ≡ []) }
 
         // A crash at any moment leaves what an earlier program may have left; where all was on the disk, the same state.
         ensures any_moment { IfOk result (λ store. KeepsRestarted M.loads M.next (F.told file) (F.told store.events.journal.file)) }
@@ -61,7 +64,7 @@ impl<M: Machine + Drop, F: StoredFile + Drop> Durable<M, InFile<F>> {
         ensures state { IfOk result (λ store. IsItsState M.loads M.next (F.told file).seen store.machine) }
         ensures durable { IfOk result (λ store.
             IsDurable M.loads M.next store.machine store.events.journal.gate (F.told store.events.journal.file)) }
-        ensures none { IfOk result (λ store. store.events.waiting.items ≡ []) }
+        ensures none { IfOk result (λ store. events_of store.events.waiting ≡ []) }
         ensures any_moment { IfOk result (λ store. KeepsRestarted M.loads M.next (F.told file) (F.told store.events.journal.file)) }
         ensures any_moment_err { IfErr result (λ refusal. KeepsRestarted M.loads M.next (F.told file) (F.told refusal.1)) }
         ensures refused { IfErr result (λ refusal. Refuses M.loads M.next (F.told file) (F.told refusal.1) refusal.0) }
@@ -74,8 +77,9 @@ impl<M: Machine + Drop, F: StoredFile + Drop> Durable<M, InFile<F>> {
                         file,
                         gate,
                         next: gate,
+                        sums: Sums::new(),
                     },
-                    waiting: Vec::new(alloc),
+                    waiting: Batch::new(alloc),
                 },
             }),
             Err(fault) => Err((fault, file)),
@@ -99,7 +103,7 @@ impl<M: Machine + Drop, F: StoredFile + Drop> Durable<M, InFile<F>> {
         ensures same { IfOk result (λ store. store.machine ≡ machine) }
         ensures durable { IfOk result (λ store.
             IsDurable M.loads M.next store.machine store.events.journal.gate (F.told store.events.journal.file)) }
-        ensures none { IfOk result (λ store. store.events.waiting.items ≡ []) }
+        ensures none { IfOk result (λ store. events_of store.events.waiting ≡ []) }
         ensures in_base { IfOk result (λ store.
             IsInBase M.loads M.next store.machine store.events.journal.gate (F.told store.events.journal.file)) }
 
@@ -121,8 +125,9 @@ impl<M: Machine + Drop, F: StoredFile + Drop> Durable<M, InFile<F>> {
                         file,
                         gate,
                         next: gate,
+                        sums: Sums::new(),
                     },
-                    waiting: Vec::new(alloc),
+                    waiting: Batch::new(alloc),
                 },
             }),
             Err(error) => Err((error, file)),
@@ -169,7 +174,7 @@ fn reopen<M: Machine + Drop, F: StoredFile>(
     ensures any_moment { KeepsRestarted M.loads M.next (F.told file.old) (F.told file.new) }
     ensures refused { IfErr result (λ fault. Refuses M.loads M.next (F.told file.old) (F.told file.new) fault) }
 {
-    let found = replay(alloc, bytes)?;
+    let found = replay(alloc, &Sums::new(), bytes)?;
     let gate = gate_in(bytes, found.last, found.end);
     repair(file, found.end, found.last, gate)?;
     Ok((found.machine, found.end))

@@ -6,6 +6,7 @@ ghost use Rattle.durable_machine.specs.Refused.{IsRefused};
 
 use crate::replay::replay;
 use crate::{Fault, Machine};
+use crc32c::Sums;
 use std::alloc::Global;
 
 /// The machine in the state that the bytes of a file stand for. It is that of [`Durable::open`](crate::Durable::open), which the same
@@ -18,6 +19,6 @@ pub fn machine_in<M: Machine + Drop>(alloc: Global, file: &[u8]) -> Result<M, Fa
     ensures state { IfOk result (λ machine. IsItsState M.loads M.next file.now machine) }
     ensures refused { IfErr result (λ fault. IsRefused M.loads M.next file.now fault) }
 {
-    let found = replay(alloc, file)?;
+    let found = replay(alloc, &Sums::new(), file)?;
     Ok(found.machine)
 }

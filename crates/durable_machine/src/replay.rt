@@ -1,15 +1,17 @@
 //! The events of a journal, done again.
 
-ghost use Rattle.std.specs.Prelude.{◌≡◌, ◌≤◌, length, IfOk, IfErr, OnOk};
+ghost use Rattle.std.specs.Prelude.{◌≡◌, ◌<◌, ◌≤◌, ◌^◌, ◌+◌, length, IfOk, IfErr, OnOk};
 ghost use Rattle.durable_machine.specs.Replay.{AreAllDone, HaltsAtBatch, HaltsAtEvent, LeadsAgain};
 ghost use Rattle.durable_machine.specs.Restart.{IsReplayed};
 ghost use Rattle.durable_machine.specs.Refused.{IsRefused};
+ghost use Rattle.durable_machine.specs.Salvage.{HasBegun};
 
 use crate::journal_reading::{first_batch, first_event, is_end};
 use crate::sectors::in_sectors;
 use crate::{Fault, Machine};
+use crc32c::Sums;
 use std::alloc::{AllocError, Global};
-use stored_file::{FileError, SECTOR};
+use stored_file::FileError;
 
 /// What a file stands for.
 #[derive(Drop)]
@@ -20,6 +22,8 @@ pub(crate) struct Replayed<M: Drop> {
     pub(crate) end: usize,
     /// The offset of the last one's gate; where there is none, it is that end.
     pub(crate) last: usize,
+    /// How many they are.
+    pub(crate) count: usize,
 }
 
 /// The machine in the state that a file stands for, and where the file's batches are.
@@ -27,8 +31,33 @@ pub(crate) struct Replayed<M: Drop> {
 /// # Errors
 ///
 /// The file begins with no base in whole sectors, it is damaged, an event of it isn't done again, or no memory.
-pub(crate) fn replay<M: Machine + Drop>(alloc: Global, file: &[u8]) -> Result<Replayed<M>, Fault>
+pub(crate) fn replay<M: Machine + Drop>(
+    alloc: Global,
+    sums: &Sums,
+    file: &[u8],
+) -> Result<Replayed<M>, Fault>
     ensures state { IfOk result (λ found. IsReplayed M.loads M.next found.end found.last file.now found.machine) }
+    ensures refused { IfErr result (λ fault. IsRefused M.loads M.next file.now fault) }
+{
+    let found = replay_front(alloc, sums, file)?;
+    if !is_end(&file[found.end..]) {
+        return Err(Fault::Damaged(found.end));
+    }
+    Ok(found)
+}
+
+/// The machine to which a file's base and the batches lead that stand whole behind it, whatever stands after these.
+///
+/// # Errors
+///
+/// The file begins with no base in whole sectors, an event isn't done again, or no memory.
+pub(crate) fn replay_front<M: Machine + Drop>(
+    alloc: Global,
+    sums: &Sums,
+    file: &[u8],
+) -> Result<Replayed<M>, Fault>
+    ensures begun { IfOk result (λ found. HasBegun M.loads M.next found.end found.last found.count file.now found.machine) }
+    ensures within { IfOk result (λ found. found.end ≤ length file.now) }
     ensures refused { IfErr result (λ fault. IsRefused M.loads M.next file.now fault) }
 {
     let Some((mut machine, base)) = M::load(alloc, file)? else {
@@ -38,19 +67,16 @@ pub(crate) fn replay<M: Machine + Drop>(alloc: Global, file: &[u8]) -> Result<Re
     if file.len() < front {
         return Err(Fault::Unreadable);
     }
-    let batches = match replay_batches(alloc, &mut machine, &file[front..]) {
+    let batches = match replay_batches(alloc, sums, &mut machine, front, &file[front..]) {
         Ok(batches) => batches,
         Err(Halt::Idle(at)) => return Err(Fault::Undone(front + at)),
         Err(Halt::Memory) => return Err(Fault::OfFile(FileError::Memory)),
     };
-    let end = front + batches.taken;
-    if !is_end(&file[end..]) {
-        return Err(Fault::Damaged(end));
-    }
     Ok(Replayed {
         machine,
-        end,
+        end: front + batches.taken,
         last: front + batches.last,
+        count: batches.count,
     })
 }
 
@@ -80,33 +106,49 @@ struct Batches {
     taken: usize,
     /// Where the last of them begins; where there is none, it is where they end.
     last: usize,
+    /// How many they are.
+    count: usize,
 }
 
-/// Does the batches at the front of the bytes again.
+/// Does the batches at the front of the bytes again, which begin at an offset of the file.
 ///
 /// # Errors
 ///
 /// An event isn't done again, or no memory.
-fn replay_batches<M: Machine>(alloc: Global, machine: &mut M, bytes: &[u8]) -> Result<Batches, Halt>
-    ensures done { IfOk result (λ found. AreAllDone M.next bytes.now found.taken found.last machine.old machine.new) }
+fn replay_batches<M: Machine>(
+    alloc: Global,
+    sums: &Sums,
+    machine: &mut M,
+    begin: usize,
+    bytes: &[u8],
+) -> Result<Batches, Halt>
+    requires { begin + length bytes.now < 2 ^ 63 }
+    ensures done { IfOk result (λ found. AreAllDone M.next begin bytes.now found.taken found.last found.count machine.old machine.new) }
     ensures within { IfOk result (λ found. (found.taken ≤ length bytes.now) × (found.last ≤ found.taken)) }
-    ensures halts { IfErr result (HaltsAtBatch M.next bytes.now machine.old) }
+    ensures halts { IfErr result (HaltsAtBatch M.next begin bytes.now machine.old) }
 {
     let mut rest = bytes;
     let mut last = 0;
-    while let Some((events, behind)) = first_batch(rest) {
+    let mut count = 0;
+    while let Some((place, events, behind)) = first_batch(
+        sums,
+        begin + (bytes.len() - rest.len()),
+        rest,
+    ) {
         let at = bytes.len() - rest.len();
         match apply_again(alloc, machine, events) {
             Ok(()) => {}
-            Err(Halt::Idle(event)) => return Err(Halt::Idle(at + SECTOR + event)),
+            Err(Halt::Idle(event)) => return Err(Halt::Idle(at + place + event)),
             Err(Halt::Memory) => return Err(Halt::Memory),
         }
         last = at;
+        count += 1;
         rest = behind;
     }
     Ok(Batches {
         taken: bytes.len() - rest.len(),
         last,
+        count,
     })
 }
 

@@ -5,31 +5,18 @@
 //! one sync. Whatever of the two writes comes to the disk, the staged batch is whole either way, and the new one stands behind a gate that
 //! nothing writes in this round.
 
-ghost use Rattle.std.specs.Prelude.{◌≡◌, ◌⊎◌, ◌≤◌, ◌+◌, ◌++◌, [], ◌∷◌, List, ℕ, length, IfOk, OnOk};
+ghost use Rattle.std.specs.Prelude.{◌≡◌, ◌++◌, [], ◌∷◌, List, ℕ, OnOk};
 ghost use Rattle.stored_file.specs.File.{LeavesOnly};
 ghost use Rattle.stored_file.specs.Cause.{HasCause};
 ghost use Rattle.durable_machine.specs.Events.{spelled, AreSpelled, AreSized};
-ghost use Rattle.durable_machine.specs.Journal.{StandsFor, IsAt, IsSettled, payload_length};
-ghost use Rattle.durable_machine.specs.Staging.{IsPayload, IsStaged, HasStaged, IsPending, IsUnderWay};
+ghost use Rattle.durable_machine.specs.Seals.{events_of};
+ghost use Rattle.durable_machine.specs.Journal.{StandsFor, StandsWithOrWithout, IsAt, IsSettled};
+ghost use Rattle.durable_machine.specs.Staging.{IsStaged, HasStaged, IsPending, IsUnderWay};
 
-use crate::journal::{Journal, sector};
-use crate::journal_reading::whole_payload;
-use std::alloc::AllocError;
+use crate::batch::Batch;
+use crate::gates::open_sector;
+use crate::journal::Journal;
 use stored_file::{FileError, SECTOR, StoredFile, write_both, write_durably};
-
-/// What is written after a closed gate for a batch: its events and zeros up to the end of a sector, and a sector with a closed gate.
-///
-/// # Errors
-///
-/// No memory.
-fn payload_of(mut events: Vec<u8>) -> Result<Vec<u8>, AllocError>
-    ensures is { IfOk result (λ payload. (added : List (List ℕ)) → events.items ≡ spelled added → IsPayload added payload.items) }
-    ensures size { IfOk result (λ payload. length payload.items ≡ payload_length (length events.items) + 4096) }
-{
-    let whole = whole_payload(events.len());
-    events.resize(whole + SECTOR, 0)?;
-    Ok(events)
-}
 
 impl<F: StoredFile> Journal<F> {
     /// Hands in a batch of events: adds the one that is staged, if one is, and stages this one, with one sync. At `Ok` the first is
@@ -38,25 +25,28 @@ impl<F: StoredFile> Journal<F> {
     /// # Errors
     ///
     /// No memory, or the disk's.
-    pub fn hand_in(&mut self, events: Vec<u8>) -> Result<(), FileError>
+    pub fn hand_in(&mut self, batch: &mut Batch) -> Result<(), FileError>
         requires under_way { IsUnderWay self.old.gate self.old.next (F.told self.old.file) }
-        requires spelled { AreSpelled events.items }
+        requires spelled { AreSpelled (events_of batch.old) }
+
+        ensures emptied { OnOk result (events_of batch.new ≡ []) }
 
         ensures acknowledged { OnOk result ((front : List ℕ) (before pending : List (List (List ℕ))) (added : List (List ℕ))
-            → IsPending front before pending self.old.gate self.old.next (F.told self.old.file) → AreSized added → events.items ≡ spelled added
+            → IsPending front before pending self.old.gate self.old.next (F.told self.old.file)
+            → AreSized added → events_of batch.old ≡ spelled added
             → IsPending front (before ++ pending) (added ∷ []) self.new.gate self.new.next (F.told self.new.file)) }
 
         // A crash at any moment of the call leaves the batches from before it, with the staged one or without, and never the new one.
         ensures any_moment { (front : List ℕ) (before pending : List (List (List ℕ)))
             → IsPending front before pending self.old.gate self.old.next (F.told self.old.file)
-            → LeavesOnly (F.told self.old.file) (F.told self.new.file) (λ c. StandsFor front before c ⊎ StandsFor front (before ++ pending) c) }
+            → LeavesOnly (F.told self.old.file) (F.told self.new.file) (StandsWithOrWithout front before pending) }
 
         ensures cause { HasCause (F.told self.old.file) (F.told self.new.file) result }
     {
         if self.next == self.gate {
-            self.stage(events)
+            self.stage(batch)
         } else {
-            self.advance(events)
+            self.advance(batch)
         }
     }
 
@@ -76,7 +66,7 @@ impl<F: StoredFile> Journal<F> {
         // A crash at any moment of the call leaves the batches from before it, with the staged one or without.
         ensures any_moment { (front : List ℕ) (before pending : List (List (List ℕ)))
             → IsPending front before pending self.old.gate self.old.next (F.told self.old.file)
-            → LeavesOnly (F.told self.old.file) (F.told self.new.file) (λ c. StandsFor front before c ⊎ StandsFor front (before ++ pending) c) }
+            → LeavesOnly (F.told self.old.file) (F.told self.new.file) (StandsWithOrWithout front before pending) }
 
         ensures cause { HasCause (F.told self.old.file) (F.told self.new.file) result }
     {
@@ -91,12 +81,15 @@ impl<F: StoredFile> Journal<F> {
     /// # Errors
     ///
     /// No memory, or the disk's.
-    pub(crate) fn stage(&mut self, events: Vec<u8>) -> Result<(), FileError>
+    pub(crate) fn stage(&mut self, batch: &mut Batch) -> Result<(), FileError>
         requires settled { IsSettled self.old.gate (F.told self.old.file) }
-        requires spelled { AreSpelled events.items }
+        requires spelled { AreSpelled (events_of batch.old) }
+
+        ensures emptied { OnOk result (events_of batch.new ≡ []) }
 
         ensures staged { OnOk result ((front : List ℕ) (before : List (List (List ℕ))) (added : List (List ℕ))
-            → IsAt front before self.old.gate (F.told self.old.file) → AreSized added → events.items ≡ spelled added
+            → IsAt front before self.old.gate (F.told self.old.file)
+            → AreSized added → events_of batch.old ≡ spelled added
             → IsStaged front before added self.new.gate self.new.next (F.told self.new.file)) }
 
         // A crash at any moment of the call leaves the batches from before it.
@@ -106,9 +99,10 @@ impl<F: StoredFile> Journal<F> {
 
         ensures cause { HasCause (F.told self.old.file) (F.told self.new.file) result }
     {
-        let payload = payload_of(events)?;
-        write_durably(&mut self.file, self.gate + SECTOR, &payload)?;
-        self.next = self.gate + payload.len();
+        batch.seal(&self.sums, self.gate)?;
+        write_durably(&mut self.file, self.gate + SECTOR, &batch.bytes)?;
+        self.next = self.gate + batch.bytes.len();
+        batch.clear();
         Ok(())
     }
 
@@ -118,31 +112,35 @@ impl<F: StoredFile> Journal<F> {
     /// # Errors
     ///
     /// No memory, or the disk's.
-    fn advance(&mut self, events: Vec<u8>) -> Result<(), FileError>
+    fn advance(&mut self, batch: &mut Batch) -> Result<(), FileError>
         requires staged { HasStaged self.old.gate self.old.next (F.told self.old.file) }
-        requires spelled { AreSpelled events.items }
+        requires spelled { AreSpelled (events_of batch.old) }
+
+        ensures emptied { OnOk result (events_of batch.new ≡ []) }
 
         ensures acknowledged { OnOk result ((front : List ℕ) (before : List (List (List ℕ))) (staged added : List (List ℕ))
-            → IsStaged front before staged self.old.gate self.old.next (F.told self.old.file) → AreSized added → events.items ≡ spelled added
+            → IsStaged front before staged self.old.gate self.old.next (F.told self.old.file)
+            → AreSized added → events_of batch.old ≡ spelled added
             → IsStaged front (before ++ staged ∷ []) added self.new.gate self.new.next (F.told self.new.file)) }
 
         // A crash at any moment of the call leaves the batches from before it, with the staged one or without, and never the new one.
         ensures any_moment { (front : List ℕ) (before : List (List (List ℕ))) (staged : List (List ℕ))
             → IsStaged front before staged self.old.gate self.old.next (F.told self.old.file)
-            → LeavesOnly (F.told self.old.file) (F.told self.new.file) (λ c. StandsFor front before c ⊎ StandsFor front (before ++ staged ∷ []) c) }
+            → LeavesOnly (F.told self.old.file) (F.told self.new.file) (StandsWithOrWithout front before (staged ∷ [])) }
 
         ensures cause { HasCause (F.told self.old.file) (F.told self.new.file) result }
     {
-        let payload = payload_of(events)?;
+        batch.seal(&self.sums, self.next)?;
         write_both(
             &mut self.file,
             self.gate,
-            &sector(1),
+            &open_sector(),
             self.next + SECTOR,
-            &payload,
+            &batch.bytes,
         )?;
         self.gate = self.next;
-        self.next += payload.len();
+        self.next += batch.bytes.len();
+        batch.clear();
         Ok(())
     }
 
@@ -162,11 +160,11 @@ impl<F: StoredFile> Journal<F> {
         // A crash at any moment of the call leaves the batches from before it, with the staged one or without.
         ensures any_moment { (front : List ℕ) (before : List (List (List ℕ))) (staged : List (List ℕ))
             → IsStaged front before staged self.old.gate self.old.next (F.told self.old.file)
-            → LeavesOnly (F.told self.old.file) (F.told self.new.file) (λ c. StandsFor front before c ⊎ StandsFor front (before ++ staged ∷ []) c) }
+            → LeavesOnly (F.told self.old.file) (F.told self.new.file) (StandsWithOrWithout front before (staged ∷ [])) }
 
         ensures cause { HasCause (F.told self.old.file) (F.told self.new.file) result }
     {
-        write_durably(&mut self.file, self.gate, &sector(1))?;
+        write_durably(&mut self.file, self.gate, &open_sector())?;
         self.gate = self.next;
         Ok(())
     }

@@ -4,6 +4,7 @@ ghost use Rattle.std.specs.Prelude.{◌≡◌, ◌↔◌, ◌<◌, ◌≤◌, �
 ghost use Rattle.std.specs.Option.{option_map};
 ghost use Rattle.stored_file.specs.File.{LeavesOnly};
 ghost use Rattle.stored_file.specs.Cause.{HasCause};
+ghost use Rattle.durable_machine.specs.Seals.{events_of};
 ghost use Rattle.image_store.specs.Namespace.{shape};
 ghost use Rattle.device_meaning.specs.State.{State};
 ghost use Rattle.nvme_entry.specs.Entry.{decoded};
@@ -23,7 +24,7 @@ use durable_device::{
     DurableDevice, Folding, Folds, FrameDevice, MOST_JOURNAL, asks_change, is_refusal,
     note_submission, note_turn,
 };
-use durable_machine::{Durable, InFile, Store};
+use durable_machine::{Batch, Durable, InFile, Store};
 use nvme_entry::{Entry, MOST_TRANSFER};
 use runner::Reply;
 use std::alloc::{AllocError, Global};
@@ -59,7 +60,7 @@ pub fn target_of<F: StoredFile + Drop>(
     ensures served { IfOk result (λ made. made.0 ≡ begun_on device.store.machine subsystem format) }
     ensures journal { IfOk result (λ made. made.1.events.journal ≡ device.store.events.journal) }
     ensures kept { IfOk result (λ made.
-        IsCommittedBut made.1.events.waiting.items made.0.device made.1.events.journal.gate (F.told made.1.events.journal.file)) }
+        IsCommittedBut (events_of made.1.events.waiting) made.0.device made.1.events.journal.gate (F.told made.1.events.journal.file)) }
 {
     let DurableDevice { store, folded, .. } = device;
     let Durable { machine, events } = store;
@@ -71,7 +72,7 @@ pub fn target_of<F: StoredFile + Drop>(
         format,
     )?;
     // The device is on the disk as it is, so nothing waits.
-    let waiting = Vec::new(alloc);
+    let waiting = Batch::new(alloc);
     Ok((
         served,
         Keeper {

@@ -1,51 +1,26 @@
-use Rattle.std.proofs.Common.{rules, ◌<◌, ◌≤◌, ◌+◌, ◌-◌, ℕ, List, length, take, drop, subst}
-use Rattle.durable_machine.specs.Journal.{BeginsOpen, IsEnd}
+use Rattle.std.proofs.Common.{rules, ◌<◌, ◌-◌, ℕ, List, length, take, drop, sym, subst}
+use Rattle.durable_machine.specs.Journal.{BeginsClosed, IsEnd}
 use Rattle.durable_machine.proofs.ReadFrames.{rest_of}
-use Rattle.durable_machine.specs.Bases.{BeginsBase}
-use Rattle.durable_machine.specs.Replay.{AreAllDone, IsIdleAt}
 use Rattle.durable_machine.specs.Refused.{IsDamaged}
-use Rattle.durable_machine.proofs.Refusing.{too_short, damaged}
-use Rattle.durable_machine.proofs.Replaying.{is_replayed, is_damaged, is_undone}
+use Rattle.durable_machine.proofs.Refusing.{damaged}
+use Rattle.durable_machine.proofs.Replaying.{is_replayed, is_damaged}
 use Rattle.durable_machine.proofs.replay.replay.Goals as goal
-
-pub returns-then-file-front-clause-refused : goal.returns-then-file-front-clause-refused
-returns-then-file-front-clause-refused g c =
-    let begins : BeginsBase g.M.Machine.loads c.in-Some.machine c.in-Some.base c.args.file.now = search rules in
-    let short : length c.args.file.now < c.in_sectors-front.result = search rules in
-    too_short g.M.Machine.loads g.M.Machine.next g.met.M.Machine.one_base c.args.file.now c.in-Some.base c.in-Some.machine begins (subst (λ (n : ℕ). length c.args.file.now < n) c.in_sectors-front.ensures short)
 
 pub returns-then-not-is_end-clause-refused : goal.returns-then-not-is_end-clause-refused
 returns-then-not-is_end-clause-refused g c =
     let file = c.args.file.now in
-    let front = c.in_sectors-front.result in
-    let end = front + c.in-Ok.batches.taken in
-    let begins : BeginsBase g.M.Machine.loads c.in-Some.machine c.in-Some.base file = search rules in
-    let enough : front ≤ length file = search rules in
-    let all = subst (λ (bytes : List ℕ). AreAllDone g.M.Machine.next bytes c.in-Ok.batches.taken c.in-Ok.batches.last c.in-Some.machine c.replay_batches.new.machine) (rest_of front file) c.in-Ok.ensures.done in
-    let further : BeginsOpen (take (length file - end) (drop end file)) × (4096 < length (take (length file - end) (drop end file))) = search rules in
+    let replayed = c.in_ok-found.found in
+    let end = replayed.end in
+    let further : (BeginsClosed (take (length file - end) (drop end file)) → ⊥) × (4096 < length (take (length file - end) (drop end file))) = search rules in
     let found : IsDamaged g.M.Machine.loads g.M.Machine.next end file =
-    is_damaged g.M.Machine.next g.M.Machine.loads file c.in-Some.base front c.in-Ok.batches.taken c.in-Ok.batches.last c.in-Some.machine c.replay_batches.new.machine begins c.in_sectors-front.ensures enough all
-    (subst BeginsOpen (rest_of end file) further.0) (subst (λ (bytes : List ℕ). 4096 < length bytes) (rest_of end file) further.1) in
+    is_damaged g.M.Machine.next g.M.Machine.loads file end replayed.last replayed.count replayed.machine c.in_ok-found.ensures.begun
+    (λ shut_gate. further.0 (subst BeginsClosed (sym (rest_of end file)) shut_gate)) (subst (λ (bytes : List ℕ). 4096 < length bytes) (rest_of end file) further.1) in
     (found, damaged g.M.Machine.loads g.M.Machine.next g.met.M.Machine.one_base end file found)
 
 pub returns-clause-state : goal.returns-clause-state
 returns-clause-state g c =
     let file = c.args.file.now in
-    let front = c.in_sectors-front.result in
-    let end = front + c.in-Ok.batches.taken in
-    let begins : BeginsBase g.M.Machine.loads c.in-Some.machine c.in-Some.base file = search rules in
-    let enough : front ≤ length file = search rules in
-    let all = subst (λ (bytes : List ℕ). AreAllDone g.M.Machine.next bytes c.in-Ok.batches.taken c.in-Ok.batches.last c.in-Some.machine c.replay_batches.new.machine) (rest_of front file) c.in-Ok.ensures.done in
+    let replayed = c.in_ok-found.found in
+    let end = replayed.end in
     let last : IsEnd (take (length file - end) (drop end file)) = search rules in
-    is_replayed g.M.Machine.next g.M.Machine.loads file c.in-Some.base front c.in-Ok.batches.taken c.in-Ok.batches.last c.in-Some.machine c.replay_batches.new.machine begins c.in_sectors-front.ensures enough all (subst IsEnd (rest_of end file) last)
-
-pub returns-in-Err-Idle-clause-refused : goal.returns-in-Err-Idle-clause-refused
-returns-in-Err-Idle-clause-refused g c =
-    let file = c.args.file.now in
-    let front = c.in_sectors-front.result in
-    let begins : BeginsBase g.M.Machine.loads c.in-Some.machine c.in-Some.base file = search rules in
-    let enough : front ≤ length file = search rules in
-    let bytes = take (length file - front) (drop front file) in
-    let halts : IsIdleAt g.M.Machine.next c.in-Err-Idle.at bytes c.in-Some.machine × (c.in-Err-Idle.at ≤ length bytes) = search rules in
-    is_undone g.M.Machine.next g.M.Machine.loads file c.in-Some.base front c.in-Err-Idle.at c.in-Some.machine begins c.in_sectors-front.ensures enough
-    (subst (λ (bytes : List ℕ). IsIdleAt g.M.Machine.next c.in-Err-Idle.at bytes c.in-Some.machine) (rest_of front file) halts.0)
+    is_replayed g.M.Machine.next g.M.Machine.loads file end replayed.last replayed.count replayed.machine c.in_ok-found.ensures.begun (subst IsEnd (rest_of end file) last)

@@ -1,9 +1,9 @@
-use Rattle.std.proofs.Common.{length}
+use Rattle.std.proofs.Common.{◌≤◌, ◌+◌, length}
 use Rattle.durable_machine.specs.Replay.{AreDone}
 use Rattle.durable_machine.proofs.replay.replay_batches.Given as goal
 
-abbrev pub invariant-loop-events : goal.invariant-loop-events
-invariant-loop-events g l = AreDone g.M.Machine.next l.bytes l.rest l.last l.fn.machine l.machine
+abbrev pub invariant-loop-place : goal.invariant-loop-place
+invariant-loop-place g l = AreDone g.M.Machine.next l.begin l.bytes l.rest l.last l.count l.fn.machine l.machine × (l.count + length l.rest ≤ length l.bytes)
 
-abbrev pub decreases-loop-events : goal.decreases-loop-events
-decreases-loop-events g l = length l.rest
+abbrev pub decreases-loop-place : goal.decreases-loop-place
+decreases-loop-place g l = length l.rest

@@ -1,5 +1,6 @@
 use Rattle.std.proofs.Common.{◌≡◌, ap, ◌∙◌}
 use Rattle.durable_machine.proofs.Waiting.{all_committed, as_before}
+use Rattle.durable_machine.specs.Seals.{events_of}
 use Rattle.durable_device.specs.Machine.{IsDeviceBase, next_state}
 use Rattle.tcp_device.specs.State.{ServedState}
 use Rattle.tcp_device.proofs.keeper.target_of.Goals as goal
@@ -11,4 +12,4 @@ returns-clause-kept g c =
     let gate = c.args.device.store.events.journal.gate in
     let file = g.F.StoredFile.told c.args.device.store.events.journal.file in
     as_before IsDeviceBase next_state _ c.args.device.store.machine _ gate file
-    (all_committed IsDeviceBase next_state c.new-waiting.result.items c.args.device.store.machine gate file c.new-waiting.ensures.items c.requires.kept) device
+    (all_committed IsDeviceBase next_state (events_of c.new-waiting.result) c.args.device.store.machine gate file c.new-waiting.ensures c.requires.kept) device

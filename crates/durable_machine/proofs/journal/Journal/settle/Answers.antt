@@ -10,16 +10,16 @@ write_durably-requires-clause-within g c =
 pub write_durably-requires-clause-whole : goal.write_durably-requires-clause-whole
 write_durably-requires-clause-whole g c =
     let staged = c.requires.staged in
-    (first_gate staged.front staged.batches staged.staged c.args.self.now.gate c.args.self.now.next _ staged.rests, omega (arith, c.sector.ensures.size))
+    (first_gate staged.front staged.batches staged.staged c.args.self.now.gate c.args.self.now.next _ staged.rests, omega (arith, c.open_sector.ensures.size))
 
 pub returns-in_err-write_durably-clause-any_moment : goal.returns-in_err-write_durably-clause-any_moment
 returns-in_err-write_durably-clause-any_moment g c = λ front before staged rests.
-    settle_written front before staged c.args.self.now.gate c.args.self.now.next _ rests (length c.sector.result) _ c.sector.ensures.size c.write_durably.ensures.any_moment
+    settle_written front before staged c.args.self.now.gate c.args.self.now.next _ rests (length c.open_sector.result) _ c.open_sector.ensures.size c.write_durably.ensures.any_moment
 
 pub returns-clause-any_moment : goal.returns-clause-any_moment
 returns-clause-any_moment g c = λ front before staged rests.
-    settle_written front before staged c.args.self.now.gate c.args.self.now.next _ rests (length c.sector.result) _ c.sector.ensures.size c.write_durably.ensures.any_moment
+    settle_written front before staged c.args.self.now.gate c.args.self.now.next _ rests (length c.open_sector.result) _ c.open_sector.ensures.size c.write_durably.ensures.any_moment
 
 pub returns-clause-acknowledged : goal.returns-clause-acknowledged
 returns-clause-acknowledged g c = λ front before staged rests.
-    is_settled front before staged c.args.self.now.gate c.args.self.now.next _ rests c.sector.result c.sector.ensures.gate _ c.in_ok-write_durably.ensures.written c.in_ok-write_durably.ensures.durable
+    is_settled front before staged c.args.self.now.gate c.args.self.now.next _ rests c.open_sector.result c.open_sector.ensures _ c.in_ok-write_durably.ensures.written c.in_ok-write_durably.ensures.durable
