@@ -1,8 +1,9 @@
 // A host over NVMe/TCP that times a target.
 //
-// nvme_tcp PORT SIZE COUNT DEPTH
+// nvme_tcp PORT SIZE COUNT DEPTH [asked]
 //                     has the target at that port of 127.0.0.1 do COUNT Appends of SIZE bytes and as many Reads, with DEPTH of them
-//                     under way, in five rounds; prints the least nanoseconds of an Append, and of a Read
+//                     under way, in five rounds; prints the least nanoseconds of an Append, and of a Read. Up to 8192 bytes are in the
+//                     capsule of an Append, unless its data is asked for
 //
 // Blocks have 4096 bytes, and zones 4096 blocks.
 #include <arpa/inet.h>
@@ -18,12 +19,14 @@
 
 enum { COMMAND = 0x04, RESPONSE = 0x05, H2C_DATA = 0x06, C2H_DATA = 0x07, R2T = 0x09 };
 enum { READ = 0x02, FABRICS = 0x7f, SEND = 0x79, APPEND = 0x7d, RESET_ALL = 0x104 };
-enum { INITIALIZE = 128, CAPSULE = 72, DATA_HEADER = 24, CONNECT_DATA = 1024, TRANSFER = 131072, BLOCK = 4096, ZONE = 4096, ROUNDS = 5 };
+enum { INITIALIZE = 128, CAPSULE = 72, DATA_HEADER = 24, CONNECT_DATA = 1024, IN_CAPSULE = 8192, TRANSFER = 131072 };
+enum { BLOCK = 4096, ZONE = 4096, ROUNDS = 5 };
 
 static const char *NAME = "nqn.2014-08.org.nvmexpress:uuid:0f2b6a34-8c1d-4e7a-9b35-7a6f6e6a6172";
 static int peer; // the socket of the queue
 static uint8_t pdu[DATA_HEADER + TRANSFER], buffer[65536];
 static size_t first, last;
+static uint32_t in_capsule = IN_CAPSULE; // the most bytes of data that are put into a capsule
 
 static uint32_t number(const uint8_t *at) {
   uint32_t value;
@@ -81,8 +84,10 @@ static uint8_t receive(void) {
 
 // A capsule with an entry, and what is in it beside.
 static void submit(uint8_t opcode, uint8_t kind, uint16_t identifier, const uint32_t *dwords, uint32_t size, const uint8_t *data) {
-  uint8_t capsule[CAPSULE + CONNECT_DATA] = {COMMAND, 0, CAPSULE, data ? CAPSULE : 0};
+  static uint8_t capsule[CAPSULE + IN_CAPSULE];
   uint8_t *entry = capsule + 8;
+  memset(capsule, 0, CAPSULE);
+  capsule[0] = COMMAND, capsule[2] = CAPSULE, capsule[3] = data ? CAPSULE : 0;
   put(capsule + 4, CAPSULE + (data ? size : 0));
   entry[0] = opcode;
   entry[1] = 0x40;
@@ -119,11 +124,14 @@ static int begin(uint16_t port, uint16_t queue, uint32_t entries, uint16_t contr
   return peer;
 }
 
-// The Append or the Read of a number, which is its identifier too.
+// The Append or the Read of a number, which is its identifier too, and with which its data begins. As Linux does, little data is put into
+// the capsule.
 static void transfer(uint8_t opcode, uint32_t index, uint32_t size) {
+  static uint8_t data[IN_CAPSULE];
   uint32_t blocks = size / BLOCK, lba = index * blocks;
   uint32_t at = opcode == READ ? lba : lba / ZONE * ZONE;
-  submit(opcode, 0, index % 65536, (uint32_t[6]){at, 0, blocks - 1}, size, NULL);
+  memcpy(data, &(uint16_t){index % 65536}, 2);
+  submit(opcode, 0, index % 65536, (uint32_t[6]){at, 0, blocks - 1}, size, opcode == APPEND && size <= in_capsule ? data : NULL);
 }
 
 // Sends the data that a command is asked for, which begins with the command's identifier.
@@ -157,7 +165,8 @@ static uint64_t transfers(uint8_t opcode, uint32_t size, uint32_t count, uint32_
 }
 
 int main(int argc, char **argv) {
-  if (argc != 5) return 2;
+  if (argc != 5 && argc != 6) return 2;
+  if (argc == 6) in_capsule = 0;
   uint16_t port = atoi(argv[1]);
   uint32_t size = atoi(argv[2]), count = atoi(argv[3]), depth = atoi(argv[4]);
   uint64_t appends = -1, reads = -1;

@@ -18,8 +18,8 @@ from typing import Callable, List, NamedTuple, Tuple
 
 import target
 from cases import HOST_DATA, PEER_IDENTIFIER, PEER_NQN, peer_data
-from nvme_tcp_connection import Connection, Ended, Fabrics, Kind, Opcode, TimedOut, capsule, connect_entry, entry, h2c_data
-from nvme_tcp_connection import initialize_request, pdu
+from nvme_tcp_connection import Connection, Ended, Fabrics, Kind, Opcode, Sgl, TimedOut, capsule, connect_entry, entry
+from nvme_tcp_connection import h2c_data, initialize_request, pdu
 from nvme_tcp_host import ANY_CONTROLLER, CSTS, ENABLED, HOST_IDENTIFIER, HOST_NQN, Action, Host
 
 # numbers at the ends of ranges, or of a field's bits
@@ -63,8 +63,12 @@ def command(rng: random.Random, commands: List[Fields], identifier: int) -> Pdus
         at = rng.randrange(len(fields))
         fields[at] = rng.choice(EDGES) if at else rng.randrange(256)
     opcode, *dwords, length, namespace = fields
+    takes_data = (namespace if opcode == Opcode.FABRICS else opcode) & 3 == 1
+    if takes_data and 0 < length <= 8193 and rng.random() < 0.5:
+        data = (target.EMITS_NOTHING + rng.randbytes(length))[:length]
+        return [capsule(entry(opcode, identifier, *dwords, length=length, sgl=Sgl.IN_CAPSULE, namespace=namespace), data)]
     sent = [capsule(entry(opcode, identifier, *dwords, length=length, namespace=namespace))]
-    if (namespace if opcode == Opcode.FABRICS else opcode) & 3 == 1 and 0 < length <= 131072:
+    if takes_data and 0 < length <= 131072:
         sent += pieces(rng, identifier, length)
     return sent
 

@@ -232,12 +232,22 @@ def io_commands() -> Iterator[Case]:
     """Commands of an I/O queue."""
     for kind in (0x00, 0x01, 0x04, 0xFF):
         yield refused(f"a Fabrics command of type {kind:02X}h on an I/O queue", IO, entry(Opcode.FABRICS, 7, namespace=kind), 0x001)
-    for length in (73, 72 + 1024):
+    for length in (71, 72 + 8193, 0xFFFF_FFFF):
         yield fatal(f"a capsule of {length} bytes on an I/O queue", IO, head(4, offset=72, length=length), 1, 4)
     for opcode in (0x00, 0x03, 0x04, 0x05, 0x06, 0x08, 0x09, 0x0C, 0x18, 0xC3, 0xFF):
         yield refused(f"I/O opcode {opcode:02X}h", IO, entry(opcode, 7), 0x001)
     yield refused("C2H of an unknown opcode", IO, entry(0x06, 7, length=512), 0x001)
     yield refused("a Write whose data is in a capsule without data", IO, entry(Opcode.WRITE, 7, sgl=Sgl.IN_CAPSULE), 0x002)
+    for length in (1, 511, 513, 8192):
+        yield refused(f"a Write of {length} bytes in the capsule", IO, in_capsule(Opcode.WRITE, 7, length), 0x002, data=bytes(length))
+    for opcode in (Opcode.READ, Opcode.ZONE_MANAGEMENT_RECEIVE, Opcode.RUN, Opcode.RESULT):
+        yield refused(f"I/O opcode {opcode:02X}h with data in the capsule", IO, in_capsule(opcode, 7, 512), 0x011, data=bytes(512))
+    zone_action = in_capsule(Opcode.ZONE_MANAGEMENT_SEND, 7, 512)
+    yield refused("a zone action with data in the capsule", IO, zone_action, 0x002, data=bytes(512))
+    yield refused("a Write with too little in the capsule", IO, in_capsule(Opcode.WRITE, 7, 512), 0x016, data=bytes(511))
+    behind = capsule(sized(WRITE, 511)) + capsule(in_capsule(Opcode.WRITE, 8, 1), b"1") + h2c_data(7, 0, bytes(511))
+    answer = r2t(511) + completed(IO, 0x002) + completed(IO, 0x002, identifier=8, nth=2)
+    yield answered("data in a capsule behind a Write that waits for data", IO, behind, answer)
     for length in (0, 511, 513, 0xFFFF_FFFF):
         yield refused(f"a Read of {length} bytes", IO, entry(Opcode.READ, 7, 0, length=length), 0x00F)
     yield refused("a Read of 256 blocks and one", IO, entry(Opcode.READ, 7, 0, 256, length=257 * 512), 0x002)
@@ -255,6 +265,11 @@ def io_commands() -> Iterator[Case]:
     yield fatal("an identifier that waits for data", IO, write, 2, 0, 72, before=write, answer=r2t(512))
     yield fatal("an identifier that waits behind data", IO, behind[1], 2, 0, 72, before=write + behind[1], answer=r2t(512))
     yield Case("a termination in mid-transfer", IO, write + behind[0] + pdu(Kind.H2C_TERM_REQ, bytes(16)), r2t(512), True)
+
+
+def in_capsule(opcode: int, identifier: int, length: int) -> bytes:
+    """The entry of a command whose data is in its capsule."""
+    return entry(opcode, identifier, length=length, sgl=Sgl.IN_CAPSULE)
 
 
 def sized(command: bytes, length: int) -> bytes:

@@ -7,7 +7,7 @@ import struct
 from typing import Dict
 
 import target
-from nvme_tcp_connection import Connection, Opcode, TimedOut, capsule, connect_entry, entry
+from nvme_tcp_connection import Connection, Kind, Opcode, Sgl, TimedOut, capsule, connect_entry, entry
 from nvme_tcp_host import CAP, CC, CSTS, ENABLED, SUBSYSTEM_NQN, VS, Action, Host, ZoneState
 from target import FILTER, Over, little, order
 
@@ -33,8 +33,8 @@ class AdminQueues(Over):
         came = self.host.identify(0x01)
         self.assertRegex(came[4:72].decode("ascii"), "^[ -~]{68}$")
         fields = {4: came[4:72], 76: b"\2\5", 78: little(1, 2), 80: little(0x10400, 4), 111: b"\1", 258: b"\3\3\3\2", 320: b"\x0a"}
-        fields.update({512: b"\x66\x44", 514: little(128, 2), 516: little(1, 4), 536: little(1, 4), 768: SUBSYSTEM_NQN.encode()})
-        fields.update({1792: little(4, 4), 1796: little(1, 4), 1803: b"\1"})
+        fields.update({512: b"\x66\x44", 514: little(128, 2), 516: little(1, 4), 536: little(0x100001, 4), 768: SUBSYSTEM_NQN.encode()})
+        fields.update({1792: little(516, 4), 1796: little(1, 4), 1803: b"\1"})
         self.assertEqual(came, page(fields))
 
     def test_identify_tells_the_namespace(self) -> None:
@@ -172,6 +172,25 @@ class IoQueues(Over):
         self.queue.append(0, order(0))
         self.queue.load(0, FILTER, emit=66)
         self.queue.run(0, 0, 1, 512)
+
+    def test_data_comes_in_capsules(self) -> None:
+        """Of a Write, an Append and a Load, up to 8192 bytes, in one round trip: no R2T asks for it."""
+        data = random.Random(4).randbytes(8192)
+        self.write_in_capsule(0, data[:512])
+        self.write_in_capsule(1, data)
+        append = self.queue.submit(Opcode.ZONE_APPEND, 0, data=order(3), in_capsule=True)
+        self.assertEqual(self.queue.done(append).value, 17)
+        self.assertEqual(self.queue.read(0, 18), data[:512] + data + order(3))
+        self.queue.done(self.queue.submit(Opcode.LOAD, 66 << 32, len(FILTER), data=FILTER, in_capsule=True))
+        self.queue.zone_action(Action.OPEN, 512)
+        self.assertEqual(self.queue.run(0, 17, 1, 512, argument=3), (1, 1))
+
+    def write_in_capsule(self, lba: int, data: bytes) -> None:
+        """A Write whose data is in its capsule: nothing comes before its completion."""
+        command = entry(Opcode.WRITE, 0xFFFE, lba, len(data) // 512 - 1, length=len(data), sgl=Sgl.IN_CAPSULE)
+        self.queue.connection.send(capsule(command, data))
+        came = self.queue.connection.receive()
+        self.assertEqual((came.kind, came.header[20:24]), (Kind.CAPSULE_RESP, b"\xfe\xff\0\0"))
 
     def test_data_of_each_size_comes_in_pieces_of_each_size(self) -> None:
         """Writes of 1 to 256 blocks, sent in H2CData PDUs of 1 byte to 131072."""

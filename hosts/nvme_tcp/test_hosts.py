@@ -30,6 +30,26 @@ class InFlight(Over):
         self.assertEqual([self.queue.done(identifier).dword0 for identifier in reversed(flying)], list(range(31, 15, -1)))
         self.assertEqual(self.queue.read(16, 16), b"".join(order(region) for region in range(16)))
 
+    def test_data_in_capsules_and_asked_for_has_its_own_command(self) -> None:
+        """Also where 126 capsules with data wait behind a Write whose data isn't there yet; they are executed in their order."""
+        with target.started(zone_size=4096) as program, Host(program.address) as host:
+            queue, rng = host.queue(1), random.Random(6)
+            data = [rng.randbytes(512 * (1 + number % 16)) for number in range(254)]
+            for first in range(0, 254, 127):
+                lba = sum(map(len, data[:first])) // 512
+                flying = []
+                for number in range(first, first + 127):
+                    waits = number == first or number % 50 == 49
+                    blocks = len(data[number]) // 512
+                    flying.append(queue.submit(Opcode.WRITE, lba, blocks - 1, data=data[number], in_capsule=not waits))
+                    lba += blocks
+                for identifier in flying:
+                    queue.done(identifier)
+            blocks, written = sum(map(len, data)) // 512, b""
+            while len(written) < 512 * blocks:
+                written += queue.read(len(written) // 512, min(256, blocks - len(written) // 512))
+            self.assertEqual(written, b"".join(data))
+
     def test_queues_go_on_side_by_side(self) -> None:
         """Commands of eight queues, waited for in any order: each has the data of its own."""
         self.queue.write(0, b"".join(order(region) for region in range(16)))

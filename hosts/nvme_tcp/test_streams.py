@@ -8,7 +8,8 @@ from typing import Callable, List
 import fuzz
 import hostile
 from cases import IO, OPENED, PEER_IDENTIFIER, PEER_NQN, outcome, peer_data, reached
-from nvme_tcp_connection import Connection, Fabrics, Kind, Opcode, Pdu, capsule, connect_entry, entry, h2c_data, initialize_request
+from nvme_tcp_connection import Connection, Fabrics, Kind, Opcode, Pdu, Sgl, capsule, connect_entry, entry, h2c_data
+from nvme_tcp_connection import initialize_request
 from nvme_tcp_host import ANY_CONTROLLER, ENABLED, Action, Host
 from target import FILTER, Over
 
@@ -35,7 +36,8 @@ def io_session(data: bytes) -> List[bytes]:
     end does, whose completion is the last."""
     sent = [initialize_request(), capsule(connect_entry(1, 2, 31), data)]
     sent += [capsule(entry(Opcode.ZONE_MANAGEMENT_SEND, 2, 0, 0, Action.RESET | 0x100))]
-    sent += [capsule(entry(Opcode.WRITE, 3, 0, length=512)), h2c_data(3, 0, BLOCK[:200], 0), h2c_data(3, 200, BLOCK[200:])]
+    sent += [capsule(entry(Opcode.WRITE, 3, 0, length=512)), capsule(entry(Opcode.WRITE, 14, 1, length=512, sgl=Sgl.IN_CAPSULE), BLOCK)]
+    sent += [h2c_data(3, 0, BLOCK[:200], 0), h2c_data(3, 200, BLOCK[200:])]
     sent += [capsule(entry(Opcode.ZONE_APPEND, 4, 0, length=512)), h2c_data(4, 0, BLOCK)]
     sent += [capsule(entry(Opcode.WRITE, 5, 0, length=512)), h2c_data(5, 0, BLOCK)]
     sent += [capsule(entry(Opcode.READ, 6, 0, 2, length=1536)), capsule(entry(Opcode.READ, 7, 0, length=512, sgl=0))]
@@ -113,6 +115,12 @@ class Ends(Over):
         """Whose data comes in two PDUs, before a command that waits behind it."""
         sent = capsule(entry(Opcode.WRITE, 1, 0, length=512)) + capsule(entry(Opcode.ZONE_MANAGEMENT_SEND, 2, 16, 0, Action.FINISH))
         self.assert_nothing_happens(sent + h2c_data(1, 0, BLOCK[:99], 0) + h2c_data(1, 99, BLOCK[99:]), self.check_zones)
+
+    def test_in_a_write_with_its_data(self) -> None:
+        """Which is in the capsule, behind one that waits for data."""
+        write = capsule(entry(Opcode.WRITE, 2, 16, length=512, sgl=Sgl.IN_CAPSULE), BLOCK)
+        self.assert_nothing_happens(write, self.check_zones)
+        self.assert_nothing_happens(capsule(entry(Opcode.WRITE, 1, 0, length=512)) + write, self.check_zones)
 
     def test_in_an_append(self) -> None:
         """Whose data comes at once."""

@@ -6,12 +6,14 @@ words, by frames.py.
   $ serve() { frames make > asked; zscli serve image --durable --frames < asked > answered; }
   $ answers() { frames show < answered; }
 
-The parts of a journal (docs/device.md): the base of the empty image, of 96 bytes; a batch, which is a gate and events; the end.
+The parts of a journal (docs/durability.md): the base of the empty image, of 96 bytes; a batch, which is an open gate, a seal and events;
+a closed gate.
 
   $ zeros() { head -c "$1" /dev/zero; }
   $ nothing() { for it in $(seq "$1"); do printf '\1\0\0\0\0\0\0\0\0'; done; }
   $ base() { printf 'ZNSJRN01\1\140\0\0\0\0\0\0\0'; cat empty; nothing 16; zeros 3839; }
-  $ gate() { printf '\1'; zeros 4095; }
+  $ gate() { zeros 4096 | tr '\0' '\1'; }
+  $ sealed() { python3 "$TESTDIR/journal.py" "$1"; }
   $ fresh
   $ mv image empty
   $ wc -c < empty
@@ -22,7 +24,7 @@ An append of a block, whose frame has 592 bytes, is one event.
   $ head -c 512 /dev/zero | tr '\0' B > block
   $ zscli entry append --lba 0 --data block > append
   $ event() { printf '\1\120\2\0\0\0\0\0\0'; frames make < append; }
-  $ { base; gate; event; zeros 3495; zeros 4096; } > journal
+  $ { base; gate; event | sealed 4096; zeros 4096; } > journal
   $ wc -c < journal
   16384
 
@@ -117,6 +119,13 @@ A damaged journal, a file that is no image, and one that isn't there, are refuse
   [3]
   $ answers
   $ cmp image damaged
+  $ { head -c 8700 journal; printf C; tail -c +8702 journal; } > changed
+  $ cp changed image
+  $ serve < append
+  image, byte 4096: an open gate, and no whole batch of events after it
+  journal refused 4096
+  [3]
+  $ cmp image changed
   $ { printf 'ZNSJRN01\2'; tail -c +10 journal; } > no_base
   $ cp no_base image
   $ serve < append
@@ -144,28 +153,43 @@ Only events that changed the device are in a journal. One that changes nothing w
 byte; so is one after others.
 
   $ idle() { printf '\1\120\0\0\0\0\0\0\0'; frames make < read; }
-  $ { base; gate; idle; zeros 4007; zeros 4096; } > idle
+  $ { base; gate; idle | sealed 4096; zeros 4096; } > idle
   $ cp idle image
   $ serve < append
-  image, byte 8192: an event that changes nothing when it is done again
-  journal refused 8192
+  image, byte 8213: an event that changes nothing when it is done again
+  journal refused 8213
   [3]
   $ cmp image idle
-  $ { base; gate; event; idle; zeros 3406; zeros 4096; } > idle
+  $ { event; idle; } > both
+  $ { base; gate; sealed 4096 < both; zeros 4096; } > idle
   $ cp idle image
   $ serve < append
-  image, byte 8793: an event that changes nothing when it is done again
-  journal refused 8793
+  image, byte 8814: an event that changes nothing when it is done again
+  journal refused 8814
   [3]
   $ zscli zones image
-  image, byte 8793: an event that changes nothing when it is done again
-  journal refused 8793
+  image, byte 8814: an event that changes nothing when it is done again
+  journal refused 8814
   [3]
   $ zscli fold image
-  image, byte 8793: an event that changes nothing when it is done again
-  journal refused 8793
+  image, byte 8814: an event that changes nothing when it is done again
+  journal refused 8814
   [3]
   $ cmp image idle
+
+A journal of an earlier version, whose gates are a 1 and zeros and whose batches have no seals, is opened, and goes on with sealed ones.
+
+  $ earlier_gate() { printf '\1'; zeros 4095; }
+  $ { base; earlier_gate; event; zeros 3495; } > earlier
+  $ { cat earlier; zeros 4096; } > image
+  $ serve < read
+  $ answers
+  cpl 1 00000000000000000000010002000000 42x512
+  $ zscli entry append --lba 0 --data block --cid 3 > later
+  $ serve < later
+  $ answers
+  cpl 1 01000000000000000000010003000000
+  $ { cat earlier; gate; { printf '\1\120\2\0\0\0\0\0\0'; frames make < later; } | sealed 12288; zeros 4096; } | cmp - image
 
 By lines the same event is answered by its line, and the journal is the same. A line that is rejected ends it: what came before it is kept.
 

@@ -36,14 +36,16 @@ controller_fields id = byte_at 76 2 ∷ byte_at 77 5 ∷ number_at 78 2 id ∷ n
 abbrev pub admin_fields : List Field
 admin_fields = byte_at 258 3 ∷ byte_at 259 3 ∷ byte_at 260 (1 * 2 + 1) ∷ byte_at 261 2 ∷ number_at 320 2 10 ∷ []
 
--- SQES and CQES, 2 ^ 6 and 2 ^ 4 bytes, least and most; MAXCMD; NN; SGLS, supported (bit 0). ONCS and VWC are 0: no optional commands,
--- and no volatile write cache
+-- SQES and CQES, 2 ^ 6 and 2 ^ 4 bytes, least and most; MAXCMD; NN; SGLS, supported (bit 0), also with an offset, as of data in a capsule
+-- (bit 20). ONCS and VWC are 0: no optional commands, and no volatile write cache
 abbrev pub queue_fields : List Field
-queue_fields = byte_at 512 (6 * 16 + 6) ∷ byte_at 513 (4 * 16 + 4) ∷ number_at 514 2 128 ∷ number_at 516 4 1 ∷ number_at 536 4 1 ∷ []
+queue_fields =
+    byte_at 512 (6 * 16 + 6) ∷ byte_at 513 (4 * 16 + 4) ∷ number_at 514 2 128 ∷ number_at 516 4 1 ∷ number_at 536 4 (2 ^ 20 + 1) ∷ []
 
--- SUBNQN; IOCCSZ and IORCSZ, in 16 bytes, an entry each; MSDBD, one descriptor. ICDOFF is 0: data in a capsule begins behind the entry
+-- SUBNQN; IOCCSZ and IORCSZ, in 16 bytes: an entry with 8192 bytes of data, and an entry; MSDBD, one descriptor. ICDOFF is 0: data in a
+-- capsule begins behind the entry
 abbrev pub fabrics_fields : Subsystem → List Field
-fabrics_fields s = bytes_at 768 s.nqn ∷ number_at 1792 4 4 ∷ number_at 1796 4 1 ∷ byte_at 1803 1 ∷ []
+fabrics_fields s = bytes_at 768 s.nqn ∷ number_at 1792 4 (4 + 512) ∷ number_at 1796 4 1 ∷ byte_at 1803 1 ∷ []
 
 abbrev pub identity_fields : ℕ → Subsystem → List Field
 identity_fields id s = name_fields s ++ controller_fields id ++ admin_fields ++ queue_fields ++ fabrics_fields s

@@ -80,7 +80,7 @@ fn put_queues(page: &mut [u8])
     put(page, 513, &[0x44]);
     put_u16(page, 514, 128);
     put_u32(page, 516, 1);
-    put_u32(page, 536, 1);
+    put_u32(page, 536, 0x10_0001);
 }
 
 /// SUBNQN, IOCCSZ, IORCSZ and MSDBD.
@@ -89,7 +89,7 @@ fn put_fabrics(page: &mut [u8], subsystem: &Subsystem)
     ensures { page.new ≡ laid (fabrics_fields subsystem.now) page.old }
 {
     put(page, 768, subsystem.nqn.as_bytes());
-    put_u32(page, 1792, 4);
+    put_u32(page, 1792, 516);
     put_u32(page, 1796, 1);
     put(page, 1803, &[1]);
 }

@@ -1,5 +1,5 @@
 -- What a Connect that succeeds sets up, and what completes one (NVMe Base 2.0, 6.3).
-use Rattle.std.specs.Prelude.{ℕ, ◌<◌, ◌≤◌, ◌+◌, ◌==◌, if◌then◌else◌}
+use Rattle.std.specs.Prelude.{ℕ, ◌<◌, ◌≤◌, ◌+◌}
 use Rattle.zone_state.specs.declared.status.Status.{Status}
 use Rattle.zone_state.specs.declared.status.TheConstants.Status.{SUCCESS}
 use Rattle.tcp_connection.specs.declared.queue.Outcome.{Outcome}
@@ -23,16 +23,16 @@ invalid_in_entry place = record { status = CONNECT_INVALID_PARAMETERS; dw0 = pla
 abbrev pub invalid_in_data : ℕ → Outcome
 invalid_in_data place = record { status = CONNECT_INVALID_PARAMETERS; dw0 = 0x10000 + place; dw1 = 0 }
 
--- the most bytes of data in a capsule: 8192 on the admin queue; on an I/O queue none (IOCCSZ counts the entry alone)
-abbrev pub in_capsule : ℕ → ℕ
-in_capsule queue = if queue == 0 then 8192 else 0
+-- the most bytes of data in a capsule, of whatever queue (IOCCSZ counts them and the entry)
+abbrev pub in_capsule : ℕ
+in_capsule = 8192
 
 -- a queue of this controller, with SQSIZE and one entries
 abbrev pub connected : ConnectRequest → ℕ → Connected
 connected request controller = record {
   controller = controller;
   queue = record { id = request.queue; entries = request.size + 1; has_flow_control = has_flow_control request };
-  in_capsule = in_capsule request.queue;
+  in_capsule = in_capsule;
 }
 
 -- so a queue has entries, and no more than there may be, and capsules no more data than is taken

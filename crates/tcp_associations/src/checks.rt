@@ -171,11 +171,7 @@ fn connected(request: ConnectRequest, controller: u16) -> Connected
             entries: request.size + 1,
             has_flow_control: request.has_flow_control(),
         },
-        in_capsule: if request.queue == 0 {
-            MOST_IN_CAPSULE
-        } else {
-            0
-        },
+        in_capsule: MOST_IN_CAPSULE,
     }
 }
 

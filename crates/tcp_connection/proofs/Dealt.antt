@@ -1,5 +1,5 @@
 -- What has come, and what is made of it.
-use Rattle.std.proofs.Common.{◌≡◌, ℕ, ◌<◌, ◌≤◌, nat_lt, true, not, List, length, take, drop, Result, Err, ap, sym, subst, ◌∙◌, arith}
+use Rattle.std.proofs.Common.{◌≡◌, ℕ, ◌<◌, ◌≤◌, nat_lt, true, not, List, take, drop, Result, Err, ap, sym, subst, ◌∙◌, arith}
 use Rattle.std.proofs.lemmas.Bool.{and_parts, ltb-true}
 use Rattle.tcp_pdus.specs.declared.fatal_error.FatalError.{FatalError}
 use Rattle.tcp_pdus.specs.declared.received.HostPdu.{HostPdu}
@@ -41,11 +41,8 @@ pub entry_is : (r : ReceiverState) (header entry : List ℕ) → r.progress ≡ 
     → entry ≡ drop 8 (take 72 r.pending)
 entry_is r header entry whole bytes is = is ∙ ap (drop 8) (header_is r CapsuleCmd header whole bytes)
 
-pub commanded_is : (s : ConnectionState) (entry : List ℕ) (inside : ℕ) → entry ≡ drop 8 (take 72 s.receiver.pending)
-    → inside ≡ length (drop 72 s.receiver.pending) → commanded_by entry inside s ≡ commanded s
-commanded_is s entry inside same_entry same_inside =
-    ap (λ (e : List ℕ). commanded_by e inside s) same_entry
-    ∙ ap (λ (n : ℕ). commanded_by (drop 8 (take 72 s.receiver.pending)) n s) same_inside
+pub commanded_is : (s : ConnectionState) (entry : List ℕ) → entry ≡ drop 8 (take 72 s.receiver.pending) → commanded_by entry s ≡ commanded s
+commanded_is s entry same_entry = ap (λ (e : List ℕ). commanded_by e s) same_entry
 
 -- a command that may come is one of few
 pub few_then : (command : ℕ) (s : ConnectionState) (most : ℕ) → may_come command s ≡ true → s.queue.entries ≤ most → count_of s.commands < most

@@ -13,16 +13,14 @@ use Rattle.tcp_receiver.specs.declared.expected.Progress.{Progress}
 use Rattle.tcp_receiver.specs.declared.expected.Progress.TheVariants.{Partial, Whole, Failed}
 use Rattle.tcp_receiver.specs.Receiving as receiving
 use Rattle.tcp_pdus.specs.Direction.{identifier_of}
-use Rattle.tcp_pdus.specs.Sgl.{wanted_checked}
-use Rattle.tcp_connection.specs.declared.commands.WaitingCommand.{WaitingCommand}
 use Rattle.tcp_connection.specs.declared.queue.Outcome.{Outcome}
 use Rattle.tcp_connection.specs.declared.queue.Phase.{Phase}
 use Rattle.tcp_connection.specs.declared.queue.Phase.TheVariants.{Initializing, Open, Ended}
 use Rattle.tcp_connection.specs.declared.state.ConnectionState.{ConnectionState}
-use Rattle.tcp_connection.specs.Commands.{CommandsState, count_of, first_of, has_command, is_running, place_of, running_with, started, started_of, waiting_with, without}
+use Rattle.tcp_connection.specs.Commands.{CommandsState, WaitingCommand, count_of, first_of, has_command, is_running, place_of, started, started_of, waiting_with, without}
 use Rattle.tcp_connection.specs.Connection.{taken, takes, took}
-use Rattle.tcp_connection.specs.Dealing.{admitted, asked, commanded_by, dealt_by, initialized_by, joined, judged, looked_at, may_come, with_next}
-use Rattle.tcp_connection.specs.Executing.{completed, completed_in, data_sent, first_gone, gone_by}
+use Rattle.tcp_connection.specs.Dealing.{asked, checked, commanded_by, dealt_by, initialized_by, inside, joined, judged, looked_at, may_come, with_next}
+use Rattle.tcp_connection.specs.Executing.{completed, completed_in, data_sent, gone}
 use Rattle.tcp_connection.specs.Laws.{CompletedOnce, Differ, IdentifiersDiffer, identifiers_of}
 use Rattle.tcp_connection.specs.Sending.{answered, failed}
 use Rattle.tcp_connection.proofs.Places.{differ_dropped, differ_in_front, differ_inserted, only_one, place_is, removed_is}
@@ -49,13 +47,6 @@ none_has command c none =
     sym (waiting_any command c.waiting) ∙ parts.1 in
     list_any-append (λ other. other == command) c.running (map (λ w. identifier_of w.entry) c.waiting)
     ∙ ap (λ (b : Bool). b || list_any (λ other. other == command) (map (λ w. identifier_of w.entry) c.waiting)) first ∙ second
-
-differ_running : (command : ℕ) (c : CommandsState) → Differ (identifiers_of c) → has_command command c ≡ false
-    → Differ (identifiers_of (running_with command c))
-differ_running command c differ none =
-    let W : List ℕ = map (λ w. identifier_of w.entry) c.waiting in
-    subst (λ (ids : List ℕ). Differ ids) (sym (append_assoc c.running (command ∷ []) W))
-    (differ_inserted command c.running W differ (none_has command c none))
 
 differ_waiting : (w : WaitingCommand) (c : CommandsState) → Differ (identifiers_of c) → has_command (identifier_of w.entry) c ≡ false
     → Differ (identifiers_of (waiting_with w c))
@@ -110,31 +101,20 @@ different_joined s w differ none =
     different_looked (record (with_next s) { commands = waiting_with w s.commands }) (differ_waiting w s.commands differ none)
     (cond (length s.commands.waiting == 0) (Some w) None)
 
-different_admitted : (s : ConnectionState) (entry : List ℕ) (inside : ℕ) (wanted : Option ℕ) → HasDifferent s
-    → has_command (identifier_of entry) s.commands ≡ false → HasDifferent (admitted entry inside wanted s).0
-different_admitted s entry inside wanted differ none =
-    elim (inside == 0) as (λ b. HasDifferent (cond b (joined (record { entry = entry; wanted = wanted }) s)
-    (record s { commands = running_with (identifier_of entry) s.commands }, [])).0) [
-      | true ↦ different_joined s (record { entry = entry; wanted = wanted }) differ none
-      | false ↦ differ_running (identifier_of entry) s.commands differ none
-    ]
+different_judged : (s : ConnectionState) (entry : List ℕ) → HasDifferent s → has_command (identifier_of entry) s.commands ≡ false
+    → (r : Result (Option ℕ) Status) → HasDifferent (judged r entry s).0
+different_judged s entry differ none (Ok wanted) = different_joined s (record { entry = entry; «data» = inside s; wanted = wanted }) differ none
+different_judged s entry differ none (Err status) = differ
 
-different_judged : (s : ConnectionState) (entry : List ℕ) (inside : ℕ) → HasDifferent s → has_command (identifier_of entry) s.commands ≡ false
-    → (r : Result (Option ℕ) Status) → HasDifferent (judged r entry inside s).0
-different_judged s entry inside differ none (Ok wanted) = different_admitted s entry inside wanted differ none
-different_judged s entry inside differ none (Err status) = differ
-
-different_may : (s : ConnectionState) (entry : List ℕ) (inside : ℕ) → HasDifferent s → (b : Bool) → may_come (identifier_of entry) s ≡ b
-    → HasDifferent (commanded_by entry inside s).0
-different_may s entry inside differ true is =
+different_may : (s : ConnectionState) (entry : List ℕ) → HasDifferent s → (b : Bool) → may_come (identifier_of entry) s ≡ b
+    → HasDifferent (commanded_by entry s).0
+different_may s entry differ true is =
     let parts = and_parts (nat_lt (count_of s.commands) s.queue.entries) (not (has_command (identifier_of entry) s.commands)) is in
     let none : has_command (identifier_of entry) s.commands ≡ false = not-true (has_command (identifier_of entry) s.commands) parts.1 in
-    let P : Bool → Type 0 = λ b. HasDifferent (cond b (judged (wanted_checked entry inside) entry inside s)
-    (failed PduSequence (take 72 s.receiver.pending) s)).0 in
-    subst P (sym is) (different_judged s entry inside differ none (wanted_checked entry inside))
-different_may s entry inside differ false is =
-    let P : Bool → Type 0 = λ b. HasDifferent (cond b (judged (wanted_checked entry inside) entry inside s)
-    (failed PduSequence (take 72 s.receiver.pending) s)).0 in
+    let P : Bool → Type 0 = λ b. HasDifferent (cond b (judged (checked entry s) entry s) (failed PduSequence (take 72 s.receiver.pending) s)).0 in
+    subst P (sym is) (different_judged s entry differ none (checked entry s))
+different_may s entry differ false is =
+    let P : Bool → Type 0 = λ b. HasDifferent (cond b (judged (checked entry s) entry s) (failed PduSequence (take 72 s.receiver.pending) s)).0 in
     subst P (sym is) tt
 
 different_dealt : (s : ConnectionState) (p : Progress) → HasDifferent s → HasDifferent (dealt_by p s).0
@@ -145,7 +125,7 @@ different_dealt s (Whole IcReq) differ =
 different_dealt s (Whole H2cTermReq) differ = tt
 different_dealt s (Whole CapsuleCmd) differ =
     let entry : List ℕ = drop 8 (take 72 s.receiver.pending) in
-    different_may s entry (length (drop 72 s.receiver.pending)) differ (may_come (identifier_of entry) s) refl
+    different_may s entry differ (may_come (identifier_of entry) s) refl
 different_dealt s (Whole H2cData) differ = differ
 
 different_taken : (s : ConnectionState) (piece : List ℕ) → HasDifferent s → HasDifferent (taken s piece).state
@@ -156,18 +136,10 @@ different_taken s piece differ =
       | false ↦ differ
     ]
 
-different_first : (s : ConnectionState) → HasDifferent s → HasDifferent (first_gone s).0
-different_first s differ =
+different_gone : (s : ConnectionState) → HasDifferent s → HasDifferent (gone s).0
+different_gone s differ =
     let t : ConnectionState = record s { commands = started s.commands } in
     different_looked t (subst (λ (ids : List ℕ). Differ ids) (sym (started_same s.commands.running s.commands.waiting)) differ) (first_of t.commands)
-
-different_gone : (s : ConnectionState) (p : Progress) → HasDifferent s → HasDifferent (gone_by p s).0
-different_gone s Partial differ = different_first s differ
-different_gone s (Failed error) differ = different_first s differ
-different_gone s (Whole IcReq) differ = different_first s differ
-different_gone s (Whole H2cTermReq) differ = different_first s differ
-different_gone s (Whole CapsuleCmd) differ = differ
-different_gone s (Whole H2cData) differ = different_first s differ
 
 different_completed : (s : ConnectionState) (phase : Phase) (command : ℕ) (outcome : Outcome) (bytes : List ℕ) → HasDifferent s
     → HasDifferent (completed_in phase command outcome bytes s).0
@@ -186,7 +158,7 @@ pub identifiers_differ : IdentifiersDiffer
 identifiers_differ = record {
   begins = tt;
   takes = λ s piece differ. different_taken s piece differ;
-  goes = λ s differ. different_gone s s.receiver.progress differ;
+  goes = λ s differ. different_gone s differ;
   completes = λ s command outcome bytes differ. different_completed s s.phase command outcome bytes differ;
 }
 

@@ -9,7 +9,7 @@ use Rattle.tcp_connection.specs.declared.state.ConnectionState.{ConnectionState}
 use Rattle.tcp_connection.specs.Connection.{Step, taken, takes, took}
 use Rattle.tcp_connection.specs.Dealing.{dealt, dealt_by}
 use Rattle.tcp_connection.specs.Laws.{JoinsAt, StepsJoin, both}
-use Rattle.tcp_connection.specs.Executing.{Execution, ready, ready_by, waiting_ready}
+use Rattle.tcp_connection.specs.Executing.{Execution, ready, waiting_ready}
 use Rattle.tcp_connection.specs.Queue.{is_ended}
 use Rattle.tcp_connection.proofs.Quiet.{is_open, none_waits, open_ready, same_waiting}
 
@@ -29,9 +29,9 @@ takes_none : (s : ConnectionState) (piece : List ℕ) → takes s ≡ false → 
 takes_none s piece is =
     ap (λ (b : Bool). cond b (took s piece) (record { state = s; sent = []; count = 0 })) is
 
-still_takes : (t : ConnectionState) → is_ended t.phase ≡ false → t.receiver.progress ≡ Partial → waiting_ready t ≡ None → takes t ≡ true
-still_takes t is_open partial none =
-    let shut : ready t ≡ None = open_ready t is_open ∙ ap (λ (p : Progress). ready_by p t) partial ∙ none in
+still_takes : (t : ConnectionState) → is_ended t.phase ≡ false → waiting_ready t ≡ None → takes t ≡ true
+still_takes t is_open none =
+    let shut : ready t ≡ None = open_ready t is_open ∙ none in
     ap (λ (b : Bool). not b && not (is_some (ready t))) is_open ∙ ap (λ (o : Option Execution). not false && not (is_some o)) shut
 
 module _ (s : ConnectionState) (a b : List ℕ) where
@@ -74,7 +74,7 @@ module _ (s : ConnectionState) (a b : List ℕ) where
       let one_is : taken s a ≡ one = takes_all s a open_now
       ∙ ap (λ (p : Progress). (let d = dealt_by p t in record { state = d.0; sent = d.1; count = first.1 })) is in
       let open_then : takes t ≡ true =
-      still_takes t (is_open s open_now) is (same_waiting s a s.receiver.progress ∙ none_waits s open_now) in
+      still_takes t (is_open s open_now) (same_waiting s a s.receiver.progress ∙ none_waits s open_now) in
       ap (λ (it : Step). both it (taken it.state b)) one_is
       ∙ ap (λ (two : Step). both one two) (takes_all t b open_then)
       ∙ ap (step_of s) joins

@@ -1,10 +1,11 @@
 mod Answering
 mod Dealt
-mod Entries
+mod Held
 mod Identifiers
 mod Joined
 mod Order
 mod Places
 pub mod Proved
 mod Quiet
+mod Ready
 mod Settled

@@ -12,17 +12,15 @@ use Rattle.tcp_receiver.specs.declared.expected.Progress.TheVariants.{Partial, W
 use Rattle.tcp_receiver.specs.Receiving.{IsBetween, ReceiverState, next, next_by}
 use Rattle.tcp_receiver.specs.Receiving as receiving
 use Rattle.tcp_pdus.specs.Direction.{identifier_of}
-use Rattle.tcp_pdus.specs.Sgl.{wanted_checked}
-use Rattle.tcp_connection.specs.declared.commands.WaitingCommand.{WaitingCommand}
 use Rattle.tcp_connection.specs.declared.queue.Outcome.{Outcome}
 use Rattle.tcp_connection.specs.declared.queue.Phase.{Phase}
 use Rattle.tcp_connection.specs.declared.queue.Phase.TheVariants.{Initializing, Open, Ended}
 use Rattle.tcp_connection.specs.declared.queue.Queue.{Queue}
 use Rattle.tcp_connection.specs.declared.state.ConnectionState.{ConnectionState}
-use Rattle.tcp_connection.specs.Commands.{first_of, is_running, running_with, started, waiting_with, without}
+use Rattle.tcp_connection.specs.Commands.{WaitingCommand, first_of, is_running, started, waiting_with, without}
 use Rattle.tcp_connection.specs.Connection.{taken, takes, took}
-use Rattle.tcp_connection.specs.Dealing.{admitted, asked, commanded_by, dealt, dealt_by, initialized_by, joined, judged, looked_at, may_come, with_next}
-use Rattle.tcp_connection.specs.Executing.{Execution, IsQuiet, completed, completed_in, connected, data_sent, first_gone, gone, gone_by, ready, ready_by, waiting_ready}
+use Rattle.tcp_connection.specs.Dealing.{asked, checked, commanded_by, dealt, dealt_by, initialized_by, inside, joined, judged, looked_at, may_come, with_next}
+use Rattle.tcp_connection.specs.Executing.{Execution, IsQuiet, completed, completed_in, connected, data_sent, gone, ready, waiting_ready}
 use Rattle.tcp_connection.specs.Queue.{is_ended}
 use Rattle.tcp_connection.specs.Sending.{answered, ended, failed}
 use Rattle.tcp_connection.specs.steps.Connection.{IsConnection}
@@ -76,29 +74,16 @@ rests_joined s command between =
     rests_looked s (record (with_next s) { commands = waiting_with command s.commands }) refl between
     (cond (length s.commands.waiting == 0) (Some command) None)
 
-rests_admitted : (s : ConnectionState) (entry : List ℕ) (inside : ℕ) (wanted : Option ℕ) → IsBetween (next s.receiver) → waiting_ready s ≡ None
-    → Rests s (admitted entry inside wanted s).0
-rests_admitted s entry inside wanted between none =
-    elim (inside == 0) as (λ b. Rests s (cond b (joined (record { entry = entry; wanted = wanted }) s)
-    (record s { commands = running_with (identifier_of entry) s.commands }, [])).0) [
-      | true ↦ rests_joined s (record { entry = entry; wanted = wanted }) between
-      | false ↦
-          (let t : ConnectionState = record s { commands = running_with (identifier_of entry) s.commands } in
-          record { queue = refl; quiet = quiet_none t none })
-    ]
+rests_judged : (s : ConnectionState) (entry : List ℕ) → IsBetween (next s.receiver) → (r : Result (Option ℕ) Status) → Rests s (judged r entry s).0
+rests_judged s entry between (Ok wanted) = rests_joined s (record { entry = entry; «data» = inside s; wanted = wanted }) between
+rests_judged s entry between (Err status) =
+    record { queue = refl; quiet = quiet_between (judged (Err status) entry s).0 between }
 
-rests_judged : (s : ConnectionState) (entry : List ℕ) (inside : ℕ) → IsBetween (next s.receiver) → waiting_ready s ≡ None
-    → (r : Result (Option ℕ) Status) → Rests s (judged r entry inside s).0
-rests_judged s entry inside between none (Ok wanted) = rests_admitted s entry inside wanted between none
-rests_judged s entry inside between none (Err status) =
-    record { queue = refl; quiet = quiet_between (judged (Err status) entry inside s).0 between }
-
-rests_commanded : (s : ConnectionState) (entry : List ℕ) (inside : ℕ) → IsBetween (next s.receiver) → waiting_ready s ≡ None
-    → Rests s (commanded_by entry inside s).0
-rests_commanded s entry inside between none =
-    elim (may_come (identifier_of entry) s) as (λ b. Rests s (cond b (judged (wanted_checked entry inside) entry inside s)
+rests_commanded : (s : ConnectionState) (entry : List ℕ) → IsBetween (next s.receiver) → Rests s (commanded_by entry s).0
+rests_commanded s entry between =
+    elim (may_come (identifier_of entry) s) as (λ b. Rests s (cond b (judged (checked entry s) entry s)
     (failed PduSequence (take 72 s.receiver.pending) s)).0) [
-      | true ↦ rests_judged s entry inside between none (wanted_checked entry inside)
+      | true ↦ rests_judged s entry between (checked entry s)
       | false ↦ rests_ended s
     ]
 
@@ -110,7 +95,7 @@ rests_by s (Whole IcReq) is none =
     rests_initialized s (between_next s.receiver IcReq is) (initialize_checked (initialize_request_in (take 128 s.receiver.pending)))
 rests_by s (Whole H2cTermReq) is none = rests_ended s
 rests_by s (Whole CapsuleCmd) is none =
-    rests_commanded s (drop 8 (take 72 s.receiver.pending)) (length (drop 72 s.receiver.pending)) (between_next s.receiver CapsuleCmd is) none
+    rests_commanded s (drop 8 (take 72 s.receiver.pending)) (between_next s.receiver CapsuleCmd is)
 rests_by s (Whole H2cData) is none =
     record { queue = refl; quiet = quiet_between (with_next s) (between_next s.receiver H2cData is) }
 
@@ -131,17 +116,8 @@ not_true : (b : Bool) → not b ≡ true → b ≡ false
 not_true true is = absurd cc
 not_true false is = refl
 
-pub open_ready : (s : ConnectionState) → is_ended s.phase ≡ false → ready s ≡ ready_by s.receiver.progress s
-open_ready s is = ap (λ (b : Bool). cond b None (ready_by s.receiver.progress s)) is
-
--- no command that waits is ready, where none is
-waiting_none : (s : ConnectionState) (p : Progress) → is_some (ready_by p s) ≡ false → waiting_ready s ≡ None
-waiting_none s Partial none = no_some (waiting_ready s) none
-waiting_none s (Failed error) none = no_some (waiting_ready s) none
-waiting_none s (Whole IcReq) none = no_some (waiting_ready s) none
-waiting_none s (Whole H2cTermReq) none = no_some (waiting_ready s) none
-waiting_none s (Whole CapsuleCmd) none = absurd cc
-waiting_none s (Whole H2cData) none = no_some (waiting_ready s) none
+pub open_ready : (s : ConnectionState) → is_ended s.phase ≡ false → ready s ≡ waiting_ready s
+open_ready s is = ap (λ (b : Bool). cond b None (waiting_ready s)) is
 
 -- what is expected isn't changed by a piece
 pub same_waiting : (s : ConnectionState) (piece : List ℕ) (p : Progress)
@@ -156,9 +132,8 @@ is_open s is = not_true (is_ended s.phase) (and_parts (not (is_ended s.phase)) (
 pub none_waits : (s : ConnectionState) → takes s ≡ true → waiting_ready s ≡ None
 none_waits s is =
     let parts = and_parts (not (is_ended s.phase)) (not (is_some (ready s))) is in
-    let same : ready s ≡ ready_by s.receiver.progress s = open_ready s (is_open s is) in
-    waiting_none s s.receiver.progress
-    (ap (λ (o : Option Execution). is_some o) (sym same) ∙ not_true (is_some (ready s)) parts.1)
+    no_some (waiting_ready s)
+    (ap (λ (o : Option Execution). is_some o) (sym (open_ready s (is_open s is))) ∙ not_true (is_some (ready s)) parts.1)
 
 took_rests : (s : ConnectionState) (piece : List ℕ) → takes s ≡ true → Rests s (took s piece).state
 took_rests s piece is =
@@ -187,31 +162,20 @@ taken_sound s piece connection = sound s (taken s piece).state connection (rests
 
 -- ---- a command goes
 
-rests_first : (s : ConnectionState) → IsQuiet s → is_some (waiting_ready s) ≡ true → Rests s (first_gone s).0
-rests_first s quiet some =
-    let one = one_some (waiting_ready s) some in
-    let t : ConnectionState = record s { commands = started s.commands } in rests_looked s t refl (quiet one.0 one.1) (first_of t.commands)
-
-rests_gone : (s : ConnectionState) → IsQuiet s → (p : Progress) → s.receiver.progress ≡ p → is_some (ready_by p s) ≡ true → Rests s (gone_by p s).0
-rests_gone s quiet Partial is some = rests_first s quiet some
-rests_gone s quiet (Failed error) is some = rests_first s quiet some
-rests_gone s quiet (Whole IcReq) is some = rests_first s quiet some
-rests_gone s quiet (Whole H2cTermReq) is some = rests_first s quiet some
-rests_gone s quiet (Whole CapsuleCmd) is some =
-    record { queue = refl; quiet = quiet_between (with_next s) (between_next s.receiver CapsuleCmd is) }
-rests_gone s quiet (Whole H2cData) is some = rests_first s quiet some
-
--- a command is ready only before the end
-ready_open : (s : ConnectionState) (b : Bool) → is_ended s.phase ≡ b → is_some (ready s) ≡ true → is_some (ready_by s.receiver.progress s) ≡ true
+-- a command is ready only before the end, and between PDUs
+ready_open : (s : ConnectionState) (b : Bool) → is_ended s.phase ≡ b → is_some (ready s) ≡ true → is_some (waiting_ready s) ≡ true
 ready_open s true is some =
-    let none : ready s ≡ None = ap (λ (b : Bool). cond b None (ready_by s.receiver.progress s)) is in absurd cc
+    let none : ready s ≡ None = ap (λ (b : Bool). cond b None (waiting_ready s)) is in absurd cc
 ready_open s false is some = ap (λ (o : Option Execution). is_some o) (sym (open_ready s is)) ∙ some
+
+pub ready_between : (s : ConnectionState) → IsConnection s → IsTrue (is_some (ready s)) → IsBetween s.receiver
+ready_between s connection some =
+    let one = one_some (waiting_ready s) (ready_open s (is_ended s.phase) refl some) in connection.quiet one.0 one.1
 
 pub gone_sound : (s : ConnectionState) → IsConnection s → IsTrue (is_some (ready s)) → IsConnection (gone s).0
 gone_sound s connection some =
-    sound s (gone s).0 connection
-    (rests_gone s connection.quiet s.receiver.progress refl
-    (ready_open s (is_ended s.phase) refl some))
+    let t : ConnectionState = record s { commands = started s.commands } in
+    sound s (gone s).0 connection (rests_looked s t refl (ready_between s connection some) (first_of t.commands))
 
 -- behind it the receiver is between PDUs
 between_asked : (t : ConnectionState) (command : ℕ) → IsBetween t.receiver → (wanted : Option ℕ) → IsBetween (asked command wanted t).0.receiver
@@ -222,23 +186,10 @@ between_looked : (t : ConnectionState) → IsBetween t.receiver → (first : Opt
 between_looked t between None = between
 between_looked t between (Some first) = between_asked t (identifier_of first.entry) between first.wanted
 
-between_first : (s : ConnectionState) → IsQuiet s → is_some (waiting_ready s) ≡ true → IsBetween (first_gone s).0.receiver
-between_first s quiet some =
-    let one = one_some (waiting_ready s) some in
-    let t : ConnectionState = record s { commands = started s.commands } in between_looked t (quiet one.0 one.1) (first_of t.commands)
-
-between_by : (s : ConnectionState) → IsQuiet s → (p : Progress) → s.receiver.progress ≡ p → is_some (ready_by p s) ≡ true
-    → IsBetween (gone_by p s).0.receiver
-between_by s quiet Partial is some = between_first s quiet some
-between_by s quiet (Failed error) is some = between_first s quiet some
-between_by s quiet (Whole IcReq) is some = between_first s quiet some
-between_by s quiet (Whole H2cTermReq) is some = between_first s quiet some
-between_by s quiet (Whole CapsuleCmd) is some = between_next s.receiver CapsuleCmd is
-between_by s quiet (Whole H2cData) is some = between_first s quiet some
-
 pub gone_between : (s : ConnectionState) → IsConnection s → IsTrue (is_some (ready s)) → IsBetween (gone s).0.receiver
 gone_between s connection some =
-    between_by s connection.quiet s.receiver.progress refl (ready_open s (is_ended s.phase) refl some)
+    let t : ConnectionState = record s { commands = started s.commands } in
+    between_looked t (ready_between s connection some) (first_of t.commands)
 
 -- ---- a command is completed
 

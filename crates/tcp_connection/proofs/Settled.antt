@@ -1,5 +1,5 @@
--- A connection deals with each PDU as soon as it has come whole, but for a capsule with data, which stays until its command goes.
-use Rattle.std.proofs.Common.{◌≡◌, ℕ, ◌==◌, Bool, true, false, cond, List, [], ◌++◌, length, take, drop, Option, None, Some, is_some, Result, Ok, Err, refl, ap}
+-- A connection deals with each PDU as soon as it has come whole.
+use Rattle.std.proofs.Common.{◌≡◌, ℕ, ◌==◌, Bool, true, false, cond, List, [], ◌++◌, length, take, drop, Option, None, Some, is_some, Result, Ok, Err, refl}
 use Rattle.zone_state.specs.declared.status.Status.{Status}
 use Rattle.tcp_pdus.specs.declared.fatal_error.FatalError.{FatalError}
 use Rattle.tcp_pdus.specs.declared.fatal_error.FatalError.TheVariants.{PduSequence}
@@ -8,35 +8,21 @@ use Rattle.tcp_pdus.specs.Initialize.{initialize_checked, initialize_request_in}
 use Rattle.tcp_receiver.specs.declared.expected.Progress.{Progress}
 use Rattle.tcp_receiver.specs.declared.expected.Progress.TheVariants.{Partial, Whole, Failed}
 use Rattle.tcp_pdus.specs.Direction.{identifier_of}
-use Rattle.tcp_pdus.specs.Sgl.{wanted_checked}
-use Rattle.tcp_connection.specs.declared.commands.WaitingCommand.{WaitingCommand}
 use Rattle.tcp_connection.specs.declared.queue.Outcome.{Outcome}
 use Rattle.tcp_connection.specs.declared.queue.Phase.{Phase}
 use Rattle.tcp_connection.specs.declared.queue.Phase.TheVariants.{Initializing, Open, Ended}
 use Rattle.tcp_connection.specs.declared.state.ConnectionState.{ConnectionState}
-use Rattle.tcp_connection.specs.Commands.{first_of, is_running, running_with, started, waiting_with, without}
+use Rattle.tcp_connection.specs.Commands.{WaitingCommand, first_of, is_running, started, waiting_with, without}
 use Rattle.tcp_connection.specs.Connection.{Step, takes, took}
-use Rattle.tcp_connection.specs.Dealing.{asked, commanded_by, dealt_by, initialized_by, joined, judged, looked_at, may_come, with_next}
-use Rattle.tcp_connection.specs.Executing.{Execution, completed_in, data_sent, gone, gone_by, ready, ready_by}
-use Rattle.tcp_connection.specs.Order.{Came, Completed, Happening, Went, after, received}
+use Rattle.tcp_connection.specs.Dealing.{asked, checked, commanded_by, dealt_by, initialized_by, inside, judged, looked_at, may_come, with_next}
+use Rattle.tcp_connection.specs.Executing.{Execution, completed_in, data_sent, gone, ready, waiting_ready}
+use Rattle.tcp_connection.specs.Order.{Came, Completed, Happening, IsSettled, Went, after, received}
 use Rattle.tcp_connection.specs.Queue.{is_ended}
 use Rattle.tcp_connection.specs.Sending.{answered, failed}
 use Rattle.tcp_connection.proofs.Quiet.{between_next}
 
-abbrev pub is_settled : Progress → Bool
-is_settled Partial = true
-is_settled (Whole IcReq) = false
-is_settled (Whole H2cTermReq) = false
-is_settled (Whole CapsuleCmd) = true
-is_settled (Whole H2cData) = false
-is_settled (Failed error) = false
-
--- behind the end nothing is dealt with
-abbrev pub IsSettled : ConnectionState → Type 0
-IsSettled s = is_ended s.phase ≡ false → is_settled s.receiver.progress ≡ true
-
 at_partial : (s : ConnectionState) → s.receiver.progress ≡ Partial → IsSettled s
-at_partial s is on = ap is_settled is
+at_partial s is on = is
 
 looks_partial : (s : ConnectionState) → s.receiver.progress ≡ Partial → (first : Option WaitingCommand) → (looked_at first s).0.receiver.progress ≡ Partial
 looks_partial s is None = is
@@ -46,26 +32,22 @@ looks_partial s is (Some first) =
 -- ---- what has come is dealt with
 
 initializes : (s : ConnectionState) → (with_next s).receiver.progress ≡ Partial → (r : Result ℕ FatalError) → IsSettled (initialized_by r s).0
-initializes s next_is (Ok alignment) on = ap is_settled next_is
+initializes s next_is (Ok alignment) on = next_is
 initializes s next_is (Err error) on = absurd cc
 
-module _ (s : ConnectionState) (next_is : (with_next s).receiver.progress ≡ Partial) (whole : s.receiver.progress ≡ Whole CapsuleCmd)
-    (entry : List ℕ) (inside : ℕ) where
-  judges : (r : Result (Option ℕ) Status) → IsSettled (judged r entry inside s).0
-  judges (Err status) = λ on. ap is_settled next_is
+module _ (s : ConnectionState) (next_is : (with_next s).receiver.progress ≡ Partial) (entry : List ℕ) where
+  judges : (r : Result (Option ℕ) Status) → IsSettled (judged r entry s).0
+  judges (Err status) = λ on. next_is
   judges (Ok wanted) =
-      let w : WaitingCommand = record { entry = entry; wanted = wanted } in
+      let w : WaitingCommand = record { entry = entry; «data» = inside s; wanted = wanted } in
       let t : ConnectionState = record (with_next s) { commands = waiting_with w s.commands } in
       let first : Option WaitingCommand = cond (length s.commands.waiting == 0) (Some w) None in
-      elim (inside == 0) as (λ b. IsSettled (cond {A = ConnectionState × List ℕ} b (joined w s) (record s { commands = running_with (identifier_of entry) s.commands }, [])).0) [
-        | true ↦ at_partial (looked_at first t).0 (looks_partial t next_is first)
-        | false ↦ (λ on. ap is_settled whole)
-      ]
+      at_partial (looked_at first t).0 (looks_partial t next_is first)
 
-  commands : IsSettled (commanded_by entry inside s).0
+  commands : IsSettled (commanded_by entry s).0
   commands =
-      elim (may_come (identifier_of entry) s) as (λ b. IsSettled (cond b (judged (wanted_checked entry inside) entry inside s) (failed PduSequence (take 72 s.receiver.pending) s)).0) [
-        | true ↦ judges (wanted_checked entry inside)
+      elim (may_come (identifier_of entry) s) as (λ b. IsSettled (cond b (judged (checked entry s) entry s) (failed PduSequence (take 72 s.receiver.pending) s)).0) [
+        | true ↦ judges (checked entry s)
         | false ↦ (λ on. absurd cc)
       ]
 
@@ -76,7 +58,7 @@ deals s (Whole IcReq) is =
     initializes s (between_next s.receiver IcReq is).partial (initialize_checked (initialize_request_in (take 128 s.receiver.pending)))
 deals s (Whole H2cTermReq) is = λ on. absurd cc
 deals s (Whole CapsuleCmd) is =
-    commands s (between_next s.receiver CapsuleCmd is).partial is (drop 8 (take 72 s.receiver.pending)) (length (drop 72 s.receiver.pending))
+    commands s (between_next s.receiver CapsuleCmd is).partial (drop 8 (take 72 s.receiver.pending))
 deals s (Whole H2cData) is = at_partial (with_next s) (between_next s.receiver H2cData is).partial
 
 takes_piece : (s : ConnectionState) (piece : List ℕ) → IsSettled s → (b : Bool)
@@ -86,23 +68,14 @@ takes_piece s piece settled false = settled
 
 -- ---- a command goes
 
--- it leaves the receiver between two PDUs, or within one
-goes_by : (s : ConnectionState) (p : Progress) → s.receiver.progress ≡ p → is_settled p ≡ true → (gone_by p s).0.receiver.progress ≡ Partial
-goes_by s Partial is settled =
-    let t : ConnectionState = record s { commands = started s.commands } in looks_partial t is (first_of t.commands)
-goes_by s (Whole IcReq) is settled = absurd cc
-goes_by s (Whole H2cTermReq) is settled = absurd cc
-goes_by s (Whole CapsuleCmd) is settled = (between_next s.receiver CapsuleCmd is).partial
-goes_by s (Whole H2cData) is settled = absurd cc
-goes_by s (Failed error) is settled = absurd cc
-
-opened : (s : ConnectionState) (execution : Execution) (b : Bool) → cond {A = Option Execution} b None (ready_by s.receiver.progress s) ≡ Some execution
-    → b ≡ false
+opened : (s : ConnectionState) (execution : Execution) (b : Bool) → cond {A = Option Execution} b None (waiting_ready s) ≡ Some execution → b ≡ false
 opened s execution true is = absurd cc
 opened s execution false is = refl
 
-pub gone_partial : (s : ConnectionState) (execution : Execution) → IsSettled s → ready s ≡ Some execution → (gone s).0.receiver.progress ≡ Partial
-gone_partial s execution settled is = goes_by s s.receiver.progress refl (settled (opened s execution (is_ended s.phase) is))
+gone_partial : (s : ConnectionState) (execution : Execution) → IsSettled s → ready s ≡ Some execution → (gone s).0.receiver.progress ≡ Partial
+gone_partial s execution settled is =
+    let t : ConnectionState = record s { commands = started s.commands } in
+    looks_partial t (settled (opened s execution (is_ended s.phase) is)) (first_of t.commands)
 
 goes : (s : ConnectionState) → IsSettled s → (o : Option Execution) → ready s ≡ o → IsSettled (cond (is_some o) (gone s).0 s)
 goes s settled None is = settled
@@ -125,7 +98,3 @@ pub stays_settled : (happening : Happening) (s : ConnectionState) → IsSettled 
 stays_settled (Came piece) s settled = takes_piece s piece settled (takes s)
 stays_settled Went s settled = goes s settled (ready s) refl
 stays_settled (Completed command outcome bytes) s settled = completes s command outcome bytes settled s.phase refl
-
--- at first nothing has come
-pub begins_settled : (s : ConnectionState) → s.receiver.progress ≡ Partial → IsSettled s
-begins_settled = at_partial

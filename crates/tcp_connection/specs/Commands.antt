@@ -2,7 +2,12 @@
 use Rattle.std.specs.Prelude.{ℕ, Bool, ◌+◌, ◌==◌, ◌||◌, List, [], ◌∷◌, ◌++◌, length, Option, Some, None, is_some}
 use Rattle.std.specs.List.{list_any, position, remove}
 use Rattle.tcp_pdus.specs.Direction.{identifier_of}
-use Rattle.tcp_connection.specs.declared.commands.WaitingCommand.{WaitingCommand}
+
+-- a command that waits for its turn: its entry, the data in its capsule, and how many bytes the host is to send for an R2T
+pub record WaitingCommand : Type 0 where
+  pub entry : List ℕ
+  pub «data» : List ℕ
+  pub wanted : Option ℕ
 
 -- the identifiers of those that are executed, and those that wait, in the order of their capsules
 pub record CommandsState : Type 0 where
@@ -26,10 +31,7 @@ is_running command c = is_some (place_of command c.running)
 abbrev pub has_command : ℕ → CommandsState → Bool
 has_command command c = is_running command c || list_any (λ waiting. identifier_of waiting.entry == command) c.waiting
 
--- one more is executed, or waits
-abbrev pub running_with : ℕ → CommandsState → CommandsState
-running_with command c = record c { running = c.running ++ command ∷ [] }
-
+-- one more waits
 abbrev pub waiting_with : WaitingCommand → CommandsState → CommandsState
 waiting_with command c = record c { waiting = c.waiting ++ command ∷ [] }
 

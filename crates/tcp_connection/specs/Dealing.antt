@@ -13,11 +13,10 @@ use Rattle.tcp_receiver.specs.Receiving.{awaiting, expecting, next}
 use Rattle.zone_state.specs.declared.status.Status.{Status}
 use Rattle.tcp_pdus.specs.Direction.{identifier_of}
 use Rattle.tcp_pdus.specs.Sgl.{wanted_checked}
-use Rattle.tcp_connection.specs.declared.commands.WaitingCommand.{WaitingCommand}
 use Rattle.tcp_connection.specs.declared.queue.Outcome.{Outcome}
 use Rattle.tcp_connection.specs.declared.queue.Phase.TheVariants.{Open}
 use Rattle.tcp_connection.specs.declared.state.ConnectionState.{ConnectionState}
-use Rattle.tcp_connection.specs.Commands.{count_of, has_command, running_with, waiting_with}
+use Rattle.tcp_connection.specs.Commands.{WaitingCommand, count_of, has_command, waiting_with}
 use Rattle.tcp_connection.specs.Sending.{answered, ended, failed}
 
 -- the next PDU comes
@@ -50,40 +49,41 @@ looked_at None s = (s, [])
 looked_at (Some first) s = asked (identifier_of first.entry) first.wanted s
 
 -- a command joins those that wait: if there were none it is the first
+abbrev pub queued : WaitingCommand → ConnectionState → ConnectionState
+queued command s = record (with_next s) { commands = waiting_with command s.commands }
+
 abbrev pub joined_behind : List WaitingCommand → WaitingCommand → ConnectionState → ConnectionState × List ℕ
-joined_behind before command s =
-    let t = record (with_next s) { commands = waiting_with command s.commands } in
-    looked_at (if length before == 0 then Some command else None) t
+joined_behind before command s = looked_at (if length before == 0 then Some command else None) (queued command s)
 
 abbrev pub joined : WaitingCommand → ConnectionState → ConnectionState × List ℕ
 joined command s = joined_behind s.commands.waiting command s
 
--- a command that passes joins those that wait; one with data in its capsule is executed at once, and its capsule stays until it is
-abbrev pub admitted : List ℕ → ℕ → Option ℕ → ConnectionState → ConnectionState × List ℕ
-admitted entry inside wanted s =
-    if inside == 0 then joined (record { entry = entry; wanted = wanted }) s
-    else (record s { commands = running_with (identifier_of entry) s.commands }, [])
+-- the data in the capsule that has come whole, and what the host is to send for it, or the status of the first check that fails
+abbrev pub inside : ConnectionState → List ℕ
+inside s = drop 72 s.receiver.pending
 
--- one that doesn't is completed at once, with the status of the first check that fails
+abbrev pub checked : List ℕ → ConnectionState → Result (Option ℕ) Status
+checked entry s = wanted_checked entry (length (inside s))
+
+-- a command that passes joins those that wait, with its data; one that doesn't is completed at once, with that status
 abbrev pub refusal : Status → Outcome
 refusal status = record { status = status; dw0 = 0; dw1 = 0 }
 
-abbrev pub judged : Result (Option ℕ) Status → List ℕ → ℕ → ConnectionState → ConnectionState × List ℕ
-judged (Ok wanted) entry inside s = admitted entry inside wanted s
-judged (Err status) entry inside s = answered (identifier_of entry) (refusal status) (with_next s)
+abbrev pub judged : Result (Option ℕ) Status → List ℕ → ConnectionState → ConnectionState × List ℕ
+judged (Ok wanted) entry s = joined (record { entry = entry; «data» = inside s; wanted = wanted }) s
+judged (Err status) entry s = answered (identifier_of entry) (refusal status) (with_next s)
 
 -- there are fewer commands without a completion than the queue has entries, and none with this identifier
 abbrev pub may_come : ℕ → ConnectionState → Bool
 may_come command s = nat_lt (count_of s.commands) s.queue.entries && not (has_command command s.commands)
 
--- a capsule with this entry, and so many bytes of data
-abbrev pub commanded_by : List ℕ → ℕ → ConnectionState → ConnectionState × List ℕ
-commanded_by entry inside s =
-    if may_come (identifier_of entry) s then judged (wanted_checked entry inside) entry inside s
-    else failed PduSequence (take 72 s.receiver.pending) s
+-- a capsule with this entry
+abbrev pub commanded_by : List ℕ → ConnectionState → ConnectionState × List ℕ
+commanded_by entry s =
+    if may_come (identifier_of entry) s then judged (checked entry s) entry s else failed PduSequence (take 72 s.receiver.pending) s
 
 abbrev pub commanded : ConnectionState → ConnectionState × List ℕ
-commanded s = commanded_by (drop 8 (take 72 s.receiver.pending)) (length (drop 72 s.receiver.pending)) s
+commanded s = commanded_by (drop 8 (take 72 s.receiver.pending)) s
 
 -- ---- all PDUs
 

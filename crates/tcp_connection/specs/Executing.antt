@@ -1,19 +1,15 @@
 -- The command that is to be executed next, and what completes one.
-use Rattle.std.specs.Prelude.{ℕ, ◌≡◌, List, [], ◌∷◌, ◌++◌, take, drop, Option, Some, None, if◌then◌else◌}
-use Rattle.tcp_pdus.specs.declared.received.HostPdu.TheVariants.{IcReq, H2cTermReq, CapsuleCmd, H2cData}
+use Rattle.std.specs.Prelude.{ℕ, ◌≡◌, List, [], ◌∷◌, ◌++◌, Option, Some, None, if◌then◌else◌}
 use Rattle.tcp_pdus.specs.declared.transfer.ReadyToTransfer.{ReadyToTransfer}
 use Rattle.tcp_pdus.specs.Sent.{c2h_data}
-use Rattle.tcp_receiver.specs.declared.expected.Progress.{Progress}
-use Rattle.tcp_receiver.specs.declared.expected.Progress.TheVariants.{Partial, Whole, Failed}
 use Rattle.tcp_receiver.specs.Receiving.{IsBetween, awaiting}
-use Rattle.tcp_connection.specs.declared.commands.WaitingCommand.{WaitingCommand}
 use Rattle.tcp_connection.specs.declared.queue.Outcome.{Outcome}
 use Rattle.tcp_connection.specs.declared.queue.Phase.{Phase}
 use Rattle.tcp_connection.specs.declared.queue.Phase.TheVariants.{Initializing, Open, Ended}
 use Rattle.tcp_connection.specs.declared.queue.Queue.{Queue}
 use Rattle.tcp_connection.specs.declared.state.ConnectionState.{ConnectionState}
-use Rattle.tcp_connection.specs.Commands.{first_of, is_running, started, without}
-use Rattle.tcp_connection.specs.Dealing.{looked_at, with_next}
+use Rattle.tcp_connection.specs.Commands.{WaitingCommand, first_of, is_running, started, without}
+use Rattle.tcp_connection.specs.Dealing.{looked_at}
 use Rattle.tcp_connection.specs.Queue.{is_ended}
 use Rattle.tcp_connection.specs.Sending.{answered}
 
@@ -22,31 +18,23 @@ pub record Execution : Type 0 where
   pub entry : List ℕ
   pub «data» : List ℕ
 
--- the first command that waits, once all of the data that it wants has come
-abbrev pub data_for : Option ℕ → List ℕ → List ℕ
-data_for None transferred = []
-data_for (Some wanted) transferred = transferred
+-- its data: what came for the R2T, where it wanted one; else what was in its capsule
+abbrev pub data_for : Option ℕ → List ℕ → List ℕ → List ℕ
+data_for None inside transferred = inside
+data_for (Some wanted) inside transferred = transferred
 
+-- the first command that waits, once all of the data that it wants has come
 abbrev pub first_ready : Option WaitingCommand → Option ReadyToTransfer → List ℕ → Option Execution
 first_ready None outstanding transferred = None
-first_ready (Some first) None transferred = Some (record { entry = first.entry; «data» = data_for first.wanted transferred })
+first_ready (Some first) None transferred = Some (record { entry = first.entry; «data» = data_for first.wanted first.data transferred })
 first_ready (Some first) (Some wanted) transferred = None
 
 abbrev pub waiting_ready : ConnectionState → Option Execution
 waiting_ready s = first_ready (first_of s.commands) s.receiver.expected.outstanding s.receiver.transferred
 
--- or before it one whose data is in its capsule, which has come whole
-abbrev pub ready_by : Progress → ConnectionState → Option Execution
-ready_by Partial s = waiting_ready s
-ready_by (Whole IcReq) s = waiting_ready s
-ready_by (Whole H2cTermReq) s = waiting_ready s
-ready_by (Whole CapsuleCmd) s = Some (record { entry = drop 8 (take 72 s.receiver.pending); «data» = drop 72 s.receiver.pending })
-ready_by (Whole H2cData) s = waiting_ready s
-ready_by (Failed error) s = waiting_ready s
-
 -- behind the end none is
 abbrev pub ready : ConnectionState → Option Execution
-ready s = if is_ended s.phase then None else ready_by s.receiver.progress s
+ready s = if is_ended s.phase then None else waiting_ready s
 
 -- all of its data; none, where no command is ready
 abbrev pub data_of : Option Execution → List ℕ
@@ -58,19 +46,8 @@ abbrev pub IsQuiet : ConnectionState → Type 0
 IsQuiet s = (execution : Execution) → waiting_ready s ≡ Some execution → IsBetween s.receiver
 
 -- it goes to whoever executes it, and the next one is looked at
-abbrev pub first_gone : ConnectionState → ConnectionState × List ℕ
-first_gone s = let t = record s { commands = started s.commands } in looked_at (first_of t.commands) t
-
-abbrev pub gone_by : Progress → ConnectionState → ConnectionState × List ℕ
-gone_by Partial s = first_gone s
-gone_by (Whole IcReq) s = first_gone s
-gone_by (Whole H2cTermReq) s = first_gone s
-gone_by (Whole CapsuleCmd) s = (with_next s, [])
-gone_by (Whole H2cData) s = first_gone s
-gone_by (Failed error) s = first_gone s
-
 abbrev pub gone : ConnectionState → ConnectionState × List ℕ
-gone s = gone_by s.receiver.progress s
+gone s = let t = record s { commands = started s.commands } in looked_at (first_of t.commands) t
 
 -- ---- completions
 

@@ -1,19 +1,15 @@
 -- The order in which the commands of a connection go (NVMe Base 2.0, 3.3.3).
-use Rattle.std.specs.Prelude.{ℕ, ◌≡◌, Bool, false, ◌&&◌, List, [], ◌∷◌, ◌++◌, length, take, drop, map, Option, Some, None, is_ok, is_some, if◌then◌else◌}
-use Rattle.tcp_pdus.specs.declared.received.Awaits.TheVariants.{Commands}
+use Rattle.std.specs.Prelude.{ℕ, ◌≡◌, Bool, false, ◌&&◌, List, [], ◌∷◌, ◌++◌, take, drop, map, Option, Some, None, is_ok, is_some, if◌then◌else◌}
 use Rattle.tcp_pdus.specs.declared.received.HostPdu.TheVariants.{IcReq, H2cTermReq, CapsuleCmd, H2cData}
 use Rattle.tcp_receiver.specs.declared.expected.Progress.{Progress}
 use Rattle.tcp_receiver.specs.declared.expected.Progress.TheVariants.{Partial, Whole, Failed}
-use Rattle.tcp_receiver.specs.Receiving.{IsBetween}
 use Rattle.tcp_receiver.specs.Receiving as receiving
 use Rattle.tcp_pdus.specs.Direction.{identifier_of}
-use Rattle.tcp_pdus.specs.Sgl.{wanted_checked}
 use Rattle.tcp_connection.specs.declared.queue.Outcome.{Outcome}
-use Rattle.tcp_connection.specs.declared.queue.Queue.{Queue}
 use Rattle.tcp_connection.specs.declared.state.ConnectionState.{ConnectionState}
-use Rattle.tcp_connection.specs.Connection.{taken, takes}
-use Rattle.tcp_connection.specs.Dealing.{may_come}
-use Rattle.tcp_connection.specs.Executing.{Execution, completed, connected, gone, ready}
+use Rattle.tcp_connection.specs.Connection.{begun, taken, takes}
+use Rattle.tcp_connection.specs.Dealing.{checked, may_come}
+use Rattle.tcp_connection.specs.Executing.{Execution, completed, gone, ready}
 use Rattle.tcp_connection.specs.Queue.{is_ended}
 
 -- ---- what happens on a connection
@@ -37,8 +33,8 @@ after_all (happening ∷ later) s = after_all later (after happening s)
 -- ---- the entries that come
 
 -- a capsule's entry passes where the queue has room for it, no command has its identifier, and its descriptor is one of such a capsule
-abbrev pub passes : List ℕ → ℕ → ConnectionState → Bool
-passes entry inside s = may_come (identifier_of entry) s && is_ok (wanted_checked entry inside)
+abbrev pub passes : List ℕ → ConnectionState → Bool
+passes entry s = may_come (identifier_of entry) s && is_ok (checked entry s)
 
 -- so a capsule that has come whole brings an entry, or none, where it doesn't pass; no other PDU brings one
 abbrev pub brought_by : Progress → ConnectionState → List (List ℕ)
@@ -46,8 +42,7 @@ brought_by Partial s = []
 brought_by (Whole IcReq) s = []
 brought_by (Whole H2cTermReq) s = []
 brought_by (Whole CapsuleCmd) s =
-    let entry = drop 8 (take 72 s.receiver.pending) in
-    if passes entry (length (drop 72 s.receiver.pending)) s then entry ∷ [] else []
+    let entry = drop 8 (take 72 s.receiver.pending) in if passes entry s then entry ∷ [] else []
 brought_by (Whole H2cData) s = []
 brought_by (Failed error) s = []
 
@@ -97,22 +92,17 @@ pub record GoInOrder (went came : List (List ℕ)) (old new : ConnectionState) :
   pub order : went ++ rest ≡ waiting_in old ++ came
   pub wait : is_ended new.phase ≡ false → rest ≡ waiting_in new
 
--- it awaits capsules that are an entry alone, as those of I/O queues are, and has dealt with each PDU that came whole
-pub record AwaitsEntries (s : ConnectionState) : Type 0 where
-  pub alone : s.receiver.expected.awaits ≡ Commands 0
-  pub dealt : s.receiver.progress ≡ Partial
-
--- behind its end it awaits nothing
-abbrev pub IsOfEntries : ConnectionState → Type 0
-IsOfEntries s = is_ended s.phase ≡ false → AwaitsEntries s
+-- it has dealt with each PDU that came whole; after its end nothing is dealt with
+abbrev pub IsSettled : ConnectionState → Type 0
+IsSettled s = is_ended s.phase ≡ false → s.receiver.progress ≡ Partial
 
 -- the commands went in order, and will
 pub record KeepsOrder (went came : List (List ℕ)) (old new : ConnectionState) : Type 0 where
   pub order : GoInOrder went came old new
-  pub entries : IsOfEntries new
+  pub settled : IsSettled new
 
--- so from a Connect on that allows no data in capsules, whatever happens, the commands go in the order of their capsules
+-- so from its beginning on, whatever happens, its commands go in the order of their capsules, whether data is in these or not
 pub record CommandsGoInOrder : Type 0 where
-  pub begins : (queue : Queue) (s : ConnectionState) → IsBetween s.receiver → IsOfEntries (connected queue 0 s)
-  pub go : (happenings : List Happening) (s : ConnectionState) → IsOfEntries s
+  pub begins : IsSettled begun
+  pub go : (happenings : List Happening) (s : ConnectionState) → IsSettled s
       → KeepsOrder (went_in happenings s) (came_in happenings s) s (after_all happenings s)

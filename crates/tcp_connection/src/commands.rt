@@ -1,25 +1,20 @@
 //! The commands of a connection that have no completion yet.
 
-ghost use Rattle.std.specs.Prelude.{◌≡◌, ◌==◌, ◌<◌, ◌≤◌, ◌++◌, ◌∷◌, [], IfOk, is_some, vec_capacity, vec_len};
-ghost use Rattle.std.specs.List.{list_any};
-ghost use Rattle.tcp_pdus.specs.Direction.{identifier_of};
-ghost use Rattle.tcp_connection.specs.Commands.{count_of, first_of, has_command, is_running, none, place_of, removed, running_with, started, waiting_with, without};
+ghost use Rattle.std.specs.Prelude.{◌≡◌, ◌==◌, ◌<◌, ◌≤◌, ◌++◌, ◌∷◌, [], IfOk, drop, is_some, length, vec_capacity, vec_len};
+ghost use Rattle.std.specs.Option.{option_map};
+ghost use Rattle.tcp_pdus.specs.declared.received.HostPdu.TheVariants.{CapsuleCmd};
+ghost use Rattle.tcp_receiver.specs.declared.expected.Progress.TheVariants.{Whole};
+ghost use Rattle.tcp_receiver.specs.Receiving.{IsBetween, next};
+ghost use Rattle.tcp_connection.specs.Commands.{count_of, first_of, has_command, is_running, none, place_of, removed, started, waiting_with, without};
+ghost use Rattle.tcp_connection.specs.steps.Commands.{data_in, entry_of};
 
+use crate::waiting::{Waiting, WaitingEntry};
 use std::alloc::{AllocError, Global};
 use std::marker::Model;
-use tcp_pdus::{ENTRY_BYTES, TransferLength, identifier};
+use tcp_receiver::Receiver;
 
 /// The most entries of a queue, and so the most commands without a completion (MQES, NVMe Base 2.0, 3.1.3.1; its value is profile).
 pub const MOST_ENTRIES: usize = 128;
-
-/// A command that waits for its turn.
-#[derive(Clone, Copy)]
-pub struct WaitingCommand {
-    /// Its submission queue entry.
-    pub entry: [u8; ENTRY_BYTES],
-    /// How many bytes of data the host is to send for an R2T.
-    pub wanted: Option<TransferLength>,
-}
 
 /// Adds an identifier, for which there is room.
 fn append(running: &mut Vec<u16>, command: u16)
@@ -27,30 +22,24 @@ fn append(running: &mut Vec<u16>, command: u16)
     ensures added { running.new.items ≡ running.old.items ++ command ∷ [] }
     ensures room { vec_capacity running.old ≤ vec_capacity running.new }
 {
-    match running.push(command) {
+    match running.extend_from_slice(&[command]) {
         Ok(()) => {}
         Err(_) => unreachable!(),
     }
 }
 
-/// Does one of the commands that wait have this identifier?
-fn is_waiting(waiting: &[WaitingCommand], command: u16) -> bool
-    ensures { result ≡ list_any (λ it. identifier_of it.entry == command) waiting.now }
-{
-    waiting.iter().any(|it| identifier(&it.entry) == command)
-}
-
-/// Where this identifier is.
+/// Where the command with this identifier is, of those that are executed.
 fn place_of(running: &[u16], command: u16) -> Option<usize>
     ensures { result ≡ place_of command running.now }
 {
     running.iter().position(|it| *it == command)
 }
 
-/// Removes this identifier, and tells whether it was there.
+/// Lets the command with this identifier go, and tells whether there was one.
 fn remove(running: &mut Vec<u16>, command: u16) -> bool
     ensures was { result ≡ is_some (place_of command running.old.items) }
-    ensures rest { running.new.items ≡ removed (place_of command running.old.items) running.old.items }
+    ensures removed { running.new.items ≡ removed (place_of command running.old.items) running.old.items }
+    ensures fewer { vec_len running.new ≤ vec_len running.old }
     ensures room { vec_capacity running.old ≤ vec_capacity running.new }
 {
     match place_of(running.as_slice(), command) {
@@ -66,7 +55,7 @@ fn remove(running: &mut Vec<u16>, command: u16) -> bool
 #[derive(Drop)]
 pub(crate) struct Commands {
     running: Vec<u16>,
-    waiting: Vec<WaitingCommand>,
+    waiting: Waiting,
 }
 
 impl Model for Commands {
@@ -76,7 +65,7 @@ impl Model for Commands {
 
     ghost Value = { CommandsState };
 
-    ghost view = { λ c. record { running = c.running.items; waiting = c.waiting.items } };
+    ghost view = { λ c. record { running = c.running.items; waiting = c.waiting } };
 
     ghost invariant = { λ c. HasRoom c.running c.waiting };
 }
@@ -88,7 +77,7 @@ impl Commands {
     {
         Ok(Commands {
             running: Vec::with_capacity(alloc, MOST_ENTRIES)?,
-            waiting: Vec::with_capacity(alloc, MOST_ENTRIES)?,
+            waiting: Waiting::new(alloc)?,
         })
     }
 
@@ -104,43 +93,49 @@ impl Commands {
     pub(crate) fn has(&self, command: u16) -> bool
         ensures { result ≡ has_command command self.now }
     {
-        place_of(self.running.as_slice(), command).is_some()
-            || is_waiting(self.waiting.as_slice(), command)
+        place_of(self.running.as_slice(), command).is_some() || self.waiting.has(command)
     }
 
-    /// One more is executed.
-    pub(crate) fn run(&mut self, command: u16)
-        requires { count_of self.old < MOST_ENTRIES }
-        ensures { self.new ≡ running_with command self.old }
+    /// One more waits, whose capsule has come whole: its data goes with it, and the next PDU comes.
+    pub(crate) fn wait(&mut self, command: WaitingEntry, receiver: &mut Receiver)
+        requires few { count_of self.old < MOST_ENTRIES }
+        requires whole { receiver.old.progress ≡ Whole CapsuleCmd }
+        ensures added { self.new
+            ≡ waiting_with (record { entry = command.entry; «data» = drop 72 receiver.old.pending; wanted = command.wanted }) self.old }
+        ensures receiver { receiver.new ≡ next receiver.old }
+        ensures between { IsBetween receiver.new }
     {
-        append(&mut self.running, command);
+        self.waiting.push(command, receiver);
     }
 
-    /// One more waits.
-    pub(crate) fn wait(&mut self, waiting: WaitingCommand)
-        requires { count_of self.old < MOST_ENTRIES }
-        ensures { self.new ≡ waiting_with waiting self.old }
+    /// Does none wait?
+    pub(crate) fn none_waits(&self) -> bool
+        ensures { result ≡ (length self.now.waiting == 0) }
     {
-        match self.waiting.extend_from_slice(&[waiting]) {
-            Ok(()) => {}
-            Err(_) => unreachable!(),
-        }
+        self.waiting.len() == 0
     }
 
     /// The first of those that wait.
-    pub(crate) fn first(&self) -> Option<WaitingCommand>
-        ensures { result ≡ first_of self.now }
+    pub(crate) fn first(&self) -> Option<WaitingEntry>
+        ensures { result ≡ option_map entry_of (first_of self.now) }
     {
-        self.waiting.first().copied()
+        self.waiting.first()
+    }
+
+    /// The data in its capsule.
+    pub(crate) fn first_data(&self) -> &[u8]
+        ensures { result.now ≡ data_in (first_of self.now) }
+    {
+        self.waiting.first_data()
     }
 
     /// The first of those that wait is executed from now on.
     pub(crate) fn start(&mut self)
         ensures { self.new ≡ started self.old }
     {
-        if !self.waiting.is_empty() {
-            let first = self.waiting.remove(0);
-            append(&mut self.running, identifier(&first.entry));
+        match self.waiting.pop_front() {
+            Some(command) => append(&mut self.running, command),
+            None => {}
         }
     }
 

@@ -79,8 +79,8 @@ impl Connection {
         self.state.take(piece, out)
     }
 
-    /// The entry of the command that is to be executed next. A command with data in its capsule is ready as soon as that has come,
-    /// also before others that wait; these are ready in the order of their capsules, each once its data has come.
+    /// The entry of the command that is to be executed next: they are ready in the order of their capsules, each once its data has
+    /// come, in its capsule or for an R2T.
     pub fn ready(&self) -> Option<[u8; ENTRY_BYTES]>
         ensures { result ≡ option_map (λ execution. execution.entry) (ready self.now) }
     {

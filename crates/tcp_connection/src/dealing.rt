@@ -1,17 +1,17 @@
 //! What a connection makes of what has come.
 
-ghost use Rattle.std.specs.Prelude.{◌≡◌, ◌≤◌, ◌<◌, ◌+◌, [], length, drop, take, vec_capacity, vec_len};
+ghost use Rattle.std.specs.Prelude.{◌≡◌, ◌≤◌, ◌<◌, ◌+◌, [], Ok, length, drop, take, vec_capacity, vec_len};
 ghost use Rattle.tcp_pdus.specs.declared.received.HostPdu.TheVariants.{CapsuleCmd, IcReq};
 ghost use Rattle.tcp_receiver.specs.declared.expected.Progress.TheVariants.{Whole};
 ghost use Rattle.tcp_receiver.specs.Receiving.{IsBetween};
-ghost use Rattle.tcp_pdus.specs.Sgl.{wanted_checked};
 ghost use Rattle.tcp_connection.specs.Commands.{count_of};
-ghost use Rattle.tcp_connection.specs.Dealing.{admitted, asked, commanded, commanded_by, dealt, initialized, joined, judged, may_come, refusal, with_next};
+ghost use Rattle.tcp_connection.specs.Dealing.{asked, checked, commanded, commanded_by, dealt, initialized, inside, judged, may_come, queued, refusal, with_next};
 ghost use Rattle.tcp_connection.specs.Sending.{Sends, answered};
 
-use crate::commands::{MOST_ENTRIES, WaitingCommand};
+use crate::commands::MOST_ENTRIES;
 use crate::queue::{Outcome, Phase};
 use crate::state::ConnectionState;
+use crate::waiting::WaitingEntry;
 use tcp_pdus::{
     COMMON_HEADER_BYTES, ENTRY_BYTES, FatalError, HostPdu, InitializeRequest, MOST_HEADER_BYTES,
     ReadyToTransfer, TransferLength, identifier, push_c2h_term_req, push_ic_resp, push_r2t,
@@ -76,40 +76,47 @@ impl ConnectionState {
         ensures sent { Sends out.old out.new (commanded self.old).1 }
     {
         let entry = entry_in(self.receiver.header());
-        let inside = self.receiver.data().len();
-        self.take_command(entry, inside, out);
+        self.take_command(entry, out);
     }
 
-    /// Deals with a capsule that has this entry, and so many bytes of data.
-    fn take_command(&mut self, entry: [u8; ENTRY_BYTES], inside: usize, out: &mut Vec<u8>)
+    /// Deals with a capsule that has this entry.
+    fn take_command(&mut self, entry: [u8; ENTRY_BYTES], out: &mut Vec<u8>)
         requires whole { self.old.receiver.progress ≡ Whole CapsuleCmd }
         requires some { 0 < self.old.queue.entries }
         requires most { self.old.queue.entries ≤ MOST_ENTRIES }
         requires room { vec_len out.old + MOST_SENT ≤ vec_capacity out.old }
-        ensures state { self.new ≡ (commanded_by entry inside self.old).0 }
-        ensures sent { Sends out.old out.new (commanded_by entry inside self.old).1 }
+        ensures state { self.new ≡ (commanded_by entry self.old).0 }
+        ensures sent { Sends out.old out.new (commanded_by entry self.old).1 }
     {
         if self.may_come(identifier(&entry)) {
-            self.judge(entry, inside, out);
+            self.judge(entry, out);
         } else {
             push_c2h_term_req(out, FatalError::PduSequence, self.receiver.header());
             self.end();
         }
     }
 
-    /// Completes a command at once, or has it be executed, or wait.
-    fn judge(&mut self, entry: [u8; ENTRY_BYTES], inside: usize, out: &mut Vec<u8>)
+    /// Completes a command at once, or has it wait.
+    fn judge(&mut self, entry: [u8; ENTRY_BYTES], out: &mut Vec<u8>)
         requires whole { self.old.receiver.progress ≡ Whole CapsuleCmd }
         requires some { 0 < self.old.queue.entries }
         requires few { count_of self.old.commands < MOST_ENTRIES }
         requires room { vec_len out.old + MOST_SENT ≤ vec_capacity out.old }
-        ensures state { self.new ≡ (judged (wanted_checked entry inside) entry inside self.old).0 }
-        ensures sent { Sends out.old out.new (judged (wanted_checked entry inside) entry inside self.old).1 }
+        ensures state { self.new ≡ (judged (checked entry self.old) entry self.old).0 }
+        ensures sent { Sends out.old out.new (judged (checked entry self.old) entry self.old).1 }
     {
-        match wanted_data(&entry, inside) {
-            Ok(wanted) => self.admit(entry, inside, wanted, out),
+        match self.check(entry) {
+            Ok(wanted) => self.join(entry, wanted, out),
             Err(status) => self.refuse(identifier(&entry), status, out),
         }
+    }
+
+    /// How many bytes of data the host is to send for an R2T, of a capsule with this entry.
+    fn check(&self, entry: [u8; ENTRY_BYTES]) -> Result<Option<TransferLength>, Status>
+        requires { self.now.receiver.progress ≡ Whole CapsuleCmd }
+        ensures { result ≡ checked entry self.now }
+    {
+        wanted_data(&entry, self.receiver.data().len())
     }
 
     /// May a command with this identifier come?
@@ -135,41 +142,30 @@ impl ConnectionState {
         self.answer(command, outcome, out);
     }
 
-    /// Has a command with so many bytes of data in its capsule be executed, or wait for its turn.
-    fn admit(
-        &mut self,
-        entry: [u8; ENTRY_BYTES],
-        inside: usize,
-        wanted: Option<TransferLength>,
-        out: &mut Vec<u8>,
-    )
+    /// Has a command wait for its turn, with the data in its capsule, and looks at it if it is the first.
+    fn join(&mut self, entry: [u8; ENTRY_BYTES], wanted: Option<TransferLength>, out: &mut Vec<u8>)
         requires whole { self.old.receiver.progress ≡ Whole CapsuleCmd }
         requires few { count_of self.old.commands < MOST_ENTRIES }
         requires room { vec_len out.old + MOST_SENT ≤ vec_capacity out.old }
-        ensures state { self.new ≡ (admitted entry inside wanted self.old).0 }
-        ensures sent { Sends out.old out.new (admitted entry inside wanted self.old).1 }
+        ensures state { self.new ≡ (judged (Ok wanted) entry self.old).0 }
+        ensures sent { Sends out.old out.new (judged (Ok wanted) entry self.old).1 }
     {
-        if inside == 0 {
-            self.join(WaitingCommand { entry, wanted }, out);
-        } else {
-            self.commands.run(identifier(&entry));
+        let is_first = self.commands.none_waits();
+        self.enqueue(entry, wanted);
+        if is_first {
+            self.look(out);
         }
     }
 
-    /// Has a command wait for its turn, and looks at it if it is the first.
-    fn join(&mut self, command: WaitingCommand, out: &mut Vec<u8>)
+    /// Has a command wait for its turn, with the data in its capsule.
+    fn enqueue(&mut self, entry: [u8; ENTRY_BYTES], wanted: Option<TransferLength>)
         requires whole { self.old.receiver.progress ≡ Whole CapsuleCmd }
         requires few { count_of self.old.commands < MOST_ENTRIES }
-        requires room { vec_len out.old + MOST_SENT ≤ vec_capacity out.old }
-        ensures state { self.new ≡ (joined command self.old).0 }
-        ensures sent { Sends out.old out.new (joined command self.old).1 }
+        ensures state { self.new ≡ queued (record { entry = entry; «data» = inside self.old; wanted = wanted }) self.old }
+        ensures between { IsBetween self.new.receiver }
     {
-        let is_first = self.commands.first().is_none();
-        self.receiver.next();
-        self.commands.wait(command);
-        if is_first {
-            self.ask(identifier(&command.entry), command.wanted, out);
-        }
+        self.commands
+            .wait(WaitingEntry { entry, wanted }, &mut self.receiver);
     }
 
     /// Asks for the data that the first command which waits wants.

@@ -1,16 +1,17 @@
 //! The command that is to be executed next, and what completes one.
 
-ghost use Rattle.std.specs.Prelude.{◌≡◌, ◌≤◌, ◌<◌, ◌+◌, IsTrue, is_some, length, vec_capacity, vec_len};
+ghost use Rattle.std.specs.Prelude.{◌≡◌, ◌≤◌, ◌<◌, ◌+◌, None, length, vec_capacity, vec_len};
 ghost use Rattle.std.specs.Option.{option_map};
 ghost use Rattle.tcp_receiver.specs.Receiving.{IsBetween};
-ghost use Rattle.tcp_connection.specs.Executing.{IsQuiet, completed, completed_open, data_of, data_sent, first_gone, gone, ready, ready_by, waiting_ready};
+ghost use Rattle.tcp_connection.specs.Commands.{first_of};
+ghost use Rattle.tcp_connection.specs.Dealing.{looked_at};
+ghost use Rattle.tcp_connection.specs.steps.Commands.{wants};
+ghost use Rattle.tcp_connection.specs.Executing.{IsQuiet, completed, completed_open, data_of, data_sent, gone, ready, waiting_ready};
 ghost use Rattle.tcp_connection.specs.Sending.{Sends};
 
-use crate::dealing::entry_in;
 use crate::queue::{Outcome, Phase};
 use crate::state::ConnectionState;
-use tcp_pdus::{DataAlignment, ENTRY_BYTES, HostPdu, MOST_DATA, identifier, push_c2h_data};
-use tcp_receiver::Progress;
+use tcp_pdus::{DataAlignment, ENTRY_BYTES, MOST_DATA, identifier, push_c2h_data};
 
 /// The most bytes that are sent before a completion's data, and with it: a C2HData's header, what aligns its data, and a CapsuleResp.
 pub const MOST_BESIDE_DATA: usize = 152;
@@ -23,20 +24,7 @@ impl ConnectionState {
         if self.phase.is_ended() {
             None
         } else {
-            self.open_ready()
-        }
-    }
-
-    /// The entry of the command that is to be executed next, while the connection is open.
-    fn open_ready(&self) -> Option<[u8; ENTRY_BYTES]>
-        ensures { result ≡ option_map (λ execution. execution.entry) (ready_by self.now.receiver.progress self.now) }
-    {
-        match self.receiver.progress() {
-            Progress::Whole(HostPdu::CapsuleCmd) => Some(entry_in(self.receiver.header())),
-            Progress::Partial | Progress::Failed(_) => self.waiting_ready(),
-            Progress::Whole(HostPdu::IcReq | HostPdu::H2cTermReq | HostPdu::H2cData) => {
-                self.waiting_ready()
-            }
+            self.waiting_ready()
         }
     }
 
@@ -44,9 +32,19 @@ impl ConnectionState {
     fn waiting_ready(&self) -> Option<[u8; ENTRY_BYTES]>
         ensures { result ≡ option_map (λ execution. execution.entry) (waiting_ready self.now) }
     {
+        match self.receiver.outstanding() {
+            Some(_) => None,
+            None => self.first_entry(),
+        }
+    }
+
+    /// The entry of the first command that waits.
+    fn first_entry(&self) -> Option<[u8; ENTRY_BYTES]>
+        ensures { result ≡ option_map (λ command. command.entry) (first_of self.now.commands) }
+    {
         match self.commands.first() {
-            Some(first) if self.receiver.outstanding().is_none() => Some(first.entry),
-            Some(_) | None => None,
+            Some(first) => Some(first.entry),
+            None => None,
         }
     }
 
@@ -58,64 +56,65 @@ impl ConnectionState {
         if self.phase.is_ended() {
             &[]
         } else {
-            self.open_data()
+            self.waiting_data()
         }
     }
 
-    /// All of its data, while the connection is open.
-    fn open_data(&self) -> &[u8]
-        requires { IsQuiet self.now }
-        ensures { result.now ≡ data_of (ready_by self.now.receiver.progress self.now) }
-    {
-        match self.receiver.progress() {
-            Progress::Whole(HostPdu::CapsuleCmd) => self.receiver.data(),
-            Progress::Partial | Progress::Failed(_) => self.waiting_data(),
-            Progress::Whole(HostPdu::IcReq | HostPdu::H2cTermReq | HostPdu::H2cData) => {
-                self.waiting_data()
-            }
-        }
-    }
-
-    /// The data of the first command that waits.
+    /// The data of the first command that waits, once all of it has come.
     fn waiting_data(&self) -> &[u8]
         requires { IsQuiet self.now }
         ensures { result.now ≡ data_of (waiting_ready self.now) }
     {
+        match self.receiver.outstanding() {
+            Some(_) => &[],
+            None => self.first_data(),
+        }
+    }
+
+    /// The data of the first command that waits: that of its R2T, where it wanted one, or that in its capsule.
+    fn first_data(&self) -> &[u8]
+        requires quiet { IsQuiet self.now }
+        requires come { self.now.receiver.expected.outstanding ≡ None }
+        ensures { result.now ≡ data_of (waiting_ready self.now) }
+    {
+        if self.first_wants() {
+            self.receiver.transfer()
+        } else {
+            self.commands.first_data()
+        }
+    }
+
+    /// Does the first command that waits want data for an R2T?
+    fn first_wants(&self) -> bool
+        ensures { result ≡ wants (first_of self.now.commands) }
+    {
         match self.commands.first() {
-            Some(first) if first.wanted.is_some() && self.receiver.outstanding().is_none() => {
-                self.receiver.transfer()
-            }
-            Some(_) | None => &[],
+            Some(first) => first.wanted.is_some(),
+            None => false,
         }
     }
 
     /// Lets it go, and looks at the next one.
     pub(crate) fn go(&mut self, out: &mut Vec<u8>)
-        requires ready { IsTrue (is_some (ready self.old)) }
-        requires quiet { IsQuiet self.old }
+        requires between { IsBetween self.old.receiver }
         requires room { vec_len out.old + 24 ≤ vec_capacity out.old }
         ensures state { self.new ≡ (gone self.old).0 }
         ensures sent { Sends out.old out.new (gone self.old).1 }
     {
-        match self.receiver.progress() {
-            Progress::Whole(HostPdu::CapsuleCmd) => self.receiver.next(),
-            Progress::Partial | Progress::Failed(_) => self.go_first(out),
-            Progress::Whole(HostPdu::IcReq | HostPdu::H2cTermReq | HostPdu::H2cData) => {
-                self.go_first(out);
-            }
-        }
+        self.commands.start();
+        self.look(out);
     }
 
-    /// Lets the first command that waits go, and looks at the next one.
-    fn go_first(&mut self, out: &mut Vec<u8>)
+    /// Looks at the first command that waits: if it wants data, that is asked for.
+    pub(crate) fn look(&mut self, out: &mut Vec<u8>)
         requires between { IsBetween self.old.receiver }
         requires room { vec_len out.old + 24 ≤ vec_capacity out.old }
-        ensures state { self.new ≡ (first_gone self.old).0 }
-        ensures sent { Sends out.old out.new (first_gone self.old).1 }
+        ensures state { self.new ≡ (looked_at (first_of self.old.commands) self.old).0 }
+        ensures sent { Sends out.old out.new (looked_at (first_of self.old.commands) self.old).1 }
     {
-        self.commands.start();
-        if let Some(next) = self.commands.first() {
-            self.ask(identifier(&next.entry), next.wanted, out);
+        match self.commands.first() {
+            Some(first) => self.ask(identifier(&first.entry), first.wanted, out),
+            None => {}
         }
     }
 

@@ -18,7 +18,7 @@ pub fn completed_once()
     ensures { CompletedOnce }
 {}
 
-/// Where capsules have no data, as those of I/O queues, commands go in the order of their capsules, each once, and none is skipped.
+/// Commands go in the order of their capsules, each once, and none is skipped.
 pub fn commands_go_in_order()
     ensures { CommandsGoInOrder }
 {}

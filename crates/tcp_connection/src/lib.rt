@@ -9,8 +9,9 @@ mod laws;
 mod queue;
 mod state;
 mod taking;
+mod waiting;
 
-pub use commands::{MOST_ENTRIES, WaitingCommand};
+pub use commands::MOST_ENTRIES;
 pub use connection::Connection;
 pub use dealing::MOST_SENT;
 pub use executing::MOST_BESIDE_DATA;

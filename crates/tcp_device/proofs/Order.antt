@@ -326,4 +326,4 @@ commands_are_in_order law device subsystem format before deeds old new first don
     let fine : AreFine old.target.queues = reached (λ t. AreFine t.queues) stay_fine before (begun_on device subsystem format) old first begins_fine in
     let used = (fine number).io id queue (role_first law number id queue deeds old new done has) in
     let all = do_all law number id queue deeds old new done used.is_open has in
-    record { order = (all.moves.keeps used.entries).order; submitted = all_submitted number deeds old new done }
+    record { order = (all.moves.keeps used.settled).order; submitted = all_submitted number deeds old new done }

@@ -2,16 +2,12 @@
 use Rattle.std.proofs.Common.{◌≡◌, ℕ, ◌+◌, ◌≤◌, zero, suc, Bool, true, false, cond, ◌&&◌, List, [], ◌∷◌, length, length-append, Option, None, Some, IsTrue, refl, arith}
 use Rattle.std.proofs.lemmas.Bool.{and_parts, le-leb, leb-true}
 use Rattle.std.specs.Prelude.{is_some, nat_le, nat_lt, slice_index_or, slice_set}
-use Rattle.tcp_pdus.specs.declared.received.HostPdu.TheVariants.{IcReq, H2cTermReq, CapsuleCmd, H2cData}
 use Rattle.tcp_pdus.specs.declared.transfer.ReadyToTransfer.{ReadyToTransfer}
 use Rattle.tcp_pdus.specs.Sent.{r2t}
-use Rattle.tcp_receiver.specs.declared.expected.Progress.{Progress}
-use Rattle.tcp_receiver.specs.declared.expected.Progress.TheVariants.{Partial, Whole, Failed}
-use Rattle.tcp_connection.specs.declared.commands.WaitingCommand.{WaitingCommand}
 use Rattle.tcp_connection.specs.declared.state.ConnectionState.{ConnectionState}
-use Rattle.tcp_connection.specs.Commands.{first_of, started}
+use Rattle.tcp_connection.specs.Commands.{WaitingCommand, first_of, started}
 use Rattle.tcp_connection.specs.Dealing.{asked, looked_at, transfer_of}
-use Rattle.tcp_connection.specs.Executing.{Execution, first_gone, gone, gone_by, ready}
+use Rattle.tcp_connection.specs.Executing.{Execution, gone, ready}
 use Rattle.tcp_queues.specs.Events.{handed_over}
 use Rattle.tcp_queues.specs.Places.{PlaceState, goes_on, has_room, ready_at, vacant}
 use Rattle.tcp_queues.specs.Commands.{handed_over_at}
@@ -29,19 +25,8 @@ few_looked : (first : Option WaitingCommand) (s : ConnectionState) → length (l
 few_looked None s = omega arith
 few_looked (Some first) s = few_asked _ first.wanted s
 
-few_first : (s : ConnectionState) → length (first_gone s).1 ≤ 24
-few_first s = let t = record s { commands = started s.commands } in few_looked (first_of t.commands) t
-
-few_by : (progress : Progress) (s : ConnectionState) → length (gone_by progress s).1 ≤ 24
-few_by Partial s = few_first s
-few_by (Whole IcReq) s = few_first s
-few_by (Whole H2cTermReq) s = few_first s
-few_by (Whole CapsuleCmd) s = omega arith
-few_by (Whole H2cData) s = few_first s
-few_by (Failed error) s = few_first s
-
 few_gone : (s : ConnectionState) → length (gone s).1 ≤ 24
-few_gone s = few_by s.receiver.progress s
+few_gone s = let t = record s { commands = started s.commands } in few_looked (first_of t.commands) t
 
 few_handed : (p : PlaceState) → length p.unsent ≤ 262144 → length (handed_over p).unsent ≤ 262168
 few_handed p few = omega (arith, few, few_gone p.connection, length-append p.unsent (gone p.connection).1)

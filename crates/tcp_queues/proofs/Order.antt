@@ -7,7 +7,7 @@ use Rattle.tcp_connection.specs.Executing.{Execution, gone, ready}
 use Rattle.tcp_connection.specs.Order.{Came, Completed, Went, after, brought, entry_of}
 use Rattle.tcp_connection.proofs.Proved.{Moves, both, commands_go_in_order, moves, stays}
 use Rattle.tcp_queues.specs.Places.{PlaceState, goes_on, ready_at}
-use Rattle.tcp_queues.specs.Events.{answered_at, completed_at, executed, joined, kept, received, returned, stepped}
+use Rattle.tcp_queues.specs.Events.{answered_at, completed_at, executed, kept, received, returned, stepped}
 use Rattle.tcp_queues.specs.Order.{PlacesKeepOrder, brought_at}
 
 abbrev pub PlaceMoves : (went came : List (List ℕ)) (old new : PlaceState) → Type 0
@@ -48,13 +48,11 @@ execute_moves command outcome bytes p =
 
 pub places_keep_order : PlacesKeepOrder
 places_keep_order = record {
-  begins = λ queue command outcome p between.
-      (let joined_now : ConnectionState = (joined queue 0 (kept p)).connection in
-      ((moves (Completed command outcome []) joined_now).keeps (commands_go_in_order.begins queue (kept p).connection between)).entries);
+  begins = λ p. commands_go_in_order.begins;
   receives = λ piece p. (receive_moves piece p).keeps;
-  hands_over = λ p execution entries is. (go_moves p execution is).keeps entries;
-  keeps = λ p execution entries is. (go_moves p execution is).keeps entries;
-  answers = λ p execution command outcome bytes entries is. (answer_moves p execution command outcome bytes is).keeps entries;
+  hands_over = λ p execution settled is. (go_moves p execution is).keeps settled;
+  keeps = λ p execution settled is. (go_moves p execution is).keeps settled;
+  answers = λ p execution command outcome bytes settled is. (answer_moves p execution command outcome bytes is).keeps settled;
   executes = λ command outcome bytes p. (execute_moves command outcome bytes p).keeps;
   sends = λ count p. (stays p.connection).keeps;
 }

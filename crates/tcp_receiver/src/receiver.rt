@@ -1,7 +1,8 @@
 //! A receiver of PDUs.
 
-ghost use Rattle.std.specs.Prelude.{◌≡◌, ◌≤◌, ◌+◌, ◌++◌, [], IfOk, IfSome, None, length};
+ghost use Rattle.std.specs.Prelude.{◌≡◌, ◌≤◌, ◌+◌, ◌++◌, [], IfOk, IfSome, None, drop, length, vec_capacity};
 ghost use Rattle.tcp_pdus.specs.declared.received.HostPdu.{HostPdu};
+ghost use Rattle.tcp_pdus.specs.declared.received.HostPdu.TheVariants.{CapsuleCmd};
 ghost use Rattle.tcp_pdus.specs.Received.{header_bytes};
 ghost use Rattle.tcp_receiver.specs.declared.expected.Progress.TheVariants.{Partial, Whole};
 ghost use Rattle.tcp_receiver.specs.Receiving.{IsBetween, IsDataOf, IsHeaderOf, IsTransferOf, awaiting, expecting, fresh, next, taken};
@@ -10,6 +11,7 @@ use crate::expected::{Expected, Progress};
 use crate::parts::{Parts, grow};
 use std::alloc::{AllocError, Global};
 use std::marker::Model;
+use std::mem::replace;
 use tcp_pdus::{Awaits, MAX_H2C_DATA, MOST_HEADER_BYTES, ReadyToTransfer};
 
 /// The most bytes of data in a capsule, whatever is awaited.
@@ -146,6 +148,22 @@ impl Receiver {
             }
             Progress::Partial | Progress::Failed(_) => {}
         }
+    }
+
+    /// Lets a whole capsule go, gives its data in the room to which that came, and begins the next PDU. The data of that comes to
+    /// another room, so that it isn't copied.
+    pub fn next_with(&mut self, room: Vec<u8>) -> Vec<u8>
+        requires whole { self.old.progress ≡ Whole CapsuleCmd }
+        requires empty { room.items ≡ [] }
+        requires room { MOST_IN_CAPSULE ≤ vec_capacity room }
+        ensures state { self.new ≡ next self.old }
+        ensures between { IsBetween self.new }
+        ensures bytes { result.items ≡ drop 72 self.old.pending }
+        ensures room { MOST_IN_CAPSULE ≤ vec_capacity result }
+    {
+        self.parts.header.clear();
+        self.progress = Progress::Partial;
+        replace(&mut self.parts.data, room)
     }
 
     /// Awaits commands from now on, with so much data in a capsule at most. It is called between PDUs.

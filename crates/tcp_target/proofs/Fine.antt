@@ -3,8 +3,7 @@ use Rattle.std.proofs.Common.{◌≡◌, ◌≢◌, ℕ, ◌≤◌, ◌==◌, Bo
 use Rattle.std.specs.Prelude.{slice_index_or}
 use Rattle.std.proofs.lemmas.Bool.{cases_lt, eqb-false, eqb-true}
 use Rattle.std.proofs.lemmas.List.{get_or-set_other, get_or-set_same, get_or_past, length-set}
-use Rattle.tcp_connection.specs.Order.{IsOfEntries}
-use Rattle.tcp_connection.proofs.Proved.{IsSettled}
+use Rattle.tcp_connection.specs.Order.{IsSettled}
 use Rattle.tcp_associations.specs.declared.role.Role.{Role}
 use Rattle.tcp_associations.specs.declared.role.Role.TheVariants.{Unconnected, Io}
 use Rattle.tcp_associations.specs.Associations.{role_at}
@@ -13,10 +12,10 @@ use Rattle.tcp_queues.proofs.Proved.{PlaceMoves}
 use Rattle.tcp_queues.specs.Queues.{QueuesState, no_queues, place_at, with_place}
 use Rattle.tcp_target.proofs.Roles.{role_in}
 
--- a host has the connection, which awaits capsules that are an entry alone
+-- a host has the connection, which has dealt with each PDU that came whole
 pub record IsUsed (p : PlaceState) : Type 0 where
   pub is_open : p.is_open ≡ true
-  pub entries : IsOfEntries p.connection
+  pub settled : IsSettled p.connection
 
 -- so it is where it has an I/O queue
 pub record IsFine (p : PlaceState) (role : Role) : Type 0 where
@@ -44,7 +43,7 @@ fine_behind : (went came : List (List ℕ)) (p q : PlaceState) (old new : Role) 
 fine_behind went came p q old new moves same was fine = record {
   settled = λ held. moves.settles (fine.settled (sym same ∙ held));
   io = λ id queue is. (let used = fine.io id queue (was id queue is) in
-      record { is_open = same ∙ used.is_open; entries = (moves.keeps used.entries).entries });
+      record { is_open = same ∙ used.is_open; settled = moves.settles used.settled });
 }
 
 -- ---- a place is another

@@ -1,18 +1,15 @@
--- The connection of an I/O queue awaits capsules that are an entry alone, in every state of a target.
+-- A host has the connection of an I/O queue, which has dealt with each PDU that came whole, in every state of a target.
 use Rattle.std.proofs.Common.{◌≡◌, ℕ, ◌==◌, ◌&&◌, Bool, true, false, cond, zero, suc, nat_le, nat_lt, List, [], ◌∷◌, length, set, not, Option, None, Some, Result, Ok, Err, refl, sym, ap, subst, ◌∙◌, inl, inr}
 use Rattle.std.specs.Prelude.{slice_index_or}
 use Rattle.std.proofs.lemmas.Bool.{and_parts}
 use Rattle.std.proofs.lemmas.List.{get_or-set_same}
 use Rattle.std.proofs.lemmas.List.Quantifiers.{position-Some}
-use Rattle.common_definitions.specs.Checks.{first_failed}
-use Rattle.common_definitions.proofs.Proved.{value_given}
-use Rattle.tcp_pdus.specs.declared.received.Awaits.TheVariants.{Commands}
 use Rattle.tcp_pdus.specs.Direction.{identifier_of}
 use Rattle.tcp_connection.specs.declared.queue.Outcome.{Outcome}
 use Rattle.tcp_connection.specs.Connection.{taken}
 use Rattle.tcp_connection.specs.Executing.{Execution, ready}
-use Rattle.tcp_connection.specs.Order.{Completed, IsOfEntries}
-use Rattle.tcp_connection.proofs.Proved.{IsSettled, gone_partial, moves, stays}
+use Rattle.tcp_connection.specs.Order.{Completed, IsSettled}
+use Rattle.tcp_connection.proofs.Proved.{moves, stays}
 use Rattle.tcp_admin.specs.declared.answer.Answer.{Answer}
 use Rattle.tcp_admin.specs.declared.answer.Answer.TheVariants as answer
 use Rattle.tcp_admin.specs.Admin.{response}
@@ -20,14 +17,11 @@ use Rattle.tcp_admin.specs.Properties.{got, is_just_ready, set_by, set_result, s
 use Rattle.tcp_admin.specs.Properties as properties
 use Rattle.tcp_associations.specs.declared.connected.Connected.{Connected}
 use Rattle.tcp_associations.specs.declared.request.ConnectRequest.{ConnectRequest}
-use Rattle.tcp_associations.specs.Checks.{connect_checks, controller_of}
-use Rattle.tcp_associations.specs.Connected.{connected, refusal, success}
-use Rattle.tcp_associations.specs.Data.{connect_data_in}
+use Rattle.tcp_associations.specs.Connected.{refusal, success}
 use Rattle.tcp_associations.specs.Request.{request_in}
-use Rattle.tcp_associations.specs.declared.associations.Associations.{Associations}
 use Rattle.tcp_associations.specs.declared.role.Role.{Role}
 use Rattle.tcp_associations.specs.declared.role.Role.TheVariants.{Unconnected, Admin, Io, Ended}
-use Rattle.tcp_associations.specs.Associations.{answer_of, controllers_for, ended, ended_with, role_at, roles_with}
+use Rattle.tcp_associations.specs.Associations.{ended, ended_with, role_at, roles_with}
 use Rattle.tcp_associations.specs.Roles.{role_of, without, without_io}
 use Rattle.tcp_queues.specs.Places.{PlaceState, goes_on, is_free, ready_at, vacant}
 use Rattle.tcp_queues.specs.Events.{answered_at, closed, completed_at, connected_at, executed, handed_over, joined, kept, opened, returned, stepped}
@@ -112,24 +106,6 @@ module _ (q : QueuesState) (fine : AreFine q) where
 
 -- ---- a command that is ready
 
-put_role : (roles : List Role) (number : ℕ) (put : Role) (id queue : ℕ) → role_in (set roles number put) number ≡ Io id queue → put ≡ Io id queue
-put_role [] number put id queue is = absurd cc
-put_role (role ∷ roles) zero put id queue is = is
-put_role (role ∷ roles) (suc number) put id queue is = put_role roles number put id queue is
-
-io_only : (b : Bool) (controller other id queue : ℕ) → cond b (Admin controller) (Io controller other) ≡ Io id queue → b ≡ false
-io_only true controller other id queue is = absurd cc
-io_only false controller other id queue is = refl
-
--- no data is allowed in the capsules of an I/O queue
-capsule_is : (request : ConnectRequest) (bytes nqn : List ℕ) (s : Associations) (c : Connected) → answer_of request bytes nqn s ≡ Ok c
-    → c.in_capsule ≡ cond (c.queue.id == 0) 8192 0
-capsule_is request bytes nqn s c given =
-    let controllers = controllers_for bytes request.queue s in
-    let made : Connected = connected request (controller_of request (connect_data_in bytes).controller controllers.free) in
-    let same : c ≡ made = value_given (first_failed (connect_checks request bytes nqn controllers)) made c (sym given) in
-    subst (λ (it : Connected). it.in_capsule ≡ cond (it.queue.id == 0) 8192 0) (sym same) refl
-
 module _ (number : ℕ) (t : TargetState) (fine : AreFine t.queues) (execution : Execution)
     (ready_now : ready_at (place_at number t.queues) ≡ Some execution) where
   abbrev q : QueuesState
@@ -168,7 +144,7 @@ module _ (number : ℕ) (t : TargetState) (fine : AreFine t.queues) (execution :
       (λ n. same_io (role_at n q.associations)) fine
 
   -- Connect
-  module _ (c : Connected) (capsule : c.in_capsule ≡ cond (c.queue.id == 0) 8192 0) where
+  module _ (c : Connected) where
     joined_now : PlaceState
     joined_now = joined c.queue c.in_capsule (kept p)
 
@@ -179,20 +155,15 @@ module _ (number : ℕ) (t : TargetState) (fine : AreFine t.queues) (execution :
     unfolding joined_now
     settled_now = (go_moves p execution ready_now).settles ((fine number).settled held)
 
-    used : (c.queue.id == 0) ≡ false → IsUsed ends_up
-    unfolding joined_now ends_up
-    used io =
-        let none : c.in_capsule ≡ 0 = capsule ∙ ap (λ (b : Bool). cond b 8192 0) io in
-        let partial = gone_partial p.connection execution ((fine number).settled held) (found (goes_on p) refl ready_now).0 in
-        let entries : IsOfEntries joined_now.connection = λ on. record { alone = ap (λ (n : ℕ). Commands n) none; dealt = partial } in
-        record { is_open = held; entries = ((moves (Completed (identifier_of entry) (success c.controller) []) joined_now.connection).keeps entries).entries }
-
-    fine_now : (role : Role) → ((id queue : ℕ) → role ≡ Io id queue → (c.queue.id == 0) ≡ false) → IsFine ends_up role
+    used : IsUsed ends_up
     unfolding joined_now ends_up settled_now
-    fine_now role io = record {
-      settled = λ is. (moves (Completed (identifier_of entry) (success c.controller) []) joined_now.connection).settles settled_now;
-      io = λ id queue is. used (io id queue is);
+    used = record {
+      is_open = held;
+      settled = (moves (Completed (identifier_of entry) (success c.controller) []) joined_now.connection).settles settled_now;
     }
+
+    fine_now : (role : Role) → IsFine ends_up role
+    fine_now role = record { settled = λ is. used.settled; io = λ id queue is. used }
 
     enters : (bytes : List ℕ) → AreFine (connected_by (Ok c) number (identifier_of entry) bytes q)
     unfolding ends_up
@@ -201,8 +172,7 @@ module _ (number : ℕ) (t : TargetState) (fine : AreFine t.queues) (execution :
         let there : place_at number r ≡ ends_up = get_or-set_same q.places number ends_up vacant (within number t held) in
         fine_where number ends_up q r refl n (n == number) refl
         (subst (λ (it : PlaceState). IsFine it (role_at number r.associations)) (sym there)
-        (fine_now (role_at number r.associations)
-        (λ id queue is. io_only (c.queue.id == 0) c.controller c.queue.id id queue (put_role q.associations.roles number (role_of c) id queue is))))
+        (fine_now (role_at number r.associations)))
         (λ unlike id queue is. elim (role_set q.associations.roles number n (role_of c) (Io id queue) is) [
           | inl same ↦ absurd (unlike same.0)
           | inr before ↦ before
@@ -213,7 +183,7 @@ module _ (number : ℕ) (t : TargetState) (fine : AreFine t.queues) (execution :
   joins request (Err outcome) is =
       answers outcome [] (connected_by (Err outcome) number (identifier_of entry) (connect_data_at number q) q) refl (λ n. same_io (role_at n q.associations))
   joins request (Ok c) is =
-      enters c (capsule_is request (connect_data_at number q) t.subsystem.nqn q.associations c is) (connect_data_at number q)
+      enters c (connect_data_at number q)
 
   made : (request : ConnectRequest) (a : Result Connected Outcome) (u : TargetState) → AreFine u.queues → AreFine (with_made request a u).queues
   made request (Err outcome) u same = same

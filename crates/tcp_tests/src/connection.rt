@@ -16,6 +16,13 @@ const CONNECT: [u8; 72] = [
     0, 0, 0, 0, 0, 0, 0, 0, 0, 0, 0, 0, 0, 0, 0, 0,
 ];
 
+/// The capsule of a Write with 8 bytes of data in it: identifier 006Ah.
+const WRITE: [u8; 80] = [
+    0x04, 0, 72, 72, 80, 0, 0, 0, 0x01, 0x40, 0x6A, 0, 1, 0, 0, 0, 0, 0, 0, 0, 0, 0, 0, 0, 0, 0, 0,
+    0, 0, 0, 0, 0, 0, 0, 0, 0, 0, 0, 0, 0, 8, 0, 0, 0, 0, 0, 0, 0x01, 0, 0, 0, 0, 0, 0, 0, 0, 0, 0,
+    0, 0, 0, 0, 0, 0, 0, 0, 0, 0, 0, 0, 0, 0, 1, 2, 3, 4, 5, 6, 7, 8,
+];
+
 /// The capsule of a Result that takes 8 bytes: identifier 006Bh, of slot 0.
 const RESULT: [u8; 72] = [
     0x04, 0, 72, 0, 72, 0, 0, 0, 0xC2, 0x40, 0x6B, 0, 1, 0, 0, 0, 0, 0, 0, 0, 0, 0, 0, 0, 0, 0, 0,
@@ -34,13 +41,18 @@ const LOADED: [u8; 48] = [
     0, 0, 0, 0, 0, 0, 0, 0x14, 0, 0, 0, 2, 0, 1, 0, 0x69, 0, 0x84, 0x8F,
 ];
 
+/// What answers the Write: success.
+const WRITTEN: [u8; 24] = [
+    5, 0, 24, 0, 24, 0, 0, 0, 0, 0, 0, 0, 0, 0, 0, 0, 3, 0, 1, 0, 0x6A, 0, 0, 0,
+];
+
 /// What answers the Result: 8 bytes in a C2HData, and success.
 const GIVEN: [u8; 56] = [
     7, 4, 24, 24, 32, 0, 0, 0, 0x6B, 0, 0, 0, 0, 0, 0, 0, 8, 0, 0, 0, 0, 0, 0, 0, 9, 9, 9, 9, 9, 9,
-    9, 9, 5, 0, 24, 0, 24, 0, 0, 0, 0, 0, 0, 0, 0, 0, 0, 0, 3, 0, 1, 0, 0x6B, 0, 0, 0,
+    9, 9, 5, 0, 24, 0, 24, 0, 0, 0, 0, 0, 0, 0, 0, 0, 0, 0, 4, 0, 1, 0, 0x6B, 0, 0, 0,
 ];
 
-/// The stream of the host.
+/// The stream of the host: the Write comes before the data that the Load asks for.
 fn stream(alloc: Global) -> Result<Vec<u8>, Fail> {
     let mut bytes = Vec::new(alloc);
     // An ICReq: PFV, HPDA, DGST and MAXR2T 0.
@@ -51,16 +63,18 @@ fn stream(alloc: Global) -> Result<Vec<u8>, Fail> {
     bytes.extend_from_slice(&CONNECT)?;
     bytes.extend_from_slice(&[0x55; 1024])?;
     bytes.extend_from_slice(&LOAD)?;
+    bytes.extend_from_slice(&WRITE)?;
     bytes.extend_from_slice(&LOAD_DATA)?;
     bytes.extend_from_slice(&RESULT)?;
     Ok(bytes)
 }
 
-/// A connection, and all that it sent.
+/// A connection, all that it sent, and the data of its Writes.
 #[derive(Drop)]
 struct Served {
     connection: Connection,
     sent: Vec<u8>,
+    written: Vec<u8>,
 }
 
 /// Takes a piece whole, and executes each command that is ready.
@@ -83,6 +97,11 @@ fn execute(alloc: Global, served: &mut Served) -> Result<(), Fail> {
             return Ok(());
         };
         let mut out = Vec::with_capacity(alloc, 512)?;
+        if entry[0] == 0x01 {
+            served
+                .written
+                .extend_from_slice(served.connection.ready_data())?;
+        }
         served.connection.go(&mut out);
         let command = identifier(&entry);
         if entry[0] == 0x7F {
@@ -91,7 +110,7 @@ fn execute(alloc: Global, served: &mut Served) -> Result<(), Fail> {
                 entries: 128,
                 has_flow_control: true,
             };
-            served.connection.connect(queue, 0);
+            served.connection.connect(queue, 8192);
         }
         served.sent.extend_from_slice(out.as_slice())?;
         complete(alloc, served, entry[0], command)?;
@@ -121,6 +140,7 @@ fn serve_stream(alloc: Global, stream: &[u8], size: usize) -> Result<Served, Fai
     let mut served = Served {
         connection: Connection::new(alloc)?,
         sent: Vec::new(alloc),
+        written: Vec::new(alloc),
     };
     for piece in stream.chunks(size) {
         serve(alloc, &mut served, piece)?;
@@ -135,10 +155,13 @@ fn commands_are_answered(rt: HostRuntime) -> Result<(), Fail> {
     for size in [1, 7, 72, 1000, 2000] {
         let served = serve_stream(alloc, stream.as_slice(), size)?;
         let sent = served.sent.as_slice();
-        assert_eq!(rt; sent.len(), 128 + 24 + 48 + 56, "in pieces of {size}");
+        assert_eq!(rt; sent.len(), 128 + 24 + 48 + 24 + 56, "in pieces of {size}");
         assert!(rt; sent[128..].starts_with(&CONNECTED));
         assert!(rt; sent[152..].starts_with(&LOADED));
-        assert!(rt; sent[200..].starts_with(&GIVEN));
+        assert!(rt; sent[200..].starts_with(&WRITTEN));
+        assert!(rt; sent[224..].starts_with(&GIVEN));
+        assert_eq!(rt; served.written.len(), 8);
+        assert!(rt; WRITE[72..].starts_with(served.written.as_slice()));
         assert!(rt; !served.connection.is_ended());
     }
     Ok(())

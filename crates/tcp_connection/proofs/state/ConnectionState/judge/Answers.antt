@@ -8,5 +8,5 @@ pub returns-in-Err-clause-sent : goal.returns-in-Err-clause-sent
 returns-in-Err-clause-sent c =
     let s = c.args.self.now in
     let Q : ℕ → Type 0 = λ command. Sends c.args.out.now c.refuse.new.out (answered command (refusal c.in-Err.status) (with_next s)).1 in
-    let P : Result (Option ℕ) Status → Type 0 = λ r. Sends c.args.out.now c.refuse.new.out (judged r c.args.entry c.args.inside s).1 in
-    subst P (sym (sym c.wanted_data.ensures ∙ c.in-Err.is)) (subst Q c.identifier.ensures c.refuse.ensures.sent)
+    let P : Result (Option ℕ) Status → Type 0 = λ r. Sends c.args.out.now c.refuse.new.out (judged r c.args.entry s).1 in
+    subst P (sym (sym c.check.ensures ∙ c.in-Err.is)) (subst Q c.identifier.ensures c.refuse.ensures.sent)
