@@ -27,5 +27,5 @@ A journal.
   $ zscli serve zoned.img --durable --frames < asked >&-
   cannot write -
   [1]
-  $ zscli zones zoned.img | head -n 1
+  $ zscli zones zoned.img | sed -n 1p
   0 implicit 5

@@ -109,6 +109,48 @@ Meanwhile no other command can save the image, and those that only read can see 
   $ answers
   cpl 1 00000000000000000000010002000000 42x512
 
+While a frame has begun that isn't whole, what was done before it waits for the disk with it, and so do the answers.
+
+  $ fresh
+  $ cat append append | frames make > twice
+  $ zscli serve image --durable --frames < to > from 2> printed &
+  $ exec 3> to 4< from
+  $ head -c 900 twice >&3
+  $ timeout 1 head -c 32 <&4 | wc -c
+  0
+  $ tail -c +901 twice >&3
+  $ head -c 64 <&4 | frames show
+  cpl 1 00000000000000000000010001000000
+  cpl 1 01000000000000000000010001000000
+
+Reads wait for no disk: they are answered at once, also where another frame has begun.
+
+  $ cat read read | frames make > reads
+  $ head -c 100 reads >&3
+  $ head -c 544 <&4 | frames show
+  cpl 1 00000000000000000000010002000000 42x512
+  $ tail -c +101 reads >&3
+  $ head -c 544 <&4 | frames show
+  cpl 1 00000000000000000000010002000000 42x512
+
+Where the input ends in the middle of a frame, what was done before it is on the disk and answered.
+
+  $ head -c 900 twice >&3
+  $ exec 3>&-
+  $ frames show <&4
+  cpl 1 02000000000000000000010001000000
+  $ exec 4<&-
+  $ wait $!
+  [3]
+  $ cat printed
+  standard input, byte 2244: the end of the input; the rest of a frame is expected
+  stream refused 2244 7
+  $ zscli zones image
+  0 implicit 3
+  1 empty 0
+  2 empty 0
+  3 empty 0
+
 A damaged journal, a file that is no image, and one that isn't there, are refused, and left alone.
 
   $ { base; gate; zeros 4096 | tr '\0' '\2'; } > damaged

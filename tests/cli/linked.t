@@ -78,9 +78,9 @@ A guard whose line isn't known is named by its slot.
 Notes that are damaged are said to be so, and nothing else changes; so is it where there are none.
 
   $ notes 'linked 1' 'block 512' 'guard-at 1008'
-  $ zscli explain replies --program guarded.bin | head -n 1
+  $ zscli explain replies --program guarded.bin | sed -n 1p
   guarded.bin.linked, line 3: `profile NUMBER` is expected
-  $ zscli explain replies --program guarded.bin --json | head -n 1 | cut -c 1-21
+  $ zscli explain replies --program guarded.bin --json | sed -n 1p | cut -c 1-21
   {"reply":"completion"
   $ zscli verify guarded.bin --block 512 --emit 66 --explain
   accepted 9

@@ -11,4 +11,6 @@ mod LineEnds
 mod LineTexts
 mod LinePieces
 mod LineCodecs
+mod LineJoins
 mod LineRounds
+mod UnderWay

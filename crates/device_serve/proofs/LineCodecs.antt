@@ -4,7 +4,7 @@ use Rattle.std.specs.Str.Lines.{lines}
 use Rattle.std.proofs.lemmas.List.{append_cancel_right, drop-drop, take-append-drop, take_rest}
 use Rattle.std.proofs.Math.Seq.{drop-append-add, take-length}
 use Rattle.device_meaning.specs.State.{State}
-use Rattle.device_serve.specs.LineStream.{BeforeLine, DoesLines, FailsIn, StopsIn, StopsLines}
+use Rattle.device_serve.specs.LineStream.{BeforeLine, DoesLinesAfter, FailsIn, StopsIn, StopsLines, StopsLinesAfter}
 use Rattle.device_serve.specs.LineSteps.{ServesPiece}
 use Rattle.device_serve.specs.Rounds.{IsCodecs}
 use Rattle.device_serve.specs.declared.fault.ServeFault.{ServeFault}
@@ -46,10 +46,10 @@ line_taken all front behind count n cut is =
     ∙ drop-append-add front (10 ∷ behind) 1
 
 -- of a piece the lines that end in its front were served
-pub front_done : (old new : LineCodec) (s s' : State) (piece : List ℕ) (n : ℕ) (answers : List ℕ)
-    → ServesPiece old.doer.drains (old.unended.items ++ piece) (new.unended.items ++ drop n piece) old.count new.count s s' [] answers
-    → new.doer.drains ≡ old.doer.drains → DoesLines old s (take n piece) new s' answers
-front_done old new s s' piece n answers served drains = record {
+pub front_done : (old new : LineCodec) (s s' : State) (piece : List ℕ) (n : ℕ) (before after : List ℕ)
+    → ServesPiece old.doer.drains (old.unended.items ++ piece) (new.unended.items ++ drop n piece) old.count new.count s s' before after
+    → new.doer.drains ≡ old.doer.drains → DoesLinesAfter old s before (take n piece) new s' after
+front_done old new s s' piece n before after served drains = record {
   text = served.text;
   parts =
       append_cancel_right (old.unended.items ++ take n piece) (served.text ++ new.unended.items) (drop n piece)
@@ -65,7 +65,8 @@ front_done old new s s' piece n answers served drains = record {
   drains = drains;
 }
 
-module _ (old between : LineCodec) (s s' : State) (piece : List ℕ) (n : ℕ) (answers : List ℕ) (front : DoesLines old s (take n piece) between s' answers) where
+module _ (old between : LineCodec) (s s' : State) (piece : List ℕ) (n : ℕ) (before after : List ℕ)
+    (front : DoesLinesAfter old s before (take n piece) between s' after) where
   all_parts : old.unended.items ++ piece ≡ front.text ++ (between.unended.items ++ drop n piece)
   all_parts =
       ap (λ (l : List ℕ). old.unended.items ++ l) (sym (take-append-drop n piece))
@@ -75,7 +76,7 @@ module _ (old between : LineCodec) (s s' : State) (piece : List ℕ) (n : ℕ) (
 
   -- and what is left of it is held
   pub piece_done : (new : LineCodec) → new.unended.items ≡ between.unended.items ++ take (length piece - n) (drop n piece) → new.count ≡ between.count
-      → new.doer.drains ≡ between.doer.drains → DoesLines old s (take (length piece) piece) new s' answers
+      → new.doer.drains ≡ between.doer.drains → DoesLinesAfter old s before (take (length piece) piece) new s' after
   piece_done new held same drains = record {
     text = front.text;
     parts =
@@ -90,11 +91,11 @@ module _ (old between : LineCodec) (s s' : State) (piece : List ℕ) (n : ℕ) (
   }
 
   -- for which memory is wanting
-  pub piece_unheld : (new : LineCodec) (left : Option (List ℕ)) → StopsLines old s piece left new s' answers fault.Memory
+  pub piece_unheld : (new : LineCodec) (left : Option (List ℕ)) → StopsLinesAfter old s before piece left new s' after fault.Memory
   piece_unheld new left =
-      inl (subst (λ (text : List ℕ). FailsIn old.doer.drains text old.count fault.Memory s s' [] answers) (sym all_parts)
+      inl (subst (λ (text : List ℕ). FailsIn old.doer.drains text old.count fault.Memory s s' before after) (sym all_parts)
       (BeforeLine (length (lines front.text))
-      (first_served old.doer.drains front.text (between.unended.items ++ drop n piece) old.count between.count s s' [] answers
+      (first_served old.doer.drains front.text (between.unended.items ++ drop n piece) old.count between.count s s' before after
       (record { events = front.events; told = front.told; counted_is = front.counted_is; done = front.done }) front.ended)))
 
 -- ---- the end

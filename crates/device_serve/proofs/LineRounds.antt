@@ -1,9 +1,8 @@
 -- Rounds of lines, one after another.
-use Rattle.std.proofs.Common.{◌≡◌, ℕ, ◌+◌, ◌-◌, ◌^◌, ◌≤◌, Bool, true, false, List, [], ◌∷◌, ◌++◌, append-nil, append_assoc, length, take, Option, inl, inr, refl, ap, subst, sym, ◌∙◌, arith}
+use Rattle.std.proofs.Common.{◌≡◌, ℕ, ◌-◌, ◌^◌, ◌≤◌, Bool, true, false, List, [], ◌∷◌, ◌++◌, append-nil, append_assoc, take, Option, inl, inr, ap, subst, sym, ◌∙◌, arith}
 use Rattle.std.specs.Prelude.{flat_map}
 use Rattle.std.specs.Io.KnownBytes.{Appends}
 use Rattle.std.proofs.KnownBytes.{Appends-nil, Appends-trans}
-use Rattle.std.specs.Str.Lines.{lines}
 use Rattle.stored_file.specs.File.{FileState}
 use Rattle.device_events.specs.Replies.{ReplyWithData}
 use Rattle.device_events.specs.declared.event.Event.{Event}
@@ -13,15 +12,15 @@ use Rattle.event_text.specs.CommandFile.{events_in}
 use Rattle.event_text.specs.Lines.{reply_line}
 use Rattle.device_serve.specs.EndingRuns.{EndsSome}
 use Rattle.device_serve.specs.LineLaws.{lines_rest}
-use Rattle.device_serve.specs.LineStream.{Begins, BeforeLine, Does, DoesLines, FailsIn, HasAnswered, InLine, InTurns, ServesFirst, Starves, StarvesAfter, StopsIn, StopsLines, Unanswered, counted, ends_in}
+use Rattle.device_serve.specs.LineStream.{Begins, BeforeLine, Does, DoesLines, DoesLinesAfter, HasAnswered, InLine, InTurns, ServesFirst, Starves, StarvesAfter, StopsIn, StopsLines, StopsLinesAfter, Unanswered, ends_in}
 use Rattle.device_serve.specs.LineSteps.{ServesText}
 use Rattle.device_serve.specs.Rounds.{AreRounds, InRounds, Site, laid}
 use Rattle.device_serve.specs.WholeLines.{IsFirst, LinesAreServed, LinesStop}
 use Rattle.device_serve.specs.declared.fault.ServeFault.{ServeFault}
 use Rattle.device_serve.specs.declared.fault.ServeFault.TheVariants as fault
 use Rattle.device_serve.specs.declared.lines.LineCodec.{LineCodec}
-use Rattle.device_serve.proofs.LineEnds.{ends-append, ends_before}
-use Rattle.device_serve.proofs.LinePieces.{ended_join, first_join, text_fails, texts_join}
+use Rattle.device_serve.proofs.LineJoins.{does_on, stops_on}
+use Rattle.device_serve.proofs.LinePieces.{texts_join}
 
 -- ---- what answers, after what answered before
 
@@ -92,116 +91,73 @@ starves_after drains text old new early before after (InLine count begun) = InLi
 
 -- ---- bytes after others
 
+module _ (m : LineCodec) (between : State) (early : List ℕ) where
+  -- what is done where nothing was answered before, is done after other answers too
+  does_later : (next : List ℕ) (n : LineCodec) (new : State) (late : List ℕ) → DoesLines m between next n new late
+      → DoesLinesAfter m between early next n new (early ++ late)
+  does_later next n new late e = record {
+    text = e.text;
+    parts = e.parts;
+    ended = e.ended;
+    events = e.events;
+    told = e.told;
+    counted_is = e.counted_is;
+    done = subst (λ (before : List ℕ). Does m.doer.drains e.events between new (HasAnswered before (early ++ late))) (append-nil early)
+        (does_after m.doer.drains e.events between new early [] late e.done);
+    drains = e.drains;
+  }
+
+  first_later : (text : List ℕ) (count : ℕ) (new : State) (late : List ℕ) → ServesFirst m.doer.drains text count between new [] late
+      → ServesFirst m.doer.drains text count between new early (early ++ late)
+  first_later text count new late first =
+      subst (λ (before : List ℕ). ServesFirst m.doer.drains text count between new before (early ++ late)) (append-nil early)
+      (first_after m.doer.drains text count between new early [] late first)
+
+  starves_later : (text : List ℕ) (new : State) (late : List ℕ) → Starves m.doer.drains text between new [] late
+      → Starves m.doer.drains text between new early (early ++ late)
+  starves_later text new late starves =
+      subst (λ (before : List ℕ). Starves m.doer.drains text between new before (early ++ late)) (append-nil early)
+      (starves_after m.doer.drains text between new early [] late starves)
+
+  starved_later : (text : List ℕ) (new : State) (late : List ℕ) → StarvesAfter m.doer.drains text between new [] late
+      → StarvesAfter m.doer.drains text between new early (early ++ late)
+  starved_later text new late some = record {
+    events = some.events;
+    told = some.told;
+    between = some.between;
+    then = early ++ some.then;
+    done = subst (λ (before : List ℕ). Does m.doer.drains some.events between some.between (HasAnswered before (early ++ some.then)))
+        (append-nil early) (does_after m.doer.drains some.events between some.between early [] some.then some.done);
+    given = some_after some.between new early some.then late some.given;
+  }
+
+  stops_later : (next : List ℕ) (left : Option (List ℕ)) (n : LineCodec) (new : State) (late : List ℕ) (why : ServeFault)
+      → StopsLines m between next left n new late why → StopsLinesAfter m between early next left n new (early ++ late) why
+  stops_later next left n new late (fault.Line number cause) stopped = record {
+    count = stopped.count;
+    rejected = stopped.rejected;
+    number_is = stopped.number_is;
+    served = first_later (m.unended.items ++ next) stopped.count new late stopped.served;
+  }
+  stops_later next left n new late fault.Read stopped = first_later (m.unended.items ++ next) (ends_in (m.unended.items ++ next)) new late stopped
+  stops_later next left n new late fault.Memory (inl starved) = inl (starves_later (m.unended.items ++ next) new late starved)
+  stops_later next left n new late fault.Memory (inr (end, some)) = inr (end, starved_later (m.unended.items ++ next) new late some)
+  stops_later next left n new late (fault.Stream cause) stopped = absurd stopped
+  stops_later next left n new late fault.Write stopped = absurd stopped
+  stops_later next left n new late fault.Save stopped = absurd stopped
+  stops_later next left n new late fault.Disk stopped = absurd stopped
+
 module _ (a m : LineCodec) (s between : State) (bytes early : List ℕ) (d : DoesLines a s bytes m between early) where
-  first_text : ServesText a.doer.drains d.text a.count m.count s between [] early
-  first_text = record { events = d.events; told = d.told; counted_is = d.counted_is; done = d.done }
-
-  parts_with : (next : List ℕ) → a.unended.items ++ (bytes ++ next) ≡ d.text ++ (m.unended.items ++ next)
-  parts_with next =
-      sym (append_assoc a.unended.items bytes next) ∙ ap (λ (x : List ℕ). x ++ next) d.parts ∙ append_assoc d.text m.unended.items next
-
   pub does_join : (n : LineCodec) (new : State) (next late : List ℕ) → DoesLines m between next n new late
       → DoesLines a s (bytes ++ next) n new (early ++ late)
   does_join n new next late e =
-      let second : ServesText a.doer.drains e.text m.count n.count between new early (early ++ late) =
-      record {
-        events = e.events;
-        told = e.told;
-        counted_is = e.counted_is;
-        done = subst (λ (before : List ℕ). Does a.doer.drains e.events between new (HasAnswered before (early ++ late))) (append-nil early)
-            (does_after a.doer.drains e.events between new early [] late
-            (subst (λ (drains : Bool). Does drains e.events between new (HasAnswered [] late)) d.drains e.done));
-      } in
-      let both = texts_join a.doer.drains d.text e.text a.count m.count s between [] early first_text d.ended n.count new (early ++ late) second in
-      record {
-        text = d.text ++ e.text;
-        parts = parts_with next ∙ ap (λ (x : List ℕ). d.text ++ x) e.parts ∙ sym (append_assoc d.text e.text n.unended.items);
-        ended = ended_join d.text e.text d.ended e.ended;
-        events = both.events;
-        told = both.told;
-        counted_is = both.counted_is;
-        done = both.done;
-        drains = e.drains ∙ d.drains;
-      }
-
-  first_as : (text : List ℕ) (count : ℕ) (new : State) (late : List ℕ) → ServesFirst m.doer.drains text count between new [] late
-      → ServesFirst a.doer.drains text count between new early (early ++ late)
-  first_as text count new late first =
-      subst (λ (before : List ℕ). ServesFirst a.doer.drains text count between new before (early ++ late)) (append-nil early)
-      (first_after a.doer.drains text count between new early [] late
-      (subst (λ (drains : Bool). ServesFirst drains text count between new [] late) d.drains first))
-
-  fails_after : (text : List ℕ) (why : ServeFault) (new : State) (late : List ℕ) → FailsIn m.doer.drains text m.count why between new [] late
-      → FailsIn a.doer.drains text m.count why between new early (early ++ late)
-  fails_after text (fault.Line number cause) new late failed = record {
-    count = failed.count;
-    rejected = failed.rejected;
-    number_is = failed.number_is;
-    served = first_as text failed.count new late failed.served;
-  }
-  fails_after text fault.Memory new late failed =
-      subst (λ (before : List ℕ). Starves a.doer.drains text between new before (early ++ late)) (append-nil early)
-      (starves_after a.doer.drains text between new early [] late
-      (subst (λ (drains : Bool). Starves drains text between new [] late) d.drains failed))
-  fails_after text fault.Read new late failed = absurd failed
-  fails_after text (fault.Stream cause) new late failed = absurd failed
-  fails_after text fault.Write new late failed = absurd failed
-  fails_after text fault.Save new late failed = absurd failed
-  fails_after text fault.Disk new late failed = absurd failed
-
-  text_stops : (next : List ℕ) (why : ServeFault) (new : State) (late : List ℕ)
-      → FailsIn m.doer.drains (m.unended.items ++ next) m.count why between new [] late
-      → FailsIn a.doer.drains (a.unended.items ++ (bytes ++ next)) a.count why s new [] (early ++ late)
-  text_stops next why new late failed =
-      subst (λ (text : List ℕ). FailsIn a.doer.drains text a.count why s new [] (early ++ late)) (sym (parts_with next))
-      (text_fails a.doer.drains d.text (m.unended.items ++ next) a.count m.count s between [] early first_text d.ended why new (early ++ late)
-      (fails_after (m.unended.items ++ next) why new late failed))
-
-  starved_after : (next : List ℕ) (new : State) (late : List ℕ) → StarvesAfter m.doer.drains (m.unended.items ++ next) between new [] late
-      → StarvesAfter a.doer.drains (a.unended.items ++ (bytes ++ next)) s new [] (early ++ late)
-  starved_after next new late some =
-      let second : ServesText a.doer.drains (m.unended.items ++ next) m.count (counted m.count (length (lines (m.unended.items ++ next)))) between
-      some.between early (early ++ some.then) =
-      record {
-        events = some.events;
-        told = some.told;
-        counted_is = refl;
-        done = subst (λ (before : List ℕ). Does a.doer.drains some.events between some.between (HasAnswered before (early ++ some.then)))
-            (append-nil early)
-            (does_after a.doer.drains some.events between some.between early [] some.then
-            (subst (λ (drains : Bool). Does drains some.events between some.between (HasAnswered [] some.then)) d.drains some.done));
-      } in
-      let both = texts_join a.doer.drains d.text (m.unended.items ++ next) a.count m.count s between [] early first_text d.ended _ some.between
-      (early ++ some.then) second in
-      record {
-        events = both.events;
-        told = ap events_in (parts_with next) ∙ both.told;
-        between = some.between;
-        then = early ++ some.then;
-        done = both.done;
-        given = some_after some.between new early some.then late some.given;
-      }
+      does_on a m n s between new [] early (early ++ late) bytes next d (does_later m between early next n new late e)
 
   -- where it stops for the next, it stops for both
   pub stops_join : (next : List ℕ) (left : Option (List ℕ)) (n : LineCodec) (new : State) (late : List ℕ) (why : ServeFault)
       → StopsLines m between next left n new late why → StopsLines a s (bytes ++ next) left n new (early ++ late) why
-  stops_join next left n new late (fault.Line number cause) stopped = text_stops next (fault.Line number cause) new late stopped
-  stops_join next left n new late fault.Read stopped =
-      let long : length (lines d.text) ≡ ends_in d.text = ends_before d.text [] d.ended refl ∙ ap ends_in (append-nil d.text) in
-      let count : length (lines d.text) + ends_in (m.unended.items ++ next) ≡ ends_in (a.unended.items ++ (bytes ++ next)) =
-      omega (arith, long, ends-append d.text (m.unended.items ++ next), ap ends_in (parts_with next)) in
-      subst (λ (k : ℕ). ServesFirst a.doer.drains (a.unended.items ++ (bytes ++ next)) k s new [] (early ++ late)) count
-      (subst (λ (text : List ℕ). ServesFirst a.doer.drains text (length (lines d.text) + ends_in (m.unended.items ++ next)) s new [] (early ++ late))
-      (sym (parts_with next))
-      (first_join a.doer.drains d.text (m.unended.items ++ next) a.count m.count s between [] early first_text d.ended
-      (ends_in (m.unended.items ++ next)) new (early ++ late)
-      (first_as (m.unended.items ++ next) (ends_in (m.unended.items ++ next)) new late stopped)))
-  stops_join next left n new late fault.Memory (inl starved) = inl (text_stops next fault.Memory new late starved)
-  stops_join next left n new late fault.Memory (inr (end, some)) = inr (end, starved_after next new late some)
-  stops_join next left n new late (fault.Stream cause) stopped = absurd stopped
-  stops_join next left n new late fault.Write stopped = absurd stopped
-  stops_join next left n new late fault.Save stopped = absurd stopped
-  stops_join next left n new late fault.Disk stopped = absurd stopped
+  stops_join next left n new late why stopped =
+      stops_on a m n s between new [] early (early ++ late) bytes next left why d (stops_later m between early next left n new late why stopped)
 
 -- ---- rounds
 

@@ -7,4 +7,5 @@ pub mod LineStream
 pub mod LineSteps
 pub mod LineLaws
 pub mod WholeLines
+pub mod Begun
 pub mod steps

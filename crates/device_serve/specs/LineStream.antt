@@ -131,16 +131,22 @@ pub record IsReady (codec : LineCodec) : Type 0 where
   pub few : codec.count ≤ 2 ^ 64 - 1
   pub room : length codec.doer.output.items ≡ MOST_TRANSFER
 
--- of what was unended and these bytes, a text of ended lines was served, and the rest is unended. The lines of the replies answer it
-pub record DoesLines (old : LineCodec) (s : State) (bytes : List ℕ) (new : LineCodec) (s' : State) (answers : List ℕ) : Type 0 where
+-- of what was unended and these bytes, a text of ended lines was served, and the rest is unended. After what was answered before come the
+-- lines of the replies
+pub record DoesLinesAfter (old : LineCodec) (s : State) (before bytes : List ℕ) (new : LineCodec) (s' : State) (after : List ℕ)
+    : Type 0 where
   pub text : List ℕ
   pub parts : old.unended.items ++ bytes ≡ text ++ new.unended.items
   pub ended : IsEnded text
   pub events : List Event
   pub told : events_in text ≡ Ok (map told_of events)
   pub counted_is : new.count ≡ counted old.count (length (lines text))
-  pub done : Does old.doer.drains events s s' (HasAnswered [] answers)
+  pub done : Does old.doer.drains events s s' (HasAnswered before after)
   pub drains : new.doer.drains ≡ old.doer.drains
+
+-- so it is where nothing was answered before
+abbrev pub DoesLines : LineCodec → State → List ℕ → LineCodec → State → List ℕ → Type 0
+DoesLines old s bytes new s' answers = DoesLinesAfter old s [] bytes new s' answers
 
 -- what is unended was served as the last line, and then the lowest active run was given turns until no run was left
 pub record EndsLines (old : LineCodec) (s : State) (new : LineCodec) (s' : State) (answers : List ℕ) : Type 0 where
@@ -163,6 +169,10 @@ StopsIn drains text before left fault.Memory old new first after =
 StopsIn drains text before left why old new first after = FailsIn drains text before why old new first after
 
 -- why what was unended and these bytes, of a stream of which this is left, were served no further
+abbrev pub StopsLinesAfter : LineCodec → State → List ℕ → List ℕ → Option (List ℕ) → LineCodec → State → List ℕ → ServeFault → Type 0
+StopsLinesAfter old s before bytes left new s' after why =
+    StopsIn old.doer.drains (old.unended.items ++ bytes) old.count left why s s' before after
+
+-- so it is where nothing was answered before
 abbrev pub StopsLines : LineCodec → State → List ℕ → Option (List ℕ) → LineCodec → State → List ℕ → ServeFault → Type 0
-StopsLines old s bytes left new s' answers why =
-    StopsIn old.doer.drains (old.unended.items ++ bytes) old.count left why s s' [] answers
+StopsLines old s bytes left new s' answers why = StopsLinesAfter old s [] bytes left new s' answers why

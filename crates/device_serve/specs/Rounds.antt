@@ -26,6 +26,14 @@ laid = flat_map (λ piece. piece)
 abbrev pub Doing : Type 0 → Type 1
 Doing C = C → State → List ℕ → C → State → List ℕ → Type 0
 
+-- the same after what was answered before, to which it adds
+abbrev pub Adding : Type 0 → Type 1
+Adding C = C → State → List ℕ → List ℕ → C → State → List ℕ → Type 0
+
+-- a round begins where nothing waits to be answered
+abbrev pub afresh : {C : Type 0} → Adding C → Doing C
+afresh adds = λ old s bytes new t answers. adds old s [] bytes new t answers
+
 -- the same at the end of the stream
 abbrev pub Ending : Type 0 → Type 1
 Ending C = C → State → C → State → List ℕ → Type 0
@@ -33,6 +41,24 @@ Ending C = C → State → C → State → List ℕ → Type 0
 -- the first of some bytes are done and answered so, of a stream of which this is left, and for this it stops there
 abbrev pub Stopping : Type 0 → Type 1
 Stopping C = C → State → List ℕ → Option (List ℕ) → C → State → List ℕ → ServeFault → Type 0
+
+-- the same after what was answered before
+abbrev pub StoppingOn : Type 0 → Type 1
+StoppingOn C = C → State → List ℕ → List ℕ → Option (List ℕ) → C → State → List ℕ → ServeFault → Type 0
+
+abbrev pub stops_afresh : {C : Type 0} → StoppingOn C → Stopping C
+stops_afresh stops = λ old s bytes left new t answers why. stops old s [] bytes left new t answers why
+
+-- what is done in two parts is done as a whole
+abbrev pub DoneInParts : {C : Type 0} → Adding C → Type 0
+DoneInParts {C = C} adds = (a b c : C) (s t u : State) (before then after first later : List ℕ)
+    → adds a s before first b t then → adds b t then later c u after → adds a s before (first ++ later) c u after
+
+-- and where it stops in the second part, it stops in the whole
+abbrev pub StoppedInParts : {C : Type 0} → Adding C → StoppingOn C → Type 0
+StoppedInParts {C = C} adds stops = (a b c : C) (s t u : State) (before then after first later : List ℕ) (left : Option (List ℕ))
+    (why : ServeFault) → adds a s before first b t then → stops b t then later left c u after why
+    → stops a s before (first ++ later) left c u after why
 
 -- a codec stops by itself, for what it reads or for memory: neither the output nor the disk has failed
 abbrev pub IsCodecs : ServeFault → Type 0

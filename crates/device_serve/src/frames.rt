@@ -7,11 +7,12 @@ mod turns;
 ghost use Rattle.std.specs.Prelude.{◌≡◌, ◌<◌, ◌≤◌, [], length, take, List, ℕ, Option, IfErr, IfOk, OnOk, None};
 ghost use Rattle.std.specs.Io.KnownBytes.{IsAtEnd};
 ghost use Rattle.nvme_entry.specs.declared.command.TheConstants.{MOST_TRANSFER};
+ghost use Rattle.device_serve.specs.Begun.{IsWithin};
 ghost use Rattle.device_serve.specs.FrameStream.{Does, Ends, IsReady, Stops, reader};
 ghost use Rattle.device_serve.specs.Rounds.{IsCodecs};
 ghost use Rattle.device_serve.specs.steps.FrameLaws.{no_memory, not_read, nothing_done};
 
-use crate::codec::Codec;
+use crate::codec::{Codec, MOST_WAITING};
 use crate::draining::end_runs;
 use crate::fault::ServeFault;
 use crate::frames::requests::do_request;
@@ -24,9 +25,6 @@ use durable_machine::Store;
 use event_frames::{Session, Taken};
 use nvme_entry::MOST_TRANSFER;
 use std::alloc::{AllocError, Global};
-
-/// How many bytes of answers wait at most before they are written. What answers one request may come after them.
-const MOST_WAITING: usize = 1 << 20;
 
 /// What a codec of frames needs memory for.
 #[derive(Drop)]
@@ -97,14 +95,16 @@ impl<K: Keep + Drop> FrameCodec<K> {
 impl<S: Store<FrameDevice> + Drop, K: Keep + Drop> Codec<S> for FrameCodec<K> {
     ghost is_ready = { λ c. IsReady K.is_ready (reader c.session c.turns c.ends_runs c.keeper) c.output.items };
 
-    ghost does = { λ c s bytes d t answers. Does K.has_kept K.becomes
-        (reader c.session c.turns c.ends_runs c.keeper) s [] bytes (reader d.session d.turns d.ends_runs d.keeper) t answers };
+    ghost does = { λ c s before bytes d t after. Does K.has_kept K.becomes
+        (reader c.session c.turns c.ends_runs c.keeper) s before bytes (reader d.session d.turns d.ends_runs d.keeper) t after };
 
     ghost ends = { λ c s d t answers. Ends K.has_kept K.becomes
         (reader c.session c.turns c.ends_runs c.keeper) s [] (reader d.session d.turns d.ends_runs d.keeper) t answers };
 
-    ghost stops = { λ c s bytes left d t answers why. Stops K.has_kept K.becomes
-        (reader c.session c.turns c.ends_runs c.keeper) s [] bytes left (reader d.session d.turns d.ends_runs d.keeper) t answers why };
+    ghost stops = { λ c s before bytes left d t after why. Stops K.has_kept K.becomes
+        (reader c.session c.turns c.ends_runs c.keeper) s before bytes left (reader d.session d.turns d.ends_runs d.keeper) t after why };
+
+    ghost within = { λ c. IsWithin (reader c.session c.turns c.ends_runs c.keeper) };
 
     fn take(
         &mut self,
@@ -123,7 +123,14 @@ impl<S: Store<FrameDevice> + Drop, K: Keep + Drop> Codec<S> for FrameCodec<K> {
         end(self, kept, answer)
     }
 
-    ghost stays = { λ c s ready. nothing_done K.has_kept K.becomes K.stays (reader c.session c.turns c.ends_runs c.keeper) s };
+    /// A stream that could end here holds nothing of a frame.
+    fn is_within(&self) -> bool {
+        self.session.end().is_err()
+    }
+
+    fn joins() {}
+
+    ghost stays = { λ c s ready. nothing_done K.has_kept K.becomes K.stays (reader c.session c.turns c.ends_runs c.keeper) s [] };
 
     ghost unread = { λ c s left ready.
         not_read K.has_kept K.becomes K.stays (reader c.session c.turns c.ends_runs c.keeper) s left ready.partial };
@@ -140,19 +147,20 @@ fn do_some<S: Store<FrameDevice> + Drop, K: Keep + Drop>(
 ) -> Result<usize, ServeFault>
     requires ready { IsReady K.is_ready (reader codec.old.session codec.old.turns codec.old.ends_runs codec.old.keeper)
         codec.old.output.items }
-    requires empty { answer.old.items ≡ [] }
     requires kept { S.keeps kept.old.device.value (S.waits kept.old.events) (S.disk kept.old.events) }
     ensures ready { IsReady K.is_ready (reader codec.new.session codec.new.turns codec.new.ends_runs codec.new.keeper)
         codec.new.output.items }
     ensures kept { S.keeps kept.new.device.value (S.waits kept.new.events) (S.disk kept.new.events) }
     ensures same { S.disk kept.new.events ≡ S.disk kept.old.events }
     ensures within { IfOk result (λ count. count ≤ length piece.now) }
-    ensures some { 0 < length piece.now → IfOk result (λ count. 0 < count) }
+    ensures some { length answer.old.items < MOST_WAITING → 0 < length piece.now → IfOk result (λ count. 0 < count) }
     ensures done { IfOk result (λ count. Does K.has_kept K.becomes
-        (reader codec.old.session codec.old.turns codec.old.ends_runs codec.old.keeper) kept.old.device.value [] (take count piece.now)
+        (reader codec.old.session codec.old.turns codec.old.ends_runs codec.old.keeper) kept.old.device.value answer.old.items
+        (take count piece.now)
         (reader codec.new.session codec.new.turns codec.new.ends_runs codec.new.keeper) kept.new.device.value answer.new.items) }
     ensures stopped { (left : Option (List ℕ)) → IfErr result (Stops K.has_kept K.becomes
-        (reader codec.old.session codec.old.turns codec.old.ends_runs codec.old.keeper) kept.old.device.value [] piece.now left
+        (reader codec.old.session codec.old.turns codec.old.ends_runs codec.old.keeper) kept.old.device.value answer.old.items
+        piece.now left
         (reader codec.new.session codec.new.turns codec.new.ends_runs codec.new.keeper) kept.new.device.value answer.new.items) }
     ensures codecs { IfErr result IsCodecs }
 {

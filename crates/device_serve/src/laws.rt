@@ -1,6 +1,6 @@
 //! What a crash leaves of a device that is served. The function does nothing: what it ensures is the law.
 
-ghost use Rattle.device_serve.specs.Rounds.{CrashLeavesRounds, Doing};
+ghost use Rattle.device_serve.specs.Rounds.{CrashLeavesRounds, afresh};
 
 use crate::codec::Codec;
 use durable_device::FrameDevice;
@@ -8,7 +8,7 @@ use durable_machine::Store;
 
 /// A crash at any moment leaves the device after the first of the rounds.
 pub fn crash_leaves_rounds<S: Store<FrameDevice> + Drop, C: Codec<S>>()
-    ensures { CrashLeavesRounds C.does S.told S.settled }
+    ensures { CrashLeavesRounds (afresh C.does) S.told S.settled }
 {
     S::rests();
 }

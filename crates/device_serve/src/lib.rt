@@ -14,9 +14,10 @@ mod line_events;
 pub mod line_laws;
 mod line_spelling;
 mod lines;
+mod round;
 mod stream;
 
-pub use codec::Codec;
+pub use codec::{Codec, MOST_WAITING};
 pub use fault::ServeFault;
 pub use frames::{FrameCodec, FrameStreamRoom};
 pub use keep::{Keep, KeepsNothing, NotKept};

@@ -2,11 +2,12 @@
 
 ghost use Rattle.std.specs.Prelude.{◌≡◌, ◌≤◌, ◌<◌, ◌-◌, ◌++◌, ◌^◌, ℕ, List, Option, [], drop, length, take, IfErr, IfOk, OnOk};
 ghost use Rattle.nvme_entry.specs.declared.command.TheConstants.{MOST_TRANSFER};
+ghost use Rattle.device_serve.specs.Begun.{IsWithinLine};
 ghost use Rattle.device_serve.specs.LineLaws.{lines_starve, lines_stay, lines_unread};
-ghost use Rattle.device_serve.specs.LineStream.{DoesLines, EndsLines, FailsIn, IsReady, StopsLines, ends_in};
+ghost use Rattle.device_serve.specs.LineStream.{DoesLinesAfter, EndsLines, FailsIn, IsReady, StopsLinesAfter, ends_in};
 ghost use Rattle.device_serve.specs.LineSteps.{ServesText};
 
-use crate::codec::Codec;
+use crate::codec::{Codec, MOST_WAITING};
 use crate::fault::ServeFault;
 use crate::kept::KeptDevice;
 use crate::line_events::LineDoer;
@@ -14,9 +15,6 @@ use durable_device::FrameDevice;
 use durable_machine::Store;
 use std::alloc::{AllocError, Global};
 use text_lines::cut;
-
-/// How many bytes of answers end a round.
-const ENOUGH: usize = 1 << 20;
 
 /// Reads the lines of a command file, which come in any pieces, and spells the line of each reply. Where it is asked for, turns are given
 /// after each event until no run is left, the run of the lowest number first, and the lines of the replies to these are spelled too. At the
@@ -59,21 +57,20 @@ impl LineCodec {
         answer: &mut Vec<u8>,
     ) -> Result<usize, ServeFault>
         requires ready { IsReady self.old }
-        requires empty { answer.old.items ≡ [] }
         requires kept { S.keeps kept.old.device.value (S.waits kept.old.events) (S.disk kept.old.events) }
         ensures ready { IsReady self.new }
         ensures kept { S.keeps kept.new.device.value (S.waits kept.new.events) (S.disk kept.new.events) }
         ensures same { S.disk kept.new.events ≡ S.disk kept.old.events }
         ensures within { IfOk result (λ count. count ≤ length piece.now) }
-        ensures some { IfOk result (λ count. count ≡ 0 → answer.new.items ≡ []) }
-        ensures unended { IfOk result (λ count. length answer.new.items < ENOUGH → ends_in (drop count piece.now) ≡ 0) }
-        ensures done { IfOk result (λ count. DoesLines self.old kept.old.device.value (take count piece.now)
+        ensures some { IfOk result (λ count. count ≡ 0 → answer.new.items ≡ answer.old.items) }
+        ensures unended { IfOk result (λ count. length answer.new.items < MOST_WAITING → ends_in (drop count piece.now) ≡ 0) }
+        ensures done { IfOk result (λ count. DoesLinesAfter self.old kept.old.device.value answer.old.items (take count piece.now)
             self.new kept.new.device.value answer.new.items) }
         ensures failed { IfErr result (λ fault. FailsIn self.old.doer.drains (self.old.unended.items ++ piece.now) self.old.count fault
-            kept.old.device.value kept.new.device.value [] answer.new.items) }
+            kept.old.device.value kept.new.device.value answer.old.items answer.new.items) }
     {
         let mut count = 0;
-        while answer.len() < ENOUGH {
+        while answer.len() < MOST_WAITING {
             let rest = &piece[count..];
             let Some((front, _)) = cut(rest, b'\n') else {
                 return Ok(count);
@@ -142,11 +139,13 @@ impl LineCodec {
 impl<S: Store<FrameDevice> + Drop> Codec<S> for LineCodec {
     ghost is_ready = { IsReady };
 
-    ghost does = { DoesLines };
+    ghost does = { DoesLinesAfter };
 
     ghost ends = { EndsLines };
 
-    ghost stops = { StopsLines };
+    ghost stops = { StopsLinesAfter };
+
+    ghost within = { IsWithinLine };
 
     ghost stays = { lines_stay };
 
@@ -161,7 +160,7 @@ impl<S: Store<FrameDevice> + Drop> Codec<S> for LineCodec {
         answer: &mut Vec<u8>,
     ) -> Result<usize, ServeFault> {
         let count = self.take_ended(kept, piece, answer)?;
-        if answer.len() >= ENOUGH {
+        if answer.len() >= MOST_WAITING {
             return Ok(count);
         }
         self.unended.extend_from_slice(&piece[count..])?;
@@ -178,4 +177,10 @@ impl<S: Store<FrameDevice> + Drop> Codec<S> for LineCodec {
         self.doer.drain(kept, answer)?;
         Ok(())
     }
+
+    fn is_within(&self) -> bool {
+        !self.unended.is_empty()
+    }
+
+    fn joins() {}
 }

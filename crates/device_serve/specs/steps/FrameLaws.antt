@@ -17,8 +17,8 @@ module _ {K : Type 0} (has_kept : K → K → ZonedNamespace → Type 0) (become
   same_stream : GoesOn has_kept becomes codec codec
   same_stream = record { turns = refl; ends_runs = refl; keeper = kept_stays codec.keeper }
 
-  pub nothing_done : Does has_kept becomes codec s [] [] codec s []
-  nothing_done = record {
+  pub nothing_done : (before : List ℕ) → Does has_kept becomes codec s before [] codec s before
+  nothing_done before = record {
     goes_on = same_stream;
     healthy = refl;
     steps = [];

@@ -1,4 +1,4 @@
-use Rattle.std.proofs.Common.{◌≡◌, ◌≤◌, ◌<◌, ◌-◌, zero, suc, [], List, ℕ, None, drop, length, take, refl, ap, subst, sym, ◌∙◌, arith}
+use Rattle.std.proofs.Common.{◌≡◌, ◌≤◌, ◌<◌, ◌-◌, zero, suc, List, ℕ, None, drop, length, take, refl, ap, subst, sym, ◌∙◌, arith}
 use Rattle.std.proofs.Math.Seq.{take-add}
 use Rattle.std.proofs.lemmas.List.{length-drop, take-append-drop, take_all}
 use Rattle.std.proofs.lemmas.Result.{err_from_is_err_and}
@@ -12,18 +12,17 @@ left_whole : (taken : ℕ) (piece : List ℕ) → take (length piece - taken) (d
 left_whole taken piece = take_all (length piece - taken) (drop taken piece) (omega (arith, length-drop taken piece))
 
 -- where much waits, some was taken
-some_taken : (taken : ℕ) (answer : List ℕ) → (taken ≡ 0 → answer ≡ []) → 1048576 ≤ length answer → 0 < taken
-some_taken zero answer none much = let empty : length answer ≡ 0 = ap length (none refl) in omega (arith, empty, much)
-some_taken (suc n) answer none much = omega arith
+some_taken : (taken : ℕ) (before answer : List ℕ) → (taken ≡ 0 → answer ≡ before) → length before < 1048576 → 1048576 ≤ length answer → 0 < taken
+some_taken zero before answer none few much = let same : length answer ≡ length before = ap length (none refl) in omega (arith, same, few, much)
+some_taken (suc n) before answer none few much = omega arith
 
 pub loop-taken-init : goal.loop-taken-init
 loop-taken-init g c =
     let codec = reader c.args.codec.now.session c.args.codec.now.turns c.args.codec.now.ends_runs c.args.codec.now.keeper in
     record {
-      done = subst (λ (x : List ℕ). Does g.K.Keep.has_kept g.K.Keep.becomes codec c.args.kept.now.device.value [] [] codec c.args.kept.now.device.value x)
-          (sym c.requires.empty) (nothing_done g.K.Keep.has_kept g.K.Keep.becomes g.met.K.Keep.stays codec c.args.kept.now.device.value);
+      done = nothing_done g.K.Keep.has_kept g.K.Keep.becomes g.met.K.Keep.stays codec c.args.kept.now.device.value c.args.answer.now.items;
       within = omega arith;
-      some = λ none. c.requires.empty;
+      some = λ none. refl;
       ready = c.requires.ready;
       kept = c.requires.kept;
       same = refl;
@@ -45,10 +44,10 @@ loop-taken-preserved g c =
     let some_left : 0 < length left = omega (arith, length-drop c.loop-taken.taken c.args.piece.now, c.loop-taken-test.true) in
     let some : 0 < c.in_ok-count.count = c.in_ok-count.ensures.some (subst (λ (rest : List ℕ). 0 < length rest) (sym (left_whole c.loop-taken.taken c.args.piece.now)) some_left) in
     record {
-      done = subst (λ (bytes : List ℕ). Does g.K.Keep.has_kept g.K.Keep.becomes first c.args.kept.now.device.value [] bytes then c.do_next.new.kept.device.value c.do_next.new.answer.items)
+      done = subst (λ (bytes : List ℕ). Does g.K.Keep.has_kept g.K.Keep.becomes first c.args.kept.now.device.value c.args.answer.now.items bytes then c.do_next.new.kept.device.value c.do_next.new.answer.items)
           (sym (take-add c.loop-taken.taken c.in_ok-count.count c.args.piece.now))
-          (does_on g.K.Keep.has_kept g.K.Keep.becomes g.met.K.Keep.joins first now c.args.kept.now.device.value c.loop-taken.kept.device.value []
-          c.loop-taken.answer.items (take c.loop-taken.taken c.args.piece.now) c.loop-taken.invariant.done then c.do_next.new.kept.device.value
+          (does_on g.K.Keep.has_kept g.K.Keep.becomes g.met.K.Keep.joins first now c.args.kept.now.device.value c.loop-taken.kept.device.value
+          c.args.answer.now.items c.loop-taken.answer.items (take c.loop-taken.taken c.args.piece.now) c.loop-taken.invariant.done then c.do_next.new.kept.device.value
           c.do_next.new.answer.items (take c.in_ok-count.count left) next);
       within = omega (arith, within, length-drop c.loop-taken.taken c.args.piece.now, c.loop-taken.invariant.within);
       some = λ none. absurd (omega (arith, none, some));
@@ -67,9 +66,9 @@ returns-in_err-count-clause-stopped g c = λ left.
     let u = c.do_next.new.kept.device.value in
     let why = c.in_err-count.field-0.0 in
     let p = err_from_is_err_and c.from_residual.result c.from_residual.ensures.1 in
-    rw (p.1, p.2) (subst (λ (bytes : List ℕ). Stops g.K.Keep.has_kept g.K.Keep.becomes first s [] bytes left then u c.do_next.new.answer.items why)
+    rw (p.1, p.2) (subst (λ (bytes : List ℕ). Stops g.K.Keep.has_kept g.K.Keep.becomes first s c.args.answer.now.items bytes left then u c.do_next.new.answer.items why)
     (take-append-drop c.loop-taken.taken c.args.piece.now)
-    (stops_on g.K.Keep.has_kept g.K.Keep.becomes g.met.K.Keep.joins first now s t [] c.loop-taken.answer.items (take c.loop-taken.taken c.args.piece.now)
+    (stops_on g.K.Keep.has_kept g.K.Keep.becomes g.met.K.Keep.joins first now s t c.args.answer.now.items c.loop-taken.answer.items (take c.loop-taken.taken c.args.piece.now)
     c.loop-taken.invariant.done then u c.do_next.new.answer.items (drop c.loop-taken.taken c.args.piece.now) left why
     (subst (λ (rest : List ℕ). Stops g.K.Keep.has_kept g.K.Keep.becomes now t c.loop-taken.answer.items rest left then u c.do_next.new.answer.items why)
     (left_whole c.loop-taken.taken c.args.piece.now) (c.in_err-count.ensures.stopped left))))
@@ -86,5 +85,6 @@ pub returns-in_err-count-clause-same : goal.returns-in_err-count-clause-same
 returns-in_err-count-clause-same g c = c.do_next.ensures.same ∙ c.loop-taken.invariant.same
 
 pub returns-else-len-lt-MOST_WAITING-clause-some : goal.returns-else-len-lt-MOST_WAITING-clause-some
-returns-else-len-lt-MOST_WAITING-clause-some g c = λ some.
-    some_taken c.loop-taken.taken c.loop-taken.answer.items c.loop-taken.invariant.some (omega (arith, c.if-len-lt-MOST_WAITING.false))
+returns-else-len-lt-MOST_WAITING-clause-some g c = λ few some.
+    some_taken c.loop-taken.taken c.args.answer.now.items c.loop-taken.answer.items c.loop-taken.invariant.some few
+    (omega (arith, c.if-len-lt-MOST_WAITING.false))

@@ -2,7 +2,7 @@ use Rattle.std.proofs.Common.{◌≡◌, OnOk, subst, sym, ◌≤◌, []}
 use Rattle.std.proofs.lemmas.Result.{IfErr-at_err, err_from_is_err_and}
 use Rattle.stored_file.specs.File.{LeavesOnly}
 use Rattle.durable_device.specs.Kept.{IsEither}
-use Rattle.device_serve.specs.Rounds.{IsCodecs}
+use Rattle.device_serve.specs.Rounds.{IsCodecs, afresh, stops_afresh}
 use Rattle.device_serve.specs.declared.fault.ServeFault.{ServeFault}
 use Rattle.device_serve.specs.declared.fault.ServeFault.TheVariants as fault
 use Rattle.device_serve.proofs.Serving.{begun_at_end, last_of, stops_answered, stops_unsent}
@@ -37,7 +37,7 @@ returns-in-Ok-clause-ended g c =
     subst (λ x. LeavesOnly (store.told x) (store.told e) (IsEither s t)) c.end-done.ensures.same
     (c.flush.ensures.any_moment s (subst (λ x. store.settled s x) (sym c.end-done.ensures.same) c.requires.settled)) in
     let done = subst (λ r. OnOk r (codec.ends c.args.codec.now s c.end-done.new.self t c.end-done.new.answer.items)) c.in-Ok.is c.end-done.ensures.done in
-    last_of codec.does store.told store.settled codec.ends c.end-done.new.answer.items c.args.codec.now c.end-done.new.self s t
+    last_of (afresh codec.does) store.told store.settled codec.ends c.end-done.new.answer.items c.args.codec.now c.end-done.new.self s t
     c.flush.new.kept.device.value (g.W.Write.contents c.args.out.now) (g.W.Write.contents c.flush.new.out) d e
     done c.flush.ensures.unchanged moments c.in_ok-flush.ensures.settled c.in_ok-flush.ensures.written
 
@@ -52,9 +52,9 @@ returns-in-Err-clause-stopped g c = λ left at_end.
     let moments : LeavesOnly (store.told d) (store.told e) (IsEither s t) =
     subst (λ x. LeavesOnly (store.told x) (store.told e) (IsEither s t)) c.end-done.ensures.same
     (c.flush.ensures.any_moment s (subst (λ x. store.settled s x) (sym c.end-done.ensures.same) c.requires.settled)) in
-    stops_answered codec.does store.told store.settled codec.ends codec.stops [] c.end-done.new.answer.items left c.args.codec.now c.end-done.new.self
+    stops_answered (afresh codec.does) store.told store.settled codec.ends (stops_afresh codec.stops) [] c.end-done.new.answer.items left c.args.codec.now c.end-done.new.self
     s t c.flush.new.kept.device.value (g.W.Write.contents c.args.out.now) (g.W.Write.contents c.flush.new.out) d e c.in-Err.fault
-    (IfErr-at_err (codec.stops c.args.codec.now s [] left c.end-done.new.self t c.end-done.new.answer.items) c.in-Err.is (c.end-done.ensures.stopped left at_end))
+    (IfErr-at_err (codec.stops c.args.codec.now s [] [] left c.end-done.new.self t c.end-done.new.answer.items) c.in-Err.is (c.end-done.ensures.stopped left at_end))
     c.flush.ensures.unchanged moments c.in_ok-flush.ensures.settled c.in_ok-flush.ensures.written
 
 pub returns-in_err-flush-clause-stopped : goal.returns-in_err-flush-clause-stopped
@@ -70,7 +70,7 @@ returns-in_err-flush-clause-stopped g c = λ left at_end.
     (c.flush.ensures.any_moment s (subst (λ x. store.settled s x) (sym c.end-done.ensures.same) c.requires.settled)) in
     let w = g.W.Write.contents c.args.out.now in
     let p = err_from_is_err_and c.from_residual.result c.from_residual.ensures.1 in
-    rw (p.1, p.2) (stops_unsent codec.does store.told store.settled codec.ends codec.stops [] c.end-done.new.answer.items left
+    rw (p.1, p.2) (stops_unsent (afresh codec.does) store.told store.settled codec.ends (stops_afresh codec.stops) [] c.end-done.new.answer.items left
     c.args.codec.now c.end-done.new.self s t c.flush.new.kept.device.value w w (g.W.Write.contents c.flush.new.out) w d d e d c.in_err-flush.field-0.0
-    (begun_at_end codec.does store.told store.settled codec.ends codec.stops c.end-done.new.answer.items left c.args.codec.now c.end-done.new.self s t w w d d c.end-done.result c.end-done.ensures.done (c.end-done.ensures.stopped left at_end))
+    (begun_at_end (afresh codec.does) store.told store.settled codec.ends (stops_afresh codec.stops) c.end-done.new.answer.items left c.args.codec.now c.end-done.new.self s t w w d d c.end-done.result c.end-done.ensures.done (c.end-done.ensures.stopped left at_end))
     c.flush.ensures.unchanged moments c.in_err-flush.ensures.unsent c.in_err-flush.ensures.on_disk)

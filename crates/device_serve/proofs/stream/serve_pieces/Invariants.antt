@@ -1,6 +1,6 @@
 use Rattle.std.proofs.Common.{◌≡◌, ◌≤◌, []}
 use Rattle.device_serve.specs.Rounds.{on}
-use Rattle.device_serve.proofs.Reading.{ReadSoFar}
+use Rattle.device_serve.specs.steps.UnderWay.{ReadSoFar}
 use Rattle.device_serve.proofs.stream.serve_pieces.Given as goal
 
 abbrev pub invariant-loop : goal.invariant-loop

@@ -1,4 +1,4 @@
-use Rattle.std.proofs.Common.{◌≡◌, ◌+◌, ◌-◌, ◌++◌, ◌∷◌, Bool, List, ℕ, [], None, drop, length, length-append, ap, subst, sym, take, arith, rules, ◌∙◌}
+use Rattle.std.proofs.Common.{◌≡◌, ◌+◌, ◌-◌, ◌++◌, ◌∷◌, Bool, List, ℕ, None, drop, length, length-append, ap, subst, sym, take, arith, rules, ◌∙◌}
 use Rattle.std.proofs.lemmas.List.{length-drop, take_rest}
 use Rattle.std.proofs.lemmas.Result.{err_from_is_err_and}
 use Rattle.text_lines.specs.Cut.{cut_at}
@@ -19,7 +19,7 @@ returns-in_default-clause-unended g c few =
 pub returns-in_default-clause-done : goal.returns-in_default-clause-done
 returns-in_default-clause-done g c =
     front_done c.args.self.now c.loop-rest.self c.args.kept.now.device.value c.loop-rest.kept.device.value c.args.piece.now c.loop-rest.count
-    c.loop-rest.answer.items c.loop-rest.invariant.served c.loop-rest.invariant.drains
+    c.args.answer.now.items c.loop-rest.answer.items c.loop-rest.invariant.served c.loop-rest.invariant.drains
 
 pub returns-in_err-serve_ended-clause-failed : goal.returns-in_err-serve_ended-clause-failed
 returns-in_err-serve_ended-clause-failed g c =
@@ -37,7 +37,7 @@ returns-in_err-serve_ended-clause-failed g c =
     let line = take (length front + 1) left in
     rw (p.1, p.2)
     (piece_fails first.doer.drains (first.unended.items ++ c.args.piece.now) old.self.unended.items rest front behind line first.count old.self.count
-    c.args.kept.now.device.value old.kept.device.value [] old.answer.items old.invariant.served cut (line_cut_off front behind left cut_left)
+    c.args.kept.now.device.value old.kept.device.value c.args.answer.now.items old.answer.items old.invariant.served cut (line_cut_off front behind left cut_left)
     c.in_err-serve_ended.field-0.0 new.kept.device.value new.answer.items
     (subst (λ (drains : Bool). FailsIn drains (old.self.unended.items ++ line) old.self.count c.in_err-serve_ended.field-0.0 old.kept.device.value
     new.kept.device.value old.answer.items new.answer.items) old.invariant.drains c.in_err-serve_ended.ensures.failed))
@@ -60,10 +60,10 @@ loop-rest-preserved g c =
     record {
       served =
           subst (λ (left : List ℕ). ServesPiece first.doer.drains (first.unended.items ++ all) (new.self.unended.items ++ left) first.count new.self.count
-          c.args.kept.now.device.value new.kept.device.value [] new.answer.items)
+          c.args.kept.now.device.value new.kept.device.value c.args.answer.now.items new.answer.items)
           (sym (line_taken all front behind old.count next cut (omega arith)))
           (piece_goes_on first.doer.drains (first.unended.items ++ all) old.self.unended.items rest front behind line first.count old.self.count
-          c.args.kept.now.device.value old.kept.device.value [] old.answer.items old.invariant.served cut (line_cut_off front behind left cut_left)
+          c.args.kept.now.device.value old.kept.device.value c.args.answer.now.items old.answer.items old.invariant.served cut (line_cut_off front behind left cut_left)
           new.self.unended.items new.self.count new.kept.device.value new.answer.items did.none
           (subst (λ (drains : Bool). ServesText drains (old.self.unended.items ++ line) old.self.count new.self.count old.kept.device.value
           new.kept.device.value old.answer.items new.answer.items) old.invariant.drains did.served));
@@ -78,4 +78,4 @@ loop-rest-preserved g c =
 pub returns-clause-done : goal.returns-clause-done
 returns-clause-done g c =
     front_done c.args.self.now c.loop-rest.self c.args.kept.now.device.value c.loop-rest.kept.device.value c.args.piece.now c.loop-rest.count
-    c.loop-rest.answer.items c.loop-rest.invariant.served c.loop-rest.invariant.drains
+    c.args.answer.now.items c.loop-rest.answer.items c.loop-rest.invariant.served c.loop-rest.invariant.drains
