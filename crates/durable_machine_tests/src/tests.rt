@@ -6,7 +6,7 @@ ghost use Rattle.durable_machine.specs.Seals.{events_of};
 ghost use Rattle.durable_machine_tests.specs.Number.{IsBaseOf, IsKept};
 
 use crate::Number;
-use durable_machine::{Durable, Fault, InFile, InMemory, Saves, Store, salvage};
+use durable_machine::{Durable, Fault, InFile, InMemory, Saves, Store};
 use std::alloc::{AllocError, Global};
 use std::test::Fail;
 use stored_file::{FileError, SECTOR, StoredFile, TearingFile};
@@ -113,7 +113,7 @@ fn each_batch_is_cut_off_at_each_moment(rt: HostRuntime) -> Result<(), Fail> {
     let alloc = rt.alloc();
     let first = created(alloc)?;
     let mut bytes = first.events.journal.file.bytes().to_vec(alloc)?;
-    for index in 0..4 {
+    for index in 0..6 {
         let mut store = opened(alloc, &bytes)?;
         let events = batch(alloc, index)?;
         let from = store.events.journal.file.moment();
@@ -246,188 +246,5 @@ fn what_no_sync_followed_is_torn(rt: HostRuntime) -> Result<(), Fail> {
         let left = file.crashed(alloc, file.moment(), seed)?;
         assert!(rt; left == new);
     }
-    Ok(())
-}
-
-/// The file of three batches of an event each, whose gates are at 1, 3 and 5 sectors, and the number to which they lead.
-fn three_batches(alloc: Global) -> Result<(Vec<u8>, Number), FileError> {
-    let mut store = created(alloc)?;
-    let mut batches = Vec::new(alloc);
-    for index in [1, 5, 9] {
-        batches.push(batch(alloc, index)?)?;
-    }
-    store.serve_all(alloc, &batches)?;
-    let bytes = store.events.journal.file.bytes().to_vec(alloc)?;
-    Ok((bytes, store.machine))
-}
-
-/// Bytes of which one is changed.
-fn changed(alloc: Global, bytes: &[u8], place: usize) -> Result<Vec<u8>, AllocError> {
-    let mut new = Vec::new(alloc);
-    for (index, byte) in bytes.iter().enumerate() {
-        new.push(if index == place { *byte ^ 0x40 } else { *byte })?;
-    }
-    Ok(new)
-}
-
-/// Bytes of which one is another.
-fn replaced(alloc: Global, bytes: &[u8], place: usize, is: u8) -> Result<Vec<u8>, AllocError> {
-    let mut new = Vec::new(alloc);
-    for (index, byte) in bytes.iter().enumerate() {
-        new.push(if index == place { is } else { *byte })?;
-    }
-    Ok(new)
-}
-
-/// Bytes of which those from one place up to another are 0.
-fn cleared(alloc: Global, bytes: &[u8], from: usize, to: usize) -> Result<Vec<u8>, AllocError> {
-    let mut new = Vec::new(alloc);
-    for (index, byte) in bytes.iter().enumerate() {
-        new.push(if from <= index && index < to {
-            0
-        } else {
-            *byte
-        })?;
-    }
-    Ok(new)
-}
-
-/// The bytes from one place up to another.
-fn part(alloc: Global, bytes: &[u8], from: usize, to: usize) -> Result<Vec<u8>, AllocError> {
-    let mut new = Vec::new(alloc);
-    for (index, byte) in bytes.iter().enumerate() {
-        if from <= index && index < to {
-            new.push(*byte)?;
-        }
-    }
-    Ok(new)
-}
-
-/// Where the opening of a file of these bytes finds damage, if it does.
-fn damage(alloc: Global, bytes: &[u8]) -> Option<usize> {
-    match opened(alloc, bytes) {
-        Err(Fault::Damaged(at)) => Some(at),
-        _ => None,
-    }
-}
-
-#[test]
-fn a_changed_byte_of_a_batch_is_damage(rt: HostRuntime) -> Result<(), Fail> {
-    let alloc = rt.alloc();
-    let (bytes, _) = three_batches(alloc)?;
-    for index in 0..3usize {
-        let gate = SECTOR + 2 * SECTOR * index;
-        // A seal takes 21 bytes, an event of one byte 10, and then comes a 0.
-        for place in 0..32usize {
-            let changed = changed(alloc, &bytes, gate + SECTOR + place)?;
-            assert_eq!(rt; damage(alloc, &changed), Some(gate));
-        }
-        let lost = cleared(alloc, &bytes, gate + SECTOR, gate + 2 * SECTOR)?;
-        assert_eq!(rt; damage(alloc, &lost), Some(gate));
-        let salvaged = salvage::<Number>(alloc, &lost)?;
-        assert_eq!(rt; salvaged.end, gate);
-        assert_eq!(rt; salvaged.whole, index);
-        assert_eq!(rt; salvaged.readable, 2 - index);
-    }
-    assert_eq!(rt; damage(alloc, &bytes), None);
-    Ok(())
-}
-
-#[test]
-fn a_changed_length_is_damage(rt: HostRuntime) -> Result<(), Fail> {
-    let alloc = rt.alloc();
-    let (bytes, _) = three_batches(alloc)?;
-    // The length before the first batch's event, and that of its events in their seal, made into others of one byte and of two.
-    for place in [22, 9] {
-        for length in [0, 1, 2, 9, 10, 11, 129, 255] {
-            let changed = replaced(alloc, &bytes, 2 * SECTOR + place, length)?;
-            let same = changed == bytes;
-            assert_eq!(rt; damage(alloc, &changed).is_none(), same);
-            let changed = replaced(alloc, &bytes, 2 * SECTOR + place + 1, length)?;
-            assert_eq!(rt; damage(alloc, &changed).is_none(), length == 0);
-        }
-    }
-    // The tag of an earlier version of the format: the seal is no event.
-    let unsealed = replaced(alloc, &bytes, 2 * SECTOR, 1)?;
-    assert_eq!(rt; damage(alloc, &unsealed), Some(SECTOR));
-    Ok(())
-}
-
-#[test]
-fn a_batch_at_another_place_is_damage(rt: HostRuntime) -> Result<(), Fail> {
-    let alloc = rt.alloc();
-    let (bytes, number) = three_batches(alloc)?;
-    let first = part(alloc, &bytes, 0, 3 * SECTOR)?;
-    let third = part(alloc, &bytes, 5 * SECTOR, bytes.len())?;
-    // The first batch stands a second time, where the second was.
-    let mut twice = first.as_slice().to_vec(alloc)?;
-    twice.extend_from_slice(&part(alloc, &bytes, SECTOR, 3 * SECTOR)?)?;
-    twice.extend_from_slice(&third)?;
-    assert_eq!(rt; damage(alloc, &twice), Some(3 * SECTOR));
-    // The second batch is missing.
-    let mut missing = first;
-    missing.extend_from_slice(&third)?;
-    assert_eq!(rt; damage(alloc, &missing), Some(3 * SECTOR));
-    // What stands after a batch's 0 doesn't count.
-    let after = changed(alloc, &bytes, 2 * SECTOR + 32)?;
-    assert!(rt; opened(alloc, &after)?.machine == number);
-    Ok(())
-}
-
-#[test]
-fn a_changed_last_gate_is_damage_before_more(rt: HostRuntime) -> Result<(), Fail> {
-    let alloc = rt.alloc();
-    let (bytes, number) = three_batches(alloc)?;
-    // Its sector alone is one that was being written.
-    let file = part(alloc, &bytes, 0, 8 * SECTOR)?;
-    let alone = changed(alloc, &file, 7 * SECTOR + 1)?;
-    assert!(rt; opened(alloc, &alone)?.machine == number);
-    // With room after it, no crash leaves it.
-    let mut longer = file;
-    longer.resize(10 * SECTOR, 0)?;
-    assert!(rt; opened(alloc, &longer)?.machine == number);
-    let gate = changed(alloc, &longer, 7 * SECTOR + 1)?;
-    assert_eq!(rt; damage(alloc, &gate), Some(7 * SECTOR));
-    let room = changed(alloc, &longer, 9 * SECTOR)?;
-    assert!(rt; opened(alloc, &room)?.machine == number);
-    Ok(())
-}
-
-#[test]
-fn a_gate_holds_while_one_byte_of_it_is_left(rt: HostRuntime) -> Result<(), Fail> {
-    let alloc = rt.alloc();
-    let (bytes, number) = three_batches(alloc)?;
-    for index in 0..3usize {
-        let gate = SECTOR + 2 * SECTOR * index;
-        let left = cleared(alloc, &bytes, gate, gate + SECTOR - 1)?;
-        assert!(rt; opened(alloc, &left)?.machine == number);
-    }
-    // Where all of the second is 0, the journal ends there as after a crash.
-    let shut = cleared(alloc, &bytes, 3 * SECTOR, 4 * SECTOR)?;
-    assert!(rt; opened(alloc, &shut)?.machine == Number { value: 1 });
-    Ok(())
-}
-
-#[test]
-fn a_journal_of_an_earlier_version_goes_on(rt: HostRuntime) -> Result<(), Fail> {
-    let alloc = rt.alloc();
-    let mut bytes = Vec::new(alloc);
-    for place in 0..4 * SECTOR {
-        // A gate, an event's first byte and its length, and the event.
-        let byte = match place.checked_sub(SECTOR) {
-            Some(0 | 4096 | 4097) => 1,
-            Some(4105) => 7,
-            _ => 0,
-        };
-        bytes.push(byte)?;
-    }
-    let mut store = opened(alloc, &bytes)?;
-    assert!(rt; store.machine == Number { value: 7 });
-    store.serve(alloc, &batch(alloc, 1)?)?;
-    let number = store.machine;
-    let sealed = store.events.journal.file.bytes().to_vec(alloc)?;
-    assert!(rt; opened(alloc, &sealed)?.machine == number);
-    let changed = changed(alloc, &sealed, 4 * SECTOR + 9)?;
-    assert_eq!(rt; damage(alloc, &changed), Some(3 * SECTOR));
     Ok(())
 }
