@@ -10,7 +10,7 @@ from typing import Iterator, List
 
 from help import Arg, Command, command_line, kept
 
-FILES = {"FILE", "IMAGE", "COMMANDS", "PROGRAM"}
+FILES = {"FILE", "IMAGE", "COMMANDS", "PROGRAM", "TO"}
 
 
 def options(command: Command) -> List[str]:

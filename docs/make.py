@@ -130,7 +130,7 @@ def proved(crate: str) -> str:
     rows: Dict[bool, List[Row]] = {True: [], False: []}
     for file in modules(root, source):
         module = file.relative_to(source).with_suffix("").parts[0]
-        whole, law = module in public or root.stem == "main", module == "laws"
+        whole, law = module in public or file == root or root.stem == "main", module == "laws"
         path = f"{module}::" if module in public and not law else ""
         rows[law].extend(promises(file, path, lambda name: whole or name in handed_on))
     return table("Law", rows[True]) + table("Function", rows[False])

@@ -4,7 +4,7 @@ _zscli() {
     case "$before" in
         --color) COMPREPLY=($(compgen -W "auto always never" -- "$word")); return ;;
         --state) COMPREPLY=($(compgen -W "all empty implicit explicit closed full readonly offline" -- "$word")); return ;;
-        --commands | --data | --image | --into | --output | --program) COMPREPLY=($(compgen -f -- "$word")); return ;;
+        --commands | --data | --image | --into | --output | --program | --salvage) COMPREPLY=($(compgen -f -- "$word")); return ;;
         --active | --argument | --block | --blocks | --capacity | --cid | --dwords | --emit | --from | --fuel | --function | --guard-at | --lba | --open | --profile | --queue | --size | --slot | --to | --zones) return ;;
     esac
     [ "$COMP_CWORD" -gt 1 ] && words+=" ${COMP_WORDS[1]}"
@@ -19,7 +19,7 @@ _zscli() {
         "zscli upgrade") commands="" options="--help" ;;
         "zscli exec") commands="" options="--profile --fail --stop --words --help" ;;
         "zscli serve") commands="" options="--frames --drain --durable --help" ;;
-        "zscli fold") commands="" options="--help" ;;
+        "zscli fold") commands="" options="--salvage --help" ;;
         "zscli asm") commands="" options="--help" ;;
         "zscli disasm") commands="" options="--slots --help" ;;
         "zscli link") commands="" options="--block --emit --profile --output --function --cut-loops --strict --guard-at --silent-guards --verbose --help" ;;

@@ -66,6 +66,7 @@ complete -c zscli -n '__zscli_begins serve' -l drain -d 'Gives the runs all of t
 complete -c zscli -n '__zscli_begins serve' -l durable -d 'Answers nothing before it is on the disk, by a journal in the image'\''s file'
 complete -c zscli -n '__zscli_begins serve' -l help -d 'Print help'
 complete -c zscli -n '__zscli_begins fold' -F
+complete -c zscli -n '__zscli_begins fold' -l salvage -r -F -d 'Makes a new file TO of the batches that are whole, and leaves IMAGE as it is'
 complete -c zscli -n '__zscli_begins fold' -l help -d 'Print help'
 complete -c zscli -n '__zscli_begins asm' -F
 complete -c zscli -n '__zscli_begins asm' -l help -d 'Print help'

@@ -113,6 +113,7 @@ _zscli_serve() {
 _zscli_fold() {
     _arguments \
         ':IMAGE:_files' \
+        '--salvage[Makes a new file TO of the batches that are whole, and leaves IMAGE as it is]:TO:_files' \
         '(- *)--help[Print help]'
 }
 

@@ -99,13 +99,17 @@ static void frames(void)
 
 static void geometries(void)
 {
-    unsigned char journal[25 + 24] = "ZNSJRN01", image[32] = "ZNSIMG02";
+    unsigned char journal[25 + 24] = "ZNSJRN01\1", labelled[42 + 24] = "ZNSJRN01\2\3\0\0\0\0\0\0\0\4", image[32] = "ZNSIMG02";
     for (unsigned char i = 0; i < 6; i++)
-        journal[25 + 4 * i] = image[8 + 4 * i] = (unsigned char)(i + 1);
+        labelled[42 + 4 * i] = journal[25 + 4 * i] = image[8 + 4 * i] = (unsigned char)(i + 1);
     struct pifnjarl_geometry of_image = pifnjarl_geometry_of(image, sizeof image), none = pifnjarl_geometry_of(image, 31);
     struct pifnjarl_geometry of_journal = pifnjarl_geometry_of(journal, sizeof journal);
+    struct pifnjarl_geometry of_labelled = pifnjarl_geometry_of(labelled, sizeof labelled);
+    struct pifnjarl_maker first = pifnjarl_maker_of(journal, sizeof journal), third = pifnjarl_maker_of(labelled, sizeof labelled);
     CHECK(of_image.block_bytes == 1 && of_image.zones == 2 && of_image.zone_blocks == 3 && of_image.zone_capacity == 4);
     CHECK(of_image.most_open == 5 && of_image.most_active == 6 && memcmp(&of_image, &of_journal, sizeof of_image) == 0);
+    CHECK(memcmp(&of_image, &of_labelled, sizeof of_image) == 0 && pifnjarl_geometry_of(labelled, 65).zones == 0);
+    CHECK(first.version == 1 && first.profile == 2 && third.version == 3 && third.profile == 4);
     CHECK(none.block_bytes == 0 && pifnjarl_geometry_of(NULL, 0).zones == 0 && pifnjarl_geometry_of(journal, 48).zones == 0);
 }
 

@@ -77,9 +77,12 @@ static enum pifnjarl_durable_result begin(struct pifnjarl_durable *device, const
     if (device->handle == NULL)
         return PIFNJARL_DURABLE_NO_MEMORY;
     size_t told = pifnjarl_opened(device->handle);
-    if (told != PIFNJARL_DONE)
-        return told == PIFNJARL_WANT_OF_MEMORY ? PIFNJARL_DURABLE_NO_MEMORY : PIFNJARL_DURABLE_NO_IMAGE;
-    return make_calls(device);
+    switch (told) {
+    case PIFNJARL_DONE: return make_calls(device);
+    case PIFNJARL_WANT_OF_MEMORY: return PIFNJARL_DURABLE_NO_MEMORY;
+    case PIFNJARL_OTHER_VERSION: return PIFNJARL_DURABLE_OTHER_VERSION;
+    default: return PIFNJARL_DURABLE_NO_IMAGE;
+    }
 }
 
 enum pifnjarl_durable_result pifnjarl_durable_open(const char *path, struct pifnjarl_durable **device)
@@ -158,6 +161,7 @@ const char *pifnjarl_durable_words(enum pifnjarl_durable_result result)
     case PIFNJARL_DURABLE_NO_ROOM: return "the new file can't be written";
     case PIFNJARL_DURABLE_CANNOT_WRITE: return "cannot write";
     case PIFNJARL_DURABLE_NO_FRAMES: return "no frames";
+    case PIFNJARL_DURABLE_OTHER_VERSION: return "a journal of another version of the device";
     }
     return "no result";
 }

@@ -24,7 +24,8 @@ enum pifnjarl_durable_result {
     PIFNJARL_DURABLE_NO_ROOM = 6,     /* the new file can't be written, as for want of room: nothing has changed, and the device is used on;
                                          errno says why */
     PIFNJARL_DURABLE_CANNOT_WRITE = 7, /* the file can't be written, or brought to the disk: errno tells why */
-    PIFNJARL_DURABLE_NO_FRAMES = 8     /* bytes are no frames: of the frames before them in this call none or some are kept */
+    PIFNJARL_DURABLE_NO_FRAMES = 8,    /* bytes are no frames: of the frames before them in this call none or some are kept */
+    PIFNJARL_DURABLE_OTHER_VERSION = 9 /* another version of the device made the journal: pifnjarl_maker_of says which, by its first bytes */
 };
 /* After FAILED, CANNOT_WRITE, NO_FRAMES, and after NO_MEMORY of serve, the device does nothing any more: close it, and open it again. What
    was told as done before is there. After NO_MEMORY of fold nothing has changed, and the device is used on. */

@@ -272,6 +272,25 @@ static inline struct pifnjarl_zone pifnjarl_report_zone(const void *report, size
     return zone;
 }
 
+/* ---- what a file begins with */
+
+/* Who made a journal: the version of the device's meaning, and the profile by which its Load accepts programs. */
+struct pifnjarl_maker {
+    uint64_t version;
+    uint64_t profile;
+};
+
+/* Who made the journal that begins with these bytes. One without a label is of version 1, with profile 2. */
+static inline struct pifnjarl_maker pifnjarl_maker_of(const void *journal, size_t journal_bytes)
+{
+    struct pifnjarl_maker maker = {1, 2};
+    if (journal_bytes < 25 || pifnjarl_get(journal, 8, 1) != 2)
+        return maker;
+    maker.version = pifnjarl_get(journal, 9, 8);
+    maker.profile = pifnjarl_get(journal, 17, 8);
+    return maker;
+}
+
 /* ---- geometry */
 
 struct pifnjarl_geometry {
@@ -287,7 +306,9 @@ struct pifnjarl_geometry {
 static inline struct pifnjarl_geometry pifnjarl_geometry_of(const void *image, size_t image_bytes)
 {
     struct pifnjarl_geometry geometry = {0, 0, 0, 0, 0, 0};
-    size_t at = image_bytes > 4 && pifnjarl_get(image, 3, 1) == 'J' ? 17 + 8 : 8; /* ZNSJRN01, or ZNSIMG01 */
+    size_t at = 8; /* after ZNSIMG01 or ZNSIMG02 */
+    if (image_bytes > 8 && pifnjarl_get(image, 3, 1) == 'J')
+        at += pifnjarl_get(image, 8, 1) == 2 ? 34 : 17; /* after ZNSJRN01 a label, or none, and the image's length */
     if (image_bytes < at + 24)
         return geometry;
     geometry.block_bytes = (uint32_t)pifnjarl_get(image, at, 4);

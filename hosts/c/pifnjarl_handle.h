@@ -48,6 +48,7 @@ enum pifnjarl_door {
 /* why nothing is behind a handle, beside PIFNJARL_WANT_OF_MEMORY and the numbers of an image's faults */
 #define PIFNJARL_DAMAGED 40 /* the file is a journal that no crash leaves */
 #define PIFNJARL_NO_DOOR 41
+#define PIFNJARL_OTHER_VERSION 42 /* another version of the device made the journal: pifnjarl_maker_of says which */
 
 enum pifnjarl_asked {
     PIFNJARL_ASK_OPENED = 0, /* what opening came to: PIFNJARL_DONE, or why nothing is behind the handle */

@@ -43,7 +43,7 @@ numbers_agree() {
     {
         sed -n 's/^ *PIFNJARL_\([A-Z_]*\) = \([0-9]*\).*/\1 \2/p' "$here/pifnjarl_device.h" | grep -v -e NULL_POINTER -e CANNOT_
         cat "$here/pifnjarl_device.h" "$here/pifnjarl_handle.h" |
-            sed -n 's/^#define PIFNJARL_\(NO_RUN\|DAMAGED\|NO_DOOR\) *\([0-9]*\).*/\1 \2/p'
+            sed -n 's/^#define PIFNJARL_\(NO_RUN\|DAMAGED\|NO_DOOR\|OTHER_VERSION\) *\([0-9]*\).*/\1 \2/p'
     } | sort | diff "$work/law" -
 }
 

@@ -11,6 +11,7 @@
 #include <arpa/inet.h>
 #include <errno.h>
 #include <fcntl.h>
+#include <inttypes.h>
 #include <limits.h>
 #include <netinet/in.h>
 #include <netinet/tcp.h>
@@ -67,10 +68,15 @@ static void complain_of_call(const char *what, const char *name)
     complain(what, name, strerror(errno));
 }
 
-/* Why there is no target. */
-static const char *opening_fault(size_t opened)
+/* Why there is no target on these bytes. */
+static void complain_of_opening(const char *name, size_t opened, struct pifnjarl_maker maker)
 {
-    return opened == PIFNJARL_DAMAGED ? "it is a journal that is damaged" : pifnjarl_words((enum pifnjarl_result)opened);
+    char other[100];
+    snprintf(other, sizeof other, "made by version %" PRIu64 " of the device (profile %" PRIu64 "); open it with that", maker.version, maker.profile);
+    complain("cannot serve", name,
+             opened == PIFNJARL_OTHER_VERSION ? other
+             : opened == PIFNJARL_DAMAGED     ? "it is a journal that is damaged"
+                                              : pifnjarl_words((enum pifnjarl_result)opened));
 }
 
 /* ---- the image */
@@ -135,12 +141,13 @@ static unsigned char *open_target(struct image *image)
     unsigned char *target = malloc(pifnjarl_handle_bytes());
     if (target != NULL)
         pifnjarl_handle_open(target, image->is_durable ? PIFNJARL_OPEN_TARGET_FILE : PIFNJARL_OPEN_TARGET, bytes, count);
+    struct pifnjarl_maker maker = pifnjarl_maker_of(bytes, count);
     free(bytes);
     size_t opened = target == NULL ? PIFNJARL_WANT_OF_MEMORY : pifnjarl_opened(target);
     if (opened == PIFNJARL_DONE && make_calls(target, image))
         return target;
     if (opened != PIFNJARL_DONE)
-        complain("cannot serve", image->kept.path, opening_fault(opened));
+        complain_of_opening(image->kept.path, opened, maker);
     if (target != NULL)
         pifnjarl_handle_end(target);
     free(target);

@@ -675,10 +675,11 @@ class Geometry(NamedTuple):
 
 
 def _geometry(image: FilePath) -> Geometry:
-    """The numbers of an image file, which stand behind its first 8 bytes; a journal has its image behind 17 bytes more."""
+    """The numbers of an image file, which are after its first 8 bytes; a journal has its image after 34 bytes more, or 17 without a label."""
     with open(image, "rb") as file:
-        front = file.read(49)
-    return Geometry(*struct.unpack_from("<8x6I", front, 17 if front.startswith(b"ZNSJRN01") else 0))
+        front = file.read(66)
+    before = 34 if front.startswith(b"ZNSJRN01\2") else 17 if front.startswith(b"ZNSJRN01") else 0
+    return Geometry(*struct.unpack_from("<8x6I", front, before))
 
 
 def format_image(

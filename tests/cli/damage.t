@@ -1,10 +1,11 @@
-What a journal says of bytes that changed on the disk (docs/durability.md): a report with the byte of a gate, and the file as it was.
+What is said of a journal whose bytes changed on the disk (docs/durability.md): the byte of a gate, how many batches are whole before it and
+after it, and the file stays as it was. salvage.t has what can be saved.
 
   $ zeros() { head -c "$1" /dev/zero; }
   $ ones() { zeros "$1" | tr '\0' '\1'; }
   $ part() { tail -c +$(($1 + 1)) journal | head -c $(($2 - $1)); }
   $ with() { part 0 "$1"; printf "$2"; tail -c +$(($1 + 2)) journal; }
-  $ said() { cp image before; zscli zones image 2>&1 | sed -n '1p;$p'; cmp image before; }
+  $ said() { cp image before; zscli zones image 2>&1 | sed -n '1{s/; .zscli.*//;p};$p'; cmp image before; }
 
 A journal of three batches of one Append each: a base, and gates at 4096, 12288 and 20480; the closed gate at 28672.
 
@@ -22,10 +23,10 @@ bytes, and the first 0 after it. The event is longer by one byte, or by as many 
 
   $ damage() { with "$1" "$2" > image; said; }
   $ for it in 0 1 9 17 21 22 30 300 622; do damage $((16384 + it)) '\177'; done | sort | uniq -c | sed 's/^ *//'
-  9 image, byte 12288: an open gate, and no whole batch of events after it
+  9 image: damaged at byte 12288: batches up to number 1 are whole, 1 after it are readable
   9 journal refused 12288
   $ for it in '\121' '\17' '\0'; do damage 16406 "$it"; done | sort -u
-  image, byte 12288: an open gate, and no whole batch of events after it
+  image: damaged at byte 12288: batches up to number 1 are whole, 1 after it are readable
   journal refused 12288
 
 Where all eight bits of a tag change, the seal is read as an event of an earlier version, which is none.
@@ -38,15 +39,15 @@ A batch stands where another was, or is missing, or was lost and is read as zero
 
   $ { part 0 12288; part 4096 12288; part 20480 32768; } > image
   $ said
-  image, byte 12288: an open gate, and no whole batch of events after it
+  image: damaged at byte 12288: batches up to number 1 are whole, 1 after it are readable
   journal refused 12288
   $ { part 0 12288; part 20480 32768; } > image
   $ said
-  image, byte 12288: an open gate, and no whole batch of events after it
+  image: damaged at byte 12288: batches up to number 1 are whole, 0 after it are readable
   journal refused 12288
   $ { part 0 16384; zeros 4096; part 20480 32768; } > image
   $ said
-  image, byte 12288: an open gate, and no whole batch of events after it
+  image: damaged at byte 12288: batches up to number 1 are whole, 1 after it are readable
   journal refused 12288
 
 Of an open gate one byte is left: the batch counts. All of it is 0: the journal ends there, as after a crash.
@@ -69,7 +70,7 @@ a batch don't count.
   0 implicit 3
   $ { with 28673 '\1'; zeros 4096; } > image
   $ said
-  image, byte 28672: an open gate, and no whole batch of events after it
+  image: damaged at byte 28672: batches up to number 3 are whole, 0 after it are readable
   journal refused 28672
   $ { cat journal; ones 4096; } > image
   $ said
@@ -78,3 +79,15 @@ a batch don't count.
   $ damage 17007 '\1'
   0 implicit 3
   0 implicit 3
+
+The label of the base changes: its version, its profile, and the 2 before them, without which it is no label.
+
+  $ damage 9 '\2'
+  image, byte 0: made by version 2 of the device (profile 2); open it with that
+  journal refused 0
+  $ damage 17 '\3'
+  image, byte 0: made by version 1 of the device (profile 3); open it with that
+  journal refused 0
+  $ damage 8 '\3'
+  image, byte 0: no whole base of a device
+  journal refused 0

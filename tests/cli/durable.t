@@ -6,12 +6,13 @@ words, by frames.py.
   $ serve() { frames make > asked; zscli serve image --durable --frames < asked > answered; }
   $ answers() { frames show < answered; }
 
-The parts of a journal (docs/durability.md): the base of the empty image, of 96 bytes; a batch, which is an open gate, a seal and events;
-a closed gate.
+The parts of a journal (docs/durability.md): the base of the empty image, of 96 bytes, labelled with version 1 and profile 2; a
+batch, which is an open gate, a seal and events; a closed gate.
 
   $ zeros() { head -c "$1" /dev/zero; }
   $ nothing() { for it in $(seq "$1"); do printf '\1\0\0\0\0\0\0\0\0'; done; }
-  $ base() { printf 'ZNSJRN01\1\140\0\0\0\0\0\0\0'; cat empty; nothing 16; zeros 3839; }
+  $ label() { printf '\2\1\0\0\0\0\0\0\0\2\0\0\0\0\0\0\0'; }
+  $ base() { printf ZNSJRN01; label; printf '\1\140\0\0\0\0\0\0\0'; cat empty; nothing 16; zeros 3822; }
   $ gate() { zeros 4096 | tr '\0' '\1'; }
   $ sealed() { python3 "$TESTDIR/journal.py" "$1"; }
   $ fresh
@@ -156,7 +157,7 @@ A damaged journal, a file that is no image, and one that isn't there, are refuse
   $ { base; gate; zeros 4096 | tr '\0' '\2'; } > damaged
   $ cp damaged image
   $ serve < append
-  image, byte 4096: an open gate, and no whole batch of events after it
+  image: damaged at byte 4096: batches up to number 0 are whole, 0 after it are readable; `zscli fold IMAGE --salvage TO` saves the whole ones
   journal refused 4096
   [3]
   $ answers
@@ -164,11 +165,11 @@ A damaged journal, a file that is no image, and one that isn't there, are refuse
   $ { head -c 8700 journal; printf C; tail -c +8702 journal; } > changed
   $ cp changed image
   $ serve < append
-  image, byte 4096: an open gate, and no whole batch of events after it
+  image: damaged at byte 4096: batches up to number 0 are whole, 0 after it are readable; `zscli fold IMAGE --salvage TO` saves the whole ones
   journal refused 4096
   [3]
   $ cmp image changed
-  $ { printf 'ZNSJRN01\2'; tail -c +10 journal; } > no_base
+  $ { printf 'ZNSJRN01\3'; tail -c +10 journal; } > no_base
   $ cp no_base image
   $ serve < append
   image, byte 0: no whole base of a device
@@ -190,6 +191,40 @@ A damaged journal, a file that is no image, and one that isn't there, are refuse
   $ ls none
   ls: cannot access 'none': No such file or directory
   [2]
+
+A journal that another version of the device made, or one with another profile, is refused by name, and left alone.
+
+  $ { printf 'ZNSJRN01\2\2'; tail -c +11 journal; } > version_2
+  $ cp version_2 image
+  $ serve < append
+  image, byte 0: made by version 2 of the device (profile 2); open it with that
+  journal refused 0
+  [3]
+  $ answers
+  $ zscli fold image
+  image, byte 0: made by version 2 of the device (profile 2); open it with that
+  journal refused 0
+  [3]
+  $ cmp image version_2
+  $ { head -c 17 journal; printf '\3'; tail -c +19 journal; } > profile_3
+  $ cp profile_3 image
+  $ serve < append
+  image, byte 0: made by version 1 of the device (profile 3); open it with that
+  journal refused 0
+  [3]
+  $ cmp image profile_3
+
+One without a label is of version 1, and goes on without; `fold` writes the label.
+
+  $ bare() { printf 'ZNSJRN01\1\140\0\0\0\0\0\0\0'; cat empty; nothing 16; zeros 3839; }
+  $ { bare; gate; event; zeros 3495; zeros 4096; } > unlabelled
+  $ cp unlabelled image
+  $ serve < read
+  $ answers
+  cpl 1 00000000000000000000010002000000 42x512
+  $ cmp image unlabelled
+  $ zscli fold image
+  $ { printf ZNSJRN01; label; } | cmp -n 25 - image
 
 Only events that changed the device are in a journal. One that changes nothing when it is done again, as this Read, is refused with its
 byte; so is one after others.
@@ -286,16 +321,17 @@ A run over the second block ends, and one over both has had one of two turns, wh
 sum and the record that waits; and an end. A file that is folded stays as it is.
 
   $ zscli fold image
-  $ od -A d -t x1 -N 17 image
-  0000000 5a 4e 53 4a 52 4e 30 31 01 60 06 00 00 00 00 00
-  0000016 00
-  0000017
-  $ od -A d -t x1 -j 81 -N 32 image
-  0000081 02 00 00 00 02 00 00 00 03 00 00 00 01 00 00 00
-  0000097 01 00 00 00 00 00 00 00 01 00 00 00 00 00 00 00
-  0000113
+  $ od -A d -t x1 -N 34 image
+  0000000 5a 4e 53 4a 52 4e 30 31 02 01 00 00 00 00 00 00
+  0000016 00 02 00 00 00 00 00 00 00 01 60 06 00 00 00 00
+  0000032 00 00
+  0000034
+  $ od -A d -t x1 -j 98 -N 32 image
+  0000098 02 00 00 00 02 00 00 00 03 00 00 00 01 00 00 00
+  0000114 01 00 00 00 00 00 00 00 01 00 00 00 00 00 00 00
+  0000130
   $ entry() { printf '\300\0\5\0\1\0\0\0'; zeros 32; printf '\0\0\0\0\0\0\0\0\1\0\0\0\0\0\0\0\10\0\0\0\0\0\0\0'; }
-  $ { printf 'ZNSJRN01\1\140\6\0\0\0\0\0\0'
+  $ { printf ZNSJRN01; label; printf '\1\140\6\0\0\0\0\0\0'
   >   head -c 32 empty; printf '\3'; zeros 31
   >   printf '\2\0\0\0\2\0\0\0\3\0\0\0\1\0\0\0\1\0\0\0\0\0\0\0\1\0\0\0\0\0\0\0'
   >   cat block_of_a block; printf '\10\0BBBBBBBB'; zeros 502
@@ -303,7 +339,7 @@ sum and the record that waits; and an end. A file that is folded stays as it is.
   >   nothing 7
   >   printf '\1\130\4\0\0\0\0\0\0\1\0'; entry; printf '\1\0\0\0\1\0\0\0\0\0\0\0A'; zeros 1023; printf '\10\0AAAAAAAA'
   >   nothing 7
-  >   zeros 91; zeros 4096; } > folded
+  >   zeros 74; zeros 4096; } > folded
   $ cmp image folded
   $ zscli fold image
   $ cmp image folded
@@ -349,7 +385,7 @@ An image that is no journal stays as it is, and a damaged journal is refused, an
   $ cmp image empty
   $ cp damaged image
   $ zscli fold image
-  image, byte 4096: an open gate, and no whole batch of events after it
+  image: damaged at byte 4096: batches up to number 0 are whole, 0 after it are readable; `zscli fold IMAGE --salvage TO` saves the whole ones
   journal refused 4096
   [3]
   $ cmp image damaged

@@ -128,19 +128,19 @@ A journal with an open gate and no whole batch after it, which no crash leaves, 
   $ head -c 4096 /dev/zero | tr '\0' '\2' >> damaged
   $ cp damaged image
   $ refused zones image
-  image, byte 4096: an open gate, and no whole batch of events after it
+  image: damaged at byte 4096: batches up to number 0 are whole, 0 after it are readable; `zscli fold IMAGE --salvage TO` saves the whole ones
   journal refused 4096
   [3]
   $ refused exec image events
-  image, byte 4096: an open gate, and no whole batch of events after it
+  image: damaged at byte 4096: batches up to number 0 are whole, 0 after it are readable; `zscli fold IMAGE --salvage TO` saves the whole ones
   journal refused 4096
   [3]
   $ refused upgrade image
-  image, byte 4096: an open gate, and no whole batch of events after it
+  image: damaged at byte 4096: batches up to number 0 are whole, 0 after it are readable; `zscli fold IMAGE --salvage TO` saves the whole ones
   journal refused 4096
   [3]
   $ refused serve image < events
-  image, byte 4096: an open gate, and no whole batch of events after it
+  image: damaged at byte 4096: batches up to number 0 are whole, 0 after it are readable; `zscli fold IMAGE --salvage TO` saves the whole ones
   journal refused 4096
   [3]
   $ cmp image damaged
@@ -165,7 +165,37 @@ A file that begins as a journal, and has no base, has its fault at the front.
   [3]
   $ cmp image no_base
 
-So has one that is cut within its first bytes; a file that is cut and begins otherwise is an image.
+One that another version of the device made, or one with another profile, is refused by name.
+
+  $ { printf 'ZNSJRN01\2\2'; tail -c +11 journal; } > version_2
+  $ cp version_2 image
+  $ refused zones image
+  image, byte 0: made by version 2 of the device (profile 2); open it with that
+  journal refused 0
+  [3]
+  $ refused report image
+  image, byte 0: made by version 2 of the device (profile 2); open it with that
+  journal refused 0
+  [3]
+  $ refused entries words --image image
+  image, byte 0: made by version 2 of the device (profile 2); open it with that
+  journal refused 0
+  [3]
+  $ refused exec image events
+  image, byte 0: made by version 2 of the device (profile 2); open it with that
+  journal refused 0
+  [3]
+  $ refused upgrade image
+  image, byte 0: made by version 2 of the device (profile 2); open it with that
+  journal refused 0
+  [3]
+  $ refused serve image < events
+  image, byte 0: made by version 2 of the device (profile 2); open it with that
+  journal refused 0
+  [3]
+  $ cmp image version_2
+
+A journal without a base has its fault there too if it is cut within its first bytes; a file that is cut and begins otherwise is an image.
 
   $ head -c 40 journal > image
   $ refused zones image

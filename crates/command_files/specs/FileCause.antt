@@ -1,7 +1,7 @@
 -- Why a file can't be read or written.
 use Rattle.std.specs.Prelude.{ℕ, List, [], codes}
 use Rattle.command_files.specs.declared.file_cause.FileCause.{FileCause}
-use Rattle.command_files.specs.declared.file_cause.FileCause.TheVariants.{NotFound, PermissionDenied, NotADirectory, IsADirectory, ReadOnlyFilesystem, NoRoom, NoNewFile, TooLarge, LargerThan, ReadBefore, InUse, NotOrdinary, Other}
+use Rattle.command_files.specs.declared.file_cause.FileCause.TheVariants.{NotFound, PermissionDenied, NotADirectory, IsADirectory, ReadOnlyFilesystem, NoRoom, NoNewFile, TooLarge, LargerThan, ReadBefore, InUse, Exists, NotOrdinary, Other}
 
 -- what a user is told of the file (profile)
 abbrev pub cause_words : FileCause → List ℕ
@@ -15,6 +15,7 @@ cause_words NoNewFile = codes "no new file can be written beside it, as where no
 cause_words TooLarge = codes "too large for the file system, or for a limit of the user"
 cause_words ReadBefore = codes "standard input was read already"
 cause_words InUse = codes "in use by another command"
+cause_words Exists = codes "it has bytes already, and isn't replaced"
 cause_words NotOrdinary = codes "not an ordinary file"
 cause_words (LargerThan mebibytes) = []
 cause_words Other = []

@@ -18,6 +18,8 @@ use Rattle.image_store.specs.declared.geometry.GeometryRefusal.{GeometryRefusal}
 use Rattle.command_files.specs.DataFault.{data_number}
 use Rattle.command_files.specs.FileCause.{cause_words}
 use Rattle.command_files.specs.JournalFault.{fault_words}
+use Rattle.command_files.specs.declared.journal_fault.JournalFault.{JournalFault}
+use Rattle.command_files.specs.declared.journal_fault.JournalFault.TheVariants.{Damaged}
 use Rattle.command_files.specs.Shown.{shown}
 use Rattle.command_files.specs.declared.data_fault.DataFault.{DataFault}
 use Rattle.command_files.specs.declared.failure.Failure.{Failure}
@@ -122,9 +124,21 @@ abbrev pub journal_behind : ℕ → List ℕ
 journal_behind place = codes "journal refused " ++ decimal place
 
 -- a journal of which these words say what is wrong there
-abbrev pub journal_text : List ℕ → ℕ → List ℕ → Text
-journal_text path place words =
-    Said (path ++ codes ", byte " ++ decimal place ++ codes ": " ++ words ++ 10 ∷ journal_behind place ++ 10 ∷ [])
+abbrev pub journal_line : List ℕ → ℕ → List ℕ → List ℕ
+journal_line path place words = path ++ codes ", byte " ++ decimal place ++ codes ": " ++ words ++ 10 ∷ journal_behind place ++ 10 ∷ []
+
+-- a journal that is damaged there, with these words of what can be read
+abbrev pub damage_line : List ℕ → ℕ → List ℕ → List ℕ
+damage_line path place words =
+    path ++ codes ": damaged at byte " ++ decimal place ++ codes ": " ++ words ++ 10 ∷ journal_behind place ++ 10 ∷ []
+
+-- a journal with this fault there
+abbrev pub journal_told : List ℕ → ℕ → JournalFault → List ℕ
+journal_told path place (Damaged whole readable) = damage_line path place (fault_words (Damaged whole readable))
+journal_told path place fault = journal_line path place (fault_words fault)
+
+abbrev pub journal_text : List ℕ → ℕ → JournalFault → Text
+journal_text path place fault = Said (journal_told path place fault)
 
 -- a journal whose device has more than an image keeps
 abbrev pub device_text : List ℕ → Text
@@ -193,7 +207,7 @@ failure_text (GeometryRefused refusal) = geometry_text refusal
 failure_text (NotABlock path bytes) = not_a_block_text (shown path.now) bytes
 failure_text (EmitExceedsBlock emit block) = emit_text emit block
 failure_text (ImageRefused path fault) = image_text (shown path.now) fault
-failure_text (JournalRefused path place fault) = journal_text (shown path.now) place (fault_words fault)
+failure_text (JournalRefused path place fault) = journal_text (shown path.now) place fault
 failure_text (DeviceRefused path) = device_text (shown path.now)
 failure_text (AssemblyRefused path refusal) = assembly_text (shown path.now) refusal
 failure_text (ProgramRefused path refusal) = program_text (shown path.now) refusal

@@ -28,6 +28,8 @@ pub enum FileCause {
     ReadBefore,
     /// Another command works on the file.
     InUse,
+    /// A new file isn't made of this name, since a file with bytes has it.
+    Exists,
     /// The name is that of a device, a pipe or a socket, or of another thing that holds no bytes.
     NotOrdinary,
     /// Another one, or none that is told.
@@ -51,6 +53,7 @@ impl FileCause {
             FileCause::TooLarge => "too large for the file system, or for a limit of the user",
             FileCause::ReadBefore => "standard input was read already",
             FileCause::InUse => "in use by another command",
+            FileCause::Exists => "it has bytes already, and isn't replaced",
             FileCause::NotOrdinary => "not an ordinary file",
             FileCause::LargerThan(_) | FileCause::Other => "",
         }

@@ -2,11 +2,13 @@
 
 ghost use Rattle.std.specs.Prelude.{◌≡◌, ◌∷◌, ◌++◌, [], Some, OnOk};
 ghost use Rattle.std.specs.Io.KnownBytes.{Appends};
-ghost use Rattle.command_files.specs.Lines.{cause_sentence, device_text, journal_text, not_a_block_text, not_an_image_text};
+ghost use Rattle.command_files.specs.JournalFault.{fault_words};
+ghost use Rattle.command_files.specs.Lines.{cause_sentence, damage_line, device_text, journal_line, journal_told, not_a_block_text, not_an_image_text};
 ghost use Rattle.command_files.specs.Pieces.{piece_text, pieces_text, text_with};
 ghost use Rattle.command_files.specs.Shown.{shown};
 
 use crate::file_cause::FileCause;
+use crate::journal_fault::JournalFault;
 use crate::pieces::Piece::{self, Named, Nothing, Number, Plain};
 use crate::pieces::print_pieces;
 use std::io::{self, Write};
@@ -94,9 +96,78 @@ pub(crate) fn of_no_block(path: &str, bytes: usize) -> [Piece<'_>; 4]
     ]
 }
 
+/// Prints what is wrong at a byte of a journal.
+pub(crate) fn print_journal<W: Write>(
+    out: &mut W,
+    path: &str,
+    place: usize,
+    fault: JournalFault,
+) -> io::Result<()>
+    ensures { OnOk result
+        (Appends (W.contents out.old) (W.contents out.new) (journal_told (shown path.now) place fault)) }
+{
+    match fault {
+        JournalFault::NoBase => {
+            print_pieces(out, &of_journal(path, place, "no whole base of a device"))
+        }
+        JournalFault::OpenGate => {
+            let words = "an open gate, and no whole batch of events after it";
+            print_pieces(out, &of_journal(path, place, words))
+        }
+        JournalFault::Damaged { whole, readable } => {
+            print_pieces(out, &of_damage(path, place, whole, readable))
+        }
+        JournalFault::Undone => {
+            let words = "an event that changes nothing when it is done again";
+            print_pieces(out, &of_journal(path, place, words))
+        }
+        JournalFault::MadeBy { version, profile } => {
+            print_pieces(out, &of_maker(path, place, version, profile))
+        }
+    }
+}
+
+/// A journal that is damaged at a byte, with how many batches are whole before it, and readable after it.
+fn of_damage(path: &str, place: usize, whole: usize, readable: usize) -> [Piece<'_>; 10]
+    ensures { pieces_text result ≡ damage_line (shown path.now) place (fault_words (JournalFault.Damaged whole readable)) }
+{
+    [
+        Named(path),
+        Plain(": damaged at byte "),
+        Number(place as u64),
+        Plain(": batches up to number "),
+        Number(whole as u64),
+        Plain(" are whole, "),
+        Number(readable as u64),
+        Plain(
+            " after it are readable; `zscli fold IMAGE --salvage TO` saves the whole ones\njournal refused ",
+        ),
+        Number(place as u64),
+        Plain("\n"),
+    ]
+}
+
+/// A journal that this version of the device made, with this profile.
+fn of_maker(path: &str, place: usize, version: u64, profile: u64) -> [Piece<'_>; 10]
+    ensures { pieces_text result ≡ journal_line (shown path.now) place (fault_words (JournalFault.MadeBy version profile)) }
+{
+    [
+        Named(path),
+        Plain(", byte "),
+        Number(place as u64),
+        Plain(": made by version "),
+        Number(version),
+        Plain(" of the device (profile "),
+        Number(profile),
+        Plain("); open it with that\njournal refused "),
+        Number(place as u64),
+        Plain("\n"),
+    ]
+}
+
 /// A journal of which these words say what is wrong at a byte.
-pub(crate) fn of_journal<'a>(path: &'a str, place: usize, words: &'a str) -> [Piece<'a>; 8]
-    ensures { Some (pieces_text result) ≡ text_with [] (journal_text (shown path.now) place words.now) }
+fn of_journal<'a>(path: &'a str, place: usize, words: &'a str) -> [Piece<'a>; 8]
+    ensures { pieces_text result ≡ journal_line (shown path.now) place words.now }
 {
     [
         Named(path),

@@ -1,8 +1,5 @@
 //! What is wrong with a journal.
 
-ghost use Rattle.std.specs.Prelude.{◌≡◌};
-ghost use Rattle.command_files.specs.JournalFault.{fault_words};
-
 /// What is wrong at a byte of a journal.
 #[derive(Clone, Copy, Debug, PartialEq, Eq)]
 pub enum JournalFault {
@@ -10,19 +7,20 @@ pub enum JournalFault {
     NoBase,
     /// No crash leaves what is there.
     OpenGate,
+    /// No crash leaves what is there, and it is known how many batches can be read.
+    Damaged {
+        /// How many batches stand whole before it.
+        whole: usize,
+        /// How many stand whole after it, in sectors of their own.
+        readable: usize,
+    },
     /// The event there isn't done again.
     Undone,
-}
-
-impl JournalFault {
-    /// What the user is told of that byte.
-    pub fn words(self) -> &'static str
-        ensures { result.now ≡ fault_words self }
-    {
-        match self {
-            JournalFault::NoBase => "no whole base of a device",
-            JournalFault::OpenGate => "an open gate, and no whole batch of events after it",
-            JournalFault::Undone => "an event that changes nothing when it is done again",
-        }
-    }
+    /// Another version of the device made it, or one with another profile.
+    MadeBy {
+        /// The version of the device's meaning.
+        version: u64,
+        /// The profile by which its Load accepts programs.
+        profile: u64,
+    },
 }

@@ -7,7 +7,7 @@ ghost use Rattle.command_files.specs.Pieces.{piece_text, pieces_text, text_with}
 ghost use Rattle.command_files.specs.Shown.{shown};
 
 use crate::failure::Failure;
-use crate::file_lines::{of_device, of_journal, of_no_block, of_no_image, print_file};
+use crate::file_lines::{of_device, of_no_block, of_no_image, print_file, print_journal};
 use crate::object_file::ProgramWords;
 use crate::option_lines::{of_emit, print_range};
 use crate::pieces::Piece::{self, Named, Nothing, Number, Plain};
@@ -81,7 +81,7 @@ impl Failure<'_> {
                 )
             }
             Failure::JournalRefused { path, place, fault } => {
-                print_pieces(out, &of_journal(path, *place, fault.words()))
+                print_journal(out, path, *place, *fault)
             }
             Failure::DeviceRefused { path } => print_pieces(out, &of_device(path)),
             Failure::AssemblyRefused { path, refusal } => {

@@ -15,9 +15,10 @@ use Rattle.durable_device.specs.Machine.{IsDeviceBase, next_state}
 use Rattle.command_files.specs.Made.{AreAsTold}
 use Rattle.command_files.specs.declared.failure.Failure.{Failure}
 use Rattle.command_files.specs.declared.journal_fault.JournalFault.{JournalFault}
-use Rattle.command_files.specs.declared.journal_fault.JournalFault.TheVariants.{NoBase, OpenGate}
+use Rattle.command_files.specs.declared.journal_fault.JournalFault.TheVariants.{MadeBy, NoBase, OpenGate}
 use Rattle.command_files.specs.declared.journal_fault.JournalFault.TheVariants as journal
-use Rattle.command_images.specs.Devices.{AreFaulty, IsCut, IsNoImage, StandForNone, TellDevice, TellNamespace}
+use Rattle.command_images.proofs.Damage.{whole_to_damage}
+use Rattle.command_images.specs.Devices.{AreFaulty, CountsBatches, IsCut, IsFrontFault, IsNoImage, StandForNone, TellDevice, TellNamespace}
 use Rattle.command_images.specs.UserTold.{LoadingDeviceFails}
 use Rattle.command_images.specs.steps.Told.{RefusesJournal, TellsCut, TellsJournal, told_of_image}
 
@@ -85,21 +86,39 @@ fails_as_image reads contents read path fault told other fails = (refl, λ known
         let failed : namespace_in bytes ≡ Err fault = ap namespace_in (sym same) ∙ is in
         (failed, stand_for_none bytes fault failed (λ magic. absurd (other magic)))
 
+-- at the front of a journal
+front_faulty : (fault : JournalFault) (bytes : List ℕ) → IsFrontFault fault bytes → StandForNone bytes → AreFaulty fault 0 bytes
+front_faulty NoBase bytes is none = (refl, is, none)
+front_faulty (MadeBy version profile) bytes is none = (refl, is, none)
+front_faulty OpenGate bytes is none = absurd is
+front_faulty journal.Undone bytes is none = absurd is
+front_faulty (journal.Damaged whole readable) bytes is none = absurd is
+
+-- where it is damaged
+damage_faulty : (fault : JournalFault) (place : ℕ) (bytes : List ℕ) → CountsBatches fault bytes → IsDamaged IsDeviceBase next_state place bytes
+    → StandForNone bytes → AreFaulty fault place bytes
+damage_faulty OpenGate place bytes counts is none = (is, none)
+damage_faulty (journal.Damaged whole readable) place bytes (end, has) is none = (is, whole_to_damage place end whole readable bytes is has, none)
+damage_faulty NoBase place bytes counts is none = absurd counts
+damage_faulty (MadeBy version profile) place bytes counts is none = absurd counts
+damage_faulty journal.Undone place bytes counts is none = absurd counts
+
 -- of a file that is cut
-pub fails_cut : (reads : Type 0) (contents : Option (List ℕ)) (path : Bor (List ℕ)) (failure : Failure)
-    → (reads → IsCut contents) → TellsCut path failure → LoadingDeviceFails reads contents path.now failure
-fails_cut reads contents path failure cut (inl is) =
+pub fails_cut : (reads : Type 0) (contents : Option (List ℕ)) (read slice : List ℕ) (path : Bor (List ℕ)) (failure : Failure)
+    → slice ≡ read → AreAsTold contents read → (reads → IsCut contents) → TellsCut path slice failure → LoadingDeviceFails reads contents path.now failure
+fails_cut reads contents read slice path failure same told cut (inl is) =
     subst (LoadingDeviceFails reads contents path.now) (sym is) (refl, λ known. at contents (cut known))
   where
     at : (held : Option (List ℕ)) → IsCut held → IfSome held (λ bytes. (namespace_in bytes ≡ Err Truncated) × StandForNone bytes)
     at None is = tt
     at (Some bytes) is = (is, none_of_cut bytes is)
-fails_cut reads contents path failure cut (inr is) =
-    subst (LoadingDeviceFails reads contents path.now) (sym is) (refl, λ known. at contents (cut known))
+fails_cut reads contents read slice path failure same told cut (inr front) =
+    subst (LoadingDeviceFails reads contents path.now) (sym front.told) (refl, λ known. at contents told (cut known))
   where
-    at : (held : Option (List ℕ)) → IsCut held → IfSome held (AreFaulty NoBase 0)
-    at None is = tt
-    at (Some bytes) is = (refl, none_of_cut bytes is)
+    at : (held : Option (List ℕ)) → AreAsTold held read → IsCut held → IfSome held (AreFaulty front.fault 0)
+    at None are is = tt
+    at (Some bytes) are is =
+        front_faulty front.fault bytes (subst (λ (file : List ℕ). IsFrontFault front.fault file) (same ∙ are) front.is) (none_of_cut bytes is)
 
 -- of a journal that is refused
 module _ (reads : Type 0) (contents : Option (List ℕ)) (read : List ℕ) (path : Bor (List ℕ)) (told : AreAsTold contents read) (none : reads → IsNoImage contents) where
@@ -120,12 +139,23 @@ module _ (reads : Type 0) (contents : Option (List ℕ)) (read : List ℕ) (path
   faulty fault place so None same is = tt
   faulty fault place so (Some bytes) same is = so bytes same is
 
-  pub fails_as_journal : (fault : Fault) (failure : Failure) → RefusesBytes read fault → TellsJournal path fault failure → Fails failure
+  pub fails_as_journal : (fault : Fault) (failure : Failure) → RefusesBytes read fault → TellsJournal path read fault failure → Fails failure
   fails_as_journal Unreadable failure refused (inl is) = subst Fails (sym is) (refl, λ known. no_base refused contents told (none known))
-  fails_as_journal Unreadable failure refused (inr is) =
-      subst Fails (sym is) (refl, λ known. faulty NoBase 0 (λ bytes same magic. (refl, stand_none refused bytes same magic)) contents told (none known))
+  fails_as_journal Unreadable failure refused (inr front) =
+      subst Fails (sym front.told) (
+        refl,
+        λ known. faulty front.fault 0
+            (λ bytes same magic. front_faulty front.fault bytes (subst (λ (file : List ℕ). IsFrontFault front.fault file) same front.is) (stand_none refused bytes same magic))
+            contents told (none known),
+      )
   fails_as_journal (Damaged place) failure refused is =
-      subst Fails (sym is) (refl, λ known. faulty OpenGate place (λ bytes same magic. (subst (λ (file : List ℕ). IsDamaged IsDeviceBase next_state place file) same refused.0, stand_none refused.1 bytes same magic)) contents told (none known))
+      subst Fails (sym is.told) (
+        refl,
+        λ known. faulty is.fault place
+            (λ bytes same magic. damage_faulty is.fault place bytes (subst (λ (file : List ℕ). CountsBatches is.fault file) same is.counts)
+            (subst (λ (file : List ℕ). IsDamaged IsDeviceBase next_state place file) same refused.0) (stand_none refused.1 bytes same magic))
+            contents told (none known),
+      )
   fails_as_journal (Undone place) failure refused is =
       subst Fails (sym is) (refl, λ known. faulty journal.Undone place (λ bytes same magic. subst (λ (file : List ℕ). IsUndone IsDeviceBase next_state place file) same refused) contents told (none known))
   fails_as_journal (OfFile error) failure refused is = subst Fails (sym is) tt
@@ -135,7 +165,8 @@ pub refused_as_journal : {T : Type 0} (reads : Type 0) (contents : Option (List 
     → IfErr result (LoadingDeviceFails reads contents path.now)
 refused_as_journal reads contents read slice path same told none (Ok device) refused = tt
 refused_as_journal reads contents read slice path same told none (Err failure) refused =
-    fails_as_journal reads contents read path told none refused.fault failure (subst (λ (bytes : List ℕ). RefusesBytes bytes refused.fault) same refused.refused) refused.told
+    fails_as_journal reads contents read path told none refused.fault failure (subst (λ (bytes : List ℕ). RefusesBytes bytes refused.fault) same refused.refused)
+    (subst (λ (bytes : List ℕ). TellsJournal path bytes refused.fault failure) same refused.told)
 
 -- ---- what is read
 

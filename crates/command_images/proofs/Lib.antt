@@ -1,3 +1,4 @@
+pub mod Damage
 mod Devices
 mod Listing
 mod Making

@@ -5,10 +5,12 @@ use Rattle.image_text.specs.Reading.{namespace_in}
 use Rattle.image_text.specs.declared.fault.LoadFault.TheVariants.{Magic, Truncated}
 use Rattle.device_meaning.specs.State.{State, new_state}
 use Rattle.durable_machine.specs.Refused.{IsDamaged, IsUndone}
+use Rattle.durable_machine.specs.Salvage.{IsSalvaged}
 use Rattle.durable_device.specs.Kept.{StandsForIt}
 use Rattle.durable_device.specs.Machine.{IsDeviceBase, next_state}
 use Rattle.command_files.specs.declared.journal_fault.JournalFault.{JournalFault}
-use Rattle.command_files.specs.declared.journal_fault.JournalFault.TheVariants.{NoBase, OpenGate, Undone}
+use Rattle.command_files.specs.declared.journal_fault.JournalFault.TheVariants.{Damaged, MadeBy, NoBase, OpenGate, Undone}
+use Rattle.image_base.specs.Base.{IsMadeByNoOther, IsMadeByOther}
 
 -- the bytes are an image, whose device has neither a program nor a run
 pub record AreImage (bytes : List ℕ) (s : State) : Type 0 where
@@ -50,9 +52,29 @@ pub record TellMore (bytes : Option (List ℕ)) : Type 0 where
 abbrev pub StandForNone : List ℕ → Type 0
 StandForNone bytes = (s : State) → AreOf bytes s → ⊥
 
--- they are a journal that has a fault at this byte: what no crash leaves from there on, so that they stand for no device; an event there
--- that changes nothing when it is done again; or no base at the front, so that they stand for no device
+-- what is wrong at the front of bytes: another version of the device made them, or none did
+abbrev pub IsFrontFault : JournalFault → List ℕ → Type 0
+IsFrontFault (MadeBy version profile) bytes = IsMadeByOther (record { version = version; profile = profile }) bytes
+IsFrontFault NoBase bytes = IsMadeByNoOther bytes
+IsFrontFault _ bytes = ⊥
+
+-- bytes begin with a base and so many whole batches, which end here; so many stand whole after that
+pub record HasWhole (end whole readable : ℕ) (bytes : List ℕ) : Type 0 where
+  pub device : State
+  pub salvaged : IsSalvaged IsDeviceBase next_state end whole readable bytes device
+
+-- a fault says of damaged bytes nothing more than that they are, or how many of their batches are whole
+abbrev pub CountsBatches : JournalFault → List ℕ → Type 0
+CountsBatches OpenGate bytes = Unit {0}
+CountsBatches (Damaged whole readable) bytes = (end : ℕ) × HasWhole end whole readable bytes
+CountsBatches _ bytes = ⊥
+
+-- they are a journal that has a fault at this byte: what no crash leaves from there on, so that they stand for no device, also with the
+-- number of batches that are whole before and after it; an event there that changes nothing when it is done again; or at the front no
+-- base of this device, so that they stand for none
 abbrev pub AreFaulty : JournalFault → ℕ → List ℕ → Type 0
 AreFaulty OpenGate place bytes = IsDamaged IsDeviceBase next_state place bytes × StandForNone bytes
+AreFaulty (Damaged whole readable) place bytes =
+    IsDamaged IsDeviceBase next_state place bytes × HasWhole place whole readable bytes × StandForNone bytes
 AreFaulty Undone place bytes = IsUndone IsDeviceBase next_state place bytes
-AreFaulty NoBase place bytes = (place ≡ 0) × StandForNone bytes
+AreFaulty fault place bytes = (place ≡ 0) × IsFrontFault fault bytes × StandForNone bytes

@@ -5,15 +5,15 @@ ghost use Rattle.device_meaning.specs.State.{new_state};
 ghost use Rattle.durable_device.specs.Kept.{StandsForIt};
 ghost use Rattle.command_files.specs.Made.{AreAsTold};
 ghost use Rattle.command_files.specs.UserTold.{IsUnread};
-ghost use Rattle.command_images.specs.Devices.{IsCut, IsNoImage, TellDevice, TellNamespace};
+ghost use Rattle.command_images.specs.Devices.{CountsBatches, IsCut, IsFrontFault, IsNoImage, TellDevice, TellNamespace};
 ghost use Rattle.command_images.specs.UserTold.{LoadingDeviceFails, ReplacingFails};
 ghost use Rattle.command_images.specs.steps.Told.{RefusesJournal, RefusesMore, TellsCut, TellsJournal};
 
 use crate::image_file;
 use command_files::{Failure, FileCause, Files, JournalFault, MOST_OF_EVENTS, cannot_read, read};
-use durable_device::device_in;
-use durable_machine::Fault;
-use image_base::MAGIC;
+use durable_device::{FrameDevice, device_in};
+use durable_machine::{Fault, salvage};
+use image_base::{MAGIC, other_maker};
 use image_store::Image;
 use image_text::{ImageText, LoadFault};
 use runner::Device;
@@ -177,7 +177,11 @@ fn load_held_journal<'a, F: Files>(
 const MOST_OF_JOURNAL: usize = MOST_OF_EVENTS as usize * 1_048_576;
 
 /// All bytes of the file whose name is held.
-fn read_held<'a, F: Files>(path: &'a str, files: &mut F) -> Result<Vec<u8>, Failure<'a>>
+///
+/// # Errors
+///
+/// It can't be read, it has more than are read of a journal, or memory is wanting.
+pub fn read_held<'a, F: Files>(path: &'a str, files: &mut F) -> Result<Vec<u8>, Failure<'a>>
     requires { F.held files.old ≡ Some path.now }
     ensures made { F.made files.new ≡ F.made files.old }
     ensures contents { F.contents files.new ≡ F.contents files.old }
@@ -207,27 +211,26 @@ fn journal_device<'a>(
 {
     match device_in(alloc, bytes) {
         Ok(device) => Ok(device),
-        Err(fault) => Err(journal_refused(path, bytes, fault)),
+        Err(fault) => Err(journal_refused(alloc, path, bytes, fault)),
     }
 }
 
 /// What the user is told of a journal that stands for no device. Without a whole base it is one only where it begins as one, and then it
 /// has its fault at the front; else it is a file that is no image.
-fn journal_refused<'a>(path: &'a str, bytes: &[u8], fault: Fault) -> Failure<'a>
-    ensures told { TellsJournal path.entry fault result }
+fn journal_refused<'a>(alloc: Global, path: &'a str, bytes: &[u8], fault: Fault) -> Failure<'a>
+    ensures told { TellsJournal path.entry bytes.now fault result }
     ensures not_printing { result ≢ Failure.CannotPrint }
 {
     match fault {
-        Fault::Damaged(place) => refused_at(path, place, JournalFault::OpenGate),
+        Fault::Damaged(place) => refused_at(path, place, damage(alloc, bytes)),
         Fault::Undone(place) => refused_at(path, place, JournalFault::Undone),
-        Fault::Unreadable if bytes.starts_with(&MAGIC) => refused_at(path, 0, JournalFault::NoBase),
+        Fault::Unreadable if bytes.starts_with(&MAGIC) => refused_at(path, 0, front_fault(bytes)),
         Fault::Unreadable => image_file::refused(path, LoadFault::Magic),
         Fault::OfFile(_) => Failure::NoMemory,
     }
 }
 
 /// What the user is told of a file that ends where an image goes on.
-#[tactic(auto, using(crate::proofs::Devices::fails_cut))]
 fn cut<'a, F: Files>(path: &'a str, files: &mut F) -> Failure<'a>
     requires { F.Reader.tells → IsCut (F.contents files.old path.now) }
     ensures made { F.made files.new ≡ F.made files.old }
@@ -245,7 +248,6 @@ fn cut<'a, F: Files>(path: &'a str, files: &mut F) -> Failure<'a>
 }
 
 /// The same of a file whose name is held.
-#[tactic(auto, using(crate::proofs::Devices::fails_cut))]
 fn cut_held<'a, F: Files>(path: &'a str, files: &mut F) -> Failure<'a>
     requires held { F.held files.old ≡ Some path.now }
     requires cut { F.Reader.tells → IsCut (F.contents files.old path.now) }
@@ -266,13 +268,39 @@ fn cut_held<'a, F: Files>(path: &'a str, files: &mut F) -> Failure<'a>
 /// What the user is told of a file that has only these bytes, and ends where an image goes on. Where it begins as a journal it is one, and
 /// has its fault at the front.
 fn cut_after<'a>(path: &'a str, bytes: &[u8]) -> Failure<'a>
-    ensures told { TellsCut path.entry result }
+    ensures told { TellsCut path.entry bytes.now result }
     ensures not_printing { result ≢ Failure.CannotPrint }
 {
     if bytes.starts_with(&MAGIC) {
-        refused_at(path, 0, JournalFault::NoBase)
+        refused_at(path, 0, front_fault(bytes))
     } else {
         image_file::refused(path, LoadFault::Truncated)
+    }
+}
+
+/// What is wrong at the front of a file that has no base of this device: another version of the device made it, or there is none.
+pub fn front_fault(file: &[u8]) -> JournalFault
+    ensures { IsFrontFault result file.now }
+{
+    match other_maker(file) {
+        Some(maker) => JournalFault::MadeBy {
+            version: maker.version,
+            profile: maker.profile,
+        },
+        None => JournalFault::NoBase,
+    }
+}
+
+/// What is wrong with a damaged journal of these bytes: how many batches are whole, unless memory is wanting to count them.
+pub fn damage(alloc: Global, file: &[u8]) -> JournalFault
+    ensures { CountsBatches result file.now }
+{
+    match salvage::<FrameDevice>(alloc, file) {
+        Ok(found) => JournalFault::Damaged {
+            whole: found.whole,
+            readable: found.readable,
+        },
+        Err(_) => JournalFault::OpenGate,
     }
 }
 

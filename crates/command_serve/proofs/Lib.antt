@@ -2,3 +2,4 @@ mod Endings
 mod Keeping
 mod Openings
 mod Rounds
+mod Saved

@@ -1,5 +1,5 @@
 -- What is left of a file that is opened as a durable device, and what is told where it isn't.
-use Rattle.std.proofs.Common.{◌≡◌, ◌⊎◌, ℕ, List, Option, Bor, Result, Ok, Err, IfErr, ap, refl, sym, subst, inl, inr, ⊎_elim}
+use Rattle.std.proofs.Common.{◌≡◌, ◌⊎◌, ◌≤◌, ℕ, List, Option, Bor, Result, Ok, Err, IfErr, ap, refl, sym, subst, inl, inr, ⊎_elim}
 use Rattle.stored_file.specs.File.{FileState, IsAsBefore, LeavesOnly, MayLeave}
 use Rattle.stored_file.specs.declared.stored_file.FileError.{FileError}
 use Rattle.stored_file.specs.declared.stored_file.FileError.TheVariants.{Memory, NoRoom, Failed}
@@ -7,21 +7,25 @@ use Rattle.stored_file.proofs.Moments.{then_on, weaken}
 use Rattle.image_store.specs.Namespace.{ZonedNamespace}
 use Rattle.image_text.specs.Reading.{namespace_in}
 use Rattle.durable_machine.specs.Files.{KeepsState}
-use Rattle.durable_machine.specs.Refused.{IsDamaged, IsUndone}
-use Rattle.durable_machine.proofs.Restarting.{found_then, found_weaker}
+use Rattle.durable_machine.specs.Refused.{HasNoState, IsDamaged, IsUndone}
+use Rattle.durable_machine.proofs.Restarting.{found_then, found_weaker, reads_on, refuses_read}
 use Rattle.durable_machine.specs.declared.fault.Fault.{Fault}
 use Rattle.durable_machine.specs.declared.fault.Fault.TheVariants.{Unreadable, Damaged, Undone, OfFile}
 use Rattle.device_meaning.specs.State.{State, new_state}
-use Rattle.durable_device.specs.Kept.{IsOldOrStandsFor, KeepsRestarted, LeavesFound, MayBeLeft, RefusesFile, StandsFor, StandsForIt}
-use Rattle.durable_device.specs.Machine.{IsDeviceBase, next_state}
+use Rattle.durable_device.specs.Kept.{IsOldOrStandsFor, IsRestarted, KeepsRestarted, LeavesFound, MayBeLeft, RefusesFile, StandsFor, StandsForIt}
+use Rattle.durable_device.specs.Machine.{IsDeviceBase, next_state, one_device}
 use Rattle.durable_device.specs.declared.durable_device.Folding.{Folding}
 use Rattle.durable_device.specs.declared.durable_device.Folding.TheVariants as folding
 use Rattle.command_files.specs.UserTold.{IsUnread}
 use Rattle.command_files.specs.declared.failure.Failure.{Failure}
 use Rattle.command_files.specs.declared.journal_fault.JournalFault.{JournalFault}
+use Rattle.command_files.specs.declared.journal_fault.JournalFault.TheVariants.{MadeBy, NoBase}
+use Rattle.command_files.specs.declared.journal_fault.JournalFault.TheVariants as journal
 use Rattle.command_files.specs.declared.failure.Failure.TheVariants.{CannotRead, CannotWrite, ImageRefused, JournalRefused, NoMemory}
+use Rattle.command_images.proofs.Damage.{whole_to_damage}
+use Rattle.command_images.specs.Devices.{CountsBatches, IsFrontFault}
 use Rattle.command_images.specs.UserTold.{IsUnheld, LoadingFails, UpgradeFails}
-use Rattle.command_serve.specs.Opening.{IsFoundFaulty, FailsToOpen, IsFound, IsNotFound, Leaves, OfDevice, OfJournal, OnlyRead, Opens, OpeningFails}
+use Rattle.command_serve.specs.Opening.{HasFault, IsFoundFaulty, FailsToOpen, IsFound, IsNotFound, Leaves, OfDevice, OfJournal, OnlyRead, Opens, OpeningFails}
 use Rattle.command_serve.specs.steps.Told.{TellsError, TellsFault, TellsUnfolded, TellsUnread}
 
 -- an error has another fact by one that it has
@@ -68,6 +72,23 @@ pub loading_upgrade : (reads : Type 0) (bytes : Option (List ℕ)) (path : List 
 loading_upgrade reads bytes path (CannotWrite name cause) none = absurd none
 loading_upgrade reads bytes path _ fails = fails
 
+-- at the front of a journal
+pub front_has : (said : JournalFault) (byte : ℕ) (bytes : List ℕ) → byte ≡ 0 → IsFrontFault said bytes → HasNoState IsDeviceBase next_state bytes
+    → HasFault said byte bytes
+front_has NoBase byte bytes same is none = (same, is, none)
+front_has (MadeBy version profile) byte bytes same is none = (same, is, none)
+front_has journal.OpenGate byte bytes same is none = absurd is
+front_has journal.Undone byte bytes same is none = absurd is
+front_has (journal.Damaged whole readable) byte bytes same is none = absurd is
+
+-- where it is damaged
+pub damage_has : (said : JournalFault) (byte : ℕ) (bytes : List ℕ) → CountsBatches said bytes → IsDamaged IsDeviceBase next_state byte bytes → HasFault said byte bytes
+damage_has journal.OpenGate byte bytes counts is = is
+damage_has (journal.Damaged whole readable) byte bytes (end, has) is = (is, whole_to_damage byte end whole readable bytes is has)
+damage_has NoBase byte bytes counts is = absurd counts
+damage_has (MadeBy version profile) byte bytes counts is = absurd counts
+damage_has journal.Undone byte bytes counts is = absurd counts
+
 module _ {S : Type 0} (told : S → FileState) (contents : Option (List ℕ)) where
   pub unread_fails : (path : List ℕ) (failure : Failure) → TellsUnread path failure → OpeningFails told contents path failure
   unread_fails path (ImageRefused name fault) same = same
@@ -82,19 +103,34 @@ module _ {S : Type 0} (told : S → FileState) (contents : Option (List ℕ)) wh
   error_fails error path _ none = absurd none
 
   pub fault_fails : (file : S) (left : FileState) (fault : Fault) (path : List ℕ) (failure : Failure) → IsFound (told file) contents
-      → RefusesFile (told file) left fault → TellsFault fault path failure → OpeningFails told contents path failure
+      → RefusesFile (told file) left fault → TellsFault (told file).seen fault path failure → OpeningFails told contents path failure
   fault_fails file left (OfFile error) path failure found refuses tells = error_fails error path failure tells
   fault_fails file left Unreadable path (JournalRefused name byte said) found refuses (named, same, is) =
-      (named, subst (λ (f : JournalFault). IsFoundFaulty told contents f byte) (sym is) (record { file = file; found = found; faulty = (same, refuses.0) }))
+      (named, record { file = file; found = found; faulty = front_has said byte (told file).seen same is refuses.0 })
   fault_fails file left Unreadable path _ found refuses none = absurd none
-  fault_fails file left (Damaged place) path (JournalRefused name byte said) found refuses (named, same, is) =
-      (named, subst (λ (f : JournalFault). IsFoundFaulty told contents f byte) (sym is) (record { file = file; found = found; faulty = subst (λ (n : ℕ). IsDamaged IsDeviceBase next_state n (told file).seen) (sym same) refuses.0 }))
+  fault_fails file left (Damaged place) path (JournalRefused name byte said) found refuses (named, same, is) = (
+    named,
+    record {
+      file = file;
+      found = found;
+      faulty = damage_has said byte (told file).seen is (subst (λ (n : ℕ). IsDamaged IsDeviceBase next_state n (told file).seen) (sym same) refuses.0);
+    },
+  )
   fault_fails file left (Damaged place) path _ found refuses none = absurd none
   fault_fails file left (Undone place) path (JournalRefused name byte said) found refuses (named, same, is) =
       (named, subst (λ (f : JournalFault). IsFoundFaulty told contents f byte) (sym is) (record { file = file; found = found; faulty = subst (λ (n : ℕ). IsUndone IsDeviceBase next_state n (told file).seen) (sym same) refuses.0 }))
   fault_fails file left (Undone place) path _ found refuses none = absurd none
 
   -- ---- what is left
+
+  -- a file that is read first
+  module _ (file : S) (read : FileState) (same : IsAsBefore (told file) read) (reading : LeavesOnly (told file) read (MayLeave (told file)))
+      (restarted : IsRestarted (told file)) where
+    pub read_first : (new : FileState) → KeepsRestarted read new → KeepsRestarted (told file) new
+    read_first new keeps = reads_on IsDeviceBase next_state one_device (told file) read same reading restarted new keeps
+
+    pub refused_first : (new : FileState) (fault : Fault) → (told file).faults ≤ read.faults → RefusesFile read new fault → RefusesFile (told file) new fault
+    refused_first new fault later refuses = refuses_read IsDeviceBase next_state one_device (told file) read same reading restarted new fault later refuses
 
   pub reopened : (file : S) (opened : FileState) (s : State) → IsFound (told file) contents → StandsForIt (told file).seen s
       → KeepsRestarted (told file) opened → Opens told contents opened s
@@ -118,7 +154,7 @@ module _ {S : Type 0} (told : S → FileState) (contents : Option (List ℕ)) wh
   not_read file left path failure found reading tells = record { left = OnlyRead file left found (reading_leaves file (told left) found reading); why = unread_fails path failure tells }
 
   pub not_reopened : (file left : S) (fault : Fault) (path : List ℕ) (failure : Failure) → IsFound (told file) contents
-      → KeepsRestarted (told file) (told left) → RefusesFile (told file) (told left) fault → TellsFault fault path failure
+      → KeepsRestarted (told file) (told left) → RefusesFile (told file) (told left) fault → TellsFault (told file).seen fault path failure
       → FailsToOpen told contents path failure
   not_reopened file left fault path failure found moments refuses tells =
       record { left = OfJournal file left found moments; why = fault_fails file (told left) fault path failure found refuses tells }

@@ -1,5 +1,5 @@
 -- What holds of a codec over rounds, as of each of them.
-use Rattle.std.proofs.Common.{◌≡◌, ℕ, List, [], ◌∷◌, Option, Result, Ok, Err, OnOk, IfErr, subst, sym}
+use Rattle.std.proofs.Common.{ℕ, List, [], ◌∷◌, Option, Result, Ok, Err, OnOk, IfErr, subst, sym}
 use Rattle.stored_file.specs.File.{FileState}
 use Rattle.image_store.specs.Namespace.{ZonedNamespace}
 use Rattle.device_meaning.specs.State.{State}

@@ -9,8 +9,9 @@ use Rattle.durable_device.specs.Machine.{IsDeviceBase, next_state}
 use Rattle.command_files.specs.Made.{AreAsTold}
 use Rattle.command_files.specs.declared.failure.Failure.{Failure}
 use Rattle.command_files.specs.declared.journal_fault.JournalFault.{JournalFault}
-use Rattle.command_files.specs.declared.journal_fault.JournalFault.TheVariants.{NoBase, OpenGate, Undone}
+use Rattle.command_files.specs.declared.journal_fault.JournalFault.TheVariants.{Damaged, OpenGate, Undone}
 use Rattle.command_files.specs.declared.failure.Failure.TheVariants.{CannotRead, CannotWrite, ImageRefused, JournalRefused, NoMemory}
+use Rattle.command_images.specs.Devices.{HasWhole, IsFrontFault}
 
 -- the bytes are the text of an image, whose device has neither a program nor a run
 pub record AreImage (bytes : List ℕ) (s : State) : Type 0 where
@@ -45,12 +46,13 @@ pub data Leaves {S : Type 0} (told : S → FileState) (contents : Option (List �
   OfDevice : (file left : S) (found : IsFound (told file) contents) (s : State) (means : Means (told file).seen s)
       (moments : LeavesFound (told file) (told left) (λ c. (c ≡ (told file).seen) ⊎ StandsFor c s)) → Leaves told contents
 
--- a journal has this fault at a byte: what no crash leaves, from there on; an event that changes nothing when it is done again; or, at its
--- front, no base
+-- a journal has this fault at a byte: what no crash leaves, from there on, also with the number of batches that are whole before and after
+-- it; an event that changes nothing when it is done again; or, at its front, no base of this device
 abbrev pub HasFault : JournalFault → ℕ → List ℕ → Type 0
 HasFault OpenGate place bytes = IsDamaged IsDeviceBase next_state place bytes
+HasFault (Damaged whole readable) place bytes = IsDamaged IsDeviceBase next_state place bytes × HasWhole place whole readable bytes
 HasFault Undone place bytes = IsUndone IsDeviceBase next_state place bytes
-HasFault NoBase place bytes = (place ≡ 0) × HasNoState IsDeviceBase next_state bytes
+HasFault fault place bytes = (place ≡ 0) × IsFrontFault fault bytes × HasNoState IsDeviceBase next_state bytes
 
 -- a journal that was found has it
 pub record IsFoundFaulty {S : Type 0} (told : S → FileState) (contents : Option (List ℕ)) (fault : JournalFault) (place : ℕ) : Type 0 where

@@ -20,7 +20,7 @@ use Rattle.command_images.specs.Images.{HasText, image_of}
 use Rattle.command_images.specs.UserTold.{ReplacingFails}
 use Rattle.command_serve.specs.Keeping.{HasKept, KeepsIn}
 use Rattle.command_serve.specs.Opening.{IsNotFound, IsntOpened, Opens}
-use Rattle.command_serve.specs.Streams.{End, IsAsked, Server, ServesIn, in_journal, nowhere, seen}
+use Rattle.command_serve.specs.Streams.{End, IsAsked, ServesIn, in_journal, nowhere, seen}
 use Rattle.command_serve.specs.declared.form.Form.{Form}
 use Rattle.command_serve.specs.declared.image_keeper.ImageKeeper.{ImageKeeper}
 use Rattle.command_serve.specs.declared.serve.TheConstants.{INPUT}

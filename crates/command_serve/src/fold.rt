@@ -1,16 +1,19 @@
 //! The command `fold`: the events of a journal become a part of its base.
 
-ghost use Rattle.std.specs.Prelude.{◌≡◌, ℕ, List, Option, IfErr, IfOk, IfSome, IsNone, Ok, OnErr, OnOk, Some};
+ghost use Rattle.std.specs.Prelude.{◌≡◌, ℕ, List, Option, IfErr, IfOk, IfSome, IsNone, None, Ok, OnErr, OnOk, Some};
 ghost use Rattle.stored_file.specs.File.{LeavesOnly};
 ghost use Rattle.durable_device.specs.Kept.{IsKept, IsKeptInBase, StandsFor};
+ghost use Rattle.command_files.specs.Crash.{LeavesOldOrNew};
 ghost use Rattle.command_files.specs.Made.{KeepsModes, KeepsOthers, MakesAtMost};
 ghost use Rattle.command_images.specs.Images.{image_of};
 ghost use Rattle.command_serve.specs.Folding.{Folds, FoldsJournal, IsntFolded};
 ghost use Rattle.command_serve.specs.Opening.{FailsToOpen, Opens};
+ghost use Rattle.command_serve.specs.Salvaging.{AreSaved, IsNewFile, Salvages, SalvagingFails, made_by, target_of};
 ghost use Rattle.command_serve.specs.steps.Told.{TellsUnfolded};
 
 use crate::DurableFiles;
 use crate::opening::{failed, is_journal, reopen, stored};
+use crate::salvaging::salvage;
 use clap::ArgMatches;
 use command_files::arguments::required;
 use command_files::{Failure, FileCause, Files};
@@ -19,16 +22,24 @@ use command_words::{Argument, Takes, Words};
 use device_serve::KeptDevice;
 use durable_device::{DurableDevice, Folding};
 use std::alloc::Global;
+use std::io::Write;
 use stored_file::{FileError, StoredFile};
 
 /// The command's name.
 pub const NAME: &str = "fold";
+
+/// The option that names the file that is made of what is whole.
+pub const SALVAGE: &str = "salvage";
 
 const LONG_ABOUT: &str = "\
 Makes of a journal, as `serve --durable` writes it, a new base, which has the device as the events behind the old one left it, with its \
 programs, results and runs, and an empty journal. The new file is written beside the old one, as IMAGE.unfinished, and takes its place \
 when it is whole. So the file is no longer than its device wants, and is opened as fast as that is read. An image that is no journal \
 stays as it is.
+
+With --salvage TO a new file is made, and IMAGE isn't changed. It has the device after the batches of IMAGE's journal that are whole, also \
+where IMAGE is damaged (`journal refused BYTE`) and isn't opened. How many these are is printed, and how many others are whole after them: \
+these are left out, since they say what happened to a device that isn't known. A file TO that has bytes isn't replaced.
 
 No other command works on the image meanwhile: one that tries to is told that it is in use.";
 
@@ -37,7 +48,8 @@ Example, of a frame by which zone 3 becomes read only, as `serve --help` has it:
 
   zscli format zoned.img --block 512 --zones 4 --size 64 --capacity 64 --open 3 --active 3
   printf '\\3\\1\\0\\0\\3\\0\\0\\0\\0\\0\\0\\0\\0\\0\\0\\0' | zscli serve zoned.img --durable --frames | xxd
-  zscli fold zoned.img";
+  zscli fold zoned.img
+  zscli fold zoned.img --salvage saved.img";
 
 /// How the command stands on the command line.
 pub static WORDS: Words = Words {
@@ -45,37 +57,82 @@ pub static WORDS: Words = Words {
     about: "Makes of a journal's base and events a new base",
     long_about: LONG_ABOUT,
     example: EXAMPLE,
-    arguments: &[Argument {
-        id: IMAGE,
-        long: "",
-        short: None,
-        takes: Takes::Place,
-        help: "The image, which `serve --durable` writes as a journal",
-    }],
+    arguments: &[
+        Argument {
+            id: IMAGE,
+            long: "",
+            short: None,
+            takes: Takes::Place,
+            help: "The image, which `serve --durable` writes as a journal",
+        },
+        Argument {
+            id: SALVAGE,
+            long: SALVAGE,
+            short: None,
+            takes: Takes::Optional("TO"),
+            help: "Makes a new file TO of the batches that are whole, and leaves IMAGE as it is",
+        },
+    ],
     one_of: &[],
 };
 
-/// Folds the journal of the image file into a new base. An image that is no journal stays as it is.
+/// Folds the journal of the image file into a new base. An image that is no journal stays as it is. Or, where it is asked for, makes a new
+/// file of what is whole of the journal, and leaves the image file as it is: a crash at any moment leaves of the new one what might have
+/// been left before, or all of it.
 ///
 /// # Errors
 ///
-/// The file is in use, can't be read or written, or is refused; or memory is wanting.
-pub fn fold<'a, F: DurableFiles>(
+/// The file is in use, can't be read or written, or is refused; the new file is there already, or can't be written; standard output
+/// fails; or memory is wanting.
+pub fn fold<'a, F: DurableFiles, O: Write>(
     alloc: Global,
     matches: &ArgMatches<'a>,
     files: &mut F,
+    out: &mut O,
 ) -> Result<(), Failure<'a>>
-    ensures folded { let path = image_of matches.now in
-        OnOk result (Folds F.Stored.told F.Reader.tells (F.contents files.old path) (F.contents files.new path)) }
-    ensures failed { let path = image_of matches.now in
-        IfErr result (IsntFolded F.Stored.told F.Reader.tells path (F.contents files.old path)) }
-    ensures made { OnOk result (MakesAtMost (image_of matches.now) (F.made files.old) (F.made files.new)) }
+    ensures folded { let path = image_of matches.now in target_of matches.now ≡ None
+        → OnOk result (Folds F.Stored.told F.Reader.tells (F.contents files.old path) (F.contents files.new path)) }
+    ensures failed { let path = image_of matches.now in target_of matches.now ≡ None
+        → IfErr result (IsntFolded F.Stored.told F.Reader.tells path (F.contents files.old path)) }
+    ensures silent { target_of matches.now ≡ None → O.contents out.new ≡ O.contents out.old }
+    ensures salvaged { let held = F.contents files.old (image_of matches.now) in
+        IfSome (target_of matches.now) (λ to. OnOk result (Salvages F.Writer.tells held to
+        (F.made files.old) (F.made files.new) (O.contents out.old) (O.contents out.new))) }
+    ensures new_file { let path = image_of matches.now in
+        IfSome (target_of matches.now) (λ to. OnOk result (IsNewFile path to (F.contents files.old to))) }
+    ensures unsalvaged { let path = image_of matches.now in
+        IfSome (target_of matches.now) (λ to. IfErr result (SalvagingFails (F.contents files.old path) path to)) }
+    ensures crash { let held = F.contents files.old (image_of matches.now) in
+        IfSome (target_of matches.now) (λ to.
+        LeavesOldOrNew to (AreSaved F.Writer.tells held) (F.tried files.old) (F.tried files.new)) }
+    ensures made { OnOk result (MakesAtMost (made_by matches.now) (F.made files.old) (F.made files.new)) }
     ensures kept { OnErr result (F.made files.new ≡ F.made files.old) }
     ensures contents { OnErr result (F.contents files.new ≡ F.contents files.old) }
-    ensures others { OnOk result (KeepsOthers (image_of matches.now) (F.contents files.old) (F.contents files.new)) }
+    ensures others { OnOk result (KeepsOthers (made_by matches.now) (F.contents files.old) (F.contents files.new)) }
     ensures modes { OnOk result (KeepsModes (F.modes files.old) (F.modes files.new)) }
 {
     let path = required(matches, IMAGE);
+    match matches.get_str(SALVAGE) {
+        Some(to) => salvage(alloc, path, to, files, out),
+        None => fold_image(alloc, path, files),
+    }
+}
+
+/// Folds the journal of the file with this name.
+fn fold_image<'a, F: DurableFiles>(
+    alloc: Global,
+    path: &'a str,
+    files: &mut F,
+) -> Result<(), Failure<'a>>
+    ensures folded { OnOk result
+        (Folds F.Stored.told F.Reader.tells (F.contents files.old path.now) (F.contents files.new path.now)) }
+    ensures failed { IfErr result (IsntFolded F.Stored.told F.Reader.tells path.now (F.contents files.old path.now)) }
+    ensures made { OnOk result (MakesAtMost path.now (F.made files.old) (F.made files.new)) }
+    ensures kept { OnErr result (F.made files.new ≡ F.made files.old) }
+    ensures contents { OnErr result (F.contents files.new ≡ F.contents files.old) }
+    ensures others { OnOk result (KeepsOthers path.now (F.contents files.old) (F.contents files.new)) }
+    ensures modes { OnOk result (KeepsModes (F.modes files.old) (F.modes files.new)) }
+{
     image_file::hold(path, files)?;
     if is_journal(path, files)? {
         fold_held(alloc, path, files)

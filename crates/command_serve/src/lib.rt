@@ -8,6 +8,7 @@ mod image_keeper;
 mod imaged;
 mod journaled;
 mod opening;
+mod salvaging;
 pub mod serve;
 mod told;
 

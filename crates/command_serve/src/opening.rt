@@ -10,6 +10,7 @@ ghost use Rattle.command_serve.specs.steps.Told.{TellsError, TellsFault, TellsUn
 
 use crate::DurableFiles;
 use command_files::{Failure, FileCause, JournalFault, cannot_read};
+use command_images::device_file::{damage, front_fault};
 use command_images::image_file;
 use durable_device::DurableDevice;
 use durable_machine::Fault;
@@ -89,7 +90,7 @@ pub(crate) fn stored<'a, F: DurableFiles>(
 pub(crate) fn reopen<'a, S: StoredFile + Drop>(
     alloc: Global,
     path: &'a str,
-    file: S,
+    mut file: S,
 ) -> Result<DurableDevice<S>, Failure<'a>>
     requires { IsRestarted (S.told file) }
     ensures opened { (contents : Option (List ℕ)) → IsFound (S.told file) contents
@@ -99,9 +100,12 @@ pub(crate) fn reopen<'a, S: StoredFile + Drop>(
     ensures failed { (contents : Option (List ℕ)) → IsFound (S.told file) contents
         → IfErr result (FailsToOpen S.told contents path.now) }
 {
-    match DurableDevice::open(alloc, file) {
-        Ok(device) => Ok(device),
-        Err((fault, _left)) => Err(refused(path, fault)),
+    match read_whole(alloc, &mut file) {
+        Ok(bytes) => match DurableDevice::open_read(alloc, file, &bytes) {
+            Ok(device) => Ok(device),
+            Err((fault, _left)) => Err(refused(alloc, path, &bytes, fault)),
+        },
+        Err(error) => Err(unread(path, error)),
     }
 }
 
@@ -141,27 +145,34 @@ fn image_in<'a, S: StoredFile>(
             let mut text = bytes.as_slice();
             image_file::load_from(alloc, path, &mut text)
         }
-        Err(FileError::Memory) => Err(Failure::NoMemory),
-        Err(FileError::NoRoom | FileError::Failed) => {
-            Err(Failure::CannotRead(path, FileCause::Other))
-        }
+        Err(error) => Err(unread(path, error)),
     }
 }
 
-/// What the user is told of a journal that isn't opened. One without a whole base has its fault at the front.
-fn refused<'a>(path: &'a str, fault: Fault) -> Failure<'a>
-    ensures { TellsFault fault path.now result }
+/// What the user is told of a file that can't be read.
+fn unread<'a>(path: &'a str, error: FileError) -> Failure<'a>
+    ensures { TellsUnread path.now result }
+{
+    match error {
+        FileError::Memory => Failure::NoMemory,
+        FileError::NoRoom | FileError::Failed => Failure::CannotRead(path, FileCause::Other),
+    }
+}
+
+/// What the user is told of a journal of these bytes that isn't opened. One without a base of this device has its fault at the front.
+pub(crate) fn refused<'a>(alloc: Global, path: &'a str, bytes: &[u8], fault: Fault) -> Failure<'a>
+    ensures { TellsFault bytes.now fault path.now result }
 {
     match fault {
         Fault::Unreadable => Failure::JournalRefused {
             path,
             place: 0,
-            fault: JournalFault::NoBase,
+            fault: front_fault(bytes),
         },
         Fault::Damaged(place) => Failure::JournalRefused {
             path,
             place,
-            fault: JournalFault::OpenGate,
+            fault: damage(alloc, bytes),
         },
         Fault::Undone(place) => Failure::JournalRefused {
             path,

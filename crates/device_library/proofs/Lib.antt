@@ -3,3 +3,4 @@ mod Committing
 mod Reopening
 mod Refusing
 mod ServedRounds
+mod Knowing

@@ -2,7 +2,8 @@
 use Rattle.std.specs.Prelude.{ℕ, Bool, true, false, ◌≡◌, List, [], ◌∷◌, length, drop, Option, Some, None}
 use Rattle.std.specs.Option.{option_map_or}
 use Rattle.stored_file.specs.File.{FileState}
-use Rattle.handed_file.specs.Handed.{made_calls, noted, told_of, waiting}
+use Rattle.stored_file.specs.Calls.{Call}
+use Rattle.handed_file.specs.Handed.{made_calls, noted, told, told_of, waiting}
 use Rattle.handed_file.specs.Handing.{call_bytes, call_kind, call_place, done_call}
 use Rattle.handed_file.specs.declared.handed_file.FileCall.{FileCall}
 use Rattle.handed_file.specs.declared.handed_file.HandedFile.{HandedFile}
@@ -12,11 +13,14 @@ use Rattle.device_library.specs.declared.kind.Question.TheVariants as question
 
 -- what is known of a file once C has made each call that it was handed, as long as none was refused
 abbrev pub promised_of : HandedFile → FileState
-promised_of file = told_of (noted file)
+promised_of file = told file
 
--- what is known of it by the calls that C told as done
+-- what is known of a file by calls that C told as done
+abbrev pub known_by : List Call → FileState
+known_by calls = record (told_of calls) { made = calls }
+
 abbrev pub told_by : HandedFile → FileState
-told_by file = told_of (made_calls file)
+told_by file = known_by (made_calls file)
 
 -- the call that C is to make next: none where all are done, or the file has to be opened again
 abbrev pub next_of : Bool → List FileCall → Option FileCall

@@ -7,7 +7,7 @@ use Rattle.image_text.specs.declared.fault.ZoneRowFault.{ZoneRowFault}
 use Rattle.image_text.specs.declared.fault.LoadFault.TheVariants as load
 use Rattle.device_library.specs.declared.numbers.TheConstants.{SUBMIT, TURN, FAULT_READ_ONLY, FAULT_OFFLINE}
 use Rattle.device_library.specs.declared.numbers.TheConstants.{DONE, COMPLETION, PENDING, IDLE, FAULT_TAKEN, FAULT_REFUSED}
-use Rattle.device_library.specs.declared.numbers.TheConstants.{NO_DEVICE, WRONG_SIZE, UNKNOWN_KIND, NUMBER_TOO_LARGE, NO_RUN, DAMAGED, NO_DOOR}
+use Rattle.device_library.specs.declared.numbers.TheConstants.{NO_DEVICE, WRONG_SIZE, UNKNOWN_KIND, NUMBER_TOO_LARGE, NO_RUN, DAMAGED, NO_DOOR, OTHER_VERSION}
 
 -- each constant is the number of the header (profile)
 pub record NumbersAreTheHeaders : Type 0 where
@@ -42,3 +42,4 @@ pub record NumbersAreTheHeaders : Type 0 where
   -- why nothing is behind a handle, beside those
   pub damaged : DAMAGED ≡ 40
   pub no_door : NO_DOOR ≡ 41
+  pub other_version : OTHER_VERSION ≡ 42

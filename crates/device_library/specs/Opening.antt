@@ -3,16 +3,16 @@ use Rattle.std.specs.Prelude.{ℕ, ◌≡◌, ◌⊎◌, Bool, true, false, nat_
 use Rattle.std.specs.List.{starts_with}
 use Rattle.stored_file.specs.File.{LeavesOnly}
 use Rattle.stored_file.specs.Calls.{Call, Opened}
-use Rattle.handed_file.specs.Handed.{told_of}
 use Rattle.handed_file.specs.declared.handed_file.HandedFile.{HandedFile}
 use Rattle.device_meaning.specs.State.{State, new_state}
 use Rattle.durable_machine.specs.declared.fault.Fault.{Fault}
-use Rattle.durable_machine.specs.declared.fault.Fault.TheVariants.{Unreadable, Damaged, Undone, OfFile}
+use Rattle.durable_machine.specs.declared.fault.Fault.TheVariants.{OfFile}
 use Rattle.durable_device.specs.Kept.{IsKept, IsKeptInBase, IsOldOrStandsFor, KeepsRestarted, LeavesFound, StandsFor, StandsForIt}
 use Rattle.durable_device.specs.Machine.{IsDeviceBase, next_state}
 use Rattle.durable_machine.specs.Refused.{IsUndone}
 use Rattle.durable_machine.specs.declared.journal.Journal.{Journal}
-use Rattle.image_base.specs.Base.{magic}
+use Rattle.image_base.specs.Base.{IsMadeByNoOther, IsMadeByOther, magic}
+use Rattle.image_base.specs.declared.front.Maker.{Maker}
 use Rattle.image_store.specs.Namespace.{ZonedNamespace, shape}
 use Rattle.image_text.specs.Fault.{load_number}
 use Rattle.image_text.specs.Reading.{header_in, namespace_in}
@@ -24,7 +24,7 @@ use Rattle.tcp_device.specs.Format.{IsFormatOf}
 use Rattle.tcp_device.specs.State.{ServedState, begun, begun_on}
 use Rattle.durable_machine.specs.declared.in_file.InFile.{InFile}
 use Rattle.tcp_device.specs.declared.keeper.Keeper.{Keeper}
-use Rattle.device_library.specs.Files.{promised_of}
+use Rattle.device_library.specs.Files.{known_by, promised_of}
 use Rattle.device_library.specs.Kept.{journal_of, state_of}
 use Rattle.device_library.specs.Kinds.{door_of}
 use Rattle.device_library.specs.Sessions.{KeepsAll}
@@ -35,7 +35,7 @@ use Rattle.device_library.specs.declared.handle.Session.TheVariants as session
 use Rattle.device_library.specs.declared.kept.Kept.{Kept}
 use Rattle.device_library.specs.declared.kind.Door.{Door}
 use Rattle.device_library.specs.declared.kind.Door.TheVariants as door
-use Rattle.device_library.specs.declared.numbers.TheConstants.{DAMAGED, DONE, NO_DOOR}
+use Rattle.device_library.specs.declared.numbers.TheConstants.{DAMAGED, DONE, NO_DOOR, OTHER_VERSION}
 use Rattle.device_library.specs.declared.target.Target.{Target}
 
 -- ---- images
@@ -82,9 +82,9 @@ IsRefusedTarget bytes number = IsNoImage bytes number ⊎ (number ≡ load_numbe
 -- the device is the one that a file stands for which was left by these calls. While C makes those for opening it, a crash leaves what an
 -- earlier program may have left, or the same device; and where all of the file was on the disk, the same device
 pub record IsReopened (calls : List Call) (device : State) (journal : Journal HandedFile) : Type 0 where
-  pub is : StandsForIt (told_of calls).seen device
-  pub moments : KeepsRestarted (told_of calls) (promised_of journal.file)
-  pub found : LeavesFound (told_of calls) (promised_of journal.file) (λ c. StandsFor c device)
+  pub is : StandsForIt (known_by calls).seen device
+  pub moments : KeepsRestarted (known_by calls) (promised_of journal.file)
+  pub found : LeavesFound (known_by calls) (promised_of journal.file) (λ c. StandsFor c device)
 
 -- the device has the namespace of an image, without a program or a run, and a crash leaves the file as it was, or a journal of this device
 pub record IsCreated (bytes : List ℕ) (calls : List Call) (device : State) (journal : Journal HandedFile) : Type 0 where
@@ -93,7 +93,7 @@ pub record IsCreated (bytes : List ℕ) (calls : List Call) (device : State) (jo
   pub state : device ≡ new_state namespace
   -- the journal is empty: the base alone stands for the device
   pub in_base : IsKeptInBase device journal.gate (promised_of journal.file)
-  pub moments : LeavesOnly (told_of calls) (promised_of journal.file) (IsOldOrStandsFor (told_of calls) (new_state namespace))
+  pub moments : LeavesOnly (known_by calls) (promised_of journal.file) (IsOldOrStandsFor (known_by calls) (new_state namespace))
 
 -- do the bytes begin as a journal does?
 abbrev pub begin_a_journal : List ℕ → Bool
@@ -132,17 +132,24 @@ pub record IsKeptTargetOf (bytes : List ℕ) (target : Target) : Type 0 where
   pub is : IsDeviceOf bytes device journal
   pub served : IsServed device journal target
 
--- the number that tells why a journal isn't opened
-abbrev pub fault_number : Fault → ℕ
-fault_number Unreadable = DAMAGED
-fault_number (Damaged damaged) = DAMAGED
-fault_number (Undone undone) = DAMAGED
-fault_number (OfFile error) = load_number Memory
+-- a device with another meaning or profile made a journal
+pub record IsOfOther (bytes : List ℕ) : Type 0 where
+  pub maker : Maker
+  pub made : IsMadeByOther maker bytes
+
+-- the number tells of a journal that isn't opened whether one made it
+abbrev pub IsToldOfJournal : List ℕ → ℕ → Type 0
+IsToldOfJournal bytes number = (IsOfOther bytes × (number ≡ OTHER_VERSION)) ⊎ (IsMadeByNoOther bytes × (number ≡ DAMAGED))
+
+-- the number tells why a journal isn't opened
+abbrev pub IsToldOfFault : Fault → List ℕ → ℕ → Type 0
+IsToldOfFault (OfFile error) bytes number = number ≡ load_number Memory
+IsToldOfFault fault bytes number = IsToldOfJournal bytes number
 
 -- a journal stands for no device, so it is none that a crash leaves; or it has an event that isn't done again
 pub record IsNoJournal (bytes : List ℕ) (number : ℕ) : Type 0 where
   pub why : ((device : State) → StandsFor bytes device → ⊥) ⊎ ((at : ℕ) × IsUndone IsDeviceBase next_state at bytes)
-  pub told : number ≡ DAMAGED
+  pub told : IsToldOfJournal bytes number
 
 abbrev pub IsNotOpened : Bool → List ℕ → ℕ → Type 0
 IsNotOpened true bytes number = IsNoJournal bytes number

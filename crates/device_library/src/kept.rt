@@ -2,7 +2,7 @@
 
 ghost use Rattle.std.specs.Prelude.{◌≡◌, [], false, true, IfErr, IsTrue, OnOk};
 ghost use Rattle.durable_device.specs.Kept.{IsKept};
-ghost use Rattle.handed_file.specs.Handed.{noted, told_of};
+ghost use Rattle.device_library.specs.Files.{promised_of};
 ghost use Rattle.device_library.specs.Devices as opened;
 
 use crate::serving::{handed, serve};
@@ -30,7 +30,7 @@ impl Kept {
 
     /// A device that was opened, with room for frames.
     pub fn new(alloc: Global, device: DurableDevice<HandedFile>, room: FrameStreamRoom) -> Kept
-        requires { IsKept (opened.state_of device) (opened.journal_of device).gate (told_of (noted (opened.journal_of device).file)) }
+        requires { IsKept (opened.state_of device) (opened.journal_of device).gate (promised_of (opened.journal_of device).file) }
         ensures state { state_of result ≡ opened.state_of device }
         ensures journal { journal_of result ≡ opened.journal_of device }
         ensures answer { result.answer.items ≡ [] }

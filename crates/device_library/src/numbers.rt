@@ -22,6 +22,9 @@ pub const DAMAGED: u32 = 40;
 /// There is nothing behind a handle: no door has such a number.
 pub const NO_DOOR: u32 = 41;
 
+/// There is nothing behind a handle: another version of the device made the journal, or one with another profile.
+pub const OTHER_VERSION: u32 = 42;
+
 /// A reply: a completion.
 pub const COMPLETION: usize = 1;
 

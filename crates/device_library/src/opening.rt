@@ -2,25 +2,25 @@
 
 ghost use Rattle.std.specs.Prelude.{◌≡◌, ◌⊎◌, IfOk, IfErr, Ok};
 ghost use Rattle.durable_device.specs.Kept.{IsKept, IsRestarted};
-ghost use Rattle.handed_file.specs.Handed.{noted, told_of};
+ghost use Rattle.handed_file.specs.Handed.{made_calls, noted};
 ghost use Rattle.image_text.specs.Fault.{load_number};
 ghost use Rattle.image_text.specs.Reading.{namespace_in};
 ghost use Rattle.image_text.specs.declared.fault.LoadFault.TheVariants.{Memory};
 ghost use Rattle.device_library.specs.Devices.{journal_of, state_of};
 ghost use Rattle.device_library.specs.Files.{promised_of};
 ghost use Rattle.device_library.specs.Kept as kept;
-ghost use Rattle.device_library.specs.Opening.{IsBegun, IsCreated, IsDeviceOf, IsKeptOf, IsKeptTargetOf, IsNoImage, IsNoJournal, IsRefusedFile, IsRefusedImage, IsRefusedTarget, IsReopened, IsServed, IsTargetOf, fault_number};
+ghost use Rattle.device_library.specs.Opening.{IsBegun, IsCreated, IsDeviceOf, IsKeptOf, IsKeptTargetOf, IsNoImage, IsNoJournal, IsRefusedFile, IsRefusedImage, IsRefusedTarget, IsReopened, IsServed, IsTargetOf, IsToldOfFault, IsToldOfJournal};
 ghost use Rattle.device_library.specs.Target as target;
 
 use crate::identity::{format_of, subsystem};
 use crate::kept::Kept;
-use crate::numbers::DAMAGED;
+use crate::numbers::{DAMAGED, OTHER_VERSION};
 use crate::target::Target;
 use device_serve::FrameStreamRoom;
 use durable_device::DurableDevice;
 use durable_machine::Fault;
 use handed_file::HandedFile;
-use image_base::MAGIC;
+use image_base::{MAGIC, other_maker};
 use image_store::Image;
 use image_text::{ImageText, LoadFault};
 use std::alloc::{AllocError, Global};
@@ -140,15 +140,16 @@ fn device_of(alloc: Global, bytes: &[u8]) -> Result<DurableDevice<HandedFile>, u
 /// The device of a journal.
 #[inline(never)]
 fn reopen(alloc: Global, bytes: &[u8], file: HandedFile) -> Result<DurableDevice<HandedFile>, u32>
-    requires restarted { IsRestarted (told_of (noted file)) }
-    requires read { bytes.now ≡ (told_of (noted file)).seen }
+    requires restarted { IsRestarted (promised_of file) }
+    requires settled { made_calls file ≡ noted file }
+    requires read { bytes.now ≡ (promised_of file).seen }
     ensures opened { IfOk result (λ device. IsReopened (noted file) (state_of device) (journal_of device)) }
     ensures kept { IfOk result (λ device. IsKept (state_of device) (journal_of device).gate (promised_of (journal_of device).file)) }
-    ensures refused { IfErr result (λ why. IsNoJournal (told_of (noted file)).seen why ⊎ (why ≡ load_number Memory)) }
+    ensures refused { IfErr result (λ why. IsNoJournal (promised_of file).seen why ⊎ (why ≡ load_number Memory)) }
 {
     match DurableDevice::open_read(alloc, file, bytes) {
         Ok(device) => Ok(device),
-        Err((fault, _)) => Err(number_of(fault)),
+        Err((fault, _left)) => Err(number_of(fault, bytes)),
     }
 }
 
@@ -160,6 +161,7 @@ fn create(
     bytes: &[u8],
     mut file: HandedFile,
 ) -> Result<DurableDevice<HandedFile>, u32>
+    requires { made_calls file ≡ noted file }
     ensures opened { IfOk result (λ device. IsCreated bytes.now (noted file) (state_of device) (journal_of device)) }
     ensures kept { IfOk result (λ device. IsKept (state_of device) (journal_of device).gate (promised_of (journal_of device).file)) }
     ensures refused { IfErr result (λ why. IsNoImage bytes.now why ⊎ (why ≡ load_number Memory)) }
@@ -172,12 +174,22 @@ fn create(
     }
 }
 
-/// Why a journal isn't opened, by number.
-fn number_of(fault: Fault) -> u32
-    ensures { result ≡ fault_number fault }
+/// Why a journal of these bytes isn't opened, by number.
+fn number_of(fault: Fault, bytes: &[u8]) -> u32
+    ensures { IsToldOfFault fault bytes.now result }
 {
     match fault {
-        Fault::Unreadable | Fault::Damaged(_) | Fault::Undone(_) => DAMAGED,
+        Fault::Unreadable | Fault::Damaged(_) | Fault::Undone(_) => journal_number(bytes),
         Fault::OfFile(_) => u32::from(LoadFault::Memory.number()),
+    }
+}
+
+/// Whether another version of the device made a journal that isn't opened, by number.
+fn journal_number(bytes: &[u8]) -> u32
+    ensures { IsToldOfJournal bytes.now result }
+{
+    match other_maker(bytes) {
+        Some(_) => OTHER_VERSION,
+        None => DAMAGED,
     }
 }

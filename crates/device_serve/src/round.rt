@@ -77,6 +77,8 @@ fn goes_on<S: Folds + Drop, C: Codec<S>>(
     ensures few { IsTrue result → waiting < MOST_WAITING }
     ensures owed { IsTrue result → C.within codec.now }
     ensures waits { IsTrue result → S.waits kept.now.events ≡ [] → ⊥ }
+    ensures goes { 0 < count → come < PIECE → waiting < MOST_WAITING → C.within codec.now
+        → (S.waits kept.now.events ≡ [] → ⊥) → IsTrue result }
 {
     count > 0
         && come < PIECE

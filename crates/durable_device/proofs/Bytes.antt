@@ -50,7 +50,7 @@ pub record AreBytesOf (text : List ℕ) (sections : List (List ℕ)) : Type 0 wh
 
 pub base_parts : (base : List ℕ) (told : Told) (is : IsBaseOf base told) → AreBytes base → AreBytesOf is.text told.sections
 base_parts base told is are =
-    let all = events_are_bytes (is.text ∷ told.sections) (rest_fit magic (spelled (is.text ∷ told.sections)) (subst AreBytes is.parts are)) in
+    let all = events_are_bytes (is.text ∷ told.sections) (rest_fit is.label (spelled (is.text ∷ told.sections)) (rest_fit magic (is.label ++ spelled (is.text ∷ told.sections)) (subst AreBytes is.parts are))) in
     record { text_is = all.0; sections_are = all.1 }
 
 -- a section of bytes that spells something

@@ -22,7 +22,7 @@ other_tag bytes tag behind first other rest is = other (first_differs tag 254 be
 
 -- ---- a seal by its numbers
 
--- bytes are put in their place behind others
+-- bytes are put in their place after others
 put_next : (old front rest new all : List ℕ) (at : ℕ) → old ≡ front ++ rest → length front ≡ at → all ≡ take at old ++ new ++ drop (at + length new) old → all ≡ (front ++ new) ++ drop (length new) rest
 put_next old front rest new all at parts size put =
     put

@@ -51,7 +51,7 @@ module _ (front : List ℕ) (batches : List (List (List ℕ))) (end : ℕ) (file
         ∙ ap (λ (l : List ℕ). (front ++ has.frames) ++ sector ++ l) (drop_all (end + length sector) shortened (omega (arith, has.ends, ap length is)))
         ∙ append-nil ((front ++ has.frames) ++ sector)
 
--- ---- a batch behind a gate
+-- ---- a batch after a gate
 
 -- a file stands for the batches from before, with the new one or without
 abbrev pub Around : List ℕ → List (List (List ℕ)) → List (List ℕ) → List ℕ → Type 0
@@ -79,7 +79,7 @@ module _ (front frames : List ℕ) (before : List (List (List ℕ))) (are : AreF
     pub length-bytes : length bytes ≡ payload_length (length (seal_of gate (spelled added) ++ spelled added)) + 4096
     length-bytes = omega (arith, ap length payload.parts, length-append (seal_of gate (spelled added) ++ spelled added ++ 0 ∷ payload.padding) closed_gate, payload.size, length-closed)
 
-    -- behind an open gate there is one more
+    -- after an open gate there is one more
     pub opened : (sector : List ℕ) → IsOpenGate sector → AreFrames (length front) (before ++ added ∷ []) (frames ++ frame_of sector)
     unfolding frame_of
     opened sector is = one_more_frame (length front) gate before added frames (sector ++ (seal_of gate (spelled added) ++ spelled added ++ 0 ∷ payload.padding)) are (omega (arith, ends, length-append front frames)) (record {
@@ -109,7 +109,7 @@ module _ (front frames : List ℕ) (before : List (List (List ℕ))) (are : AreF
     opened_end sector is =
         omega (arith, ends, payload.size, length-bytes, is.size, length-append sector (seal_of gate (spelled added) ++ spelled added ++ 0 ∷ payload.padding), length-append (front ++ frames) (frame_of sector), ap length (append_assoc front frames (frame_of sector)))
 
-    -- and it counts, whatever stands after the closed gate behind it
+    -- and it counts, whatever stands after the closed gate after it
     counts : (sector past c : List ℕ) → IsOpenGate sector → c ≡ front ++ frames ++ (sector ++ (bytes ++ past)) → StandsFor front (before ++ added ∷ []) c
     counts sector past c is parts = (
       gate + length bytes,

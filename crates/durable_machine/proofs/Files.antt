@@ -79,7 +79,7 @@ module _ {S : Type 0} (loads : List ℕ → S → Type 0) (next : S → Bool →
       leads_on : new ≡ state_again next (joined (durable.batches ++ run.changes ∷ [])) durable.first
       leads_on = again-push next durable.batches run.changes durable.first machine new durable.leads run.again
 
-      -- one that has those and the new one stands for the state behind them
+      -- one that has those and the new one stands for the state after them
       pub is_either : (c : List ℕ) → StandsFor durable.front durable.batches c ⊎ StandsFor durable.front (durable.batches ++ run.changes ∷ []) c → IsBeforeOrAfter loads next events machine c
       is_either c (inl stands) = inl (is_before c stands)
       is_either c (inr stands) = inr (

@@ -59,6 +59,6 @@ module _ {S : Type 0} (loads : List ℕ → S → Type 0) (next : S → Bool →
   -- such a file stands for the machine
   pub folded_state : (c : List ℕ) → c ≡ bytes → IsState loads next c s
   folded_state c is_bytes =
-      let file : FileState = record { seen = c; moment = 0; left_since = λ t d. d ≡ c; once_synced = λ d. d ≡ c; faults = 0 } in
+      let file : FileState = record { seen = c; moment = 0; left_since = λ t d. d ≡ c; once_synced = λ d. d ≡ c; faults = 0; made = [] } in
       let durable : IsDurable loads next s front file = folded file is_bytes (record { left = λ d left. left; synced = λ d is. is }) in
       is_before loads next s front file durable c (at_rest durable.front durable.batches front file durable.rests)

@@ -42,7 +42,7 @@ pub one_more_frame : (at gate : ℕ) (before : List (List (List ℕ))) (events :
 one_more_frame at gate before events frames frame are place is =
     frames-append at before (events ∷ []) frames frame are (one_frame (at + length frames) events frame (subst (λ (n : ℕ). IsFrame n events frame) place is))
 
--- what stands behind the gate's sector
+-- what stands after the gate's sector
 pub payload_of : (at : ℕ) (events : List (List ℕ)) (frame rest : List ℕ) (is : IsFrame at events frame) → drop 4096 (frame ++ rest) ≡ is.seal ++ (spelled events ++ 0 ∷ (is.padding ++ rest))
 payload_of at events frame rest is =
     ap (λ (l : List ℕ). drop 4096 (l ++ rest)) is.parts
@@ -51,11 +51,11 @@ payload_of at events frame rest is =
     ∙ append_assoc (is.seal ++ spelled events) (0 ∷ is.padding) rest
     ∙ append_assoc is.seal (spelled events) (0 ∷ (is.padding ++ rest))
 
--- no event begins with the 0 behind them
+-- no event begins with the 0 after them
 ended : (rest : List ℕ) → BeginsNoEvent (0 ∷ rest)
 ended rest = closed 0 rest (omega arith)
 
--- a frame has the events that are read behind its seal
+-- a frame has the events that are read after its seal
 pub same_events : (at : ℕ) (events read : List (List ℕ)) (rest payload body : List ℕ) (frame : List ℕ) (n taken : ℕ) (is : IsFrame at events frame) → payload ≡ is.seal ++ (spelled events ++ 0 ∷ rest) → n ≡ length is.seal
     → body ≡ drop n payload → AreEvents read taken body → events ≡ read
 same_events at events read rest payload body frame n taken is parts size is_body are =
@@ -80,7 +80,7 @@ one_batch at a b f g x y is_f is_g is =
     length-frame at a f is_f ∙ ap (λ (n : ℕ). 4096 + payload_length n) told ∙ sym (length-frame at b g is_g) in
     (same, size, sym (drop_at f x (length f) refl) ∙ ap (λ (l : List ℕ). drop (length f) l) is ∙ drop_at g y (length f) (sym size))
 
--- bytes stand for one list of batches, with one rest behind them
+-- bytes stand for one list of batches, with one rest after them
 pub one_list_of_batches : (at : ℕ) (cs bs : List (List (List ℕ))) (f g x y : List ℕ) (m n : ℕ) → AreFrames at cs f → AreFrames at bs g → BeginsNoBatch m x → BeginsNoBatch n y
     → m ≡ at + length f → n ≡ at + length g → f ++ x ≡ g ++ y → (cs ≡ bs) × (x ≡ y)
 one_list_of_batches at [] [] f g x y m n ha hb nx ny pm pn is = (refl, ap (λ (l : List ℕ). l ++ x) (sym ha) ∙ is ∙ ap (λ (l : List ℕ). l ++ y) hb)

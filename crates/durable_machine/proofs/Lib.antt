@@ -7,6 +7,7 @@ pub mod Files
 pub mod FirstEvents
 pub mod Folding
 pub mod Frames
+pub mod Lengths
 pub mod Numbers
 pub mod ReadFrames
 pub mod Refusing
@@ -22,3 +23,5 @@ pub mod Staged
 pub mod Steps
 pub mod Unwritten
 pub mod Waiting
+pub mod Wholes
+pub mod Windows

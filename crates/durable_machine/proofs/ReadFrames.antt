@@ -1,4 +1,4 @@
--- What is read behind a gate tells whether a batch stands there.
+-- What is read after a gate tells whether a batch stands there.
 use Rattle.std.proofs.Common.{◌≡◌, ◌≢◌, ◌⊎◌, inl, inr, ◌<◌, ◌≤◌, ◌+◌, ◌-◌, ℕ, List, ◌∷◌, ◌++◌, length, take, drop, get_or, refl, sym, ◌∙◌, ap, subst, arith, append_assoc, length-append, length-take, length-drop, take-append-drop}
 use Rattle.std.proofs.lemmas.List.{take_at, drop_at, drop_more, take_all}
 use Rattle.durable_machine.specs.Events.{spelled, AreEvents}

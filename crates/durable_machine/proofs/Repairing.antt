@@ -1,4 +1,4 @@
--- What is left of a file while it is opened behind a program that may have failed to bring its last batch's gate to the disk.
+-- What is left of a file while it is opened after a program that may have failed to bring its last batch's gate to the disk.
 use Rattle.std.proofs.Common.{◌≡◌, ◌≢◌, ◌⊎◌, inl, inr, ⊎_elim, ◌≤◌, ◌+◌, ◌-◌, ◌%◌, ℕ, List, ◌∷◌, ◌++◌, length, take, drop, refl, sym, ◌∙◌, ap, subst, arith, append_assoc, length-append, length-take, length-drop, take-append-drop}
 use Rattle.std.proofs.lemmas.List.{take_at, drop_at, take-take, drop-drop, drop-take}
 use Rattle.stored_file.specs.File.{FileState, MayLeave, IsOnDisk, LeavesNow, LeavesOnly, Follows, SyncsTo, Elapses, is_written, Torn, Cut, IsCut, IsMix, Mixed}
@@ -11,7 +11,7 @@ use Rattle.durable_machine.proofs.Frames.{frames_whole, front_end, length-frame,
 use Rattle.durable_machine.proofs.Crash.{without}
 use Rattle.durable_machine.proofs.Sealing.{same_or_not}
 
--- the first n bytes behind an offset, of the first m
+-- the first n bytes after an offset, of the first m
 pub part : (at n m : ℕ) (file : List ℕ) → at + n ≤ m → take n (drop at (take m file)) ≡ take n (drop at file)
 part at n m file within =
     let rest : m ≡ at + (m - at) = omega (arith, within) in
@@ -122,7 +122,7 @@ module _ (at end : ℕ) (old gate : List ℕ) (within : at + length gate ≤ end
       let size : length c ≡ end = omega (arith, ap length same, length-take end old, long) in
       same_front at n end old (omega (arith, within)) c (omega (arith, size)) (ap (λ (l : List ℕ). take end l) same ∙ take-take end end old (omega arith)) (inr (omega (arith, size, length-drop end c)))
 
-  -- one sector is written behind the end
+  -- one sector is written after the end
   torn_there : (n : ℕ) (c : List ℕ) → Torn end 4096 (take end old) c → IsSameBut at n end old c
   torn_there n c torn =
       let size : length (take end old) ≡ end = omega (arith, length-take end old, long) in

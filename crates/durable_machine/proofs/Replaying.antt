@@ -19,7 +19,7 @@ use Rattle.durable_machine.specs.Salvage.{HasBegun}
 use Rattle.durable_machine.proofs.Files.{again-push}
 
 -- a frame at an offset that is spelled in another way
-abbrev framed : (frame : List ℕ) (at there : ℕ) (events : List (List ℕ)) → at ≡ there → IsFrame at events frame → IsFrame there events frame
+abbrev pub framed : (frame : List ℕ) (at there : ℕ) (events : List (List ℕ)) → at ≡ there → IsFrame at events frame → IsFrame there events frame
 framed frame at there events same is = record {
   sized = is.sized;
   sector = is.sector;
@@ -203,7 +203,7 @@ module _ {S : Type 0} (next : S → Bool → List ℕ → S) where
         }
 
     module _ (end last count : ℕ) (s : S) (begun : HasBegun loads next end last count file s) where
-      -- what stands behind the batches
+      -- what stands after the batches
       pub left : drop end file ≡ begun.rest
       left = ap (λ (l : List ℕ). drop end l) begun.parts ∙ drop_at (begun.front ++ begun.frames) begun.rest end (sym begun.ends)
 

@@ -1,4 +1,4 @@
--- What is opened behind an earlier program.
+-- What is opened after an earlier program.
 use Rattle.std.proofs.Common.{IfOk, IfErr, Result, Ok, Err, ◌≡◌, ◌⊎◌, inl, inr, ⊎_elim, ◌≤◌, ◌+◌, ℕ, Bool, List, [], ◌∷◌, ◌++◌, length, take, drop, refl, sym, ◌∙◌, ap, subst, arith, append_assoc, length-append}
 use Rattle.std.proofs.lemmas.List.{take_at, drop_at}
 use Rattle.stored_file.specs.File.{FileState, IsAsBefore, IsWhole, LeavesNow, LeavesOnly, MayLeave}
@@ -146,7 +146,7 @@ module _ {S : Type 0} (loads : List ℕ → S → Type 0) (next : S → Bool →
   same_file file = record { seen = refl; left = λ c left. left; synced = λ c is. is }
 
   pub no_moment : (file : FileState) → LeavesOnly file file (MayLeave file)
-  no_moment file = record { later = omega arith; each = λ c left. left; before = λ t c until left. inl left }
+  no_moment file = record { later = omega arith; each = λ c left. left; before = λ t c until left. inl left; made = refl }
 
   -- ---- the file, while it is opened
 
@@ -238,7 +238,7 @@ module _ {S : Type 0} (loads : List ℕ → S → Type 0) (next : S → Bool →
     kept = λ disk. weaken old new P Q (leaves.kept disk) so;
   }
 
-  -- one step behind another
+  -- one step after another
   pub found_then : (old mid new : FileState) (P : List ℕ → Type 0) → LeavesFound loads next old mid P → LeavesOnly mid new P → LeavesFound loads next old new P
   found_then old mid new P first second = record {
     moments = then_on old mid new (λ c. MayBeLeft loads next old.seen c ⊎ P c) first.moments (weaken mid new P (λ c. MayBeLeft loads next old.seen c ⊎ P c) second (λ c has. inr has));

@@ -1,4 +1,4 @@
--- A sector behind some bytes, what is written over it and after it, and what a crash leaves of that.
+-- A sector after some bytes, what is written over it and after it, and what a crash leaves of that.
 use Rattle.std.proofs.Common.{◌≡◌, ◌+◌, ◌-◌, ℕ, List, ◌++◌, length, take, drop, refl, sym, ◌∙◌, ap, arith, append_assoc, length-append, take-append-drop}
 use Rattle.std.proofs.lemmas.List.{take_at, drop_at, drop-drop}
 use Rattle.stored_file.specs.File.{is_written, Torn}
@@ -45,7 +45,7 @@ module _ (begin sector : List ℕ) (gate : ℕ) (ends : gate ≡ length begin) (
         ∙ ap (λ (l : List ℕ). l ++ drop (gate + 4096) c) (torn.before ∙ up_to_gate)
         ∙ append_assoc begin sector (drop (gate + 4096) c)
 
-    -- and of a round: the sector is written, and what stands after some bytes behind it
+    -- and of a round: the sector is written, and what stands after some bytes after it
     module _ (bytes past : List ℕ) (has : rest ≡ bytes ++ past) (second : ℕ) (far : second ≡ gate + 4096 + length bytes) (c : List ℕ) (torn : TornBoth gate 4096 second file c) where
       count : second - (gate + 4096) ≡ length bytes
       count = omega (arith, far)

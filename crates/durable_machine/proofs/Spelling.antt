@@ -14,7 +14,7 @@ pub sized-append : (es fs : List (List ℕ)) → AreSized es → AreSized fs →
 sized-append [] fs ha hb = hb
 sized-append (a ∷ es) fs ha hb = (ha.0, sized-append es fs ha.1 hb)
 
--- the first event's bytes, and what stands behind it
+-- the first event's bytes, and what stands after it
 pub begins_spelled : (e : List ℕ) (es : List (List ℕ)) (end : List ℕ) → spelled (e ∷ es) ++ end ≡ 1 ∷ number_bytes (length e) ++ e ++ (spelled es ++ end)
 begins_spelled e es end = ap (λ (l : List ℕ). 1 ∷ l) (append_assoc (number_bytes (length e) ++ e) (spelled es) end)
 
@@ -42,7 +42,7 @@ one_list (a ∷ es) (b ∷ fs) x y ha hb nx ny is =
     let rest : es ≡ fs = one_list es fs x y ha.1 hb.1 nx ny read.1 in
     cc (read.0, rest)
 
--- behind a gate that isn't open there is none
+-- after a gate that isn't open there is none
 pub closed : (gate : ℕ) (rest : List ℕ) → gate ≢ 1 → BeginsNoEvent (gate ∷ rest)
 closed gate rest shut event behind begins = shut (first_same begins.parts)
   where
@@ -55,7 +55,7 @@ too_short bytes short event rest begins =
     let long = ap length begins.parts in
     absurd (omega (arith, long, length-append (number_bytes (length event) ++ event) rest, length-append (number_bytes (length event)) event, length-number_bytes (length event)))
 
--- an event is put behind others, part by part
+-- an event is put after others, part by part
 pub one_added : (es opened sized all digits event : List ℕ) → opened ≡ es ++ 1 ∷ [] → sized ≡ opened ++ digits → all ≡ sized ++ event → digits ≡ number_bytes (length event) → all ≡ es ++ spelled (event ∷ [])
 one_added es opened sized all digits event first second third are =
     third ∙ ap (λ (l : List ℕ). l ++ event) (second ∙ ap (λ (l : List ℕ). l ++ digits) first ∙ ap (λ (l : List ℕ). (es ++ 1 ∷ []) ++ l) are)
@@ -71,6 +71,6 @@ parts_added es opened sized one two all digits a b c first second is_a is_b is_c
     is_c ∙ ap (λ (l : List ℕ). l ++ c) (is_b ∙ ap (λ (l : List ℕ). l ++ b) is_a ∙ append_assoc sized a b) ∙ append_assoc sized (a ++ b) c in
     one_added es opened sized all digits (a ++ b ++ c) first second parts are
 
--- nothing stands behind it
+-- nothing stands after it
 pub alone : (event : List ℕ) → event ++ [] ++ [] ≡ event
 alone event = append-nil (event ++ []) ∙ append-nil event

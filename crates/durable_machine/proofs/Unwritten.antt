@@ -46,13 +46,13 @@ cut_off old new n cut =
 pub not_cut : (batch : Batch) (n : ℕ) → length batch.bytes.items ≤ n → events_of batch ≡ take n (events_of batch)
 not_cut batch n enough = sym (take_all n (events_of batch) (omega (arith, size_spelled batch, enough)))
 
--- what is put behind the room for the seal is put behind the events
+-- what is put after the room for the seal is put after the events
 pub put_behind : (old mid new : Batch) (more : List ℕ) → 21 ≤ length mid.bytes.items → events_of mid ≡ events_of old → new.bytes.items ≡ mid.bytes.items ++ more → events_of new ≡ events_of old ++ more
 put_behind old mid new more room same is =
     spells new ∙ ap (λ (l : List ℕ). drop 21 l) is ∙ drop-append-le 21 mid.bytes.items more room
     ∙ ap (λ (l : List ℕ). l ++ more) (sym (spells mid) ∙ same)
 
--- the seal is put before the events, and zeros and a closed gate behind them
+-- the seal is put before the events, and zeros and a closed gate after them
 pub sealed_bytes : (at whole n : ℕ) (events old seal put all : List ℕ) → events ≡ drop 21 old → seal ≡ seal_of at (drop 21 old)
     → put ≡ seal ++ drop (0 + length seal) old → n ≡ length put → whole ≡ payload_length n
     → all ≡ take (whole + 4096) put ++ replicate {A = ℕ} (whole + 4096 - n) 0

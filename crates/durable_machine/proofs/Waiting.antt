@@ -14,7 +14,7 @@ use Rattle.durable_machine.specs.Waiting.{HasAnswered, IsCommittedBut, IsEither}
 use Rattle.durable_machine.proofs.Running.{one_more_run}
 use Rattle.durable_machine.proofs.Files.{again-push, is_before, nothing_done, one_state, rests_before}
 
--- what was put behind others is taken back
+-- what was put after others is taken back
 pub taken_back : (all waiting more : List ℕ) (n : ℕ) → all ≡ waiting ++ more → n ≡ length waiting → take n all ≡ waiting
 taken_back all waiting more n is count = ap (take n) is ∙ take_at waiting more n (sym count)
 

@@ -22,7 +22,7 @@ module _ {S : Type 0} (loads : List ℕ → S → Type 0) (next : S → Bool →
     pub parts : front ≡ base ++ padding
     pub size : length front ≡ whole_sectors (length base)
 
-  -- the file stands for this state: it is the one to which the base's is led by the events behind it, up to this offset
+  -- the file stands for this state: it is the one to which the base's is led by the events after it, up to this offset
   pub record IsStateAt (end : ℕ) (file : List ℕ) (s : S) : Type 0 where
     pub front : List ℕ
     pub first : S
@@ -48,7 +48,7 @@ module _ {S : Type 0} (loads : List ℕ → S → Type 0) (next : S → Bool →
   abbrev pub IsOldOrStands : FileState → S → List ℕ → Type 0
   IsOldOrStands old s file = MayLeave old file ⊎ IsState file s
 
-  -- the base alone stands for the machine: no batch stands behind it, but a closed gate at this offset, and all of the file is on the disk
+  -- the base alone stands for the machine: no batch stands after it, but a closed gate at this offset, and all of the file is on the disk
   pub record IsInBase (machine : S) (gate : ℕ) (file : FileState) : Type 0 where
     pub front : List ℕ
     pub begins : IsFront front machine

@@ -1,4 +1,4 @@
--- What a file stands for that has a journal behind its front.
+-- What a file stands for that has a journal after its front.
 use Rattle.std.specs.Prelude.{◌≡◌, ◌⊎◌, ◌<◌, ◌≤◌, ℕ, ◌+◌, ◌*◌, ◌/◌, List, [], ◌∷◌, ◌++◌, length, replicate}
 use Rattle.stored_file.specs.File.{FileState, IsOnDisk, IsWhole}
 use Rattle.durable_machine.specs.Events.{spelled, AreSized}
@@ -17,8 +17,8 @@ pub record IsOpenGate (sector : List ℕ) : Type 0 where
 abbrev pub payload_length : ℕ → ℕ
 payload_length n = (n / 4096 + 1) * 4096
 
--- the frame of a batch whose gate is at this offset: a sector with an open gate, and behind it whole sectors, of the seal of the events,
--- them and a 0 behind them
+-- the frame of a batch whose gate is at this offset: a sector with an open gate, and after it whole sectors, of the seal of the events,
+-- them and a 0 after them
 pub record IsFrame (at : ℕ) (events : List (List ℕ)) (frame : List ℕ) : Type 0 where
   pub sized : AreSized events
   pub sector : List ℕ
@@ -29,20 +29,20 @@ pub record IsFrame (at : ℕ) (events : List (List ℕ)) (frame : List ℕ) : Ty
   pub size : length (seal ++ spelled events ++ 0 ∷ padding) ≡ payload_length (length (seal ++ spelled events))
   pub parts : frame ≡ sector ++ (seal ++ spelled events ++ 0 ∷ padding)
 
--- frames of batches, one behind another, from this offset on
+-- frames of batches, one after another, from this offset on
 abbrev pub AreFrames : ℕ → List (List (List ℕ)) → List ℕ → Type 0
 AreFrames at [] bytes = bytes ≡ []
 AreFrames at (batch ∷ batches) bytes =
     (frame : List ℕ) × (behind : List ℕ) × IsFrame at batch frame × AreFrames (at + length frame) batches behind × (bytes ≡ frame ++ behind)
 
--- a batch stands whole at the front of bytes, which begin at this offset, and this rest behind it
+-- a batch stands whole at the front of bytes, which begin at this offset, and this rest after it
 pub record BeginsBatch (at : ℕ) (events : List (List ℕ)) (rest bytes : List ℕ) : Type 0 where
   pub frame : List ℕ
   pub is : IsFrame at events frame
   pub parts : bytes ≡ frame ++ rest
 
--- a batch stands whole at the front of bytes, of which these are its events as they are spelled, behind so many bytes, and this rest
--- behind it
+-- a batch stands whole at the front of bytes, of which these are its events as they are spelled, after so many bytes, and this rest
+-- after it
 abbrev pub GivesBatch : ℕ → ℕ → List ℕ → List ℕ → List ℕ → Type 0
 GivesBatch at place told rest bytes =
     (events : List (List ℕ)) × (told ≡ spelled events)
@@ -56,7 +56,7 @@ BeginsNoBatch at bytes = (events : List (List ℕ)) (rest : List ℕ) → Begins
 abbrev pub BeginsClosed : List ℕ → Type 0
 BeginsClosed bytes = (behind : List ℕ) × (bytes ≡ closed_gate ++ behind)
 
--- a crash may leave this behind the last batch: a closed gate, with anything behind it, or no more than the sector that was being written
+-- a crash may leave this after the last batch: a closed gate, with anything after it, or no more than the sector that was being written
 -- there
 abbrev pub IsEnd : List ℕ → Type 0
 IsEnd bytes = BeginsClosed bytes ⊎ (length bytes ≤ 4096)
@@ -67,7 +67,7 @@ pub record IsDamage (at : ℕ) (bytes : List ℕ) : Type 0 where
   pub longer : 4096 < length bytes
   pub nothing : BeginsNoBatch at bytes
 
--- behind this front the file has these batches, up to this offset, and then its end
+-- after this front the file has these batches, up to this offset, and then its end
 pub record HasBatches (front : List ℕ) (batches : List (List (List ℕ))) (end : ℕ) (file : List ℕ) : Type 0 where
   pub frames : List ℕ
   pub are : AreFrames (length front) batches frames
@@ -76,7 +76,7 @@ pub record HasBatches (front : List ℕ) (batches : List (List (List ℕ))) (end
   pub last : IsEnd rest
   pub ends : end ≡ length (front ++ frames)
 
--- behind this front the file has these batches, up to this offset, and then what no crash leaves
+-- after this front the file has these batches, up to this offset, and then what no crash leaves
 pub record IsDamagedAt (front : List ℕ) (batches : List (List (List ℕ))) (damaged : ℕ) (file : List ℕ) : Type 0 where
   pub frames : List ℕ
   pub are : AreFrames (length front) batches frames

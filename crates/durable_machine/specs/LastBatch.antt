@@ -2,7 +2,7 @@
 use Rattle.std.specs.Prelude.{◌≡◌, ◌⊎◌, ◌≤◌, ℕ, ◌+◌, List, [], ◌∷◌, ◌++◌, length, take, drop}
 use Rattle.durable_machine.specs.Journal.{IsFrame, AreFrames, IsEnd}
 
--- up to this end the file has the bytes of the other, but for n of them at an offset, and what stands behind is an end
+-- up to this end the file has the bytes of the other, but for n of them at an offset, and what stands after is an end
 pub record IsSameBut (at n end : ℕ) (old new : List ℕ) : Type 0 where
   pub no_shorter : end ≤ length new
   pub before : take at new ≡ take at old

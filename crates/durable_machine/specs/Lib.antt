@@ -7,6 +7,7 @@ pub mod Files
 pub mod Journal
 pub mod LastBatch
 pub mod Laws
+pub mod Pieces
 pub mod Refused
 pub mod Replay
 pub mod Restart

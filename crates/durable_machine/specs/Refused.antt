@@ -26,7 +26,7 @@ module _ {S : Type 0} (loads : List ℕ → S → Type 0) (next : S → Bool →
     pub batches : List (List (List ℕ))
     pub is : IsDamagedAt front batches damaged file
 
-  -- a base, and behind it batches with an event at this offset that changes nothing where memory is given
+  -- a base, and after it batches with an event at this offset that changes nothing where memory is given
   pub record IsUndone (undone : ℕ) (file : List ℕ) : Type 0 where
     pub front : List ℕ
     pub first : S

@@ -14,7 +14,7 @@ module _ {S : Type 0} (next : S → Bool → List ℕ → S) where
   LeadsAgain bytes old new =
       (events : List (List ℕ)) → AreSized events → bytes ≡ spelled events → new ≡ state_again next events old
 
-  -- an event that stands at this offset, behind those that bytes spell, changes nothing in the state to which these led, where memory is
+  -- an event that stands at this offset, after those that bytes spell, changes nothing in the state to which these led, where memory is
   -- given
   pub record IsIdleEvent (at : ℕ) (bytes : List ℕ) (old : S) : Type 0 where
     pub before : List (List ℕ)
@@ -27,7 +27,7 @@ module _ {S : Type 0} (next : S → Bool → List ℕ → S) where
     pub place : at ≡ length (spelled before)
     pub idle : next (state_again next before old) false event ≡ state_again next before old
 
-  -- so it is with an event of the batch behind those at the front of bytes, which begin at an offset
+  -- so it is with an event of the batch after those at the front of bytes, which begin at an offset
   pub record IsIdleAt (begin at : ℕ) (bytes : List ℕ) (old : S) : Type 0 where
     pub batches : List (List (List ℕ))
     pub frames : List ℕ
@@ -41,7 +41,7 @@ module _ {S : Type 0} (next : S → Bool → List ℕ → S) where
     pub event : IsIdleEvent offset (spelled batch) (state_again next (joined batches) old)
     pub place : at ≡ length (frames ++ is.sector ++ is.seal) + offset
 
-  -- the batches at the front of bytes, which begin at an offset, led from one state to the other, and this rest stands behind them; the
+  -- the batches at the front of bytes, which begin at an offset, led from one state to the other, and this rest stands after them; the
   -- last one begins here, and they are so many
   pub record AreDone (begin : ℕ) (bytes rest : List ℕ) (last count : ℕ) (old new : S) : Type 0 where
     pub batches : List (List (List ℕ))

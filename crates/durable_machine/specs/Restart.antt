@@ -14,7 +14,7 @@ module _ {S : Type 0} (loads : List ℕ → S → Type 0) (next : S → Bool →
     pub last_is : last ≡ length is.front + offset
 
   -- the file that is read stands for a state, and this one has its bytes, but for the sector of the last batch's gate, and for the end
-  -- behind the batches
+  -- after the batches
   pub record LacksGate (file c : List ℕ) : Type 0 where
     pub end : ℕ
     pub last : ℕ

@@ -13,7 +13,7 @@ use crc32c::Sums;
 use std::alloc::{AllocError, Global};
 use stored_file::SECTOR;
 
-/// Events as the journal spells them, behind room for their seal. So a batch is sealed and written where its events were noted, and the
+/// Events as the journal spells them, after room for their seal. So a batch is sealed and written where its events were noted, and the
 /// next one takes the same memory.
 #[derive(Drop)]
 pub struct Batch {
@@ -88,7 +88,8 @@ impl Batch {
     ///
     /// No memory.
     pub(crate) fn seal(&mut self, sums: &Sums, at: usize) -> Result<(), AllocError>
-        ensures is { OnOk result ((added : List (List ℕ)) → events_of self.old ≡ spelled added → IsPayload at added self.new.bytes.items) }
+        ensures is { OnOk result ((added : List (List ℕ))
+            → events_of self.old ≡ spelled added → IsPayload at added self.new.bytes.items) }
         ensures whole { OnOk result (IsWhole (length self.new.bytes.items)) }
     {
         self.make_room()?;

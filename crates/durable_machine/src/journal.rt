@@ -138,7 +138,7 @@ impl<F: StoredFile> Journal<F> {
     }
 }
 
-/// Puts a closed gate behind the batches of a file that a crash may have left, in place of what stands there. The last batch's gate
+/// Puts a closed gate after the batches of a file that a crash may have left, in place of what stands there. The last batch's gate
 /// is written again before: an earlier program may have failed to bring it to the disk, and then it was read all the same. It may
 /// crash too.
 ///
@@ -158,7 +158,7 @@ pub fn repair<F: StoredFile>(
     requires before { at + length gate.now ≤ end }
     requires whole { IsWhole end × IsWhole at × IsWhole (length gate.now) }
     requires again { take (length gate.now) (drop at (F.told file.old).seen) ≡ gate.now }
-    // What is read is on the disk, but for that gate, and for what stands behind the batches.
+    // What is read is on the disk, but for that gate, and for what stands after the batches.
     requires restarted { LeavesNow (F.told file.old) (IsSameBut at (length gate.now) end (F.told file.old).seen) }
 
     ensures settled { OnOk result ((front : List ℕ) (batches : List (List (List ℕ))) → IsWhole (length front)
@@ -173,7 +173,7 @@ pub fn repair<F: StoredFile>(
 
     ensures cause { HasCause (F.told file.old) (F.told file.new) result }
 {
-    // The cut has to be on the disk first: behind a gate that is torn open, what was there would count.
+    // The cut has to be on the disk first: after a gate that is torn open, what was there would count.
     file.set_len(end)?;
     file.renew(at, gate)?;
     file.sync()?;

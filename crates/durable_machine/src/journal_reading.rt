@@ -13,10 +13,10 @@ use stored_file::SECTOR;
 /// Before an event.
 const EVENT: u8 = 1;
 
-/// Behind the events of a batch.
+/// After the events of a batch.
 const CLOSED: u8 = 0;
 
-/// The event that stands whole at the front of the bytes, and what stands behind it.
+/// The event that stands whole at the front of the bytes, and what stands after it.
 pub fn first_event(bytes: &[u8]) -> Option<(&[u8], &[u8])>
     ensures { MatchOption result (BeginsNoEvent bytes.now) (λ parts. BeginsEvent parts.0.now parts.1.now bytes.now) }
 {
@@ -34,8 +34,8 @@ pub fn first_event(bytes: &[u8]) -> Option<(&[u8], &[u8])>
     Some(behind.split_at(length))
 }
 
-/// The batch that stands whole and sealed, behind a gate that isn't closed, at the front of bytes that begin at this offset of a file:
-/// where its events begin in them, these, and what stands behind it.
+/// The batch that stands whole and sealed, after a gate that isn't closed, at the front of bytes that begin at this offset of a file:
+/// where its events begin in them, these, and what stands after it.
 pub fn first_batch<'a>(
     sums: &Sums,
     at: usize,
@@ -64,7 +64,7 @@ pub fn first_batch<'a>(
     Some((SECTOR + room, events, &payload[whole..]))
 }
 
-/// Whether a crash may have left these bytes behind the last batch. Where no batch stands whole at their front, they are
+/// Whether a crash may have left these bytes after the last batch. Where no batch stands whole at their front, they are
 /// damage otherwise: bytes that have changed on the disk, or are missing there, since they were written.
 pub fn is_end(bytes: &[u8]) -> bool
     ensures { MatchBool result (IsEnd bytes.now) ((BeginsClosed bytes.now → ⊥) × (SECTOR < length bytes.now)) }
@@ -73,7 +73,7 @@ pub fn is_end(bytes: &[u8]) -> bool
 }
 
 /// Whether a closed gate stands at the front of the bytes.
-fn begins_closed(bytes: &[u8]) -> bool
+pub(crate) fn begins_closed(bytes: &[u8]) -> bool
     ensures { MatchBool result (BeginsClosed bytes.now) (BeginsClosed bytes.now → ⊥) }
 {
     match bytes.split_first_chunk::<4096>() {
@@ -114,7 +114,7 @@ fn events_length(bytes: &[u8]) -> usize
     bytes.len() - rest.len()
 }
 
-/// The bytes of the sectors that a batch of so many bytes takes behind its gate's.
+/// The bytes of the sectors that a batch of so many bytes takes after its gate's.
 pub(crate) fn whole_payload(length: usize) -> usize
     requires { length < 2 ^ 63 }
     ensures { result ≡ payload_length length }

@@ -2,7 +2,7 @@
 
 ghost use Rattle.std.specs.Prelude.{◌≡◌, ℕ, Bool, List, ◌++◌, IfOk, OnErr, MatchOption};
 ghost use Rattle.durable_machine.specs.Applied.{HasApplied};
-ghost use Rattle.durable_machine.specs.Bases.{BeginsNoBase, BeginsBase, HasNoBase};
+ghost use Rattle.durable_machine.specs.Bases.{BeginsNoBase, BeginsBase, HasNoBase, NeedsBytes};
 
 use std::alloc::{AllocError, Global};
 
@@ -31,6 +31,14 @@ pub trait Machine {
 
     /// What is replied to it.
     ghost replies: { Self → Bool → List ℕ → Self.Reply → Type 0 };
+
+    /// How many bytes a base at the front of a file has at least, by the file's first bytes; more than these, where it isn't all among
+    /// them. A file is read so far before its base is loaded. Where nothing is told of a base, all of it is.
+    fn base_length(front: &[u8]) -> usize
+        ensures { NeedsBytes loads result front.now }
+    {
+        front.len() + 1
+    }
 
     /// The machine for which the base stands at the front of a file, and the base's length; `None` where no base stands
     /// there.

@@ -1,22 +1,23 @@
 //! Machines whose events are kept in a file.
 
-ghost use Rattle.std.specs.Prelude.{◌≡◌, ◌⊎◌, ◌<◌, ◌≤◌, ◌+◌, [], length, take, drop, IfOk, IfErr, IsErrOf, OnOk};
+ghost use Rattle.std.specs.Prelude.{◌≡◌, ◌<◌, [], IfOk, IfErr, IsErrOf, OnOk};
 ghost use Rattle.stored_file.specs.File.{LeavesOnly};
 ghost use Rattle.stored_file.specs.Cause.{HasCause};
 ghost use Rattle.stored_file.specs.declared.stored_file.FileError.TheVariants.{NoRoom, Failed};
 ghost use Rattle.durable_machine.specs.Seals.{events_of};
 ghost use Rattle.durable_machine.specs.Files.{IsState, IsItsState, IsDurable, IsInBase, IsOldOrStands};
+ghost use Rattle.durable_machine.specs.Pieces.{IsFound};
 ghost use Rattle.durable_machine.specs.Restart.{IsRestarted, KeepsRestarted};
 ghost use Rattle.durable_machine.specs.Refused.{Refuses};
 
 use crate::base::put_base;
 use crate::batch::Batch;
+use crate::finding::find;
 use crate::journal::{Journal, repair};
-use crate::replay::replay;
-use crate::{Durable, Fault, InFile, Machine};
+use crate::{Durable, Fault, Found, InFile, Machine};
 use crc32c::Sums;
 use std::alloc::Global;
-use stored_file::{FileError, SECTOR, StoredFile, read_whole};
+use stored_file::{FileError, SliceReading, StoredFile, read_whole};
 
 impl<M: Machine + Drop, F: StoredFile + Drop> Durable<M, InFile<F>> {
     /// Opens a file that a crash may have left, or an earlier program that failed to bring its last batch to the disk. At `Ok` all that
@@ -55,7 +56,7 @@ impl<M: Machine + Drop, F: StoredFile + Drop> Durable<M, InFile<F>> {
     /// Those of [`Durable::open`].
     pub fn open_read(
         alloc: Global,
-        mut file: F,
+        file: F,
         bytes: &[u8],
     ) -> Result<Durable<M, InFile<F>>, (Fault, F)>
         requires restarted { IsRestarted M.loads M.next (F.told file) }
@@ -69,20 +70,48 @@ impl<M: Machine + Drop, F: StoredFile + Drop> Durable<M, InFile<F>> {
         ensures any_moment_err { IfErr result (λ refusal. KeepsRestarted M.loads M.next (F.told file) (F.told refusal.1)) }
         ensures refused { IfErr result (λ refusal. Refuses M.loads M.next (F.told file) (F.told refusal.1) refusal.0) }
     {
-        match reopen(alloc, &mut file, bytes) {
-            Ok((machine, gate)) => Ok(Durable {
-                machine,
+        match find(alloc, &mut SliceReading::new(bytes)) {
+            Ok(found) => Durable::open_found(alloc, file, found),
+            Err(fault) => Err((fault, file)),
+        }
+    }
+
+    /// Opens a file in which this was found ([`find`](crate::find)), as [`Durable::open`] does, and reads nothing of it. So a file is
+    /// opened that isn't in memory.
+    ///
+    /// # Errors
+    ///
+    /// No memory, or the disk's.
+    pub fn open_found(
+        alloc: Global,
+        mut file: F,
+        found: Found<M>,
+    ) -> Result<Durable<M, InFile<F>>, (Fault, F)>
+        requires restarted { IsRestarted M.loads M.next (F.told file) }
+        requires found { IsFound M.loads M.next found.end found.last found.gate.items (F.told file).seen found.machine }
+
+        ensures state { IfOk result (λ store. IsItsState M.loads M.next (F.told file).seen store.machine) }
+        ensures durable { IfOk result (λ store.
+            IsDurable M.loads M.next store.machine store.events.journal.gate (F.told store.events.journal.file)) }
+        ensures none { IfOk result (λ store. events_of store.events.waiting ≡ []) }
+        ensures any_moment { IfOk result (λ store. KeepsRestarted M.loads M.next (F.told file) (F.told store.events.journal.file)) }
+        ensures any_moment_err { IfErr result (λ refusal. KeepsRestarted M.loads M.next (F.told file) (F.told refusal.1)) }
+        ensures refused { IfErr result (λ refusal. Refuses M.loads M.next (F.told file) (F.told refusal.1) refusal.0) }
+    {
+        match repair(&mut file, found.end, found.last, &found.gate) {
+            Ok(()) => Ok(Durable {
+                machine: found.machine,
                 events: InFile {
                     journal: Journal {
                         file,
-                        gate,
-                        next: gate,
+                        gate: found.end,
+                        next: found.end,
                         sums: Sums::new(),
                     },
                     waiting: Batch::new(alloc),
                 },
             }),
-            Err(fault) => Err((fault, file)),
+            Err(error) => Err((Fault::from(error), file)),
         }
     }
 
@@ -135,7 +164,7 @@ impl<M: Machine + Drop, F: StoredFile + Drop> Durable<M, InFile<F>> {
     }
 
     /// Folds the journal into a new base, which stands for the machine: a new file has it in place of the old one, with an empty
-    /// journal behind it. A crash at any moment leaves a file that stands for the same state. Where the disk has no room for the new
+    /// journal after it. A crash at any moment leaves a file that stands for the same state. Where the disk has no room for the new
     /// file, nothing has changed; at another `Err`, the file has to be opened again.
     ///
     /// # Errors
@@ -159,37 +188,4 @@ impl<M: Machine + Drop, F: StoredFile + Drop> Durable<M, InFile<F>> {
         self.events.journal.gate = put_base::<M, F>(base, &mut self.events.journal.file)?;
         Ok(())
     }
-}
-
-/// The machine in the state that a file stands for, of which these bytes were read, and where the file's closed gate stands.
-fn reopen<M: Machine + Drop, F: StoredFile>(
-    alloc: Global,
-    file: &mut F,
-    bytes: &[u8],
-) -> Result<(M, usize), Fault>
-    requires restarted { IsRestarted M.loads M.next (F.told file.old) }
-    requires read { bytes.now ≡ (F.told file.old).seen }
-    ensures state { IfOk result (λ opened. IsItsState M.loads M.next (F.told file.old).seen opened.0) }
-    ensures durable { IfOk result (λ opened. IsDurable M.loads M.next opened.0 opened.1 (F.told file.new)) }
-    ensures any_moment { KeepsRestarted M.loads M.next (F.told file.old) (F.told file.new) }
-    ensures refused { IfErr result (λ fault. Refuses M.loads M.next (F.told file.old) (F.told file.new) fault) }
-{
-    let found = replay(alloc, &Sums::new(), bytes)?;
-    let gate = gate_in(bytes, found.last, found.end);
-    repair(file, found.end, found.last, gate)?;
-    Ok((found.machine, found.end))
-}
-
-/// The sector of the gate at an offset; no bytes where that is the end.
-fn gate_in(bytes: &[u8], last: usize, end: usize) -> &[u8]
-    requires within { end ≤ length bytes.now }
-    requires room { (last ≡ end) ⊎ (last + 4096 ≤ end) }
-    ensures again { take (length result.now) (drop last bytes.now) ≡ result.now }
-    ensures size { (length result.now ≡ 4096) ⊎ ((last ≡ end) × (length result.now ≡ 0)) }
-    ensures before { last + length result.now ≤ end }
-{
-    if last == end {
-        return &[];
-    }
-    &bytes[last..last + SECTOR]
 }

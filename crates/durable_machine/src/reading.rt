@@ -4,10 +4,10 @@ ghost use Rattle.std.specs.Prelude.{IfOk, IfErr};
 ghost use Rattle.durable_machine.specs.Files.{IsItsState};
 ghost use Rattle.durable_machine.specs.Refused.{IsRefused};
 
-use crate::replay::replay;
+use crate::finding::find;
 use crate::{Fault, Machine};
-use crc32c::Sums;
 use std::alloc::Global;
+use stored_file::SliceReading;
 
 /// The machine in the state that the bytes of a file stand for. It is that of [`Durable::open`](crate::Durable::open), which the same
 /// bytes open and refuse; but nothing is brought to a disk.
@@ -19,6 +19,6 @@ pub fn machine_in<M: Machine + Drop>(alloc: Global, file: &[u8]) -> Result<M, Fa
     ensures state { IfOk result (λ machine. IsItsState M.loads M.next file.now machine) }
     ensures refused { IfErr result (λ fault. IsRefused M.loads M.next file.now fault) }
 {
-    let found = replay(alloc, &Sums::new(), file)?;
+    let found = find(alloc, &mut SliceReading::new(file))?;
     Ok(found.machine)
 }

@@ -1,84 +1,12 @@
-//! The events of a journal, done again.
+//! The events of batches, done again.
 
 ghost use Rattle.std.specs.Prelude.{◌≡◌, ◌<◌, ◌≤◌, ◌^◌, ◌+◌, length, IfOk, IfErr, OnOk};
 ghost use Rattle.durable_machine.specs.Replay.{AreAllDone, HaltsAtBatch, HaltsAtEvent, LeadsAgain};
-ghost use Rattle.durable_machine.specs.Restart.{IsReplayed};
-ghost use Rattle.durable_machine.specs.Refused.{IsRefused};
-ghost use Rattle.durable_machine.specs.Salvage.{HasBegun};
 
-use crate::journal_reading::{first_batch, first_event, is_end};
-use crate::sectors::in_sectors;
-use crate::{Fault, Machine};
+use crate::Machine;
+use crate::journal_reading::{first_batch, first_event};
 use crc32c::Sums;
 use std::alloc::{AllocError, Global};
-use stored_file::FileError;
-
-/// What a file stands for.
-#[derive(Drop)]
-pub(crate) struct Replayed<M: Drop> {
-    /// The machine in its state.
-    pub(crate) machine: M,
-    /// Where the file's batches end.
-    pub(crate) end: usize,
-    /// The offset of the last one's gate; where there is none, it is that end.
-    pub(crate) last: usize,
-    /// How many they are.
-    pub(crate) count: usize,
-}
-
-/// The machine in the state that a file stands for, and where the file's batches are.
-///
-/// # Errors
-///
-/// The file begins with no base in whole sectors, it is damaged, an event of it isn't done again, or no memory.
-pub(crate) fn replay<M: Machine + Drop>(
-    alloc: Global,
-    sums: &Sums,
-    file: &[u8],
-) -> Result<Replayed<M>, Fault>
-    ensures state { IfOk result (λ found. IsReplayed M.loads M.next found.end found.last file.now found.machine) }
-    ensures refused { IfErr result (λ fault. IsRefused M.loads M.next file.now fault) }
-{
-    let found = replay_front(alloc, sums, file)?;
-    if !is_end(&file[found.end..]) {
-        return Err(Fault::Damaged(found.end));
-    }
-    Ok(found)
-}
-
-/// The machine to which a file's base and the batches lead that stand whole behind it, whatever stands after these.
-///
-/// # Errors
-///
-/// The file begins with no base in whole sectors, an event isn't done again, or no memory.
-pub(crate) fn replay_front<M: Machine + Drop>(
-    alloc: Global,
-    sums: &Sums,
-    file: &[u8],
-) -> Result<Replayed<M>, Fault>
-    ensures begun { IfOk result (λ found. HasBegun M.loads M.next found.end found.last found.count file.now found.machine) }
-    ensures within { IfOk result (λ found. found.end ≤ length file.now) }
-    ensures refused { IfErr result (λ fault. IsRefused M.loads M.next file.now fault) }
-{
-    let Some((mut machine, base)) = M::load(alloc, file)? else {
-        return Err(Fault::Unreadable);
-    };
-    let front = in_sectors(base);
-    if file.len() < front {
-        return Err(Fault::Unreadable);
-    }
-    let batches = match replay_batches(alloc, sums, &mut machine, front, &file[front..]) {
-        Ok(batches) => batches,
-        Err(Halt::Idle(at)) => return Err(Fault::Undone(front + at)),
-        Err(Halt::Memory) => return Err(Fault::OfFile(FileError::Memory)),
-    };
-    Ok(Replayed {
-        machine,
-        end: front + batches.taken,
-        last: front + batches.last,
-        count: batches.count,
-    })
-}
 
 /// Why events aren't all done again.
 #[derive(Clone, Copy)]
@@ -99,15 +27,15 @@ impl From<AllocError> for Halt {
     }
 }
 
-/// Batches behind a file's front.
+/// Batches after a file's front.
 #[derive(Clone, Copy)]
-struct Batches {
+pub(crate) struct Batches {
     /// How many bytes they take.
-    taken: usize,
+    pub(crate) taken: usize,
     /// Where the last of them begins; where there is none, it is where they end.
-    last: usize,
+    pub(crate) last: usize,
     /// How many they are.
-    count: usize,
+    pub(crate) count: usize,
 }
 
 /// Does the batches at the front of the bytes again, which begin at an offset of the file.
@@ -115,7 +43,7 @@ struct Batches {
 /// # Errors
 ///
 /// An event isn't done again, or no memory.
-fn replay_batches<M: Machine>(
+pub(crate) fn replay_batches<M: Machine>(
     alloc: Global,
     sums: &Sums,
     machine: &mut M,

@@ -4,17 +4,17 @@ ghost use Rattle.std.specs.Prelude.{◌≡◌, ◌<◌, ◌≤◌, ◌^◌, ◌+
 ghost use Rattle.durable_machine.specs.Refused.{IsRefused};
 ghost use Rattle.durable_machine.specs.Salvage.{AreFound, IsSalvaged, IsSeen};
 
+use crate::finding::replay_front;
 use crate::journal_reading::first_batch;
-use crate::replay::replay_front;
 use crate::{Fault, Machine};
 use crc32c::Sums;
 use std::alloc::Global;
-use stored_file::SECTOR;
+use stored_file::{SECTOR, SliceReading};
 
 /// What is saved of a file.
 #[derive(Drop)]
 pub struct Salvaged<M: Drop> {
-    /// The machine after the batches that stand whole behind the base.
+    /// The machine after the batches that stand whole after the base.
     pub machine: M,
     /// How many these are.
     pub whole: usize,
@@ -24,7 +24,7 @@ pub struct Salvaged<M: Drop> {
     pub readable: usize,
 }
 
-/// The machine after the batches that stand whole behind a file's base, damaged or not, and how many others are left out. A new file can be
+/// The machine after the batches that stand whole after a file's base, damaged or not, and how many others are left out. A new file can be
 /// made of it ([`put_base`](crate::put_base)); the old one isn't changed.
 ///
 /// # Errors
@@ -35,7 +35,9 @@ pub fn salvage<M: Machine + Drop>(alloc: Global, file: &[u8]) -> Result<Salvaged
     ensures refused { IfErr result (λ fault. IsRefused M.loads M.next file.now fault) }
 {
     let sums = Sums::new();
-    let found = replay_front(alloc, &sums, file)?;
+    let mut reading = SliceReading::new(file);
+    let mut window = Vec::new(alloc);
+    let found = replay_front(alloc, &sums, &mut reading, &mut window)?;
     let readable = batches_in(&sums, found.end, &file[found.end..]);
     Ok(Salvaged {
         machine: found.machine,

@@ -1,8 +1,8 @@
 //! A journal that waits for the disk once a batch.
 //!
-//! A batch is *staged* when it is on the disk, whole, behind its closed gate, with a closed gate after it. In one round the gate of the
+//! A batch is *staged* when it is on the disk, whole, after its closed gate, with a closed gate after it. In one round the gate of the
 //! staged batch is opened, and the next batch is written after the closed gate that follows, with a closed gate of its own after it; then
-//! one sync. Whatever of the two writes comes to the disk, the staged batch is whole either way, and the new one stands behind a gate that
+//! one sync. Whatever of the two writes comes to the disk, the staged batch is whole either way, and the new one stands after a gate that
 //! nothing writes in this round.
 
 ghost use Rattle.std.specs.Prelude.{◌≡◌, ◌++◌, [], ◌∷◌, List, ℕ, OnOk};

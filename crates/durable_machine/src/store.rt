@@ -52,7 +52,7 @@ pub trait Store<M: Machine> {
         ensures refused { OnErr result (waits self.new ≡ waits self.old) }
         ensures same { disk self.new ≡ disk self.old };
 
-    /// Takes back the notes behind so many bytes of them.
+    /// Takes back the notes after so many bytes of them.
     fn take_back(&mut self, before: usize)
         ensures back { waits self.new ≡ take before (waits self.old) }
         ensures same { disk self.new ≡ disk self.old };

@@ -1,3 +1,5 @@
 mod Ordered
 mod Covered
 mod Renewed
+mod Left
+mod There

@@ -1,7 +1,9 @@
 -- The calls that a host is to make for a file, and those that it told as made.
-use Rattle.std.specs.Prelude.{ℕ, Bool, true, false, not, List, [], ◌∷◌, map, reverse}
+use Rattle.std.specs.Prelude.{ℕ, ◌≡◌, Bool, true, false, not, ◌&&◌, List, [], ◌∷◌, drop, length, map, nat_eq, reverse, take}
+use Rattle.std.specs.Cmp.Lexicographic.{pointwise}
 use Rattle.stored_file.specs.Calls.{Call}
 use Rattle.stored_file.specs.Calls as call
+use Rattle.durable_device.specs.Kept.{MayBeLeft}
 use Rattle.handed_file.specs.declared.handed_file.FileCall.{FileCall}
 use Rattle.handed_file.specs.declared.handed_file.FileCall.TheVariants.{Write, Renew, Shorten, Sync, Replace, Want}
 
@@ -34,6 +36,34 @@ has_refused (c ∷ calls) = has_refused calls
 abbrev pub settles : List FileCall → Bool → Bool
 settles [] refused = not refused
 settles (call ∷ calls) refused = false
+
+-- ---- bytes that are written again
+
+-- are these bytes there, of a file of which those are read?
+abbrev pub is_there : ℕ → List ℕ → List ℕ → Bool
+is_there at bytes seen = pointwise nat_eq bytes (take (length bytes) (drop at seen))
+
+-- was each written again where it was read?
+abbrev pub each_is_there : List Call → Bool
+each_is_there [] = true
+each_is_there (call.Renewed «at» bytes done ∷ calls) = is_there «at» bytes (call.told_of MayBeLeft calls).seen && each_is_there calls
+each_is_there (c ∷ calls) = each_is_there calls
+
+-- are the bytes there that a call writes again?
+abbrev pub IsThere : FileCall → List ℕ → Type 0
+IsThere (Renew «at» bytes) seen = is_there «at» bytes.items seen ≡ true
+IsThere _ seen = Unit {0}
+
+-- ---- a new file that is wanted
+
+-- does a call say so?
+abbrev pub is_want : FileCall → Bool
+is_want (Write «at» bytes) = false
+is_want (Renew «at» bytes) = false
+is_want (Shorten len) = false
+is_want Sync = false
+is_want (Replace bytes) = false
+is_want (Want bytes) = true
 
 -- ---- what a host is told of a call
 

@@ -1,3 +1,4 @@
 pub mod Handing
 pub mod Handed
 pub mod Laws
+pub mod Left

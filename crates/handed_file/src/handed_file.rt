@@ -1,9 +1,11 @@
 //! The file.
 
-ghost use Rattle.std.specs.Prelude.{◌≡◌, ◌∷◌, ◌++◌, ◌<◌, ◌^◌, ◌↔◌, ◌⊎◌, List, [], length, IfSome, IsNone, IsTrue, OnOk, OnErr};
-ghost use Rattle.stored_file.specs.Calls.{NotReplaced, Opened, Refused, told_of};
+ghost use Rattle.std.specs.Prelude.{◌≡◌, ◌∷◌, ◌++◌, ◌<◌, ◌^◌, ◌↔◌, ◌⊎◌, ℕ, List, [], false, true, length, IfSome, IsNone, IsTrue, OnOk, OnErr};
+ghost use Rattle.stored_file.specs.File.{MayLeave};
+ghost use Rattle.stored_file.specs.Calls.{Call, NotReplaced, Opened, Refused, Replaced, told_of};
 ghost use Rattle.durable_device.specs.Kept.{IsRestarted, MayBeLeft};
-ghost use Rattle.handed_file.specs.Handing.{all_done, call_bytes, call_kind, call_place, done_call, handed, has_refused};
+ghost use Rattle.handed_file.specs.Handing.{IsThere, all_done, call_bytes, call_kind, call_place, done_call, each_is_there, handed, has_refused, is_want};
+ghost use Rattle.handed_file.specs.Left.{each_is_long};
 ghost use Rattle.handed_file.specs.declared.handed_file.FileCall.{FileCall};
 
 use std::alloc::Global;
@@ -70,6 +72,34 @@ impl FileCall {
             FileCall::Shorten { .. } | FileCall::Sync => &[],
         }
     }
+
+    /// Does it say that a new file is wanted?
+    pub fn is_want(&self) -> bool
+        ensures { result ≡ is_want self.now }
+    {
+        match self {
+            FileCall::Want { .. } => true,
+            FileCall::Write { .. } => false,
+            FileCall::Renew { .. } => false,
+            FileCall::Shorten { .. } => false,
+            FileCall::Sync => false,
+            FileCall::Replace { .. } => false,
+        }
+    }
+
+    /// Does a new file of these bytes take the place of the file by it?
+    pub fn replaces_by(&self, new: &[u8]) -> bool
+        ensures { IsTrue result → done_call self.now ≡ Replaced new.now true }
+    {
+        match self {
+            FileCall::Replace { bytes } => bytes.as_slice() == new,
+            FileCall::Write { .. } => false,
+            FileCall::Renew { .. } => false,
+            FileCall::Shorten { .. } => false,
+            FileCall::Sync => false,
+            FileCall::Want { .. } => false,
+        }
+    }
 }
 
 /// A file for which a host makes the calls, in order. Each is answered as done once it is handed over.
@@ -88,18 +118,23 @@ pub struct HandedFile {
     made: Record,
     ghost has_length: { length (told_of MayBeLeft notes.calls).seen < 2 ^ 63 },
     ghost told_failed: { failed ≡ has_refused notes.calls },
+    /// What is written again is there.
+    ghost there: { each_is_there notes.calls ≡ true },
+    /// What a crash leaves is long enough for it.
+    ghost long: { each_is_long notes.calls ≡ true },
     /// What was handed over is what was told as done, and behind it what wasn't yet.
     pub ghost in_order: { handed notes.calls ≡ all_done calls.items ++ made.calls },
 }
 
 impl HandedFile {
-    ghost use Rattle.handed_file.specs.Handed.{is_settled, made_calls, noted, waiting};
+    ghost use Rattle.handed_file.specs.Handed.{is_settled, made_calls, noted, told, waiting, waits};
 
     /// A file that the host has opened, and brought to the disk as far as it can be, with the bytes that it has read. They stay the
     /// host's: whoever opens the file is given them beside it. There is no room for a new file until the host says so.
     pub fn new(alloc: Global, bytes: &[u8]) -> HandedFile
         ensures opened { noted result ≡ Opened bytes.now ∷ [] }
         ensures restarted { IsRestarted (told_of MayBeLeft (noted result)) }
+        ensures known { IsRestarted (told result) }
         ensures settled { made_calls result ≡ noted result }
     {
         HandedFile {
@@ -125,8 +160,27 @@ impl HandedFile {
     pub fn next(&self) -> Option<&FileCall>
         ensures none { IsNone result ↔ (waiting self.now ≡ []) }
         ensures first { IfSome result (λ call. (rest : List FileCall) × (waiting self.now ≡ call.now ∷ rest)) }
+        ensures there { IfSome result (λ call. IsThere call.now (told_of MayBeLeft (made_calls self.now)).seen) }
     {
-        self.calls.front()
+        match self.calls.front() {
+            Some(call) => Some(call),
+            None => None,
+        }
+    }
+
+    /// Was a call refused? Else each that was answered was handed over.
+    pub fn has_failed(&self) -> bool
+        ensures refused { result ≡ has_refused (noted self.now) }
+        ensures order { result ≡ false → noted self.now ≡ all_done (waiting self.now) ++ made_calls self.now }
+    {
+        self.failed
+    }
+
+    /// A crash leaves some file. Nothing is done.
+    pub fn leaves(&self)
+        ensures { (c : List ℕ) × MayLeave (told self.now) c }
+    {
+        let _ = self.failed;
     }
 
     /// Has the host told each call as done, and was none refused?
@@ -154,14 +208,75 @@ impl HandedFile {
         }
     }
 
+    /// Hands over a new file of these bytes, which takes the place of this one, whatever room there is.
+    ///
+    /// # Errors
+    ///
+    /// No memory, or a call was refused before: it isn't handed over.
+    pub fn put(&mut self, bytes: Vec<u8>) -> Result<(), FileError>
+        ensures handed { OnOk result (waits self.new ≡ waits self.old ++ Replaced bytes.items true ∷ []) }
+        ensures refused { OnErr result (waits self.new ≡ waits self.old) }
+        ensures made { made_calls self.new ≡ made_calls self.old }
+    {
+        if self.failed || bytes.len() > MOST_BYTES {
+            return self.refuse(FileError::Failed);
+        }
+        self.hand(FileCall::Replace { bytes })
+    }
+
+    // ---- a new file that was wanted
+
+    /// Takes the bytes out of the only call that waits, where that wants a new file of them.
+    pub fn take_wanted(&mut self) -> Option<Vec<u8>>
+        ensures wanted { IfSome result (λ bytes. waiting self.old ≡ FileCall.Want bytes ∷ []) }
+        ensures waits { waits self.new ≡ waits self.old }
+        ensures same { noted self.new ≡ noted self.old }
+        ensures made { made_calls self.new ≡ made_calls self.old }
+    {
+        if self.calls.len() != 1 || !self.calls[0].is_want() {
+            return None;
+        }
+        match self.calls.pop_front() {
+            Some(FileCall::Want { bytes }) => {
+                let bytes_left = Vec::new(self.alloc);
+                self.calls
+                    .push_back_reserved(FileCall::Want { bytes: bytes_left });
+                Some(bytes)
+            }
+            _ => unreachable!(),
+        }
+    }
+
+    /// Do just these calls wait: for a new file that was wanted, and for one of these bytes?
+    pub fn is_replaced_by(&self, bytes: &[u8]) -> bool
+        ensures { IsTrue result → waits self.now ≡ NotReplaced ∷ Replaced bytes.now true ∷ [] }
+    {
+        self.calls.len() == 2 && self.calls[0].is_want() && self.calls[1].replaces_by(bytes)
+    }
+
+    /// Is the next call for a new file that is wanted?
+    pub fn is_wanted(&self) -> bool
+        ensures { IsTrue result → (rest : List Call) × (waits self.now ≡ NotReplaced ∷ rest) }
+    {
+        match self.next() {
+            Some(call) => call.is_want(),
+            None => false,
+        }
+    }
+
     /// Hands a call over, and answers it as done.
     ///
     /// # Errors
     ///
     /// No memory: it isn't handed over.
     fn hand(&mut self, call: FileCall) -> Result<(), FileError>
-        requires { length (told_of MayBeLeft (done_call call ∷ self.old.notes.calls)).seen < 2 ^ 63 }
+        requires sized { length (told_of MayBeLeft (done_call call ∷ self.old.notes.calls)).seen < 2 ^ 63 }
+        requires there { each_is_there (done_call call ∷ self.old.notes.calls) ≡ true }
+        requires long { each_is_long (done_call call ∷ self.old.notes.calls) ≡ true }
         ensures handed { OnOk result (self.new.notes.calls ≡ done_call call ∷ self.old.notes.calls) }
+        ensures waits { OnOk result (self.new.calls.items ≡ self.old.calls.items ++ call ∷ []) }
+        ensures kept { OnErr result (self.new.calls.items ≡ self.old.calls.items) }
+        ensures made { self.new.made.calls ≡ self.old.made.calls }
         ensures refused { OnErr result (self.new.notes.calls ≡ Refused ∷ self.old.notes.calls) }
         ensures memory { OnErr result (result ≡ Err FileError.Memory) }
     {
@@ -178,8 +293,9 @@ impl HandedFile {
     ///
     /// No room; or no memory: it isn't handed over.
     fn want(&mut self, bytes: Vec<u8>) -> Result<(), FileError>
-        ensures { ((result ≡ Err FileError.NoRoom) × (self.new.notes.calls ≡ NotReplaced ∷ self.old.notes.calls))
+        ensures wanted { ((result ≡ Err FileError.NoRoom) × (self.new.notes.calls ≡ NotReplaced ∷ self.old.notes.calls))
             ⊎ ((result ≡ Err FileError.Memory) × (self.new.notes.calls ≡ Refused ∷ self.old.notes.calls)) }
+        ensures made { self.new.made.calls ≡ self.old.made.calls }
     {
         self.hand(FileCall::Want { bytes })?;
         Err(FileError::NoRoom)
@@ -189,6 +305,8 @@ impl HandedFile {
     fn refuse<T>(&mut self, error: FileError) -> Result<T, FileError>
         ensures refused { result ≡ Err error }
         ensures noted { self.new.notes.calls ≡ Refused ∷ self.old.notes.calls }
+        ensures kept { self.new.calls.items ≡ self.old.calls.items }
+        ensures made { self.new.made.calls ≡ self.old.made.calls }
     {
         self.notes.refused();
         self.failed = true;
@@ -212,8 +330,9 @@ fn note(notes: &mut Record, call: &FileCall)
 
 impl StoredFile for HandedFile {
     ghost use Rattle.stored_file.specs.Calls.{counts_behind};
+    ghost use Rattle.handed_file.specs.Handed.{told};
 
-    ghost told = { λ file. told_of MayBeLeft file.notes.calls };
+    ghost told = { told };
 
     ghost counts_now = { λ file t c early now. counts_behind MayBeLeft file.notes.calls t c early now };
 

@@ -1,3 +1,4 @@
 pub mod SectionLemmas
+pub mod Labels
 pub mod Fronts
 pub mod Proved

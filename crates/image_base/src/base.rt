@@ -1,21 +1,19 @@
 //! A base, and what it tells.
 
-ghost use Rattle.std.specs.Prelude.{◌≡◌, List, ℕ, IfOk, MatchOption, Ok, length};
+ghost use Rattle.std.specs.Prelude.{◌≡◌, IfOk, MatchOption, Ok, length};
 ghost use Rattle.durable_machine.specs.Batches.{bytes_of};
 ghost use Rattle.durable_machine.specs.Bases.{BeginsBase, BeginsNoBase};
-ghost use Rattle.image_base.specs.Base.{IsBaseOf, IsBehindMagic, IsNoText};
+ghost use Rattle.image_base.specs.Base.{IsBaseOf, IsMadeBy, IsNoText, this_device};
 ghost use Rattle.image_base.specs.Loaded.{told_by};
 ghost use Rattle.image_text.specs.Reading.{namespace_in};
 ghost use Rattle.image_text.specs.Text.{text};
 
+use crate::front::{add_front, after_label};
 use crate::sections::{SECTIONS, add_sections, sections_in};
 use durable_machine::{add_event, first_event};
 use image_store::Image;
 use image_text::{Buffer, ImageText, LoadFault};
 use std::alloc::{AllocError, Global};
-
-/// The first bytes of a base (profile).
-pub const MAGIC: [u8; 8] = *b"ZNSJRN01";
 
 /// What a base tells.
 #[derive(Drop)]
@@ -35,10 +33,10 @@ pub fn load_base(alloc: Global, file: &[u8]) -> Result<Option<(Base, usize)>, Al
     ensures { IfOk result (λ found. MatchOption found
         (BeginsNoBase IsBaseOf file.now) (λ base. BeginsBase IsBaseOf (told_by base.0) base.1 file.now)) }
 {
-    let Some(behind) = behind_magic(file) else {
+    let Some(after_front) = after_label(file) else {
         return Ok(None);
     };
-    let Some((text, rest)) = first_event(behind) else {
+    let Some((text, rest)) = first_event(after_front) else {
         return Ok(None);
     };
     let Some(image) = image_of(alloc, text)? else {
@@ -50,37 +48,24 @@ pub fn load_base(alloc: Global, file: &[u8]) -> Result<Option<(Base, usize)>, Al
     Ok(Some((Base { image, sections }, file.len() - after)))
 }
 
-/// A base that tells an image and sections.
+/// A base that tells an image and sections, with the label of this device.
 ///
 /// # Errors
 ///
 /// No memory.
 pub fn save_base(alloc: Global, image: &Image, sections: &[Vec<u8>]) -> Result<Vec<u8>, AllocError>
     requires { length sections.now ≡ SECTIONS }
-    ensures { IfOk result (λ base. IsBaseOf base.items (record { namespace = image.now; sections = bytes_of sections.now })) }
+    ensures is { IfOk result (λ base. IsBaseOf base.items (record { namespace = image.now; sections = bytes_of sections.now })) }
+    ensures labelled { IfOk result (λ base. IsMadeBy this_device base.items) }
 {
     // Brings in what holds of each image.
     let _ = image.geometry();
     let text = text_of(alloc, image)?;
     let mut base = Vec::new(alloc);
-    base.extend_from_slice(&MAGIC)?;
+    add_front(&mut base)?;
     add_event(&mut base, &text)?;
     add_sections(&mut base, sections)?;
     Ok(base)
-}
-
-/// What stands behind the magic; `None` where the file doesn't begin with it.
-fn behind_magic(file: &[u8]) -> Option<&[u8]>
-    ensures { MatchOption result
-        ((behind : List ℕ) → IsBehindMagic file.now behind → ⊥) (λ behind. IsBehindMagic file.now behind.now) }
-{
-    let Some((front, behind)) = file.split_first_chunk::<8>() else {
-        return None;
-    };
-    if *front != MAGIC {
-        return None;
-    }
-    Some(behind)
 }
 
 /// The image of a text; `None` where the bytes are none.

@@ -38,6 +38,7 @@ module _ (first : List ℕ) (changes later : List Change) (change : Change) (pus
       | inr within ↦ inl (left.0, left.1, within, subst (λ (l : List Change). Leaves l (λ file. file ≡ first) c) (same_before left.0 within) left.3)
     ];
     keeps = λ t c early left. (left.0, left.1, omega (arith, size, left.2), subst (λ (l : List Change). Leaves l (λ file. file ≡ first) c) (sym (same_before left.0 left.2)) left.3);
+    made = refl;
   }
 
 -- one change more of the first n

@@ -1,5 +1,24 @@
 -- What is known of a file on a disk that may stop at any moment.
-use Rattle.std.specs.Prelude.{◌≡◌, ◌⊎◌, ℕ, ◌+◌, ◌%◌, ◌≤◌, max, min, List, [], ◌∷◌, ◌++◌, length, take, drop}
+use Rattle.std.specs.Prelude.{◌≡◌, ◌⊎◌, ℕ, Bool, ◌+◌, ◌%◌, ◌≤◌, max, min, List, [], ◌∷◌, ◌++◌, length, take, drop}
+
+-- a call, and whether the system answered that it is done
+pub data Call : Type 0 where
+  -- the file was opened, and these bytes were read
+  Opened : (bytes : List ℕ) → Call
+  -- bytes were written at an offset
+  Written : (at : ℕ) (bytes : List ℕ) (done : Bool) → Call
+  -- bytes that were read at an offset were written there again
+  Renewed : (at : ℕ) (bytes : List ℕ) (done : Bool) → Call
+  -- the length was set
+  Shortened : (len : ℕ) (done : Bool) → Call
+  -- all that was written was brought to the disk
+  Synced : (done : Bool) → Call
+  -- a new file of these bytes, all on the disk, took the file's place
+  Replaced : (bytes : List ℕ) (done : Bool) → Call
+  -- there was no room for a new file, and nothing has changed
+  NotReplaced : Call
+  -- the call wasn't made
+  Refused : Call
 
 -- a file at one moment
 pub record FileState : Type 1 where
@@ -9,11 +28,13 @@ pub record FileState : Type 1 where
   pub moment : ℕ
   -- what a crash at a moment might have left, of those since this one, during a call or between two
   pub left_since : ℕ → List ℕ → Type 0
-  -- what a crash may leave behind a sync that succeeds now: it brings to the disk what was changed through this handle, over what an
+  -- what a crash may leave after a sync that succeeds now: it brings to the disk what was changed through this handle, over what an
   -- earlier program left there
   pub once_synced : List ℕ → Type 0
   -- how often the disk has failed
   pub faults : ℕ
+  -- the calls that another has told as made, of a file for which another makes them, of which the last stands first; else none
+  pub made : List Call
 
 -- a crash now may leave this
 abbrev pub MayLeave : FileState → List ℕ → Type 0
@@ -23,10 +44,10 @@ MayLeave file c = file.left_since file.moment c
 pub record IsOnDisk (file : FileState) : Type 0 where
   -- a crash now leaves what a read returns
   pub left : (c : List ℕ) → MayLeave file c → c ≡ file.seen
-  -- and so it is behind a sync
+  -- and so it is after a sync
   pub synced : (c : List ℕ) → file.once_synced c → c ≡ file.seen
 
--- what a crash may leave of it, now or behind a sync, has P
+-- what a crash may leave of it, now or after a sync, has P
 pub record LeavesNow (file : FileState) (P : List ℕ → Type 0) : Type 0 where
   pub left : (c : List ℕ) → MayLeave file c → P c
   pub synced : (c : List ℕ) → file.once_synced c → P c
@@ -100,6 +121,8 @@ pub record Elapses (old new : FileState) : Type 0 where
   pub later : old.moment ≤ new.moment
   pub nothing_else : (t : ℕ) (c : List ℕ) → t ≤ old.moment → new.left_since t c → old.left_since t c ⊎ MayLeave new c
   pub keeps : (t : ℕ) (c : List ℕ) → t ≤ old.moment → old.left_since t c → new.left_since t c
+  -- and nothing was told meanwhile
+  pub made : new.made ≡ old.made
 
 -- a crash at any moment from the old one to the new one leaves a file that has P
 pub record LeavesOnly (old new : FileState) (P : List ℕ → Type 0) : Type 0 where
@@ -107,3 +130,5 @@ pub record LeavesOnly (old new : FileState) (P : List ℕ → Type 0) : Type 0 w
   pub each : (c : List ℕ) → new.left_since old.moment c → P c
   -- and one at a moment since an earlier one, what it might have left before, or such a file
   pub before : (t : ℕ) (c : List ℕ) → t ≤ old.moment → new.left_since t c → old.left_since t c ⊎ P c
+  -- and nothing was told meanwhile
+  pub made : new.made ≡ old.made

@@ -1,6 +1,7 @@
 pub mod Calls
 pub mod Cause
 pub mod File
+pub mod Reading
 pub mod Rounds
 pub mod Tearing
 pub mod Unsynced

@@ -23,7 +23,7 @@ LeftSince first changes n c = (k : ℕ) × (n ≤ k) × (k ≤ length changes) �
 
 -- such a file, of which these bytes are read
 abbrev pub state_of : List ℕ → List Change → List ℕ → FileState
-state_of first changes seen = record { seen = seen; moment = length changes; left_since = LeftSince first changes; once_synced = λ c. c ≡ seen; faults = 0 }
+state_of first changes seen = record { seen = seen; moment = length changes; left_since = LeftSince first changes; once_synced = λ c. c ≡ seen; faults = 0; made = [] }
 
 -- the last change is one of those since each earlier one
 pub counts_at : (first : List ℕ) (changes : List Change) (n : ℕ) (c : List ℕ) → n ≤ length changes → LeftSince first changes (length changes) c → LeftSince first changes n c

@@ -1,4 +1,4 @@
-//! Reading a file, and writing it with the sync behind it, as one step each.
+//! Reading a file, and writing it with the sync after it, as one step each.
 
 ghost use Rattle.std.specs.Prelude.{◌≡◌, ◌≤◌, length, IfOk, OnOk};
 ghost use Rattle.stored_file.specs.File.{MayLeave, IsAsBefore, IsOnDisk, LeavesOnly, IsWhole, is_written, Torn};

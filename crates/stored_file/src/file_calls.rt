@@ -5,7 +5,7 @@ ghost use Rattle.stored_file.specs.Calls.{Call, Written, Renewed, Shortened, Syn
 
 use crate::FileError;
 
-/// The calls of the system for one file, each of which is noted with its answer. None is made behind one that failed.
+/// The calls of the system for one file, each of which is noted with its answer. None is made after one that failed.
 pub trait FileCalls {
     /// Each call so far, of which the last stands first.
     ghost notes: { Self → List Call };

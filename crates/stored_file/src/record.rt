@@ -2,7 +2,7 @@
 
 ghost use Rattle.std.specs.Prelude.{◌≡◌, List, [], ◌∷◌};
 ghost use Rattle.std.specs.Borrow.{ftrue};
-ghost use Rattle.stored_file.specs.Calls.{Call, Opened, Written, Renewed, Shortened, Synced, Replaced, NotReplaced, Refused};
+ghost use Rattle.stored_file.specs.Calls.{Call, Opened, Written, Renewed, Shortened, Synced, Replaced, NotReplaced, Refused, read_further};
 
 use std::marker::Model;
 
@@ -25,6 +25,13 @@ impl Record {
         let mut record = Record::new();
         record.note(bytes, 0, true);
         record
+    }
+
+    /// Further bytes were read of a file for which no other call was made.
+    pub fn read_on(&mut self, bytes: &[u8])
+        ensures { self.new.calls ≡ read_further bytes.now self.old.calls }
+    {
+        self.note(bytes, 0, true);
     }
 
     /// Bytes were written at an offset.

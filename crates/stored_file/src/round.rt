@@ -1,4 +1,4 @@
-//! Two writes with one sync behind them, as one step.
+//! Two writes with one sync after them, as one step.
 
 ghost use Rattle.std.specs.Prelude.{◌≡◌, ◌≤◌, ◌+◌, length, OnOk};
 ghost use Rattle.stored_file.specs.File.{IsOnDisk, LeavesOnly, IsWhole, is_written};

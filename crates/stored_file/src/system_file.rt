@@ -1,9 +1,9 @@
 //! The file.
 
-ghost use Rattle.std.specs.Prelude.{◌≡◌, ◌<◌, ◌≤◌, ◌^◌, false, true, [], ◌∷◌, length};
+ghost use Rattle.std.specs.Prelude.{◌≡◌, ◌<◌, ◌≤◌, ◌^◌, false, true, List, ℕ, [], ◌∷◌, length};
 ghost use Rattle.std.specs.Option.{ForSome};
 ghost use Rattle.stored_file.specs.File.{LeavesNow};
-ghost use Rattle.stored_file.specs.Calls.{Opened, Refused, ends_where_it_fails, has_failed, told_of};
+ghost use Rattle.stored_file.specs.Calls.{IsOnlyRead, Opened, Refused, ends_where_it_fails, has_failed, told_of};
 
 use crate::{FileCalls, FileError, StoredFile};
 use std::alloc::Global;
@@ -23,7 +23,7 @@ pub struct SystemFile<C: FileCalls> {
     ghost known: { ForSome unread (λ bytes. bytes.items ≡ (told_of C.FileCalls.left (C.FileCalls.notes calls)).seen) },
     ghost has_length: { length (told_of C.FileCalls.left (C.FileCalls.notes calls)).seen < 2 ^ 63 },
     ghost told_failed: { failed ≡ has_failed (C.FileCalls.notes calls) },
-    /// No call was made behind one that failed.
+    /// No call was made after one that failed.
     pub ghost ended: { ends_where_it_fails (C.FileCalls.notes calls) ≡ true },
 }
 
@@ -37,6 +37,19 @@ impl<C: FileCalls> SystemFile<C> {
         SystemFile {
             calls,
             unread: Some(bytes),
+            failed: false,
+        }
+    }
+
+    /// A file that was opened, and all of which was read. Its bytes aren't in memory, so none are handed out.
+    pub fn opened(calls: C) -> SystemFile<C>
+        requires { (bytes : List ℕ) × IsOnlyRead bytes (C.notes calls) }
+        ensures left { let file = ⟦<SystemFile<C> as StoredFile>⟧.told result in LeavesNow file (C.left file.seen) }
+        ensures seen { C.notes calls ≡ Opened (⟦<SystemFile<C> as StoredFile>⟧.told result).seen ∷ [] }
+    {
+        SystemFile {
+            calls,
+            unread: None,
             failed: false,
         }
     }

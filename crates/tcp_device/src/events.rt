@@ -1,6 +1,7 @@
 //! What happens to a served target beside its commands.
 
 ghost use Rattle.std.specs.Prelude.{◌≡◌, ◌≤◌, ◌<◌, IfSome, length};
+ghost use Rattle.tcp_associations.specs.Associations.{role_at};
 ghost use Rattle.tcp_connection.specs.Queue.{is_ended};
 ghost use Rattle.tcp_queues.specs.Queues.{free_number, place_at};
 ghost use Rattle.tcp_target.specs.Events.{count_of};
@@ -8,9 +9,17 @@ ghost use Rattle.tcp_target.specs.Time.{is_given_up};
 ghost use Rattle.tcp_device.specs.Deeds.{Closed, Does, Opened, Received, Sent, Ticked};
 
 use crate::served::ServedTarget;
-use tcp_associations::MOST_CONNECTIONS;
+use tcp_associations::{MOST_CONNECTIONS, Role};
 
 impl ServedTarget {
+    /// The number that [`ServedTarget::open`] gives next; `None` where there is none.
+    pub fn free_number(&self) -> Option<usize>
+        ensures number { result ≡ free_number self.now.target.queues }
+        ensures within { IfSome result (λ number. number < MOST_CONNECTIONS) }
+    {
+        self.target.free_number()
+    }
+
     /// Begins a connection, and gives its number: the lowest that no connection has, and under which the device has no command of
     /// the one before. `None` where there is none.
     pub fn open(&mut self) -> Option<usize>
@@ -30,6 +39,13 @@ impl ServedTarget {
         ensures within { result ≤ length piece.now }
     {
         self.target.receive(number, piece)
+    }
+
+    /// What a connection is for.
+    pub fn role(&self, number: usize) -> Role
+        ensures { result ≡ role_at number self.now.target.queues.associations }
+    {
+        self.target.role(number)
     }
 
     /// What is to be sent on a connection.

@@ -46,6 +46,15 @@ impl Queues {
         })
     }
 
+    /// The number that the next connection gets: the lowest that no connection has, and under which the device has no command of the
+    /// one before. `None` where there is none.
+    pub fn free_number(&self) -> Option<usize>
+        ensures number { result ≡ free_number self.now }
+        ensures within { IfSome result (λ number. number < MOST_CONNECTIONS) }
+    {
+        free_number(self.places.as_slice())
+    }
+
     /// Begins a connection, and gives its number: the lowest that no connection has, and under which the device has no command of
     /// the one before. `None` where there is none.
     pub fn open(&mut self) -> Option<usize>

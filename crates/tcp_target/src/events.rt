@@ -2,6 +2,7 @@
 
 ghost use Rattle.std.specs.Prelude.{◌≡◌, ◌≤◌, ◌<◌, IfSome, IsTrue, OnSome, is_some, length};
 ghost use Rattle.std.specs.Option.{option_map};
+ghost use Rattle.tcp_associations.specs.Associations.{role_at};
 ghost use Rattle.tcp_connection.specs.Queue.{is_ended};
 ghost use Rattle.tcp_queues.specs.Places.{has_room, ready_at};
 ghost use Rattle.tcp_queues.specs.Commands.{connect_data_at, given_to_device};
@@ -16,6 +17,14 @@ use tcp_pdus::{ENTRY_BYTES, MOST_DATA};
 use tcp_queues::MOST_KEPT;
 
 impl Target {
+    /// The number that [`Target::open`] gives next; `None` where there is none.
+    pub fn free_number(&self) -> Option<usize>
+        ensures number { result ≡ free_number self.now.queues }
+        ensures within { IfSome result (λ number. number < MOST_CONNECTIONS) }
+    {
+        self.queues.free_number()
+    }
+
     /// Begins a connection, and gives its number: the lowest that no connection has, and under which the device has no command of
     /// the one before. `None` where there is none.
     pub fn open(&mut self) -> Option<usize>
@@ -63,6 +72,13 @@ impl Target {
             } => self.hear_on_io(controller),
             Role::Unconnected | Role::Ended => {}
         }
+    }
+
+    /// What a connection is for.
+    pub fn role(&self, number: usize) -> Role
+        ensures { result ≡ role_at number self.now.queues.associations }
+    {
+        self.queues.role(number)
     }
 
     /// What is to be sent on a connection.

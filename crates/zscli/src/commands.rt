@@ -232,7 +232,7 @@ fn perform_other<'a, F: DurableFiles, I, O: Write, E: Write>(
         zones::NAME => zones::zones(alloc, matches, files, &mut streams.out),
         report::NAME => report::report(alloc, matches, streams.colored, files, &mut streams.out),
         upgrade::NAME => upgrade::upgrade(alloc, matches, files),
-        fold::NAME => fold::fold(alloc, matches, files),
+        fold::NAME => fold::fold(alloc, matches, files, &mut streams.out),
         _ => perform_without_image(alloc, line, name, matches, files, streams),
     }
 }

@@ -12,6 +12,7 @@ use Rattle.command_files.specs.declared.failure.Failure.{Failure}
 use Rattle.command_files.specs.declared.journal_fault.JournalFault.{JournalFault}
 use Rattle.command_files.specs.declared.journal_fault.JournalFault.TheVariants as journal
 use Rattle.command_files.specs.declared.failure.Failure.TheVariants.{CannotRead, CannotWrite, ImageRefused, JournalRefused, NoMemory}
+use Rattle.command_images.specs.Devices.{CountsBatches, IsFrontFault}
 use Rattle.command_serve.specs.Served.{IsToldOf}
 
 -- a disk that fails, or has no room
@@ -40,12 +41,22 @@ abbrev pub TellsDamage : JournalFault → ℕ → List ℕ → Failure → Type 
 TellsDamage fault place path (JournalRefused name at said) = (name.now ≡ path) × (at ≡ place) × (said ≡ fault)
 TellsDamage fault place path _ = ⊥
 
--- a journal that isn't opened; one without a base has its fault at the front
-abbrev pub TellsFault : Fault → List ℕ → Failure → Type 0
-TellsFault Unreadable path failure = TellsDamage journal.NoBase 0 path failure
-TellsFault (Damaged place) path failure = TellsDamage journal.OpenGate place path failure
-TellsFault (Undone place) path failure = TellsDamage journal.Undone place path failure
-TellsFault (OfFile error) path failure = TellsError error path failure
+-- a journal of these bytes that is damaged at a byte, with how many of its batches are whole, or without
+abbrev pub TellsDamaged : List ℕ → ℕ → List ℕ → Failure → Type 0
+TellsDamaged bytes place path (JournalRefused name at said) = (name.now ≡ path) × (at ≡ place) × CountsBatches said bytes
+TellsDamaged bytes place path _ = ⊥
+
+-- a journal of these bytes, with its fault at the front
+abbrev pub TellsFront : List ℕ → List ℕ → Failure → Type 0
+TellsFront bytes path (JournalRefused name at said) = (name.now ≡ path) × (at ≡ 0) × IsFrontFault said bytes
+TellsFront bytes path _ = ⊥
+
+-- a journal of these bytes that isn't opened; one without a base of this device has its fault at the front
+abbrev pub TellsFault : List ℕ → Fault → List ℕ → Failure → Type 0
+TellsFault bytes Unreadable path failure = TellsFront bytes path failure
+TellsFault bytes (Damaged place) path failure = TellsDamaged bytes place path failure
+TellsFault bytes (Undone place) path failure = TellsDamage journal.Undone place path failure
+TellsFault bytes (OfFile error) path failure = TellsError error path failure
 
 -- of a stream nothing, where it ended well; else why it stopped
 abbrev pub IsTold : List ℕ → Result (Unit {0}) ServeFault → Result (Unit {0}) Failure → Type 0

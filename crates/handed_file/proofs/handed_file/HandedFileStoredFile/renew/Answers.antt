@@ -1,8 +1,9 @@
-use Rattle.std.proofs.Common.{rules, ◌≡◌, ℕ, List, subst, sym}
+use Rattle.std.proofs.Common.{rules, ◌≡◌, true, ℕ, List, subst, sym}
 use Rattle.stored_file.specs.File.{Follows, Mixed}
 use Rattle.stored_file.specs.Calls.{Call, told_of}
 use Rattle.stored_file.proofs.Opened.{refused_mixed}
 use Rattle.durable_device.specs.Kept.{MayBeLeft}
+use Rattle.handed_file.proofs.Left.{still_long}
 use Rattle.handed_file.proofs.Renewed.{IsLong, handed_mixed}
 use Rattle.handed_file.proofs.handed_file.HandedFileStoredFile.renew.Goals as goal
 
@@ -26,3 +27,10 @@ returns-in-Err-clause-crash c =
     let calls = c.args.self.now.notes.calls in
     subst (λ (notes : List Call). Follows (Mixed c.args.at c.args.bytes.now) (told_of MayBeLeft calls) (told_of MayBeLeft notes)) (sym c.refuse-in-Err.ensures.noted)
     (refused_mixed MayBeLeft calls c.args.at c.args.bytes.now c.requires.long)
+
+pub hand-requires-clause-long : goal.hand-requires-clause-long
+hand-requires-clause-long c =
+    let file = c.args.self.now in
+    let copied : c.in-Ok.bytes.items ≡ c.args.bytes.now = search rules in
+    still_long file.notes.calls c.args.at c.in-Ok.bytes.items true file.long
+    (subst (λ (bytes : List ℕ). IsLong file.notes.calls c.args.at bytes) (sym copied) c.requires.long)
