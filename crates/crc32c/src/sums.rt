@@ -1,16 +1,16 @@
 //! The sum.
 
-ghost use Rattle.std.specs.Prelude.{◌≡◌, ◌<◌, ◌+◌, ◌*◌, ◌++◌, List, ℕ, map};
+ghost use Rattle.std.specs.Prelude.{◌≡◌, ◌<◌, ◌≤◌, ◌+◌, ◌*◌, [], ◌∷◌, ◌++◌, List, ℕ, map};
 ghost use Rattle.std.specs.List.{range_with_len, fold};
 ghost use Rattle.crc32c.specs.Crc.{after_zeros, next_byte, row_at, sum_of};
 
 use crate::rows::rows;
 
-/// What makes sums: a table of 8 KiB.
+/// What makes sums: a table of 16 KiB.
 #[derive(Drop)]
 pub struct Sums {
-    rows: [u32; 2048],
-    ghost right: { rows ≡ map row_at (range_with_len 0 2048) },
+    rows: [u32; 4096],
+    ghost right: { rows ≡ map row_at (range_with_len 0 4096) },
 }
 
 impl Sums {
@@ -32,9 +32,9 @@ impl Sums {
     {
         let mut remainder = sum ^ u32::MAX;
         let mut rest = bytes;
-        while let Some((eight, behind)) = rest.split_first_chunk::<8>() {
-            remainder = self.after_eight(remainder, eight);
-            rest = behind;
+        while let Some((sixteen, others)) = rest.split_first_chunk::<16>() {
+            remainder = self.after_sixteen(remainder, sixteen);
+            rest = others;
         }
         self.after_bytes(remainder, rest) ^ u32::MAX
     }
@@ -50,22 +50,27 @@ impl Sums {
         remainder
     }
 
-    /// What eight bytes make of a remainder, all at once.
-    fn after_eight(&self, remainder: u32, bytes: &[u8; 8]) -> u32
+    /// What sixteen bytes make of a remainder, all at once. It is added to the first four: the others don't wait for it.
+    fn after_sixteen(&self, remainder: u32, bytes: &[u8; 16]) -> u32
         ensures { result ≡ fold next_byte remainder bytes.now }
     {
         let first = (remainder % 256) as u8 ^ bytes[0];
         let second = (remainder / 256 % 256) as u8 ^ bytes[1];
         let third = (remainder / 256 / 256 % 256) as u8 ^ bytes[2];
         let fourth = (remainder / 256 / 256 / 256 % 256) as u8 ^ bytes[3];
-        self.row(7, first)
-            ^ self.row(6, second)
-            ^ self.row(5, third)
-            ^ self.row(4, fourth)
-            ^ self.row(3, bytes[4])
-            ^ self.row(2, bytes[5])
-            ^ self.row(1, bytes[6])
-            ^ self.row(0, bytes[7])
+        self.four(12, first, second, third, fourth)
+            ^ (self.four(8, bytes[4], bytes[5], bytes[6], bytes[7])
+                ^ (self.four(4, bytes[8], bytes[9], bytes[10], bytes[11])
+                    ^ self.four(0, bytes[12], bytes[13], bytes[14], bytes[15])))
+    }
+
+    /// What four bytes and so many bytes of 0 after them come to, where nothing was before.
+    fn four(&self, zeros: usize, first: u8, second: u8, third: u8, fourth: u8) -> u32
+        requires { zeros ≤ 12 }
+        ensures { result ≡ after_zeros (8 * zeros) (fold next_byte 0 (first ∷ second ∷ third ∷ fourth ∷ [])) }
+    {
+        (self.row(zeros + 3, first) ^ self.row(zeros + 2, second))
+            ^ (self.row(zeros + 1, third) ^ self.row(zeros, fourth))
     }
 
     /// What a byte makes of a remainder.
@@ -77,7 +82,7 @@ impl Sums {
 
     /// What so many bytes of 0 and one more make of a remainder of eight bits.
     fn row(&self, zeros: usize, remainder: u8) -> u32
-        requires { zeros < 8 }
+        requires { zeros < 16 }
         ensures { result ≡ after_zeros (8 * zeros + 8) remainder }
     {
         self.rows[256 * zeros + usize::from(remainder)]

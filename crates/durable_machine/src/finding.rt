@@ -127,7 +127,7 @@ pub(crate) fn replay_front<M: Machine + Drop, R: FileReading>(
     if window.len() < front {
         return Err(Fault::Unreadable);
     }
-    forget(window, front)?;
+    forget(window, front);
     let done = replay_pieces(alloc, sums, &mut machine, front, reading, window)?;
     Ok(Found {
         machine,
@@ -230,6 +230,6 @@ fn replay_pieces<M: Machine, R: FileReading>(
         done.last = done.end + more.last;
         done.end += more.taken;
         done.count += more.count;
-        forget(window, more.taken)?;
+        forget(window, more.taken);
     }
 }

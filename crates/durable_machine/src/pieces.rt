@@ -8,7 +8,6 @@ ghost use Rattle.durable_machine.specs.Pieces.{HasReadOn, TakesBytes, TellsBatch
 
 use crate::journal_reading::{begins_closed, whole_payload};
 use crate::seal::{SEAL, SEALED};
-use std::alloc::AllocError;
 use stored_file::{FileError, FileReading, SECTOR};
 
 /// How many bytes are read at once, at least: a call of the system for each small batch would be slow.
@@ -67,18 +66,14 @@ pub(crate) fn skip_rest<R: FileReading>(
     Ok(())
 }
 
-/// Takes the first bytes out of the window.
-///
-/// # Errors
-///
-/// No memory for the others.
-pub(crate) fn forget(window: &mut Vec<u8>, count: usize) -> Result<(), AllocError>
+/// Takes the first bytes out of the window. The others are moved to its front.
+pub(crate) fn forget(window: &mut Vec<u8>, count: usize)
     requires { count ≤ length window.old.items }
-    ensures { OnOk result (window.new.items ≡ drop count window.old.items) }
+    ensures { window.new.items ≡ drop count window.old.items }
 {
-    let rest = window.split_off(count)?;
-    *window = rest;
-    Ok(())
+    let rest = window.len() - count;
+    window.copy_within(count.., 0);
+    window.truncate(rest);
 }
 
 /// Reads on until the window tells whether a batch stands at its front: it has all of it, or none stands there. Of a batch of the earlier
@@ -131,7 +126,8 @@ fn batch_length(front: &[u8]) -> Option<usize>
 /// How many bytes a batch takes whose payload begins so, with a seal; 0 where no file has as many.
 fn sealed_length(payload: &[u8]) -> usize
     requires { 21 ≤ length payload.now }
-    ensures { (n : ℕ) → 21 + n < 2 ^ 63 → take 8 (drop 9 payload.now) ≡ number_bytes n → result ≡ 4096 + payload_length (21 + n) }
+    ensures { (n : ℕ) → 21 + n < 2 ^ 63 → take 8 (drop 9 payload.now) ≡ number_bytes n
+        → result ≡ 4096 + payload_length (21 + n) }
 {
     let Some((number, _)) = payload[9..].split_first_chunk::<8>() else {
         return 0;

@@ -13,7 +13,7 @@ pub struct Number {
 }
 
 impl Number {
-    /// The number behind an event.
+    /// The number after an event.
     pub fn after(self, event: &[u8]) -> Self
         ensures { result ≡ number_after self event.now }
     {

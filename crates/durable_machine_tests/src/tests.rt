@@ -24,7 +24,7 @@ fn batch(alloc: Global, index: u8) -> Result<Vec<Vec<u8>>, AllocError> {
     Ok(events)
 }
 
-/// The number behind a batch.
+/// The number after a batch.
 fn after(number: Number, events: &[Vec<u8>]) -> Number {
     let mut number = number;
     for event in events {

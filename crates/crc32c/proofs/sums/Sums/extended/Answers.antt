@@ -4,11 +4,11 @@ use Rattle.crc32c.specs.Crc.{ones}
 use Rattle.crc32c.proofs.Shifting.{goes_on, on}
 use Rattle.crc32c.proofs.sums.Sums.extended.Goals as goal
 
-pub loop-eight-preserved : goal.loop-eight-preserved
-loop-eight-preserved c =
-    on c.loop-eight.remainder c.after_eight-remainder.result c.in-Some.eight.now c.in-Some.behind.now c.loop-eight.rest.now c.in-Some.ensures.cases.0 c.in-Some.ensures.cases.1 c.after_eight-remainder.ensures
-    ∙ c.loop-eight.invariant
+pub loop-sixteen-preserved : goal.loop-sixteen-preserved
+loop-sixteen-preserved c =
+    on c.loop-sixteen.remainder c.after_sixteen-remainder.result c.in-Some.sixteen.now c.in-Some.others.now c.loop-sixteen.rest.now c.in-Some.ensures.cases.0 c.in-Some.ensures.cases.1 c.after_sixteen-remainder.ensures
+    ∙ c.loop-sixteen.invariant
 
 pub returns : goal.returns
 returns c before is =
-    ap (λ (x : ℕ). bit_xor x ones) (c.after_bytes.ensures ∙ c.loop-eight.invariant) ∙ goes_on before c.args.bytes.now c.args.sum is
+    ap (λ (x : ℕ). bit_xor x ones) (c.after_bytes.ensures ∙ c.loop-sixteen.invariant) ∙ goes_on before c.args.bytes.now c.args.sum is
