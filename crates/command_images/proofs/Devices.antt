@@ -1,8 +1,10 @@
 -- What image files stand for, and what is told of those that stand for no device.
 use Rattle.std.proofs.Common.{◌≡◌, arith, inl, inr, ℕ, ◌<◌, List, length, length-take, take, take_all, Option, Some, None, IfSome, Result, Ok, Err, IfErr, ap, refl, sym, ◌∙◌, subst}
 use Rattle.std.specs.Borrow.{Bor}
-use Rattle.image_store.specs.Namespace.{ZonedNamespace}
-use Rattle.image_text.specs.Loading.{LoadFails}
+use Rattle.zone_state.specs.Zone.{CountedZone}
+use Rattle.image_store.specs.Geometry.{Shape}
+use Rattle.image_store.specs.Namespace.{ZonedNamespace, counted_zones, shape}
+use Rattle.image_text.specs.Loading.{HasTable, LoadFails}
 use Rattle.image_text.specs.Reading.{namespace_in}
 use Rattle.image_text.specs.declared.fault.LoadFault.{LoadFault}
 use Rattle.image_text.specs.declared.fault.LoadFault.TheVariants.{Magic, Memory, Stream, Truncated}
@@ -18,7 +20,7 @@ use Rattle.command_files.specs.declared.journal_fault.JournalFault.{JournalFault
 use Rattle.command_files.specs.declared.journal_fault.JournalFault.TheVariants.{MadeBy, NoBase, OpenGate}
 use Rattle.command_files.specs.declared.journal_fault.JournalFault.TheVariants as journal
 use Rattle.command_images.proofs.Damage.{whole_to_damage}
-use Rattle.command_images.specs.Devices.{AreFaulty, CountsBatches, IsCut, IsFrontFault, IsNoImage, StandForNone, TellDevice, TellNamespace}
+use Rattle.command_images.specs.Devices.{AreFaulty, CountsBatches, IsCut, IsFrontFault, IsNoImage, StandForNone, TellDevice, TellNamespace, TellTable}
 use Rattle.command_images.specs.UserTold.{LoadingDeviceFails}
 use Rattle.command_images.specs.steps.Told.{RefusesJournal, TellsCut, TellsJournal, told_of_image}
 
@@ -47,6 +49,24 @@ pub tells_journal : (contents : Option (List ℕ)) (read : List ℕ) (s : State)
 tells_journal None read s told none stands = tt
 tells_journal (Some bytes) read s told none stands =
     inr (record { no_image = none; stand = subst (λ (file : List ℕ). StandsForIt file s) told stands })
+
+-- the table of an image was loaded
+pub tells_table : (contents : Option (List ℕ)) (read : List ℕ) (s : Shape) (zones : List CountedZone) → AreAsTold contents read
+    → HasTable read s zones → TellTable contents s zones
+tells_table None read s zones told has = tt
+tells_table (Some bytes) read s zones told has = record {
+  device = new_state has.namespace;
+  are = inl (record { read = ap namespace_in (sym told) ∙ has.loads; new = refl });
+  shape_is = has.shape_is;
+  zones_are = has.zones_are;
+}
+
+-- or that of a device that was loaded
+pub tells_its_table : (contents : Option (List ℕ)) (device : State) (s : Shape) (zones : List CountedZone) → TellDevice contents device
+    → s ≡ shape device.namespace → zones ≡ counted_zones device.namespace → TellTable contents s zones
+tells_its_table None device s zones told shape_is zones_are = tt
+tells_its_table (Some bytes) device s zones told shape_is zones_are =
+    record { device = device; are = told; shape_is = shape_is; zones_are = zones_are }
 
 -- ---- what stands for none
 

@@ -1,12 +1,11 @@
 -- The lines of zones.
 use Rattle.std.proofs.Common.{◌≡◌, ℕ, zero, suc, ◌+◌, ◌<◌, List, [], ◌∷◌, ◌++◌, length, take, get_or, Option, Result, Ok, Err, OnOk, OnErr, sym, ap, ◌∙◌, arith, subst, append-nil, append_assoc, add-zero, add-one}
 use Rattle.std.specs.Io.KnownBytes.{Appends}
-use Rattle.image_store.specs.Namespace.{counted_zones}
+use Rattle.image_store.specs.Geometry.{Shape}
 use Rattle.zone_state.specs.Zone.{CountedZone}
 use Rattle.command_files.specs.declared.failure.Failure.{Failure}
 use Rattle.command_files.specs.declared.failure.Failure.TheVariants.{CannotPrint}
-use Rattle.device_meaning.specs.State.{State}
-use Rattle.command_images.specs.Devices.{TellDevice}
+use Rattle.command_images.specs.Devices.{TellTable}
 use Rattle.command_images.specs.Zones.{PrintsZones, zone_line, zone_lines_from}
 
 -- the lines of one zone more
@@ -27,16 +26,17 @@ one_line_more zones i other lt =
     ap (λ n. zone_lines_from 0 (take n zones)) (add-one i) ∙ more 0 zones i other lt
     ∙ ap (λ n. zone_lines_from 0 (take i zones) ++ zone_line n (get_or zones i other)) first
 
--- a device was loaded of the file that is asked for, and its zones were printed
-pub prints_zones : {T E : Type 0} (reads : Type 0) (result : Result T E) (contents : List ℕ → Option (List ℕ)) (device : State)
-    (path wanted : List ℕ) (zones : List CountedZone) (before after : Option (List ℕ)) → path ≡ wanted → zones ≡ counted_zones device.namespace
-    → (reads → TellDevice (contents path) device) → OnOk result (Appends before after (zone_lines_from 0 zones))
+-- a table was loaded of the file that is asked for, and its zones were printed
+pub prints_zones : {T E : Type 0} (reads : Type 0) (result : Result T E) (contents : List ℕ → Option (List ℕ)) (s : Shape)
+    (path wanted : List ℕ) (zones list : List CountedZone) (before after : Option (List ℕ)) → path ≡ wanted → list ≡ zones
+    → (reads → TellTable (contents path) s zones) → OnOk result (Appends before after (zone_lines_from 0 list))
     → OnOk result (PrintsZones reads (contents wanted) before after)
-prints_zones reads (Err error) contents device path wanted zones before after is are held printed = tt
-prints_zones reads (Ok done) contents device path wanted zones before after is are held printed = record {
-  device = device;
-  held = λ read. subst (λ (p : List ℕ). TellDevice (contents p) device) is (held read);
-  printed = subst (λ (list : List CountedZone). Appends before after (zone_lines_from 0 list)) are printed;
+prints_zones reads (Err error) contents s path wanted zones list before after is are held printed = tt
+prints_zones reads (Ok done) contents s path wanted zones list before after is are held printed = record {
+  shape = s;
+  zones = zones;
+  held = λ read. subst (λ (p : List ℕ). TellTable (contents p) s zones) is (held read);
+  printed = subst (λ (those : List CountedZone). Appends before after (zone_lines_from 0 those)) are printed;
 }
 
 -- what holds where printing succeeded holds where the command succeeds, which fails where printing failed

@@ -1,6 +1,8 @@
 -- What an image file stands for: an image, or a journal.
 use Rattle.std.specs.Prelude.{◌≡◌, ◌≢◌, ◌⊎◌, ℕ, List, Option, IfSome, Ok, Err}
-use Rattle.image_store.specs.Namespace.{ZonedNamespace}
+use Rattle.zone_state.specs.Zone.{CountedZone}
+use Rattle.image_store.specs.Geometry.{Shape}
+use Rattle.image_store.specs.Namespace.{ZonedNamespace, counted_zones, shape}
 use Rattle.image_text.specs.Reading.{namespace_in}
 use Rattle.image_text.specs.declared.fault.LoadFault.TheVariants.{Magic, Truncated}
 use Rattle.device_meaning.specs.State.{State, new_state}
@@ -41,6 +43,17 @@ TellDevice bytes s = IfSome bytes (λ bytes. AreOf bytes s)
 -- they stand for one that has this namespace, and neither a program nor a run
 abbrev pub TellNamespace : Option (List ℕ) → ZonedNamespace → Type 0
 TellNamespace bytes namespace = TellDevice bytes (new_state namespace)
+
+-- they stand for one whose namespace has this shape and these zones
+pub record HaveTable (bytes : List ℕ) (s : Shape) (zones : List CountedZone) : Type 0 where
+  pub device : State
+  pub are : AreOf bytes device
+  pub shape_is : s ≡ shape device.namespace
+  pub zones_are : zones ≡ counted_zones device.namespace
+
+-- the bytes of a file, where they are told, stand for one whose namespace has this shape and these zones
+abbrev pub TellTable : Option (List ℕ) → Shape → List CountedZone → Type 0
+TellTable bytes s zones = IfSome bytes (λ bytes. HaveTable bytes s zones)
 
 -- they stand for one that has a program or a run, which no image keeps
 pub record TellMore (bytes : Option (List ℕ)) : Type 0 where

@@ -1,11 +1,12 @@
 //! The devices that image files stand for.
 
 ghost use Rattle.std.specs.Prelude.{◌≡◌, ◌≢◌, IfOk, IfErr, OnOk, Some};
+ghost use Rattle.image_store.specs.Namespace.{counted_zones, shape};
 ghost use Rattle.device_meaning.specs.State.{new_state};
 ghost use Rattle.durable_device.specs.Kept.{StandsForIt};
 ghost use Rattle.command_files.specs.Made.{AreAsTold};
 ghost use Rattle.command_files.specs.UserTold.{IsUnread};
-ghost use Rattle.command_images.specs.Devices.{CountsBatches, IsCut, IsFrontFault, IsNoImage, TellDevice, TellNamespace};
+ghost use Rattle.command_images.specs.Devices.{CountsBatches, IsCut, IsFrontFault, IsNoImage, TellDevice, TellNamespace, TellTable};
 ghost use Rattle.command_images.specs.UserTold.{LoadingDeviceFails, ReplacingFails};
 ghost use Rattle.command_images.specs.steps.Told.{RefusesJournal, RefusesMore, TellsCut, TellsJournal};
 
@@ -15,37 +16,55 @@ use durable_device::{FrameDevice, device_in};
 use durable_machine::{Fault, salvage};
 use image_base::{MAGIC, other_maker};
 use image_store::Image;
-use image_text::{ImageText, LoadFault};
+use image_text::{ImageText, LoadFault, ZoneTable};
+use kept_device::KeptRun;
 use runner::Device;
 use std::alloc::{AllocError, Global};
 use word_domain::Domain;
 
-/// The device that a file stands for: that of an image, without a program or a run; or that of a journal, to which the events in it
-/// happened again. Where the file's bytes are known, it is the one that they stand for, or else is told what is wrong with them. Each
-/// file has the bytes that it had.
+/// What a device has besides blocks, programs and results.
+#[derive(Drop)]
+pub struct DeviceTable {
+    /// The shape of its namespace, and the zones without their blocks.
+    pub table: ZoneTable,
+    /// Its runs, in their places; none at all of an image.
+    pub runs: Vec<Option<KeptRun>>,
+}
+
+/// The table of the device that a file stands for: that of an image, without a program or a run; or that of a journal, to which the
+/// events in it happened again. Where the file's bytes are known, it is of the one that they stand for, or else is told what is wrong
+/// with them. Of an image no block is read, so that an error of the system that only reading them would show isn't found. Each file has the
+/// bytes that it had.
 ///
 /// # Errors
 ///
 /// The file can't be read; its first fault as an image, or the byte from which on a journal is damaged; or want of memory.
-#[tactic(auto, using(crate::proofs::Devices::tells_image, crate::proofs::Devices::fails_as_image))]
-pub fn load<'a, F: Files>(
+#[tactic(auto, using(crate::proofs::Devices::tells_table, crate::proofs::Devices::tells_its_table, crate::proofs::Devices::fails_as_image))]
+pub fn load_table<'a, F: Files>(
     alloc: Global,
     path: &'a str,
     files: &mut F,
-) -> Result<Box<Device>, Failure<'a>>
+) -> Result<DeviceTable, Failure<'a>>
     ensures made { F.made files.new ≡ F.made files.old }
     ensures contents { F.contents files.new ≡ F.contents files.old }
     ensures modes { F.modes files.new ≡ F.modes files.old }
     ensures tried { F.tried files.new ≡ F.tried files.old }
     ensures held { F.held files.new ≡ F.held files.old }
-    ensures device { F.Reader.tells → IfOk result (λ device. TellDevice (F.contents files.old path.now) device.value) }
+    ensures table { F.Reader.tells
+        → IfOk result (λ found. TellTable (F.contents files.old path.now) found.table.geometry found.table.zones.items) }
     ensures failed { IfErr result (LoadingDeviceFails F.Reader.tells (F.contents files.old path.now) path.now) }
     ensures not_printing { result ≢ Err Failure.CannotPrint }
 {
     match files.open(path) {
-        Ok(mut file) => match Image::load(alloc, &mut file) {
-            Ok(image) => Ok(boxed(alloc, image)?),
-            Err(LoadFault::Magic) => load_journal(alloc, path, files),
+        Ok(mut file) => match ZoneTable::load(alloc, &mut file) {
+            Ok(table) => Ok(DeviceTable {
+                table,
+                runs: Vec::new(alloc),
+            }),
+            Err(LoadFault::Magic) => {
+                let device = load_journal(alloc, path, files)?;
+                Ok(table_of(alloc, &device)?)
+            }
             Err(LoadFault::Truncated) => Err(cut(path, files)),
             Err(fault) => Err(image_file::refused(path, fault)),
         },
@@ -53,12 +72,29 @@ pub fn load<'a, F: Files>(
     }
 }
 
-/// The device of a file that is to be replaced by an image, as of [`load`]: its name is held from before the file is read on. The
+/// The table of a device.
+fn table_of(alloc: Global, device: &Device) -> Result<DeviceTable, AllocError>
+    ensures shape { IfOk result (λ found. found.table.geometry ≡ shape device.now.namespace) }
+    ensures zones { IfOk result (λ found. found.table.zones.items ≡ counted_zones device.now.namespace) }
+{
+    let image = device.image();
+    let kept = device.kept(alloc)?;
+    let zones = Vec::from_slice(alloc, image.zones())?;
+    Ok(DeviceTable {
+        table: ZoneTable {
+            geometry: image.geometry(),
+            zones,
+        },
+        runs: kept.runs,
+    })
+}
+
+/// The device of a file that is to be replaced by an image, as of [`load_table`]: its name is held from before the file is read on. The
 /// device has neither a program nor a run, so that its Load may judge over any domain.
 ///
 /// # Errors
 ///
-/// Another command holds the file, or it is no ordinary one; those of [`load`]; or the device has a program or a run, which no image
+/// Another command holds the file, or it is no ordinary one; those of [`load_table`]; or the device has a program or a run, which no image
 /// keeps.
 #[tactic(auto, using(crate::proofs::Making::replace_of_holding))]
 pub fn load_to_replace<'a, D: Domain, F: Files>(
@@ -81,7 +117,7 @@ pub fn load_to_replace<'a, D: Domain, F: Files>(
     load_held(alloc, path, files)
 }
 
-/// The device that the file stands for whose name is held, as of [`load`], where that has neither a program nor a run.
+/// The device that the file stands for whose name is held, where that has neither a program nor a run.
 #[tactic(auto, using(crate::proofs::Devices::tells_namespace, crate::proofs::Devices::fails_as_image, crate::proofs::Making::replace_of_loading))]
 fn load_held<'a, D: Domain, F: Files>(
     alloc: Global,

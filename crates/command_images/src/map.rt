@@ -1,6 +1,7 @@
 //! The zones of an image as a picture for a terminal.
 
-use image_store::{Geometry, Image};
+use image_store::Geometry;
+use image_text::ZoneTable;
 use kept_device::KeptRun;
 use nvme_entry::RunCommand;
 use std::alloc::AllocError;
@@ -18,15 +19,14 @@ const PLAIN: &str = "\x1b[0m";
 ///
 /// Want of memory.
 pub(crate) fn push_map(
-    image: &Image,
+    table: &ZoneTable,
     runs: &[Option<KeptRun>],
     colored: bool,
     out: &mut String,
 ) -> Result<(), AllocError> {
-    let geometry = image.geometry();
-    for (number, zone) in image.zones().iter().enumerate() {
+    for (number, zone) in table.zones.iter().enumerate() {
         push_zone(number, zone, colored, out)?;
-        push_runs(number, geometry, runs, out)?;
+        push_runs(number, table.geometry, runs, out)?;
         out.push_str("\n")?;
     }
     Ok(())

@@ -2,15 +2,14 @@
 
 ghost use Rattle.std.specs.Prelude.{◌≡◌};
 
-use crate::device_file;
+use crate::device_file::{self, DeviceTable};
 use crate::image_file::IMAGE;
 use crate::map::push_map;
 use clap::ArgMatches;
 use command_files::arguments::required;
 use command_files::{Failure, Files, printed};
 use command_words::{Argument, Takes, Words};
-use image_store::Image;
-use kept_device::KeptRun;
+use image_text::ZoneTable;
 use std::alloc::{AllocError, Global};
 use std::io::Write;
 use zone_state::{Zone, ZoneState};
@@ -48,8 +47,8 @@ With --map each zone is drawn on a line: its number, the letter of its state, a 
 that can be written are. The letters are e empty, i opened by a write, o opened by a command, c closed, f full, r read only and x offline, \
 each with a color on a terminal. `<3` after them is run 3 where it reads the zone, and `>3` where it appends to it, as a journal keeps runs.
 
-Of a journal, which `serve --durable` makes of an image, it prints what the events in it left. Of a file that is no image, \
-`image refused REASON` tells the first fault.";
+Of an image no block is read: the length of the file says whether all are there. Of a journal, which `serve --durable` makes of an \
+image, it prints what the events in it left. Of a file that is no image, `image refused REASON` tells the first fault.";
 
 const EXAMPLE: &str = "\
 Example:
@@ -111,31 +110,24 @@ pub fn report<'a, F: Files, O: Write>(
     ensures made { F.made files.new ≡ F.made files.old }
     ensures contents { F.contents files.new ≡ F.contents files.old }
 {
-    let device = device_file::load(alloc, required(matches, IMAGE), files)?;
-    let image = device.image();
+    let found = device_file::load_table(alloc, required(matches, IMAGE), files)?;
     let text = if matches.get_flag(JSON) {
-        document_of(alloc, image)?
+        document_of(alloc, &found.table)?
     } else if matches.get_flag(MAP) {
-        let kept = device.kept(alloc)?;
-        map_of(
-            alloc,
-            image,
-            kept.runs.as_slice(),
-            has_color(matches, terminal),
-        )?
+        map_of(alloc, &found, has_color(matches, terminal))?
     } else {
-        lines_of(alloc, image)?
+        lines_of(alloc, &found.table)?
     };
     printed(out.write_all(text.as_bytes()))
 }
 
 /// The geometry and how much of the limits is in use on a line, and each zone on one behind it.
-fn lines_of(alloc: Global, image: &Image) -> Result<String, AllocError> {
-    let size = image.geometry().size();
+fn lines_of(alloc: Global, table: &ZoneTable) -> Result<String, AllocError> {
+    let size = table.geometry.size();
     let mut lines = String::new(alloc);
-    push_geometry(image, &mut lines)?;
-    for (number, zone) in image.zones().iter().enumerate() {
-        push_zone(number as u64 * u64::from(size), size, zone, &mut lines)?;
+    push_geometry(table, &mut lines)?;
+    for (number, zone) in table.zones.iter().enumerate() {
+        push_zone(start_of(number, size), size, zone, &mut lines)?;
     }
     Ok(lines)
 }
@@ -150,23 +142,18 @@ fn has_color(matches: &ArgMatches<'_>, terminal: bool) -> bool {
 }
 
 /// The geometry and how much of the limits is in use on a line, and then each zone, drawn on a line.
-fn map_of(
-    alloc: Global,
-    image: &Image,
-    runs: &[Option<KeptRun>],
-    colored: bool,
-) -> Result<String, AllocError> {
+fn map_of(alloc: Global, found: &DeviceTable, colored: bool) -> Result<String, AllocError> {
     let mut map = String::new(alloc);
-    push_geometry(image, &mut map)?;
-    push_map(image, runs, colored, &mut map)?;
+    push_geometry(&found.table, &mut map)?;
+    push_map(&found.table, found.runs.as_slice(), colored, &mut map)?;
     Ok(map)
 }
 
 /// Adds the geometry and how much of the limits is in use.
-fn push_geometry(image: &Image, out: &mut String) -> Result<(), AllocError> {
-    let geometry = image.geometry();
+fn push_geometry(table: &ZoneTable, out: &mut String) -> Result<(), AllocError> {
+    let geometry = table.geometry;
     let limits = geometry.limits();
-    let counts = image.counts();
+    let counts = table.counts();
     let size = geometry.size();
     writeln!(
         out,
@@ -179,6 +166,12 @@ fn push_geometry(image: &Image, out: &mut String) -> Result<(), AllocError> {
         counts.active,
         limits.active_limit
     )
+}
+
+/// The lowest logical block address of the zone with this number, in zones of so many blocks.
+// There are at most 4096 zones, which the type of a table doesn't say.
+fn start_of(number: usize, size: u32) -> u64 {
+    (number as u64).saturating_mul(u64::from(size))
 }
 
 /// Adds a zone that begins at this address and has so many blocks.
@@ -211,25 +204,25 @@ fn short_name(state: ZoneState) -> &'static str {
 }
 
 /// The same as one JSON object on a line. Its values are numbers, and words of lower case letters alone.
-fn document_of(alloc: Global, image: &Image) -> Result<String, AllocError> {
-    let size = image.geometry().size();
+fn document_of(alloc: Global, table: &ZoneTable) -> Result<String, AllocError> {
+    let size = table.geometry.size();
     let mut document = String::new(alloc);
-    push_fields(image, &mut document)?;
-    for (number, zone) in image.zones().iter().enumerate() {
+    push_fields(table, &mut document)?;
+    for (number, zone) in table.zones.iter().enumerate() {
         if number > 0 {
             document.push_str(",")?;
         }
-        push_object(number, number as u64 * u64::from(size), zone, &mut document)?;
+        push_object(number, start_of(number, size), zone, &mut document)?;
     }
     document.push_str("]}\n")?;
     Ok(document)
 }
 
 /// Adds the fields of the image, up to the list of its zones.
-fn push_fields(image: &Image, out: &mut String) -> Result<(), AllocError> {
-    let geometry = image.geometry();
+fn push_fields(table: &ZoneTable, out: &mut String) -> Result<(), AllocError> {
+    let geometry = table.geometry;
     let limits = geometry.limits();
-    let counts = image.counts();
+    let counts = table.counts();
     let size = geometry.size();
     write!(
         out,

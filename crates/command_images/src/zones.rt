@@ -25,8 +25,8 @@ written.
 The states: empty, implicit and explicit (opened by a write, and by a command), closed, readonly, \
 full, offline.
 
-Of a journal, which `serve --durable` makes of an image, they are the zones as the events in it left them. Of a file that is no \
-image, `image refused REASON` tells the first fault.";
+Of an image no block is read: the length of the file says whether all are there. Of a journal, which `serve --durable` makes of an \
+image, they are the zones as the events in it left them. Of a file that is no image, `image refused REASON` tells the first fault.";
 
 const EXAMPLE: &str = "\
 Example:
@@ -66,8 +66,8 @@ pub fn zones<'a, F: Files, O: Write>(
     ensures made { F.made files.new ≡ F.made files.old }
     ensures contents { F.contents files.new ≡ F.contents files.old }
 {
-    let device = device_file::load(alloc, required(matches, IMAGE), files)?;
-    printed(print(device.image().zones(), out))
+    let found = device_file::load_table(alloc, required(matches, IMAGE), files)?;
+    printed(print(&found.table.zones, out))
 }
 
 /// Prints each zone on a line.

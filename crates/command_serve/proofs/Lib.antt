@@ -1,5 +1,6 @@
 mod Endings
 mod Keeping
 mod Openings
+mod Replacing
 mod Rounds
 mod Saved

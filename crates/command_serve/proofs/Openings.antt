@@ -1,5 +1,6 @@
 -- What is left of a file that is opened as a durable device, and what is told where it isn't.
-use Rattle.std.proofs.Common.{◌≡◌, ◌⊎◌, ◌≤◌, ℕ, List, Option, Bor, Result, Ok, Err, IfErr, ap, refl, sym, subst, inl, inr, ⊎_elim}
+use Rattle.std.proofs.Common.{◌≡◌, ◌⊎◌, ◌≤◌, ℕ, List, Option, None, Some, Bor, length, Result, Ok, Err, IfErr, ap, refl, sym, subst, inl, inr, ⊎_elim}
+use Rattle.stored_file.specs.Reading.{IsReadOf}
 use Rattle.stored_file.specs.File.{FileState, IsAsBefore, LeavesOnly, MayLeave}
 use Rattle.stored_file.specs.declared.stored_file.FileError.{FileError}
 use Rattle.stored_file.specs.declared.stored_file.FileError.TheVariants.{Memory, NoRoom, Failed}
@@ -8,6 +9,7 @@ use Rattle.image_store.specs.Namespace.{ZonedNamespace}
 use Rattle.image_text.specs.Reading.{namespace_in}
 use Rattle.durable_machine.specs.Files.{KeepsState}
 use Rattle.durable_machine.specs.Refused.{HasNoState, IsDamaged, IsUndone}
+use Rattle.durable_machine.proofs.Windows.{all_known}
 use Rattle.durable_machine.proofs.Restarting.{found_then, found_weaker, reads_on, refuses_read}
 use Rattle.durable_machine.specs.declared.fault.Fault.{Fault}
 use Rattle.durable_machine.specs.declared.fault.Fault.TheVariants.{Unreadable, Damaged, Undone, OfFile}
@@ -16,6 +18,7 @@ use Rattle.durable_device.specs.Kept.{IsOldOrStandsFor, IsRestarted, KeepsRestar
 use Rattle.durable_device.specs.Machine.{IsDeviceBase, next_state, one_device}
 use Rattle.durable_device.specs.declared.durable_device.Folding.{Folding}
 use Rattle.durable_device.specs.declared.durable_device.Folding.TheVariants as folding
+use Rattle.command_files.specs.Made.{AreAsTold}
 use Rattle.command_files.specs.UserTold.{IsUnread}
 use Rattle.command_files.specs.declared.failure.Failure.{Failure}
 use Rattle.command_files.specs.declared.journal_fault.JournalFault.{JournalFault}
@@ -25,7 +28,9 @@ use Rattle.command_files.specs.declared.failure.Failure.TheVariants.{CannotRead,
 use Rattle.command_images.proofs.Damage.{whole_to_damage}
 use Rattle.command_images.specs.Devices.{CountsBatches, IsFrontFault}
 use Rattle.command_images.specs.UserTold.{IsUnheld, LoadingFails, UpgradeFails}
-use Rattle.command_serve.specs.Opening.{HasFault, IsFoundFaulty, FailsToOpen, IsFound, IsNotFound, Leaves, OfDevice, OfJournal, OnlyRead, Opens, OpeningFails}
+use Rattle.command_serve.specs.Folding.{IsntFolded}
+use Rattle.command_serve.specs.Reading.{AreKnown}
+use Rattle.command_serve.specs.Opening.{IsntOpened, HasFault, IsFoundFaulty, FailsToOpen, IsFound, IsNotFound, Leaves, OfDevice, OfJournal, OnlyRead, Opens, OpeningFails}
 use Rattle.command_serve.specs.steps.Told.{TellsError, TellsFault, TellsUnfolded, TellsUnread}
 
 -- an error has another fact by one that it has
@@ -71,6 +76,20 @@ pub loading_upgrade : (reads : Type 0) (bytes : Option (List ℕ)) (path : List 
     → LoadingFails reads bytes path failure → UpgradeFails reads bytes path failure
 loading_upgrade reads bytes path (CannotWrite name cause) none = absurd none
 loading_upgrade reads bytes path _ fails = fails
+
+pub not_found_upgrade : (reads : Type 0) (bytes : Option (List ℕ)) (path : List ℕ) (failure : Failure)
+    → IsNotFound path failure → UpgradeFails reads bytes path failure
+not_found_upgrade reads bytes path (CannotRead name cause) same = same
+not_found_upgrade reads bytes path (CannotWrite name cause) same = same
+not_found_upgrade reads bytes path NoMemory same = tt
+not_found_upgrade reads bytes path _ none = absurd none
+
+-- a file that is read has the bytes that are told of it
+pub as_told : (contents known : Option (List ℕ)) (given : List ℕ) (size : ℕ) → AreKnown contents known → IsReadOf given size known → length given ≡ size
+    → AreAsTold contents given
+as_told None known given size are front whole = tt
+as_told (Some bytes) known given size are front whole =
+    all_known size given bytes whole (subst (λ (l : Option (List ℕ)). IsReadOf given size l) are front)
 
 -- at the front of a journal
 pub front_has : (said : JournalFault) (byte : ℕ) (bytes : List ℕ) → byte ≡ 0 → IsFrontFault said bytes → HasNoState IsDeviceBase next_state bytes
@@ -217,3 +236,23 @@ module _ {S : Type 0} (told : S → FileState) (contents : Option (List ℕ)) wh
     left = stands_on opened left s opens moments;
     why = unfolded_fails came path failure tells;
   }
+
+  -- a file that was read before it was one
+  pub read_found : (file : FileState) (given : List ℕ) → IsRestarted file → file.seen ≡ given → AreAsTold contents given → IsFound file contents
+  read_found file given restarted is are = record { restarted = restarted; bytes_are = subst (λ (l : List ℕ). AreAsTold contents l) (sym is) are }
+
+  not_found_fails : (path : List ℕ) (failure : Failure) → IsNotFound path failure → OpeningFails told contents path failure
+  not_found_fails path (CannotRead name cause) same = same
+  not_found_fails path (CannotWrite name cause) same = same
+  not_found_fails path NoMemory same = tt
+  not_found_fails path _ none = absurd none
+
+  -- a journal that was found, and can't be written
+  pub not_written : (file left : S) (path : List ℕ) (failure : Failure) → IsFound (told file) contents → KeepsRestarted (told file) (told left)
+      → IsNotFound path failure → FailsToOpen told contents path failure
+  not_written file left path failure found moments why = record { left = OfJournal file left found moments; why = not_found_fails path failure why }
+
+  -- and isn't folded
+  pub not_folded : (reads : Type 0) (path : List ℕ) (failure : Failure) → IsntOpened told contents path failure → IsntFolded told reads path contents failure
+  not_folded reads path failure (inl none) = inl (not_found_upgrade reads contents path failure none)
+  not_folded reads path failure (inr fails) = inr fails

@@ -4,7 +4,7 @@ ghost use Rattle.std.specs.Prelude.{◌≡◌, ℕ, List, Option, IfErr, IfOk, I
 ghost use Rattle.stored_file.specs.File.{LeavesOnly};
 ghost use Rattle.durable_device.specs.Kept.{IsKept, IsKeptInBase, StandsFor};
 ghost use Rattle.command_files.specs.Crash.{LeavesOldOrNew};
-ghost use Rattle.command_files.specs.Made.{KeepsModes, KeepsOthers, MakesAtMost};
+ghost use Rattle.command_files.specs.Surroundings.{KeepsAll, MayReplace};
 ghost use Rattle.command_images.specs.Images.{image_of};
 ghost use Rattle.command_serve.specs.Folding.{Folds, FoldsJournal, IsntFolded};
 ghost use Rattle.command_serve.specs.Opening.{FailsToOpen, Opens};
@@ -12,7 +12,8 @@ ghost use Rattle.command_serve.specs.Salvaging.{AreSaved, IsNewFile, Salvages, S
 ghost use Rattle.command_serve.specs.steps.Told.{TellsUnfolded};
 
 use crate::DurableFiles;
-use crate::opening::{failed, is_journal, reopen, stored};
+use crate::opening::{failed, is_journal};
+use crate::pieces::reopen;
 use crate::salvaging::salvage;
 use clap::ArgMatches;
 use command_files::arguments::required;
@@ -105,11 +106,8 @@ pub fn fold<'a, F: DurableFiles, O: Write>(
     ensures crash { let held = F.contents files.old (image_of matches.now) in
         IfSome (target_of matches.now) (λ to.
         LeavesOldOrNew to (AreSaved F.Writer.tells held) (F.tried files.old) (F.tried files.new)) }
-    ensures made { OnOk result (MakesAtMost (made_by matches.now) (F.made files.old) (F.made files.new)) }
-    ensures kept { OnErr result (F.made files.new ≡ F.made files.old) }
-    ensures contents { OnErr result (F.contents files.new ≡ F.contents files.old) }
-    ensures others { OnOk result (KeepsOthers (made_by matches.now) (F.contents files.old) (F.contents files.new)) }
-    ensures modes { OnOk result (KeepsModes (F.modes files.old) (F.modes files.new)) }
+    ensures replaced { OnOk result (MayReplace F.Files (made_by matches.now) files.old files.new) }
+    ensures kept { OnErr result (KeepsAll F.Files files.old files.new) }
 {
     let path = required(matches, IMAGE);
     match matches.get_str(SALVAGE) {
@@ -127,11 +125,8 @@ fn fold_image<'a, F: DurableFiles>(
     ensures folded { OnOk result
         (Folds F.Stored.told F.Reader.tells (F.contents files.old path.now) (F.contents files.new path.now)) }
     ensures failed { IfErr result (IsntFolded F.Stored.told F.Reader.tells path.now (F.contents files.old path.now)) }
-    ensures made { OnOk result (MakesAtMost path.now (F.made files.old) (F.made files.new)) }
-    ensures kept { OnErr result (F.made files.new ≡ F.made files.old) }
-    ensures contents { OnErr result (F.contents files.new ≡ F.contents files.old) }
-    ensures others { OnOk result (KeepsOthers path.now (F.contents files.old) (F.contents files.new)) }
-    ensures modes { OnOk result (KeepsModes (F.modes files.old) (F.modes files.new)) }
+    ensures replaced { OnOk result (MayReplace F.Files path.now files.old files.new) }
+    ensures kept { OnErr result (KeepsAll F.Files files.old files.new) }
 {
     image_file::hold(path, files)?;
     if is_journal(path, files)? {
@@ -152,14 +147,10 @@ fn fold_held<'a, F: DurableFiles>(
     requires { F.held files.old ≡ Some path.now }
     ensures folded { OnOk result (FoldsJournal F.Stored.told (F.contents files.old path.now) (F.contents files.new path.now)) }
     ensures failed { IfErr result (IsntFolded F.Stored.told F.Reader.tells path.now (F.contents files.old path.now)) }
-    ensures made { OnOk result (MakesAtMost path.now (F.made files.old) (F.made files.new)) }
-    ensures kept { OnErr result (F.made files.new ≡ F.made files.old) }
-    ensures contents { OnErr result (F.contents files.new ≡ F.contents files.old) }
-    ensures others { OnOk result (KeepsOthers path.now (F.contents files.old) (F.contents files.new)) }
-    ensures modes { OnOk result (KeepsModes (F.modes files.old) (F.modes files.new)) }
+    ensures replaced { OnOk result (MayReplace F.Files path.now files.old files.new) }
+    ensures kept { OnErr result (KeepsAll F.Files files.old files.new) }
 {
-    let file = stored(alloc, path, files)?;
-    let device = reopen(alloc, path, file)?;
+    let device = reopen(alloc, path, files)?;
     let file = folded(alloc, path, device)?;
     files.keep(path, file)?;
     Ok(())

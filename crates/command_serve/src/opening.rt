@@ -9,6 +9,7 @@ ghost use Rattle.command_serve.specs.Opening.{FailsToOpen, IsFound, IsNotFound, 
 ghost use Rattle.command_serve.specs.steps.Told.{TellsError, TellsFault, TellsUnread};
 
 use crate::DurableFiles;
+use crate::pieces::reopen;
 use command_files::{Failure, FileCause, JournalFault, cannot_read};
 use command_images::device_file::{damage, front_fault};
 use command_images::image_file;
@@ -40,13 +41,11 @@ pub(crate) fn open<'a, F: DurableFiles>(
     ensures modes { F.modes files.new ≡ F.modes files.old }
 {
     image_file::hold(path, files)?;
-    let journal = is_journal(path, files)?;
-    let file = stored(alloc, path, files)?;
-    if journal {
-        reopen(alloc, path, file)
-    } else {
-        make_durable(alloc, path, file)
+    if is_journal(path, files)? {
+        return reopen(alloc, path, files);
     }
+    let file = stored(alloc, path, files)?;
+    make_durable(alloc, path, file)
 }
 
 /// Does the file whose name is held begin as a journal does?
@@ -86,8 +85,8 @@ pub(crate) fn stored<'a, F: DurableFiles>(
     }
 }
 
-/// The durable device of a file with a journal.
-pub(crate) fn reopen<'a, S: StoredFile + Drop>(
+/// The durable device of a file with a journal, all of which is in memory as it is opened.
+pub(crate) fn reopen_whole<'a, S: StoredFile + Drop>(
     alloc: Global,
     path: &'a str,
     mut file: S,

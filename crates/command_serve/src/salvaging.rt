@@ -5,7 +5,8 @@ ghost use Rattle.std.specs.Io.KnownBytes.{Appends};
 ghost use Rattle.common_definitions.specs.Failures.{CountsFailure};
 ghost use Rattle.image_text.specs.Streams.{Takes};
 ghost use Rattle.command_files.specs.Crash.{AreWritten, LeavesOldOrNew};
-ghost use Rattle.command_files.specs.Made.{KeepsModes, KeepsOthers, MakesOne, then_made};
+ghost use Rattle.command_files.specs.Made.{then_made};
+ghost use Rattle.command_files.specs.Surroundings.{KeepsAll, Replaces};
 ghost use Rattle.command_files.specs.UserTold.{IsUnwritten};
 ghost use Rattle.command_serve.specs.Salvaging.{AreSaved, IsNewFile, IsNotMade, IsSavedOf, IsUnsaved, Salvages, SalvagingFails, saved_line};
 
@@ -38,11 +39,8 @@ pub(crate) fn salvage<'a, F: Files, O: Write>(
     ensures failed { IfErr result (SalvagingFails (F.contents files.old path.now) path.now to.now) }
     ensures crash { let held = F.contents files.old path.now in
         LeavesOldOrNew to.now (AreSaved F.Writer.tells held) (F.tried files.old) (F.tried files.new) }
-    ensures made { OnOk result (MakesOne to.now (F.made files.old) (F.made files.new)) }
-    ensures kept { OnErr result (F.made files.new ≡ F.made files.old) }
-    ensures contents { OnErr result (F.contents files.new ≡ F.contents files.old) }
-    ensures others { OnOk result (KeepsOthers to.now (F.contents files.old) (F.contents files.new)) }
-    ensures modes { OnOk result (KeepsModes (F.modes files.old) (F.modes files.new)) }
+    ensures replaced { OnOk result (Replaces F.Files to.now files.old files.new) }
+    ensures kept { OnErr result (KeepsAll F.Files files.old files.new) }
 {
     match saved_of(alloc, path, files) {
         Ok(saved) => put_new(&saved, path, to, files, out),
@@ -64,11 +62,8 @@ fn put_new<'a, F: Files, O: Write>(
     ensures new_file { OnOk result (IsNewFile path.now to.now (F.contents files.old to.now)) }
     ensures failed { IfErr result (IsNotMade to.entry) }
     ensures crash { LeavesOldOrNew to.now (AreWritten F.Writer.tells saved.now.file.items) (F.tried files.old) (F.tried files.new) }
-    ensures made { OnOk result (MakesOne to.now (F.made files.old) (F.made files.new)) }
-    ensures kept { OnErr result (F.made files.new ≡ F.made files.old) }
-    ensures contents { OnErr result (F.contents files.new ≡ F.contents files.old) }
-    ensures others { OnOk result (KeepsOthers to.now (F.contents files.old) (F.contents files.new)) }
-    ensures modes { OnOk result (KeepsModes (F.modes files.old) (F.modes files.new)) }
+    ensures replaced { OnOk result (Replaces F.Files to.now files.old files.new) }
+    ensures kept { OnErr result (KeepsAll F.Files files.old files.new) }
 {
     if let Err(failure) = hold_new(path, to, files) {
         return Err(failure);
@@ -169,13 +164,10 @@ fn print<O: Write>(end: usize, whole: usize, readable: usize, out: &mut O) -> io
 fn put<'a, F: Files>(bytes: &[u8], path: &'a str, files: &mut F) -> Result<(), Failure<'a>>
     requires { F.held files.old ≡ Some path.now }
     ensures saved { OnOk result (F.Writer.tells → F.made files.new ≡ then_made (F.made files.old) path.now bytes.now) }
-    ensures made { OnOk result (MakesOne path.now (F.made files.old) (F.made files.new)) }
-    ensures others { OnOk result (KeepsOthers path.now (F.contents files.old) (F.contents files.new)) }
-    ensures kept { OnErr result (F.made files.new ≡ F.made files.old) }
-    ensures crash { LeavesOldOrNew path.now (AreWritten F.Writer.tells bytes.now) (F.tried files.old) (F.tried files.new) }
-    ensures contents { OnErr result (F.contents files.new ≡ F.contents files.old) }
-    ensures modes { OnOk result (KeepsModes (F.modes files.old) (F.modes files.new)) }
     ensures unwritten { IfErr result (IsUnwritten path.entry) }
+    ensures crash { LeavesOldOrNew path.now (AreWritten F.Writer.tells bytes.now) (F.tried files.old) (F.tried files.new) }
+    ensures replaced { OnOk result (Replaces F.Files path.now files.old files.new) }
+    ensures kept { OnErr result (KeepsAll F.Files files.old files.new) }
 {
     let mut file = match files.begin(path) {
         Ok(file) => file,

@@ -16,9 +16,9 @@ use stored_file::{FileCalls, FileError, Record, StoredFile, SystemFile};
 #[derive(Drop)]
 pub struct DiskCalls<'a, R> {
     /// What holds its name.
-    disk: Disk<'a, R>,
-    file: File,
-    notes: Record,
+    pub(crate) disk: Disk<'a, R>,
+    pub(crate) file: File,
+    pub(crate) notes: Record,
 }
 
 /// The file whose name is held, as what reads and writes it durably: it and its name are brought to the disk, and then it is read. What

@@ -2,5 +2,7 @@
 #![tactic(auto)]
 
 mod disk_calls;
+mod disk_reading;
 
 pub use disk_calls::{DiskCalls, open};
+pub use disk_reading::{DiskReading, begin, opened};

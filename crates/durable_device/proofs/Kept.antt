@@ -9,7 +9,7 @@ use Rattle.image_text.proofs.Proved.{loaded_texts_are_namespaces}
 use Rattle.image_base.specs.Base.{IsBaseOf, Told}
 use Rattle.image_base.proofs.Proved.{one_base}
 use Rattle.nvme_entry.specs.declared.program_slot.TheConstants.{PROGRAM_SLOTS}
-use Rattle.durable_machine.specs.Bases.{BeginsBase, BeginsNoBase}
+use Rattle.durable_machine.specs.Bases.{BeginsBase, BeginsNoBase, NeedsBytes}
 use Rattle.durable_machine.specs.Batches.{IsAfterSome as IsAfterSomeBytes, IsBeforeOrAfter as IsBeforeOrAfterBytes, bytes_of}
 use Rattle.durable_machine.specs.Files.{joined}
 use Rattle.device_meaning.specs.Beginning.{MayBegin}
@@ -54,6 +54,10 @@ joined_spell front behind all kept number programs runs is =
 -- no base, no device
 pub no_device : (file : List ℕ) → BeginsNoBase IsBaseOf file → BeginsNoBase IsDeviceBase file
 no_device file none base rest s loads is = none base rest loads.told loads.image is
+
+-- a device's base has as many bytes as it is a base
+pub device_needs : (n : ℕ) (front : List ℕ) → NeedsBytes IsBaseOf n front → NeedsBytes IsDeviceBase n front
+device_needs n front needs base rest more s loads is = needs base rest more loads.told loads.image is
 
 module _ (file : List ℕ) (told : Told) (n : ℕ) (begins : BeginsBase IsBaseOf told n file) where
   -- each base at the front tells the same

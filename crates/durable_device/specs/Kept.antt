@@ -2,6 +2,7 @@
 use Rattle.std.specs.Prelude.{ℕ, List}
 use Rattle.stored_file.specs.File.{FileState}
 use Rattle.durable_machine.specs.Files.{IsDurable, IsInBase, IsItsState, IsOldOrStands, IsState}
+use Rattle.durable_machine.specs.Pieces.{IsFound}
 use Rattle.durable_machine.specs.Refused.{IsRefused, Refuses}
 use Rattle.durable_machine.specs.Restart.{IsRestarted as IsRestartedMachine, KeepsRestarted as KeepsRestartedMachine, LeavesFound as LeavesFoundMachine, MayBeLeft as MayBeLeftOfMachine}
 use Rattle.durable_machine.specs.Waiting.{IsCommittedBut as IsCommittedButMachine, IsEither as IsEitherMachine}
@@ -25,6 +26,10 @@ MayBeLeft = MayBeLeftOfMachine IsDeviceBase next_state
 -- so it is of a file that was opened
 abbrev pub IsRestarted : FileState → Type 0
 IsRestarted = IsRestartedMachine IsDeviceBase next_state
+
+-- this was found in a file: the device for which it stands, where its batches end, and the last one's gate
+abbrev pub IsFoundIn : ℕ → ℕ → List ℕ → List ℕ → State → Type 0
+IsFoundIn = IsFound IsDeviceBase next_state
 
 -- a crash at any moment leaves what an earlier program may have left, or a file that has P; and where all of the file was on the disk, one
 -- that has P

@@ -10,12 +10,12 @@ ghost use Rattle.durable_machine.specs.Seals.{events_of};
 ghost use Rattle.device_meaning.specs.Judging.{interval_judge};
 ghost use Rattle.device_meaning.specs.Reached.{IsReached};
 ghost use Rattle.device_meaning.specs.State.{State, new_state};
-ghost use Rattle.durable_device.specs.Kept.{IsCommittedBut, IsEither, IsKept, IsKeptInBase, IsOldOrStandsFor, IsRestarted, KeepsRestarted, RefusesFile, StandsFor, StandsForIt};
+ghost use Rattle.durable_device.specs.Kept.{IsCommittedBut, IsEither, IsFoundIn, IsKept, IsKeptInBase, IsOldOrStandsFor, IsRestarted, KeepsRestarted, RefusesFile, StandsFor, StandsForIt};
 ghost use Rattle.durable_device.specs.Machine.{IsDeviceBase};
 ghost use Rattle.durable_device.specs.Serving.{HasAnswered, HasServed, HaveServed, IsAfterSome, IsBeforeOrAfter, Leads};
 
 use crate::{FrameDevice, Given};
-use durable_machine::{Durable, Fault, InFile};
+use durable_machine::{Durable, Fault, Found, InFile};
 use image_store::Image;
 use runner::Device;
 use std::alloc::{AllocError, Global};
@@ -107,6 +107,44 @@ impl<F: StoredFile + Drop> DurableDevice<F> {
         ensures refused { IfErr result (λ refusal. RefusesFile (F.told file) (F.told refusal.1) refusal.0) }
     {
         match Durable::<FrameDevice, InFile<F>>::open_read(alloc, file, bytes) {
+            Ok(store) => {
+                // Brings in that the device is in a state that events leave.
+                let _ = store.machine.image();
+                let folded = store.events.journal.gate;
+                Ok(DurableDevice {
+                    store,
+                    folded,
+                    last_fold: Folding::Done,
+                })
+            }
+            Err(refusal) => Err(refusal),
+        }
+    }
+
+    /// Opens the device that was found in a file ([`find`](durable_machine::find)), as [`DurableDevice::open`] does, and reads nothing of
+    /// it. So a file is opened that isn't in memory.
+    ///
+    /// # Errors
+    ///
+    /// No memory, or the disk's.
+    pub fn open_found(
+        alloc: Global,
+        file: F,
+        found: Found<FrameDevice>,
+    ) -> Result<DurableDevice<F>, (Fault, F)>
+        requires restarted { IsRestarted (F.told file) }
+        requires found { IsFoundIn found.end found.last found.gate.items (F.told file).seen found.machine }
+
+        ensures state { IfOk result (λ device. StandsForIt (F.told file).seen device.store.machine) }
+        ensures reached { IfOk result (λ device. IsReached interval_judge device.store.machine) }
+        ensures kept { IfOk result (λ device.
+            IsKept device.store.machine device.store.events.journal.gate (F.told device.store.events.journal.file)) }
+        ensures counted { IfOk result (λ device. device.folded ≡ device.store.events.journal.gate) }
+        ensures any_moment { IfOk result (λ device. KeepsRestarted (F.told file) (F.told device.store.events.journal.file)) }
+        ensures any_moment_err { IfErr result (λ refusal. KeepsRestarted (F.told file) (F.told refusal.1)) }
+        ensures refused { IfErr result (λ refusal. RefusesFile (F.told file) (F.told refusal.1) refusal.0) }
+    {
+        match Durable::<FrameDevice, InFile<F>>::open_found(alloc, file, found) {
             Ok(store) => {
                 // Brings in that the device is in a state that events leave.
                 let _ = store.machine.image();

@@ -14,7 +14,7 @@ use crate::frame_event::{FrameEvent, event_in};
 use crate::sections::{kept_in, sections_of};
 use device_events::{Event, Reply};
 use durable_machine::{Applied, Machine};
-use image_base::{load_base, save_base};
+use image_base::{base_length, load_base, save_base};
 use image_store::Image;
 use kept_device::SectionFault;
 use nvme_entry::MOST_TRANSFER;
@@ -133,6 +133,10 @@ impl Machine for FrameDevice {
     ghost replies = { HasReplied };
 
     ghost one_base = { one_device };
+
+    fn base_length(front: &[u8]) -> usize {
+        base_length(front)
+    }
 
     fn load(alloc: Global, file: &[u8]) -> Result<Option<(Self, usize)>, AllocError> {
         let Some((base, length)) = load_base(alloc, file)? else {

@@ -1,17 +1,17 @@
 -- Labels, and what is after them.
-use Rattle.std.proofs.Common.{◌≡◌, ◌≢◌, inl, inr, ◌<◌, ◌+◌, ◌^◌, ℕ, List, [], ◌∷◌, ◌++◌, get_or, length, take, drop, refl, sym, subst, ◌∙◌, ap, arith, append_assoc, length-append, length-take}
+use Rattle.std.proofs.Common.{◌≡◌, ◌≢◌, inl, inr, ◌<◌, ◌^◌, ℕ, List, [], ◌∷◌, ◌++◌, get_or, length, take, drop, refl, sym, subst, ◌∙◌, ap, arith, append_assoc, length-append, length-take}
 use Rattle.std.proofs.lemmas.Bool.{cases_lt}
 use Rattle.std.proofs.lemmas.List.{take_at, drop_at, get_or-take, get_or_past}
 use Rattle.durable_machine.specs.Events.{number_bytes}
 use Rattle.durable_machine.proofs.Numbers.{length-number_bytes, number_bytes_injective}
-use Rattle.image_base.specs.Base.{BeginsNoLabel, IsAfterLabel, IsLabel, IsMadeBy, IsMadeByNoOther, IsMadeByOther, label_of, magic, our_label, this_device}
+use Rattle.image_base.specs.Base.{BeginsNoLabel, IsAfterLabel, IsLabel, IsMadeByNoOther, IsMadeByOther, label_of, magic, our_label, this_device}
 use Rattle.image_base.specs.declared.front.Maker.{Maker}
 
 pub ours : our_label ≡ label_of this_device
 unfolding our_label
 ours = refl
 
-differs : (x y : ℕ) (l m : List ℕ) → x ∷ l ≡ y ∷ m → x ≡ y
+pub differs : (x y : ℕ) (l m : List ℕ) → x ∷ l ≡ y ∷ m → x ≡ y
 differs x y l m is = cc
 
 -- ---- what is after one
@@ -55,7 +55,7 @@ read_after file after label xs (inr is) (inr none) parts = same_after _ _ (sym i
 
 -- ---- who it names
 
-same_numbers : (m n : ℕ) (xs ys : List ℕ) → m < 2 ^ 64 → n < 2 ^ 64 → number_bytes m ++ xs ≡ number_bytes n ++ ys → (m ≡ n) × (xs ≡ ys)
+pub same_numbers : (m n : ℕ) (xs ys : List ℕ) → m < 2 ^ 64 → n < 2 ^ 64 → number_bytes m ++ xs ≡ number_bytes n ++ ys → (m ≡ n) × (xs ≡ ys)
 same_numbers m n xs ys m_fits n_fits is = (
   number_bytes_injective m n m_fits n_fits
       (sym (take_at (number_bytes m) xs 8 (length-number_bytes m)) ∙ ap (λ (l : List ℕ). take 8 l) is ∙ take_at (number_bytes n) ys 8 (length-number_bytes n)),

@@ -1,4 +1,5 @@
 pub mod SectionLemmas
 pub mod Labels
 pub mod Fronts
+pub mod Needing
 pub mod Proved

@@ -1,2 +1,3 @@
 pub mod Base
 pub mod Loaded
+pub mod Needed

@@ -14,7 +14,7 @@ pub const MAGIC: [u8; 8] = *b"ZNSJRN01";
 pub const FRONT: usize = 25;
 
 /// The first byte of a label (profile).
-const LABEL: u8 = 2;
+pub(crate) const LABEL: u8 = 2;
 
 /// Who makes journals: a device, by what the events in them mean.
 #[derive(Clone, Copy, Debug, PartialEq, Eq)]
@@ -103,7 +103,7 @@ fn label_in(bytes: &[u8]) -> Option<(Maker, &[u8])>
 }
 
 /// The number at the front of bytes, and what is after it; `None` where they end before.
-fn number_in(bytes: &[u8]) -> Option<(u64, &[u8])>
+pub(crate) fn number_in(bytes: &[u8]) -> Option<(u64, &[u8])>
     ensures { MatchOption result (length bytes.now < 8) (λ found. bytes.now ≡ number_bytes found.0 ++ found.1.now) }
 {
     let (digits, rest) = bytes.split_first_chunk::<8>()?;

@@ -4,8 +4,10 @@
 
 mod base;
 mod front;
+mod length;
 mod sections;
 
 pub use base::{Base, load_base, save_base};
 pub use front::{FRONT, MAGIC, Maker, THIS_DEVICE, other_maker};
+pub use length::base_length;
 pub use sections::SECTIONS;

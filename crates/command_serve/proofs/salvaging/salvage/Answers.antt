@@ -1,8 +1,9 @@
-use Rattle.std.proofs.Common.{refl, subst}
+use Rattle.std.proofs.Common.{subst}
 use Rattle.std.proofs.lemmas.Result.{IfErr-weaker, on_ok_weaker}
-use Rattle.command_files.proofs.Proved.{leaves_weaker, modes_kept, others_kept}
+use Rattle.command_files.proofs.Proved.{leaves_weaker}
 use Rattle.command_files.specs.Crash.{AreWritten, LeavesOldOrNew}
 use Rattle.command_serve.specs.Salvaging.{AreSaved, IsNotMade, SalvagingFails}
+use Rattle.command_serve.proofs.Replacing.{replaces_after}
 use Rattle.command_serve.proofs.Saved.{are_saved, not_made_fails, salvages, unsaved_fails}
 use Rattle.command_serve.proofs.salvaging.salvage.Goals as goal
 
@@ -33,10 +34,8 @@ returns-in-Ok-clause-crash g c =
     (leaves_weaker c.args.to.now (AreWritten writes saved.file.items) (AreSaved writes contents)
     (are_saved writes contents saved.end saved.whole saved.readable saved.file.items c.in-Ok.ensures.saved) mid last c.put_new.ensures.crash)
 
-pub returns-in-Ok-clause-others : goal.returns-in-Ok-clause-others
-returns-in-Ok-clause-others g c =
-    on_ok_weaker c.put_new.result (others_kept c.args.to.now c.args.to.now (g.F.Files.contents c.args.files.now) _ _ refl c.saved_of.ensures.contents)
-    c.put_new.ensures.others
-
-pub returns-in-Ok-clause-modes : goal.returns-in-Ok-clause-modes
-returns-in-Ok-clause-modes g c = on_ok_weaker c.put_new.result (modes_kept _ _ _ c.saved_of.ensures.modes) c.put_new.ensures.modes
+pub returns-in-Ok-clause-replaced : goal.returns-in-Ok-clause-replaced
+returns-in-Ok-clause-replaced g c =
+    on_ok_weaker c.put_new.result
+    (replaces_after g.F.Files c.args.to.now c.args.files.now c.saved_of.new.files c.put_new.new.files c.saved_of.ensures.made
+    c.saved_of.ensures.contents c.saved_of.ensures.modes) c.put_new.ensures.replaced
