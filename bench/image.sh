@@ -1,7 +1,8 @@
 #!/bin/sh
-# Loading and saving an image of 256 MiB beside copies of it, all between files in memory, reading one block of it by
-# `exec`, which saves nothing, and formatting the largest image beside one fill of its room, by a C program in memory and
-# by head into a file in memory. Prints six ratios, each of the least of ROUNDS rounds.
+# Loading and saving an image of 256 MiB beside copies of it, all between files in memory, loading it beside a C program that reads as
+# much into fresh memory, reading one block of it by `exec`, which saves nothing, printing its zones, and formatting the largest image
+# beside one fill of its room, by a C program in memory and by head into a file in memory. Prints eight ratios, each of the least of
+# ROUNDS rounds.
 set -eu
 cd "$(dirname "$0")/.."
 . bench/best.sh
@@ -25,11 +26,17 @@ zscli=crates/zscli/out/zscli
 } > "$work/full.img"
 "$zscli" entry read --lba 0 --blocks 1 > "$work/read.cmd"
 
+# a line that is refused, after the image was loaded
+echo refused > "$work/refused.cmd"
+load_only() { ! "$zscli" exec "$work/full.img" "$work/refused.cmd" 2> /dev/null; }
+
 cc -O2 -o "$work/fill" bench/fill.c
 fill_file() { head -c "$bytes" /dev/zero > "$work/filled"; }
 
 copy=$(best cp "$work/full.img" "$work/copy.img")
-load=$(best "$zscli" zones "$work/full.img")
+load=$(best load_only)
+fresh=$(best "$work/fill" "$bytes" "$work/full.img")
+zones=$(best "$zscli" zones "$work/full.img")
 both=$(best "$zscli" upgrade "$work/full.img")
 read=$(best "$zscli" exec "$work/full.img" "$work/read.cmd")
 cmp "$work/full.img" "$work/copy.img"
@@ -40,7 +47,9 @@ awk "BEGIN {
     printf \"load of 256 MiB: copy/zscli %.2f\n\", $copy / $load
     printf \"save of 256 MiB: copy/zscli %.2f\n\", $copy / ($both - $load)
     printf \"load and save of 256 MiB: two copies/zscli %.2f\n\", 2 * $copy / $both
+    printf \"load of 256 MiB: read into fresh memory/zscli %.2f\n\", $fresh / $load
     printf \"exec of a Read on 256 MiB: load/exec %.2f\n\", $load / $read
+    printf \"zones of 256 MiB: load/zones %.0f\n\", $load / $zones
     printf \"format of 256 MiB: fill/zscli %.2f\n\", $fill / $format
     printf \"format of 256 MiB: fill of a file/zscli %.2f\n\", $file / $format
 }"

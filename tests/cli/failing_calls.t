@@ -102,6 +102,28 @@ An image that can't be read to its end stays as it was.
   2 empty 0
   3 empty 0
 
+Where a block can't be read, no event happens. What prints zones reads no block.
+
+  $ failing READS=96 zscli exec three events
+  cannot read three
+  [1]
+  $ failing READS=96 zscli zones three
+  0 closed 3
+  1 explicit 0
+  2 empty 0
+  3 empty 0
+  $ failing READS=96 zscli report three --json | cut -c 1-32
+  {"block_bytes":512,"zone_count":
+  $ failing READS=96 zscli report three --map
+  block 512 bytes, 4 zones of 8 blocks, capacity 6 blocks, open 1 of 2, active 2 of 3
+     0 c ################................ 3/6
+     1 o ................................ 0/6
+     2 e ................................ 0/6
+     3 e ................................ 0/6
+  $ failing READS=95 zscli report three
+  cannot read three
+  [1]
+
 Where a new image has no room, the old one stays, also where standard output fails first. Nothing is left beside it.
 
   $ failing ROOM=80 zscli exec image events

@@ -169,6 +169,21 @@ A byte after the last block.
   image refused 15
   [3]
 
+A block that is missing, one that is cut, and one too many. `zones` reads no block of an ordinary file, and of what comes through a pipe
+it lets them go; `exec` reads each.
+
+  $ last() { "$@" 2>&1 | tail -n 1; }
+  $ for bytes in 0 511 512 513 1024; do
+  >   { printf "ZNSIMG02$numbers$limits"'\1'; zeros 31; row $open$empty$empty$empty; zeros $bytes; } > image
+  >   echo "$bytes: $(last zscli zones image), $(cat image | last zscli zones /dev/stdin), $(echo turn 0 | last zscli exec image -)"
+  > done
+  0: image refused 10, image refused 10, image refused 10
+  511: image refused 10, image refused 10, image refused 10
+  512: out: 3 empty 0, out: 3 empty 0, out: idle
+  513: image refused 15, image refused 15, image refused 15
+  1024: image refused 15, image refused 15, image refused 15
+  $ { header; row $empty$empty$empty$empty; zeros 1; } > image
+
 Whatever reads an image refuses it so, and leaves it as it is.
 
   $ cp image before

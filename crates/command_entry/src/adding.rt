@@ -13,7 +13,7 @@ use clap::Command;
 use clap::error::ErrorKind;
 use command_files::{Failure, FileCause, FileFault, Files, MOST_OF_EVENTS, cannot_read, write};
 use device_events::Event;
-use event_text::parse;
+use event_text::{CommandFile, parse};
 use nvme_entry::MOST_TRANSFER;
 use std::alloc::{AllocError, Global};
 
@@ -92,7 +92,10 @@ fn with_line<'a>(
 fn events_of<'a>(alloc: Global, path: &'a str, file: &[u8]) -> Result<Vec<Event>, Failure<'a>>
     ensures { IfOk result (λ events. events_in file.now ≡ Ok (map told_of events.items)) }
 {
-    parse(alloc, file).map_err(|fault| Failure::of_commands(path, fault))
+    match parse(alloc, file) {
+        Ok(CommandFile { events, .. }) => Ok(events),
+        Err(fault) => Err(Failure::of_commands(path, fault)),
+    }
 }
 
 /// The command identifier that is asked for, or where none is, one that no submission to the queue has.

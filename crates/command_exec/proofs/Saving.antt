@@ -132,13 +132,13 @@ module _ (judge : Judge) (reads writes : Type 0) (contents then : List ℕ → O
   }
 
   -- what `run` does of them is what the command does of the files
-  pub executes : {E : Type 0} (held : List ℕ → Option (List ℕ)) (given : List Event) (numbers numbered : List ℕ) (stops words : Bool) (printed printed_after : Option (List ℕ))
+  pub executes : {E : Type 0} (held : List ℕ → Option (List ℕ)) (given : List Event) (numbers : List ℕ) (stops words : Bool) (printed printed_after : Option (List ℕ))
       (result : Result (Option Refused) E) → stops ≡ asks_stop matches → words ≡ asks_words matches → (reads → TellNamespace (contents path) namespace) → held ≡ contents
-      → numbered ≡ file → numbers ≡ worded_lines numbered
+      → numbers ≡ worded_lines slice
       → IfOk result (λ refused. SavesAll judge stops (from_there held loaded) given namespace path (HasTold numbers refused (told_unless words printed) (told_unless words printed_after)))
       → given ≡ events → IfOk result (ExecutesBy judge (from_there contents before) matches printed printed_after)
-  executes held given numbers numbered stops words printed printed_after (Err error) stops_is words_is namespace_is held_is numbered_is numbers_are saves are = tt
-  executes held given numbers numbered stops words printed printed_after (Ok refused) stops_is words_is namespace_is held_is numbered_is numbers_are saves are =
+  executes held given numbers stops words printed printed_after (Err error) stops_is words_is namespace_is held_is numbers_are saves are = tt
+  executes held given numbers stops words printed printed_after (Ok refused) stops_is words_is namespace_is held_is numbers_are saves are =
       let P : (List ℕ → Option (List ℕ)) → Option (List Made) → List Event → List ℕ → Bool → Bool → Type 0 = λ c made list p s w.
       SavesAll judge s (from_there c made) list namespace p (HasTold numbers refused (told_unless w printed) (told_unless w printed_after)) in
       record {
@@ -146,7 +146,7 @@ module _ (judge : Judge) (reads writes : Type 0) (contents then : List ℕ → O
         events = events;
         in_files = in_both namespace_is;
         numbers = numbers;
-        their_lines = read_holds contents commands (commands_of matches) file numbered (λ bytes. numbers ≡ worded_lines bytes) are_named numbered_is
+        their_lines = read_holds contents commands (commands_of matches) file slice (λ bytes. numbers ≡ worded_lines bytes) are_named slice_is
             (subst (λ (c : List ℕ → Option (List ℕ)). IfSome (c commands) (λ bytes. file ≡ bytes)) same file_is) numbers_are;
         saves = subst (λ (w : Bool). P contents before events (image_of matches) (asks_stop matches) w) words_is
             (subst (λ (s : Bool). P contents before events (image_of matches) s words) stops_is

@@ -20,7 +20,6 @@ use command_images::device_file;
 use command_images::image_file::{self, IMAGE};
 use command_profile::{PROFILE, Profile, profile_asked};
 use command_words::{Argument, Takes, Words};
-use event_text::event_lines;
 use interval_domain::Intervals;
 use std::alloc::Global;
 use std::io::Write;
@@ -218,12 +217,11 @@ fn exec_by<'a, D: Domain, F: Files, O: Write>(
     let commands = required(matches, COMMANDS);
     let file = read(commands, MOST_OF_EVENTS, files)?;
     match event_text::parse(alloc, file.as_slice()) {
-        Ok(events) => {
-            let numbers = event_lines(alloc, file.as_slice())?;
+        Ok(told) => {
             image_file::check_place(path, files)?;
             let work = Work {
-                events: events.as_slice(),
-                numbers: numbers.as_slice(),
+                events: told.events.as_slice(),
+                numbers: told.lines.as_slice(),
                 stops: asks_stop(matches),
                 words: asks_words(matches),
             };

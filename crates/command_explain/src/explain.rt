@@ -16,7 +16,7 @@ use command_files::{
 };
 use command_words::{Argument, Takes, Words};
 use device_events::{CompletionEntry, Reply};
-use event_text::{RepliesFault, Told, ToldReply, event_lines, parse, replies};
+use event_text::{RepliesFault, Told, ToldReply, parse, replies};
 use link_notes::{LinkNotes, NotesFault};
 use nvme_entry::Completion;
 use std::alloc::{AllocError, Global};
@@ -173,9 +173,8 @@ fn read_submissions<'a, F: Files>(
     ensures contents { F.contents files.new ≡ F.contents files.old }
 {
     let file = read(path, MOST_OF_EVENTS, files)?;
-    let events = parse(alloc, file.as_slice()).map_err(|fault| Failure::of_commands(path, fault))?;
-    let lines = event_lines(alloc, file.as_slice())?;
-    Ok(submissions(alloc, events.as_slice(), lines.as_slice())?)
+    let told = parse(alloc, file.as_slice()).map_err(|fault| Failure::of_commands(path, fault))?;
+    Ok(submissions(alloc, told.events.as_slice(), told.lines.as_slice())?)
 }
 
 /// What the user is told of a file with this name, with a line that `exec` doesn't print: its name, and the number of

@@ -1,7 +1,7 @@
 -- What stands around a command.
-use Rattle.std.specs.Prelude.{ℕ, List, Option}
+use Rattle.std.specs.Prelude.{◌≡◌, ℕ, List, Option}
 use Rattle.command_files.specs.Crash.{AreAnImage, LeavesOldOrNew}
-use Rattle.command_files.specs.Made.{KeepsModes, KeepsOthers, Made, MakesOnly}
+use Rattle.command_files.specs.Made.{KeepsModes, KeepsOthers, Made, MakesAtMost, MakesOne, MakesOnly}
 use Rattle.command_files.specs.declared.files.Files.{Ghosts}
 
 -- what a command finds and leaves of files
@@ -33,3 +33,19 @@ pub record ChangesOnly {F R W : Type 0} (files : Ghosts F R W) (writes : Type 0)
   pub crash : LeavesOldOrNew path (AreAnImage writes) (files.tried old) (files.tried new)
   pub others : KeepsOthers path (files.contents old) (files.contents new)
   pub modes : KeepsModes (files.modes old) (files.modes new)
+
+-- one file is made, with this name; every other has the bytes that it had, and each has the permissions that it had
+abbrev pub Replaces : {F R W : Type 0} → Ghosts F R W → List ℕ → F → F → Type 0
+Replaces files path old new =
+    MakesOne path (files.made old) (files.made new) × KeepsOthers path (files.contents old) (files.contents new)
+    × KeepsModes (files.modes old) (files.modes new)
+
+-- none is made, or that one
+abbrev pub MayReplace : {F R W : Type 0} → Ghosts F R W → List ℕ → F → F → Type 0
+MayReplace files path old new =
+    MakesAtMost path (files.made old) (files.made new) × KeepsOthers path (files.contents old) (files.contents new)
+    × KeepsModes (files.modes old) (files.modes new)
+
+-- none is made, and each has the bytes that it had
+abbrev pub KeepsAll : {F R W : Type 0} → Ghosts F R W → F → F → Type 0
+KeepsAll files old new = (files.made new ≡ files.made old) × (files.contents new ≡ files.contents old)

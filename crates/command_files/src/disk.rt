@@ -175,7 +175,7 @@ impl<R: rt::Files<File = File> + AllocGlobal> Disk<'_, R> {
 }
 
 impl<R: rt::Files<File = File> + AllocGlobal> Files for Disk<'_, R> {
-    type Reader = FileReader<File>;
+    type Reader = FileReader;
 
     type Writer = FileWriter;
 
@@ -207,7 +207,7 @@ impl<R: rt::Files<File = File> + AllocGlobal> Files for Disk<'_, R> {
         }
     }
 
-    fn open(&mut self, path: &str) -> Result<FileReader<File>, FileFault> {
+    fn open(&mut self, path: &str) -> Result<FileReader, FileFault> {
         Ok(FileReader::new(self.rt.alloc(), fs::open(self.rt, path)?)?)
     }
 
@@ -228,7 +228,7 @@ impl<R: rt::Files<File = File> + AllocGlobal> Files for Disk<'_, R> {
         Ok(bytes)
     }
 
-    fn open_held(&mut self, _path: &str) -> Result<FileReader<File>, FileFault> {
+    fn open_held(&mut self, _path: &str) -> Result<FileReader, FileFault> {
         match &self.held.as_ref().unwrap().file {
             Some(held) => Ok(FileReader::new(self.rt.alloc(), held.from_start()?)?),
             None => Err(FileFault::Failed(FileCause::NotFound)),

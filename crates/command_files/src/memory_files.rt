@@ -234,6 +234,17 @@ impl Source for MemoryReader {
         Ok(count)
     }
 
+    fn skip(&mut self, most: u64) -> Result<u64, StreamFault> {
+        if self.fails && self.at > 0 {
+            self.failures += 1;
+            return Err(StreamFault);
+        }
+        let start = self.at.min(self.bytes.len());
+        let count = most.min((self.bytes.len() - start) as u64);
+        self.at = start + count as usize;
+        Ok(count)
+    }
+
     fn failures(&self) -> u64 {
         self.failures
     }

@@ -8,14 +8,17 @@ use std::process::Abort;
 use std::test::Fail;
 use test_inputs::texts::repeated;
 
-/// Command files, and the events that they tell.
+/// Command files, the events that they tell, and the lines of these.
 const EVENTS: &[(&str, &str)] = &[
-    ("turn 0\r\nturn 0 ; x", "[Turn { run: 0 }, Turn { run: 0 }]"),
-    ("\t turn\t255 \n", "[Turn { run: 255 }]"),
-    ("turn 3;turn 4\r\n \r\n", "[Turn { run: 3 }]"),
     (
-        "fault 0 readonly\nfault 4294967295 offline",
-        "[Fault { zone: 0, state: ReadOnly }, Fault { zone: 4294967295, state: Offline }]",
+        "turn 0\r\nturn 0 ; x",
+        "[Turn { run: 0 }, Turn { run: 0 }] [1, 2]",
+    ),
+    ("\t turn\t255 \n", "[Turn { run: 255 }] [1]"),
+    ("; x\nturn 3;turn 4\r\n \r\n", "[Turn { run: 3 }] [2]"),
+    (
+        "fault 0 readonly\n\n;\nfault 4294967295 offline",
+        "[Fault { zone: 0, state: ReadOnly }, Fault { zone: 4294967295, state: Offline }] [1, 4]",
     ),
 ];
 
@@ -79,11 +82,11 @@ const REFUSED: &[(&str, &str)] = &[
     ),
 ];
 
-/// The events of a command file as Rust shows them, or the line that is refused and what is said of it.
+/// The events of a command file as Rust shows them, and their lines, or the line that is refused and what is said of it.
 fn told(alloc: Global, file: &str) -> Result<String, Fail> {
     let file = repeated(alloc, file, '|')?;
     let told = match parse(alloc, file.as_bytes()) {
-        Ok(events) => format!(in alloc; "{events:?}")?,
+        Ok(told) => format!(in alloc; "{:?} {:?}", told.events, told.lines)?,
         Err(ParseFault::Line { number, fault }) => format!(in alloc; "{number}: {fault}")?,
         Err(ParseFault::Memory) => return Err(Fail::from("no memory")),
     };

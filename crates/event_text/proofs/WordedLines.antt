@@ -7,7 +7,8 @@ use Rattle.std.specs.Char.{is_ascii}
 use Rattle.std.specs.Str.Lines.{lines}
 use Rattle.common_definitions.specs.Readings.{with_front}
 use Rattle.text_lines.specs.Cut.{uncommented}
-use Rattle.device_events.specs.ToldEvents.{ToldEvent}
+use Rattle.device_events.specs.declared.event.Event.{Event}
+use Rattle.device_events.specs.ToldEvents.{ToldEvent, told_of}
 use Rattle.event_text.specs.CommandFile.{event_named, events_from, has_words, line_before, line_told, words_told, worded_from, worded_lines}
 use Rattle.event_text.specs.Laws.{EventsHaveLines}
 use Rattle.event_text.specs.Words.{words_of}
@@ -19,7 +20,7 @@ next_line : (all before : List ℕ) (number : ℕ) (ls behind : List (List ℕ))
 next_line all before number ls behind line read cut = read ∙ ap (λ (rest : List (List ℕ)). before ++ worded_from number rest) cut
 
 -- a line with words
-pub line_counted : (all before : List ℕ) (number : ℕ) (ls behind : List (List ℕ)) (line : List ℕ) → all ≡ before ++ worded_from number ls → ls ≡ line ∷ behind → has_words line ≡ true
+line_counted : (all before : List ℕ) (number : ℕ) (ls behind : List (List ℕ)) (line : List ℕ) → all ≡ before ++ worded_from number ls → ls ≡ line ∷ behind → has_words line ≡ true
     → all ≡ (before ++ number ∷ []) ++ worded_from (number + 1) behind
 line_counted all before number ls behind line read cut has =
     next_line all before number ls behind line read cut
@@ -27,7 +28,7 @@ line_counted all before number ls behind line read cut has =
     ∙ sym (append_assoc before (number ∷ []) (worded_from (number + 1) behind))
 
 -- a line without any
-pub line_skipped : (all before : List ℕ) (number : ℕ) (ls behind : List (List ℕ)) (line : List ℕ) → all ≡ before ++ worded_from number ls → ls ≡ line ∷ behind → has_words line ≡ false
+line_skipped : (all before : List ℕ) (number : ℕ) (ls behind : List (List ℕ)) (line : List ℕ) → all ≡ before ++ worded_from number ls → ls ≡ line ∷ behind → has_words line ≡ false
     → all ≡ before ++ worded_from (number + 1) behind
 line_skipped all before number ls behind line read cut has =
     next_line all before number ls behind line read cut
@@ -42,11 +43,7 @@ all_counted all before number (b ∷ rest) read e = absurd (omega (arith, e))
 pub none_counted : (file : List ℕ) → worded_lines file ≡ [] ++ worded_from 1 (lines file)
 none_counted file = refl
 
--- ---- the events of these lines
-
--- the event of a line of these
-abbrev told_in : List (List ℕ) → ℕ → Option ToldEvent
-told_in all number = option_flatten (option_and_then line_told (slice_get all (number - 1)))
+-- ---- what a line tells, by whether it has words
 
 some_named : (named told : Option ToldEvent) → option_map Some named ≡ Some told → true ≡ is_some told
 some_named None told is = absurd cc
@@ -56,6 +53,27 @@ told_words : (ascii : Bool) (words : List (List ℕ)) (told : Option ToldEvent) 
 told_words false words told is = absurd cc
 told_words true [] told is = ap is_some (let same : None ≡ told = cc in same)
 told_words true (name ∷ words) told is = lt-ltb 0 (length (name ∷ words)) (omega arith) ∙ some_named (event_named name words) told is
+
+has_what_it_tells : (line : List ℕ) (told : Option ToldEvent) → line_told line ≡ Some told → has_words line ≡ is_some told
+has_what_it_tells line told is = told_words (list_all is_ascii line) (words_of (uncommented line)) told is
+
+-- a line that tells an event
+pub event_counted : (all before : List ℕ) (number : ℕ) (ls behind : List (List ℕ)) (line : List ℕ) (event : Event) → all ≡ before ++ worded_from number ls → ls ≡ line ∷ behind
+    → line_told line ≡ Some (Some (told_of event)) → all ≡ (before ++ number ∷ []) ++ worded_from (number + 1) behind
+event_counted all before number ls behind line event read cut is =
+    line_counted all before number ls behind line read cut (has_what_it_tells line (Some (told_of event)) is)
+
+-- one that tells nothing
+pub nothing_counted : (all before : List ℕ) (number : ℕ) (ls behind : List (List ℕ)) (line : List ℕ) → all ≡ before ++ worded_from number ls → ls ≡ line ∷ behind
+    → line_told line ≡ Some None → all ≡ before ++ worded_from (number + 1) behind
+nothing_counted all before number ls behind line read cut is =
+    line_skipped all before number ls behind line read cut (has_what_it_tells line None is)
+
+-- ---- the events of these lines
+
+-- the event of a line of these
+abbrev told_in : List (List ℕ) → ℕ → Option ToldEvent
+told_in all number = option_flatten (option_and_then line_told (slice_get all (number - 1)))
 
 at_seam : (before rest : List (List ℕ)) (line : List ℕ) → slice_get (before ++ line ∷ rest) (length before) ≡ Some line
 at_seam [] rest line = refl
@@ -83,11 +101,11 @@ module _ (all rest : List (List ℕ)) (line : List ℕ) (number : ℕ) (at : sli
   one_line None events is read = absurd cc
   one_line (Some None) events is read =
       ap (λ (has : Bool). map (told_in all) (cond has (number ∷ worded_from (number + 1) rest) (worded_from (number + 1) rest)))
-      (told_words (list_all is_ascii line) (words_of (uncommented line)) None is)
+      (has_what_it_tells line None is)
       ∙ more events read
   one_line (Some (Some event)) events is read =
       ap (λ (has : Bool). map (told_in all) (cond has (number ∷ worded_from (number + 1) rest) (worded_from (number + 1) rest)))
-      (told_words (list_all is_ascii line) (words_of (uncommented line)) (Some event) is)
+      (has_what_it_tells line (Some event) is)
       ∙ with_event event events (events_from (number + 1) rest) is refl read
 
 lines_tell : (all before ls : List (List ℕ)) (number : ℕ) (events : List ToldEvent) → all ≡ before ++ ls → number ≡ length before + 1 → events_from number ls ≡ Ok events

@@ -7,7 +7,7 @@
 //! fault ZONE offline
 //! ```
 
-ghost use Rattle.std.specs.Prelude.{◌≡◌, ◌^◌, map, option_and_then};
+ghost use Rattle.std.specs.Prelude.{◌≡◌, ◌^◌, IfOk, map, option_and_then};
 ghost use Rattle.std.specs.Str.{bytes_eq};
 ghost use Rattle.common_definitions.specs.Below.{below};
 ghost use Rattle.common_definitions.specs.Gives.{Gives};
@@ -17,7 +17,7 @@ ghost use Rattle.event_text.specs.Words.{words_of};
 ghost use Rattle.event_text.specs.declared.command_file.EventFault.TheVariants.{Refused};
 ghost use Rattle.event_text.specs.declared.command_file.ParseFault.TheVariants.{Memory};
 ghost use Rattle.device_events.specs.ToldEvents.{told_of};
-ghost use Rattle.event_text.specs.CommandFile.{submission_of, turn_of, fault_of, state_named, event_named as named_event, line_told, events_in, refused_line, GivesLine};
+ghost use Rattle.event_text.specs.CommandFile.{submission_of, turn_of, fault_of, state_named, event_named as named_event, line_told, events_in, refused_line, worded_lines, GivesLine};
 ghost use Rattle.event_text.specs.steps.ReadLines.{entry_fault as fault_of_entry, data_fault as fault_of_data, GivesEvent};
 
 use crate::fault::LineFault;
@@ -54,22 +54,37 @@ pub enum EventFault {
     Memory,
 }
 
-/// The events of a command file, in order; or the number of the lowest line that is refused is told, with a fault.
+/// What a command file tells.
+#[derive(Debug, Drop)]
+pub struct CommandFile {
+    /// Its events, in order.
+    pub events: Vec<Event>,
+    /// The numbers of the lines that tell them, the first line being 1.
+    pub lines: Vec<usize>,
+}
+
+/// What a command file tells, by one scan: its events, in order, and the lines of these, which are the lines that have words; or the number
+/// of the lowest line that is refused is told, with a fault.
 ///
 /// # Errors
 ///
 /// The lowest line that isn't of the form, or want of memory before one was found.
-#[tactic(auto, using(crate::proofs::FileLemmas::event_read, crate::proofs::FileLemmas::nothing_read, crate::proofs::FileLemmas::line_refused, crate::proofs::FileLemmas::all_read, crate::proofs::FileLemmas::none_read))]
-pub fn parse(alloc: Global, file: &[u8]) -> Result<Vec<Event>, ParseFault>
-    ensures { Gives refused_line (λ events. map told_of events.items) result (events_in file.now) }
+#[tactic(auto, using(crate::proofs::FileLemmas::event_read, crate::proofs::FileLemmas::nothing_read, crate::proofs::FileLemmas::line_refused, crate::proofs::FileLemmas::all_read, crate::proofs::FileLemmas::none_read, crate::proofs::WordedLines::event_counted, crate::proofs::WordedLines::nothing_counted, crate::proofs::WordedLines::all_counted, crate::proofs::WordedLines::none_counted))]
+pub fn parse(alloc: Global, file: &[u8]) -> Result<CommandFile, ParseFault>
+    ensures events { Gives refused_line (λ told. map told_of told.events.items) result (events_in file.now) }
+    ensures lines { IfOk result (λ told. told.lines.items ≡ worded_lines file.now) }
 {
     let mut events = Vec::new(alloc);
+    let mut lines = Vec::new(alloc);
     let mut rest = file;
     let mut number = 1;
     while !rest.is_empty() {
         let (line, behind) = first_line(rest);
         match event_of(alloc, line) {
-            Ok(Some(event)) => events.push(event)?,
+            Ok(Some(event)) => {
+                events.push(event)?;
+                lines.push(number)?;
+            }
             Ok(None) => {}
             Err(EventFault::Refused(fault)) => return Err(ParseFault::Line { number, fault }),
             Err(EventFault::Memory) => return Err(ParseFault::Memory),
@@ -77,7 +92,7 @@ pub fn parse(alloc: Global, file: &[u8]) -> Result<Vec<Event>, ParseFault>
         rest = behind;
         number += 1;
     }
-    Ok(events)
+    Ok(CommandFile { events, lines })
 }
 
 /// The event of a line without its end, or `None` where the line has no words.

@@ -6,14 +6,12 @@ mod command_file;
 mod fault;
 pub mod laws;
 mod lines;
-mod positions;
 mod reply_file;
 mod submission;
 mod words;
 
-pub use command_file::{EventFault, ParseFault, event_of, parse};
+pub use command_file::{CommandFile, EventFault, ParseFault, event_of, parse};
 pub use fault::LineFault;
 pub use lines::{LineRoom, Lines, push_line};
-pub use positions::event_lines;
 pub use reply_file::{RepliesFault, Told, ToldReply, replies};
 pub use submission::submission_line;

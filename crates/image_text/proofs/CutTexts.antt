@@ -22,7 +22,8 @@ use Rattle.image_store.proofs.Proved.{blocks_have_bytes}
 use Rattle.image_text.proofs.TextsReadBack.{blocks_read, front_read, length-rows, told_of, total_small}
 use Rattle.image_text.proofs.FilledBuffers.{Split, bytes_short, bytes_whole}
 use Rattle.image_text.proofs.Headers.{header_length, header_read}
-use Rattle.image_text.proofs.LoadStages.{after_blocks, after_header, after_rows, past_header, past_blocks}
+use Rattle.image_text.specs.steps.LoadStages.{after_blocks}
+use Rattle.image_text.proofs.LoadStages.{after_header, after_rows, past_header, past_blocks}
 
 -- ---- more behind the text
 

@@ -30,7 +30,8 @@ use Rattle.image_text.proofs.BadHeaders.{header_wrong}
 use Rattle.image_text.proofs.Faults.{kept_fault}
 use Rattle.image_text.proofs.FilledBuffers.{Split, bytes_short}
 use Rattle.image_text.proofs.HeaderParts.{header_parts}
-use Rattle.image_text.proofs.LoadStages.{after_blocks, after_header, after_limits, after_rows, after_total}
+use Rattle.image_text.specs.steps.LoadStages.{after_blocks, after_limits}
+use Rattle.image_text.proofs.LoadStages.{after_header, after_rows, after_total}
 use Rattle.image_text.proofs.ReadingCalls.{bind_fails, chosen, is_this, wrong}
 use Rattle.image_text.proofs.RowFaults.{IsFirstBad, first_bad}
 

@@ -20,7 +20,8 @@ use Rattle.image_text.proofs.BlocksRead.{zone_read}
 use Rattle.image_text.proofs.FaultPlaces.{blocks_more, blocks_short, short_rows, short_text, whole_rows, whole_text}
 use Rattle.image_text.proofs.FilledBuffers.{bytes_parts, bytes_size}
 use Rattle.image_text.proofs.LoadedNamespaces.{kept_within}
-use Rattle.image_text.proofs.LoadStages.{after_blocks, after_header, after_limits, after_rows, after_total}
+use Rattle.image_text.specs.steps.LoadStages.{after_blocks, after_limits}
+use Rattle.image_text.proofs.LoadStages.{after_header, after_rows, after_total}
 use Rattle.image_text.proofs.ReadingCalls.{bind_fails, chosen, is_this, ok_is, wrong}
 use Rattle.image_text.proofs.HeaderFaults.{IsReadHeader, header_first, header_is_read}
 use Rattle.image_text.proofs.RowFaults.{first_bad, row_of_text}

@@ -13,6 +13,7 @@ mod Versions
 mod Upgrades
 mod Faults
 mod LoadStages
+mod Tables
 mod TextsReadBack
 mod SpelledParts
 mod OnlyTextsLoad

@@ -9,7 +9,7 @@ use Rattle.image_text.specs.FirstFault.{TellsZone}
 use Rattle.image_store.specs.ImageInMemory.{no_counted_zone}
 use Rattle.image_store.specs.Geometry.{Shape, IsShape}
 use Rattle.image_text.specs.Loading.{LoadFails, LoadGives}
-use Rattle.image_text.specs.steps.LoadStages.{NoStreamFails, AreZones}
+use Rattle.image_text.specs.steps.LoadStages.{AreZones, HasZones, NoStreamFails, after_blocks, after_limits}
 use Rattle.image_store.specs.Namespace.{ZoneWithBlocks, ZonedNamespace, namespace_with}
 use Rattle.common_definitions.specs.Readings.{◌>>=◌}
 use Rattle.image_text.specs.Reading.{bytes_in, header_told, header_in, zones_in, zone_rows_in, total_kept, limits_kept, blocks_in, end_in, namespace_in}
@@ -68,12 +68,6 @@ zones_few s zs fit =
     omega (arith, flat.count, flat.shape.zones_most)
 
 -- what is still to be read, after each part
-abbrev pub after_blocks : Shape → List ZoneWithBlocks → List ℕ → Result ZonedNamespace LoadFault
-after_blocks s zones bytes = end_in bytes >>= λ end. Ok (namespace_with s zones)
-
-abbrev pub after_limits : Shape → List CountedZone → List ℕ → Result ZonedNamespace LoadFault
-after_limits s zs bytes = blocks_in s.block zs bytes >>= λ blocks. after_blocks s blocks.0 blocks.1
-
 abbrev pub after_total : Shape → List CountedZone → List ℕ → Result ZonedNamespace LoadFault
 after_total s zs bytes = limits_kept s.limits zs >>= λ kept. after_limits s zs bytes
 
@@ -106,7 +100,7 @@ header_accepted : (all rest : List ℕ) (h : Header) → header_in all ≡ Ok (h
 header_accepted all rest h e = subst (λ (r : Result (Header × List ℕ) LoadFault). IsOk r) (sym e) refl
 
 -- a part that fails, by what was still to be read
-fails_at : {X : Type 0} (wanted may : Type 0) (first : LoadFault) (part : Result X LoadFault) (next : X → Result ZonedNamespace LoadFault) (all : Result ZonedNamespace LoadFault)
+pub fails_at : {X : Type 0} (wanted may : Type 0) (first : LoadFault) (part : Result X LoadFault) (next : X → Result ZonedNamespace LoadFault) (all : Result ZonedNamespace LoadFault)
     → all ≡ (part >>= next) → (wanted → may) → LoadFails wanted first part → LoadFails may first all
 fails_at wanted may first part next all so_far up h =
     subst (λ (r : Result ZonedNamespace LoadFault). LoadFails may first r) (sym so_far) (fails_then wanted may first part next up h)
@@ -132,10 +126,6 @@ has_rows {all} {bytes} {later} {h} {zs} header rows = record {
 }
 
 -- the zones of the rows pass the tests
-pub record HasZones (all : List ℕ) (s : Shape) (zs : List CountedZone) (later : List ℕ) : Type 0 where
-  pub accepted : IsOk (header_in all)
-  pub so_far : namespace_in all ≡ after_limits s zs later
-
 pub has_zones : {all later : List ℕ} {h : Header} {zs : List CountedZone}
     → HasRows all h zs later → Ok tt ≡ total_kept h.total zs → Ok tt ≡ limits_kept h.geometry.limits zs → HasZones all h.geometry zs later
 has_zones {all} {later} {h} {zs} rows same kept = record {

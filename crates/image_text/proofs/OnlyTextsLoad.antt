@@ -29,7 +29,8 @@ use Rattle.image_text.proofs.FilledBuffers.{bytes_parts, bytes_size}
 use Rattle.image_text.proofs.HeaderParts.{header_parts}
 use Rattle.image_text.proofs.Headers.{total_in}
 use Rattle.image_store.proofs.Proved.{blocks_keep_bytes, counted_seen, resized}
-use Rattle.image_text.proofs.LoadStages.{HaveFit, after_header, after_rows, after_total, after_limits, after_blocks, zones_fit}
+use Rattle.image_text.specs.steps.LoadStages.{after_blocks, after_limits}
+use Rattle.image_text.proofs.LoadStages.{HaveFit, after_header, after_rows, after_total, zones_fit}
 use Rattle.image_text.proofs.BlocksRead.{zone_read}
 use Rattle.image_text.proofs.SpelledParts.{zeros_spelled, header_spelled}
 use Rattle.image_text.proofs.ToldRows.{row_read, row_right}
@@ -115,7 +116,7 @@ pub record AreWritten (capacity : ℕ) (zs : List CountedZone) (xs : List ℕ) (
   pub spelled : blocks_text got.0 ++ got.1 ≡ xs
   pub counted : map (counted capacity) got.0 ≡ zs
 
-blocks_only : (b capacity : ℕ) (zs : List CountedZone) (xs : List ℕ) (got : List ZoneWithBlocks × List ℕ) → ((k : ℕ) → k < length zs → (get_or zs k no_counted_zone).capacity ≡ capacity)
+pub blocks_only : (b capacity : ℕ) (zs : List CountedZone) (xs : List ℕ) (got : List ZoneWithBlocks × List ℕ) → ((k : ℕ) → k < length zs → (get_or zs k no_counted_zone).capacity ≡ capacity)
     → blocks_in b zs xs ≡ Ok got → AreWritten capacity zs xs got
 blocks_only b capacity [] xs got same e =
     subst (AreWritten capacity [] xs) (ok_is ([], xs) got e) (record { spelled = refl; counted = refl })

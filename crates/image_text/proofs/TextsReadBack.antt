@@ -33,7 +33,8 @@ use Rattle.image_text.proofs.FilledBuffers.{Split, bytes_whole}
 use Rattle.image_text.proofs.Headers.{header_read, header_seen, total_in}
 use Rattle.image_store.proofs.Proved.{blocks_are_cut_again, blocks_have_bytes, written_is_within}
 use Rattle.image_text.proofs.Versions.{last_version_has_all}
-use Rattle.image_text.proofs.LoadStages.{after_limits, past_header, past_rows, past_total, past_limits, past_blocks, past_end}
+use Rattle.image_text.specs.steps.LoadStages.{after_limits}
+use Rattle.image_text.proofs.LoadStages.{past_header, past_rows, past_total, past_limits, past_blocks, past_end}
 
 -- a zone that a row can spell
 pub record CanSpell (capacity : ℕ) (z : CountedZone) : Type 0 where

@@ -11,6 +11,7 @@ mod memory_streams;
 mod same_text;
 mod save;
 mod streams;
+mod table;
 mod version;
 mod zone_row;
 
@@ -18,4 +19,5 @@ pub use fault::{HeaderFault, LoadFault, ZoneRowFault};
 pub use image::ImageText;
 pub use memory_streams::Buffer;
 pub use streams::{Sink, Source, StreamFault};
+pub use table::ZoneTable;
 pub use version::Version;

@@ -3,13 +3,14 @@
 ghost use Rattle.std.specs.Prelude.{◌≡◌, ◌≤◌, ◌<◌, ◌-◌, ◌+◌, ◌^◌, length, IfOk, OnOk};
 ghost use Rattle.zone_resources.specs.Admission.{IsWithin};
 ghost use Rattle.image_store.specs.ImageInMemory.{IsFlat, namespace_of};
-ghost use Rattle.image_text.specs.Loading.{LoadGives, LoadsText, CountsLoad};
-ghost use Rattle.image_text.specs.steps.LoadStages.{AreZones, FillsZones, spliced_in};
+ghost use Rattle.image_text.specs.Loading.{LoadGives, LoadsTable, LoadsText, CountsLoad};
+ghost use Rattle.image_text.specs.steps.LoadStages.{AreZones, FillsZones, TellsRows, blocks_after, bytes_after, spliced_in};
 ghost use Rattle.image_text.specs.Reading.{bytes_in, header_in, zone_rows_in, total_kept, limits_kept, end_in};
 
 use crate::fault::LoadFault;
 use crate::header::Header;
 use crate::streams::Source;
+use crate::table::ZoneTable;
 use crate::{header, zone_row};
 use image_store::{Geometry, Limits, Zone};
 use std::alloc::Global;
@@ -30,14 +31,43 @@ pub fn load<R: Source>(
     ensures within { IfOk result (λ parts. IsWithin parts.1.items parts.0.limits) }
     ensures failures { CountsLoad (R.failures source.old) (R.failures source.new) result }
 {
+    let table = read_table(alloc, source)?;
+    let blocks = read_blocks(alloc, source, table.geometry, &table.zones)?;
+    read_end(source)?;
+    Ok((table.geometry, table.zones, blocks))
+}
+
+/// The geometry and zones of the image whose text comes from a source, of whose blocks none is read.
+///
+/// # Errors
+///
+/// Those of [`ImageText::load`](crate::ImageText::load).
+pub fn load_table<R: Source>(alloc: Global, source: &mut R) -> Result<ZoneTable, LoadFault>
+    requires { R.failures source.old < 2 ^ 64 - 1 }
+    ensures table { R.tells → LoadsTable (λ table. (table.geometry, table.zones.items)) (R.rest source.old) result }
+    ensures failures { CountsLoad (R.failures source.old) (R.failures source.new) result }
+{
+    let table = read_table(alloc, source)?;
+    skip_zones(source, table.geometry, &table.zones)?;
+    read_end(source)?;
+    Ok(table)
+}
+
+/// Reads the header and the rows of the zones, and tests them.
+fn read_table<R: Source>(alloc: Global, source: &mut R) -> Result<ZoneTable, LoadFault>
+    requires { R.failures source.old < 2 ^ 64 - 1 }
+    ensures rows { R.tells
+        → TellsRows (λ table. (table.geometry, table.zones.items)) (R.rest source.old) (R.rest source.new) result }
+    ensures fit { IfOk result (λ table. AreZones table.geometry table.zones.items) }
+    ensures within { IfOk result (λ table. IsWithin table.zones.items table.geometry.limits) }
+    ensures failures { CountsLoad (R.failures source.old) (R.failures source.new) result }
+{
     let header = read_header(source)?;
     let geometry = header.geometry;
     let zones = read_zone_rows(alloc, source, geometry)?;
     check_total(&zones, header.total)?;
     check_limits(&zones, geometry.limits())?;
-    let blocks = read_blocks(alloc, source, geometry, &zones)?;
-    read_end(source)?;
-    Ok((geometry, zones, blocks))
+    Ok(ZoneTable { geometry, zones })
 }
 
 /// Reads the header.
@@ -157,15 +187,50 @@ fn fill_part<R: Source>(
     fill(source, &mut to[start..start + count])
 }
 
+/// Passes over the written blocks of the zones.
+fn skip_zones<R: Source>(
+    source: &mut R,
+    geometry: Geometry,
+    zones: &[Zone],
+) -> Result<(), LoadFault>
+    requires { R.failures source.old < 2 ^ 64 - 1 }
+    ensures after { R.tells
+        → LoadGives ⊥ (λ _. R.rest source.new) result (blocks_after geometry.block zones.now (R.rest source.old)) }
+    ensures failures { CountsLoad (R.failures source.old) (R.failures source.new) result }
+{
+    let block = geometry.block().bytes();
+    for zone in zones {
+        skip_all(source, u64::from(zone.written()) * u64::from(block))?;
+    }
+    Ok(())
+}
+
+/// Passes over so many bytes.
+#[tactic(auto, using(crate::proofs::Tables::all_skipped, crate::proofs::Tables::some_skipped, crate::proofs::Tables::none_skipped))]
+fn skip_all<R: Source>(source: &mut R, count: u64) -> Result<(), LoadFault>
+    requires { R.failures source.old < 2 ^ 64 - 1 }
+    ensures after { R.tells → LoadGives ⊥ (λ _. R.rest source.new) result (bytes_after count (R.rest source.old)) }
+    ensures failures { CountsLoad (R.failures source.old) (R.failures source.new) result }
+{
+    let mut left = count;
+    while left > 0 {
+        let skipped = source.skip(left)?;
+        if skipped == 0 {
+            return Err(LoadFault::Truncated);
+        }
+        left -= skipped;
+    }
+    Ok(())
+}
+
 /// Refuses bytes that still come.
 fn read_end<R: Source>(source: &mut R) -> Result<(), LoadFault>
     requires { R.failures source.old < 2 ^ 64 - 1 }
     ensures end { R.tells → LoadGives ⊥ (λ end. end) result (end_in (R.rest source.old)) }
     ensures failures { CountsLoad (R.failures source.old) (R.failures source.new) result }
 {
-    let mut byte = [0; 1];
-    let count = source.read(&mut byte)?;
-    if count > 0 {
+    let more = source.skip(1)?;
+    if more > 0 {
         return Err(LoadFault::Trailing);
     }
     Ok(())

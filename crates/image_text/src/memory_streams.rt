@@ -22,6 +22,12 @@ impl Source for &[u8] {
         Ok(count)
     }
 
+    fn skip(&mut self, most: u64) -> Result<u64, StreamFault> {
+        let count = most.min(self.len() as u64);
+        *self = &self[count as usize..];
+        Ok(count)
+    }
+
     fn failures(&self) -> u64 {
         0
     }

@@ -2,7 +2,7 @@
 
 ghost use Rattle.std.specs.Prelude.{◌≡◌, ℕ, List, ◌++◌, ◌^◌, ◌<◌, ◌≤◌, ◌-◌, ◌+◌, length, take, IfOk, OnErr};
 ghost use Rattle.common_definitions.specs.Failures.{CountsFailure};
-ghost use Rattle.image_text.specs.Streams.{IsRead};
+ghost use Rattle.image_text.specs.Streams.{IsRead, IsSkipped};
 
 use thiserror::Error;
 
@@ -33,6 +33,19 @@ pub trait Source {
         requires { failures self.old < 2 ^ 64 - 1 }
         ensures bound { IfOk result (λ n. n ≤ length to.new) }
         ensures read { tells → IfOk result (IsRead (rest self.old) (rest self.new) to.new) }
+        ensures kept { tells → OnErr result (rest self.new ≡ rest self.old) }
+        ensures count { CountsFailure (failures self.old) (failures self.new) result };
+
+    /// Passes over some of the bytes that are to come, at most so many, and says how many. A source that tells passes over none only at
+    /// the end, or where `most` is 0. It need not read them: a fault that only reading them would show isn't found.
+    ///
+    /// # Errors
+    ///
+    /// [`StreamFault`] where the stream fails, which is counted. A source that tells has lost no byte then.
+    fn skip(&mut self, most: u64) -> Result<u64, StreamFault>
+        requires { failures self.old < 2 ^ 64 - 1 }
+        ensures bound { IfOk result (λ n. n ≤ most) }
+        ensures skipped { tells → IfOk result (IsSkipped (rest self.old) (rest self.new) most) }
         ensures kept { tells → OnErr result (rest self.new ≡ rest self.old) }
         ensures count { CountsFailure (failures self.old) (failures self.new) result };
 

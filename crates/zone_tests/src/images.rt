@@ -3,6 +3,7 @@
 use image_store::{Geometry, GeometryRefusal, Image, Limits};
 use image_text::{
     Buffer, HeaderFault, ImageText, LoadFault, Source, StreamFault, Version, ZoneRowFault,
+    ZoneTable,
 };
 use std::alloc::{AllocError, Global};
 use std::process::Abort;
@@ -72,15 +73,27 @@ fn fault_of(alloc: Global, text: &[u8]) -> Option<LoadFault> {
     Image::load(alloc, &mut source).err()
 }
 
+/// That with which it is refused where its blocks aren't read.
+fn fault_of_table(alloc: Global, text: &[u8]) -> Option<LoadFault> {
+    let mut source = text;
+    ZoneTable::load(alloc, &mut source).err()
+}
+
+/// A text has this fault, or none, whether or not its blocks are read.
+fn check_fault(rt: &impl Abort, alloc: Global, text: &[u8], fault: Option<LoadFault>) {
+    assert_eq!(rt; fault_of(alloc, text), fault);
+    assert_eq!(rt; fault_of_table(alloc, text), fault);
+}
+
 /// A text is cut short wherever it is cut, loads whole, and trails with one byte more.
 fn check_one_length(rt: &impl Abort, alloc: Global, mut text: Vec<u8>) -> Result<(), Fail> {
     for length in 0..text.len() {
-        let fault = fault_of(alloc, text.get(..length).unwrap_or(&[]));
-        assert_eq!(rt; fault, Some(LoadFault::Truncated));
+        let cut = text.get(..length).unwrap_or(&[]);
+        check_fault(rt, alloc, cut, Some(LoadFault::Truncated));
     }
-    assert_eq!(rt; fault_of(alloc, text.as_slice()), None);
+    check_fault(rt, alloc, text.as_slice(), None);
     text.push(0)?;
-    assert_eq!(rt; fault_of(alloc, text.as_slice()), Some(LoadFault::Trailing));
+    check_fault(rt, alloc, text.as_slice(), Some(LoadFault::Trailing));
     Ok(())
 }
 
@@ -143,7 +156,7 @@ fn the_first_fault_decides(rt: HostRuntime) -> Result<(), Fail> {
         (changed(&[(64, 3), (72, 3), (80, 3)]), TOO_MANY),
     ];
     for (text, fault) in cases {
-        assert_eq!(rt; fault_of(rt.alloc(), &text), Some(fault));
+        check_fault(&rt, rt.alloc(), &text, Some(fault));
     }
     Ok(())
 }
@@ -202,6 +215,14 @@ impl Source for Slow<'_> {
         Ok(1)
     }
 
+    fn skip(&mut self, most: u64) -> Result<u64, StreamFault> {
+        let mut byte = [0; 1];
+        if most == 0 {
+            return Ok(0);
+        }
+        Ok(self.read(&mut byte)? as u64)
+    }
+
     fn failures(&self) -> u64 {
         self.failures
     }
@@ -221,5 +242,18 @@ fn a_slow_source_is_read_to_its_end(rt: HostRuntime) -> Result<(), Fail> {
             Err(fault) => assert_eq!(rt; fault, LoadFault::Stream),
         }
     }
+    Ok(())
+}
+
+#[test]
+fn zones_are_told_without_their_blocks(rt: HostRuntime) -> Result<(), Fail> {
+    let text = written(rt.alloc(), b'2', 1)?;
+    let mut source = text.as_slice();
+    let table = ZoneTable::load(rt.alloc(), &mut source)?;
+    let zone = table.zones.as_slice().get(1);
+    assert_eq!(rt; table.geometry, Geometry::new(512, 4, 8, 6, LIMITS)?);
+    assert_eq!(rt; table.zones.len(), 4);
+    assert_eq!(rt; zone.map(|zone| zone.written()), Some(1));
+    assert_eq!(rt; table.counts().opened, 1);
     Ok(())
 }

@@ -6,7 +6,7 @@ use clap::ArgMatches;
 use command_entry::entries;
 use command_files::arguments::{BLOCK_OPTION, block_size, number_or_hexadecimal};
 use command_files::{Failure, Files};
-use command_images::device_file;
+use command_images::device_file::{self, DeviceTable};
 use image_store::Geometry;
 use program_interface::BlockSize;
 use std::alloc::Global;
@@ -27,8 +27,8 @@ pub fn asked_block<'a, F: Files>(
 {
     match matches.get_str(entries::IMAGE) {
         Some(path) => {
-            let device = device_file::load(alloc, path, files)?;
-            let geometry = device.image().geometry();
+            let read = device_file::load_table(alloc, path, files)?;
+            let geometry = geometry_in(&read);
             Ok((geometry.block(), Some(geometry)))
         }
         None => {
@@ -36,4 +36,11 @@ pub fn asked_block<'a, F: Files>(
             Ok((block, None))
         }
     }
+}
+
+/// The geometry of an image whose zones were read.
+fn geometry_in(read: &DeviceTable) -> Geometry
+    ensures { result ≡ read.now.table.geometry }
+{
+    read.table.geometry
 }

@@ -14,20 +14,20 @@ pub returns-in-Ok-clause-executed : goal.returns-in-Ok-clause-executed
 returns-in-Ok-clause-executed g c =
     executes (judge_by g.D.Domain.operations) g.F.Reader.Source.tells g.F.Writer.Sink.tells (g.F.Files.contents c.args.files.now) (g.F.Files.contents c.load_to_replace.new.files)
     c.required-path.result.now c.required-commands.result.now c.args.matches.now
-    c.in_ok-file.file.items c.as_slice.result.now c.deref_mut.result.now.namespace c.in-Ok.events.items
+    c.in_ok-file.file.items c.as_slice.result.now c.deref_mut.result.now.namespace c.in-Ok.told.events.items
     (g.F.Files.made c.args.files.now) (g.F.Files.made c.check_place.new.files) (g.F.Files.made c.run.new.files)
-    c.load_to_replace.ensures.contents c.required-path.ensures c.required-commands.ensures (search rules) c.in_ok-file.ensures.bytes c.as_slice.ensures.value c.in-Ok.ensures
-    (g.F.Files.contents c.check_place.new.files) _ _ c.as_slice-in-Ok.result.now c.asks_stop.result c.asks_words.result _ _ c.run.result c.asks_stop.ensures c.asks_words.ensures (subst (λ (s : State). g.F.Reader.Source.tells → TellNamespace (g.F.Files.contents c.args.files.now c.required-path.result.now) s.namespace)
+    c.load_to_replace.ensures.contents c.required-path.ensures c.required-commands.ensures (search rules) c.in_ok-file.ensures.bytes c.as_slice.ensures.value c.in-Ok.ensures.events
+    (g.F.Files.contents c.check_place.new.files) _ _ c.asks_stop.result c.asks_words.result _ _ c.run.result c.asks_stop.ensures c.asks_words.ensures (subst (λ (s : State). g.F.Reader.Source.tells → TellNamespace (g.F.Files.contents c.args.files.now c.required-path.result.now) s.namespace)
     (sym c.deref_mut.ensures.value) c.in_ok-device.ensures.namespace) (c.check_place.ensures.contents ∙ c.read.ensures.contents ∙ c.load_to_replace.ensures.contents)
-    c.as_slice-in-Ok.ensures.value (search rules) c.run.ensures.saved (search rules)
+    (search rules) c.run.ensures.saved (search rules)
 
 pub returns-in-Ok-clause-stopped : goal.returns-in-Ok-clause-stopped
 returns-in-Ok-clause-stopped g c = λ stops.
     executes_first (judge_by g.D.Domain.operations) g.F.Reader.Source.tells g.F.Writer.Sink.tells (g.F.Files.contents c.args.files.now) (g.F.Files.contents c.load_to_replace.new.files)
     c.required-path.result.now c.required-commands.result.now c.args.matches.now
-    c.in_ok-file.file.items c.as_slice.result.now c.deref_mut.result.now.namespace c.in-Ok.events.items
+    c.in_ok-file.file.items c.as_slice.result.now c.deref_mut.result.now.namespace c.in-Ok.told.events.items
     (g.F.Files.made c.args.files.now) (g.F.Files.made c.check_place.new.files) (g.F.Files.made c.run.new.files)
-    c.load_to_replace.ensures.contents c.required-path.ensures c.required-commands.ensures (search rules) c.in_ok-file.ensures.bytes c.as_slice.ensures.value c.in-Ok.ensures
+    c.load_to_replace.ensures.contents c.required-path.ensures c.required-commands.ensures (search rules) c.in_ok-file.ensures.bytes c.as_slice.ensures.value c.in-Ok.ensures.events
     (g.F.Files.contents c.check_place.new.files) _ (subst (λ (s : State). g.F.Reader.Source.tells → TellNamespace (g.F.Files.contents c.args.files.now c.required-path.result.now) s.namespace)
     (sym c.deref_mut.ensures.value) c.in_ok-device.ensures.namespace) (c.check_place.ensures.contents ∙ c.read.ensures.contents ∙ c.load_to_replace.ensures.contents) (c.run.ensures.stopped stops) (search rules)
 
@@ -47,7 +47,7 @@ pub returns-clause-failed : goal.returns-clause-failed
 returns-clause-failed g c =
     rw c.of_commands.ensures.told (exec_of_commands c.args.matches.now g.F.Reader.Source.tells (g.F.Files.contents c.args.files.now) (image_of c.args.matches.now) (commands_of c.args.matches.now)
     c.required-commands.result c.required-commands.ensures (g.F.Files.contents c.load_to_replace.new.files) c.load_to_replace.ensures.contents
-    c.in_ok-file.file.items c.as_slice.result.now c.as_slice.ensures.value c.in_ok-file.ensures.bytes c.in-Err.fault c.in-Err.ensures)
+    c.in_ok-file.file.items c.as_slice.result.now c.as_slice.ensures.value c.in_ok-file.ensures.bytes c.in-Err.fault c.in-Err.ensures.events)
 
 pub returns-in-Ok-clause-failed : goal.returns-in-Ok-clause-failed
 returns-in-Ok-clause-failed g c =
@@ -83,9 +83,9 @@ returns-in-Ok-clause-quiet g c =
     quiet_of_saving c.required-path.result (image_of c.args.matches.now) _ _ _ _ c.run.result c.required-path.ensures
     (executes_unsaved (judge_by g.D.Domain.operations) g.F.Reader.Source.tells g.F.Writer.Sink.tells (g.F.Files.contents c.args.files.now) (g.F.Files.contents c.load_to_replace.new.files)
     c.required-path.result.now c.required-commands.result.now c.args.matches.now
-    c.in_ok-file.file.items c.as_slice.result.now c.deref_mut.result.now.namespace c.in-Ok.events.items
+    c.in_ok-file.file.items c.as_slice.result.now c.deref_mut.result.now.namespace c.in-Ok.told.events.items
     (g.F.Files.made c.args.files.now) (g.F.Files.made c.check_place.new.files) (g.F.Files.made c.run.new.files)
-    c.load_to_replace.ensures.contents c.required-path.ensures c.required-commands.ensures (search rules) c.in_ok-file.ensures.bytes c.as_slice.ensures.value c.in-Ok.ensures
+    c.load_to_replace.ensures.contents c.required-path.ensures c.required-commands.ensures (search rules) c.in_ok-file.ensures.bytes c.as_slice.ensures.value c.in-Ok.ensures.events
     _ c.asks_stop.result c.asks_words.result (g.O.Write.contents c.args.out.now) (g.O.Write.contents c.run.new.out) c.asks_stop.ensures c.asks_words.ensures (subst (λ (s : State). g.F.Reader.Source.tells → TellNamespace (g.F.Files.contents c.args.files.now c.required-path.result.now) s.namespace)
     (sym c.deref_mut.ensures.value) c.in_ok-device.ensures.namespace) (search rules))
     c.run.ensures.failed c.run.ensures.unsaved
@@ -98,9 +98,6 @@ returns-in_err-file-clause-crash g c = leaves_as_before (image_of c.args.matches
 
 pub returns-clause-crash : goal.returns-clause-crash
 returns-clause-crash g c = leaves_as_before (image_of c.args.matches.now) _ _ _ (c.read.ensures.tried ∙ c.load_to_replace.ensures.tried)
-
-pub returns-in_err-numbers-in-Ok-clause-crash : goal.returns-in_err-numbers-in-Ok-clause-crash
-returns-in_err-numbers-in-Ok-clause-crash g c = leaves_as_before (image_of c.args.matches.now) _ _ _ (c.read.ensures.tried ∙ c.load_to_replace.ensures.tried)
 
 pub returns-in_err-check_place-in-Ok-clause-failed : goal.returns-in_err-check_place-in-Ok-clause-failed
 returns-in_err-check_place-in-Ok-clause-failed g c =
@@ -121,8 +118,8 @@ pub returns-in-Ok-clause-crash : goal.returns-in-Ok-clause-crash
 returns-in-Ok-clause-crash g c =
     executed_leaves (judge_by g.D.Domain.operations) g.F.Reader.Source.tells g.F.Writer.Sink.tells (g.F.Files.contents c.args.files.now) (g.F.Files.contents c.load_to_replace.new.files)
     c.required-path.result.now c.required-commands.result.now c.args.matches.now
-    c.in_ok-file.file.items c.as_slice.result.now c.deref_mut.result.now.namespace c.in-Ok.events.items
+    c.in_ok-file.file.items c.as_slice.result.now c.deref_mut.result.now.namespace c.in-Ok.told.events.items
     (g.F.Files.made c.args.files.now) (g.F.Files.made c.check_place.new.files) (g.F.Files.made c.run.new.files)
-    c.load_to_replace.ensures.contents c.required-path.ensures c.required-commands.ensures (search rules) c.in_ok-file.ensures.bytes c.as_slice.ensures.value c.in-Ok.ensures
+    c.load_to_replace.ensures.contents c.required-path.ensures c.required-commands.ensures (search rules) c.in_ok-file.ensures.bytes c.as_slice.ensures.value c.in-Ok.ensures.events
     _ _ _ _ (subst (λ (s : State). g.F.Reader.Source.tells → TellNamespace (g.F.Files.contents c.args.files.now c.required-path.result.now) s.namespace)
     (sym c.deref_mut.ensures.value) c.in_ok-device.ensures.namespace) (search rules) (c.check_place.ensures.tried ∙ c.read.ensures.tried ∙ c.load_to_replace.ensures.tried) c.run.ensures.crash
