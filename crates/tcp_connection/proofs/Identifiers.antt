@@ -12,15 +12,16 @@ use Rattle.tcp_pdus.specs.Initialize.{initialize_checked, initialize_request_in}
 use Rattle.tcp_receiver.specs.declared.expected.Progress.{Progress}
 use Rattle.tcp_receiver.specs.declared.expected.Progress.TheVariants.{Partial, Whole, Failed}
 use Rattle.tcp_receiver.specs.Receiving as receiving
+use Rattle.tcp_receiver.specs.Transfers.{free_tag}
 use Rattle.tcp_pdus.specs.Direction.{identifier_of}
 use Rattle.tcp_connection.specs.declared.queue.Outcome.{Outcome}
 use Rattle.tcp_connection.specs.declared.queue.Phase.{Phase}
 use Rattle.tcp_connection.specs.declared.queue.Phase.TheVariants.{Initializing, Open, Ended}
 use Rattle.tcp_connection.specs.declared.state.ConnectionState.{ConnectionState}
-use Rattle.tcp_connection.specs.Commands.{CommandsState, WaitingCommand, count_of, first_of, has_command, is_running, place_of, started, started_of, waiting_with, without}
+use Rattle.tcp_connection.specs.Commands.{CommandsState, WaitingCommand, count_of, has_command, is_running, place_of, started_of, waiting_with, without}
 use Rattle.tcp_connection.specs.Connection.{taken, takes, took}
-use Rattle.tcp_connection.specs.Dealing.{asked, checked, commanded_by, dealt_by, initialized_by, inside, joined, judged, looked_at, may_come, with_next}
-use Rattle.tcp_connection.specs.Executing.{completed, completed_in, data_sent, gone}
+use Rattle.tcp_connection.specs.Dealing.{asked, asked_for, checked, commanded_by, dealt_by, initialized_by, inside, joined, judged, looked, looked_by, may_come, queued, unasked, with_next}
+use Rattle.tcp_connection.specs.Executing.{completed, completed_in, data_sent, gone, with_started}
 use Rattle.tcp_connection.specs.Laws.{CompletedOnce, Differ, IdentifiersDiffer, identifiers_of}
 use Rattle.tcp_connection.specs.Sending.{answered, failed}
 use Rattle.tcp_connection.proofs.Places.{differ_dropped, differ_in_front, differ_inserted, only_one, place_is, removed_is}
@@ -87,19 +88,26 @@ different_initialized : (s : ConnectionState) → HasDifferent s → (r : Result
 different_initialized s differ (Ok alignment) = differ
 different_initialized s differ (Err error) = tt
 
-different_asked : (t : ConnectionState) (command : ℕ) → HasDifferent t → (wanted : Option ℕ) → HasDifferent (asked command wanted t).0
-different_asked t command differ None = differ
-different_asked t command differ (Some wanted) = differ
+different_asked : (t : ConnectionState) (tag command : ℕ) → HasDifferent t → (wanted : Option ℕ) → HasDifferent (asked tag command wanted t).0
+different_asked t tag command differ None = differ
+different_asked t tag command differ (Some wanted) = differ
 
-different_looked : (t : ConnectionState) → HasDifferent t → (first : Option WaitingCommand) → HasDifferent (looked_at first t).0
-different_looked t differ None = differ
-different_looked t differ (Some first) = different_asked t (identifier_of first.entry) differ first.wanted
+different_asked_for : (t : ConnectionState) (tag : ℕ) → HasDifferent t → (command : Option WaitingCommand)
+    → HasDifferent (asked_for tag command t).0
+different_asked_for t tag differ None = differ
+different_asked_for t tag differ (Some command) = different_asked t tag (identifier_of command.entry) differ command.wanted
+
+different_looked_by : (t : ConnectionState) → HasDifferent t → (tag : Option ℕ) → HasDifferent (looked_by tag t).0
+different_looked_by t differ None = differ
+different_looked_by t differ (Some tag) = different_asked_for t tag differ (unasked t)
+
+different_looked : (t : ConnectionState) → HasDifferent t → HasDifferent (looked t).0
+different_looked t differ = different_looked_by t differ (free_tag t.receiver.expected.transfers)
 
 different_joined : (s : ConnectionState) (w : WaitingCommand) → HasDifferent s → has_command (identifier_of w.entry) s.commands ≡ false
     → HasDifferent (joined w s).0
 different_joined s w differ none =
-    different_looked (record (with_next s) { commands = waiting_with w s.commands }) (differ_waiting w s.commands differ none)
-    (cond (length s.commands.waiting == 0) (Some w) None)
+    different_looked (queued w s) (differ_waiting w s.commands differ none)
 
 different_judged : (s : ConnectionState) (entry : List ℕ) → HasDifferent s → has_command (identifier_of entry) s.commands ≡ false
     → (r : Result (Option ℕ) Status) → HasDifferent (judged r entry s).0
@@ -138,8 +146,8 @@ different_taken s piece differ =
 
 different_gone : (s : ConnectionState) → HasDifferent s → HasDifferent (gone s).0
 different_gone s differ =
-    let t : ConnectionState = record s { commands = started s.commands } in
-    different_looked t (subst (λ (ids : List ℕ). Differ ids) (sym (started_same s.commands.running s.commands.waiting)) differ) (first_of t.commands)
+    different_looked (with_started s)
+    (subst (λ (ids : List ℕ). Differ ids) (sym (started_same s.commands.running s.commands.waiting)) differ)
 
 different_completed : (s : ConnectionState) (phase : Phase) (command : ℕ) (outcome : Outcome) (bytes : List ℕ) → HasDifferent s
     → HasDifferent (completed_in phase command outcome bytes s).0

@@ -9,3 +9,4 @@ pub mod Proved
 mod Quiet
 mod Ready
 mod Settled
+mod Transfers

@@ -1,24 +1,24 @@
 -- Commands go in the order of their capsules.
-use Rattle.std.proofs.Common.{◌≡◌, ℕ, ◌==◌, ◌&&◌, Bool, true, false, cond, not, List, [], ◌∷◌, ◌++◌, length, take, drop, map, Option, None, Some, is_some, Result, Ok, Err, refl, sym, ap, ◌∙◌, append_assoc, append-nil}
+use Rattle.std.proofs.Common.{◌≡◌, ℕ, ◌&&◌, Bool, true, false, cond, not, List, [], ◌∷◌, ◌++◌, take, drop, map, Option, None, Some, is_some, Result, Ok, Err, refl, sym, ap, ◌∙◌, append_assoc, append-nil}
 use Rattle.std.specs.Prelude.{is_ok}
 use Rattle.std.proofs.lemmas.List.{map-append}
 use Rattle.zone_state.specs.declared.status.Status.{Status}
 use Rattle.tcp_pdus.specs.declared.fatal_error.FatalError.{FatalError}
 use Rattle.tcp_pdus.specs.declared.fatal_error.FatalError.TheVariants.{PduSequence}
 use Rattle.tcp_pdus.specs.declared.received.HostPdu.TheVariants.{IcReq, H2cTermReq, CapsuleCmd, H2cData}
-use Rattle.tcp_pdus.specs.declared.transfer.ReadyToTransfer.{ReadyToTransfer}
 use Rattle.tcp_receiver.specs.declared.expected.Progress.{Progress}
 use Rattle.tcp_receiver.specs.declared.expected.Progress.TheVariants.{Partial, Whole, Failed}
+use Rattle.tcp_receiver.specs.Transfers.{Transfer, free_tag}
 use Rattle.tcp_pdus.specs.Direction.{identifier_of}
 use Rattle.tcp_pdus.specs.Initialize.{initialize_checked, initialize_request_in}
 use Rattle.tcp_connection.specs.declared.queue.Outcome.{Outcome}
 use Rattle.tcp_connection.specs.declared.queue.Phase.{Phase}
 use Rattle.tcp_connection.specs.declared.queue.Phase.TheVariants.{Initializing, Open, Ended}
 use Rattle.tcp_connection.specs.declared.state.ConnectionState.{ConnectionState}
-use Rattle.tcp_connection.specs.Commands.{WaitingCommand, first_in, first_of, is_running, started, started_of, waiting_with, without}
+use Rattle.tcp_connection.specs.Commands.{WaitingCommand, first_in, is_running, started_of, without}
 use Rattle.tcp_connection.specs.Connection.{Step, takes, took}
-use Rattle.tcp_connection.specs.Dealing.{asked, checked, commanded_by, dealt_by, initialized_by, inside, judged, looked_at, may_come, with_next}
-use Rattle.tcp_connection.specs.Executing.{Execution, completed_in, data_sent, first_ready, gone, ready, waiting_ready}
+use Rattle.tcp_connection.specs.Dealing.{asked, asked_for, checked, commanded_by, dealt_by, initialized_by, inside, judged, looked, looked_by, may_come, queued, unasked, with_next}
+use Rattle.tcp_connection.specs.Executing.{Execution, completed_in, data_for, data_sent, execution_of, first_ready, gone, ready, waiting_ready, with_started}
 use Rattle.tcp_connection.specs.Order.{Came, CommandsGoInOrder, Completed, GoInOrder, Happening, IsSettled, KeepsOrder, Went, after, after_all, brought_by, came_by, came_in, entry_of, received, waiting_in, went_by, went_in}
 use Rattle.tcp_connection.specs.Queue.{is_ended}
 use Rattle.tcp_connection.specs.Sending.{answered, ended, failed}
@@ -37,26 +37,33 @@ ends s = record { rest = waiting_in s; order = sym (append-nil (waiting_in s)); 
 -- ---- what has come is dealt with
 
 module _ (went came : List (List ℕ)) (s : ConnectionState) where
-  asks : (t : ConnectionState) (command : ℕ) → GoInOrder went came s t → (wanted : Option ℕ) → GoInOrder went came s (asked command wanted t).0
-  asks t command k None = k
-  asks t command k (Some wanted) = record { rest = k.rest; order = k.order; wait = k.wait }
+  asks : (t : ConnectionState) (tag command : ℕ) → GoInOrder went came s t → (wanted : Option ℕ)
+      → GoInOrder went came s (asked tag command wanted t).0
+  asks t tag command k None = k
+  asks t tag command k (Some wanted) = record { rest = k.rest; order = k.order; wait = k.wait }
 
-  looks : (t : ConnectionState) → GoInOrder went came s t → (first : Option WaitingCommand) → GoInOrder went came s (looked_at first t).0
-  looks t k None = k
-  looks t k (Some first) = asks t (identifier_of first.entry) k first.wanted
+  asks_for : (t : ConnectionState) (tag : ℕ) → GoInOrder went came s t → (command : Option WaitingCommand)
+      → GoInOrder went came s (asked_for tag command t).0
+  asks_for t tag k None = k
+  asks_for t tag k (Some command) = asks t tag (identifier_of command.entry) k command.wanted
+
+  looks_by : (t : ConnectionState) → GoInOrder went came s t → (tag : Option ℕ) → GoInOrder went came s (looked_by tag t).0
+  looks_by t k None = k
+  looks_by t k (Some tag) = asks_for t tag k (unasked t)
+
+  looks : (t : ConnectionState) → GoInOrder went came s t → GoInOrder went came s (looked t).0
+  looks t k = looks_by t k (free_tag t.receiver.expected.transfers)
 
 module _ (s : ConnectionState) (entry : List ℕ) where
   judges : (r : Result (Option ℕ) Status) → GoInOrder [] (cond (is_ok r) (entry ∷ []) []) s (judged r entry s).0
   judges (Ok wanted) =
       let w : WaitingCommand = record { entry = entry; «data» = inside s; wanted = wanted } in
-      let t : ConnectionState = record (with_next s) { commands = waiting_with w s.commands } in
-      looks [] (entry ∷ []) s t
+      looks [] (entry ∷ []) s (queued w s)
       (record {
         rest = waiting_in s ++ entry ∷ [];
         order = refl;
         wait = λ still. sym (map-append (λ (it : WaitingCommand). it.entry) s.commands.waiting (w ∷ []));
       })
-      (cond (length s.commands.waiting == 0) (Some w) None)
   judges (Err status) = same_order s (judged (Err status) entry s).0 refl
 
   commands : GoInOrder [] (cond (may_come (identifier_of entry) s && is_ok (checked entry s)) (entry ∷ []) []) s (commanded_by entry s).0
@@ -91,27 +98,29 @@ takes_piece s piece false = same_order s s refl
 
 -- ---- a command goes
 
-starts : (running : List ℕ) (waiting : List WaitingCommand) (outstanding : Option ReadyToTransfer) (transferred : List ℕ) (execution : Execution)
-    → first_ready (first_in waiting) outstanding transferred ≡ Some execution
+executed : (entry : List ℕ) (o : Option (List ℕ)) (execution : Execution) → execution_of entry o ≡ Some execution → entry ≡ execution.entry
+executed entry None execution is = absurd cc
+executed entry (Some bytes) execution is = let same : ◌≡◌ {A = Execution} (record { entry = entry; «data» = bytes }) execution = cc in ap (λ (it : Execution). it.entry) same
+
+starts : (running : List ℕ) (waiting : List WaitingCommand) (transfers : List (Option Transfer)) (execution : Execution)
+    → first_ready (first_in waiting) transfers ≡ Some execution
     → map (λ (w : WaitingCommand). w.entry) waiting ≡ execution.entry ∷ map (λ (w : WaitingCommand). w.entry) (started_of running waiting).waiting
-starts running [] outstanding transferred execution is = absurd cc
-starts running (first ∷ rest) (Some wanted) transferred execution is = absurd cc
-starts running (first ∷ rest) None transferred execution is =
-    let same : first.entry ≡ execution.entry = cc in
-    ap (λ (entry : List ℕ). entry ∷ map (λ (w : WaitingCommand). w.entry) rest) same
+starts running [] transfers execution is = absurd cc
+starts running (first ∷ rest) transfers execution is =
+    ap (λ (entry : List ℕ). entry ∷ map (λ (w : WaitingCommand). w.entry) rest)
+    (executed first.entry (data_for first.wanted first transfers) execution is)
 
 goes_first : (s : ConnectionState) (execution : Execution) → waiting_ready s ≡ Some execution → GoInOrder (execution.entry ∷ []) [] s (gone s).0
 goes_first s execution is =
-    let t : ConnectionState = record s { commands = started s.commands } in
+    let t : ConnectionState = with_started s in
     looks (execution.entry ∷ []) [] s t
     (record {
       rest = waiting_in t;
       order =
-          sym (starts s.commands.running s.commands.waiting s.receiver.expected.outstanding s.receiver.transferred execution is)
+          sym (starts s.commands.running s.commands.waiting s.receiver.expected.transfers execution is)
           ∙ sym (append-nil (waiting_in s));
       wait = λ on. refl;
     })
-    (first_of t.commands)
 
 goes_open : (s : ConnectionState) (execution : Execution) (b : Bool) → cond {A = Option Execution} b None (waiting_ready s) ≡ Some execution
     → GoInOrder (execution.entry ∷ []) [] s (gone s).0

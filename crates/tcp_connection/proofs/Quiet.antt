@@ -11,16 +11,17 @@ use Rattle.tcp_receiver.specs.declared.expected.Progress.{Progress}
 use Rattle.tcp_receiver.specs.declared.expected.Progress.TheVariants.{Partial, Whole, Failed}
 use Rattle.tcp_receiver.specs.Receiving.{IsBetween, ReceiverState, next, next_by}
 use Rattle.tcp_receiver.specs.Receiving as receiving
+use Rattle.tcp_receiver.specs.Transfers.{free_tag}
 use Rattle.tcp_pdus.specs.Direction.{identifier_of}
 use Rattle.tcp_connection.specs.declared.queue.Outcome.{Outcome}
 use Rattle.tcp_connection.specs.declared.queue.Phase.{Phase}
 use Rattle.tcp_connection.specs.declared.queue.Phase.TheVariants.{Initializing, Open, Ended}
 use Rattle.tcp_connection.specs.declared.queue.Queue.{Queue}
 use Rattle.tcp_connection.specs.declared.state.ConnectionState.{ConnectionState}
-use Rattle.tcp_connection.specs.Commands.{WaitingCommand, first_of, is_running, started, waiting_with, without}
+use Rattle.tcp_connection.specs.Commands.{WaitingCommand, first_of, is_running, without}
 use Rattle.tcp_connection.specs.Connection.{taken, takes, took}
-use Rattle.tcp_connection.specs.Dealing.{asked, checked, commanded_by, dealt, dealt_by, initialized_by, inside, joined, judged, looked_at, may_come, with_next}
-use Rattle.tcp_connection.specs.Executing.{Execution, IsQuiet, completed, completed_in, connected, data_sent, gone, ready, waiting_ready}
+use Rattle.tcp_connection.specs.Dealing.{asked, asked_for, checked, commanded_by, dealt, dealt_by, initialized_by, inside, joined, judged, looked, looked_by, may_come, queued, unasked, with_next}
+use Rattle.tcp_connection.specs.Executing.{Execution, IsQuiet, completed, completed_in, connected, data_sent, gone, let_go, ready, waiting_ready, with_started}
 use Rattle.tcp_connection.specs.Queue.{is_ended}
 use Rattle.tcp_connection.specs.Sending.{answered, ended, failed}
 use Rattle.tcp_connection.specs.steps.Connection.{IsConnection}
@@ -57,22 +58,29 @@ rests_initialized s between (Ok alignment) =
     record { queue = refl; quiet = quiet_between (initialized_by (Ok alignment) s).0 (record { nothing = between.nothing; partial = between.partial }) }
 rests_initialized s between (Err error) = rests_ended s
 
-rests_asked : (s t : ConnectionState) (command : ℕ) → t.queue ≡ s.queue → IsBetween t.receiver → (wanted : Option ℕ) → Rests s (asked command wanted t).0
-rests_asked s t command same between None = record { queue = same; quiet = quiet_between t between }
-rests_asked s t command same between (Some wanted) =
+rests_asked : (s t : ConnectionState) (tag command : ℕ) → t.queue ≡ s.queue → IsBetween t.receiver → (wanted : Option ℕ)
+    → Rests s (asked tag command wanted t).0
+rests_asked s t tag command same between None = record { queue = same; quiet = quiet_between t between }
+rests_asked s t tag command same between (Some wanted) =
     record {
       queue = same;
-      quiet = quiet_between (asked command (Some wanted) t).0 (record { nothing = between.nothing; partial = between.partial });
+      quiet = quiet_between (asked tag command (Some wanted) t).0 (record { nothing = between.nothing; partial = between.partial });
     }
 
-pub rests_looked : (s t : ConnectionState) → t.queue ≡ s.queue → IsBetween t.receiver → (first : Option WaitingCommand) → Rests s (looked_at first t).0
-rests_looked s t same between None = record { queue = same; quiet = quiet_between t between }
-rests_looked s t same between (Some first) = rests_asked s t (identifier_of first.entry) same between first.wanted
+rests_asked_for : (s t : ConnectionState) (tag : ℕ) → t.queue ≡ s.queue → IsBetween t.receiver → (command : Option WaitingCommand)
+    → Rests s (asked_for tag command t).0
+rests_asked_for s t tag same between None = record { queue = same; quiet = quiet_between t between }
+rests_asked_for s t tag same between (Some command) = rests_asked s t tag (identifier_of command.entry) same between command.wanted
+
+rests_looked_by : (s t : ConnectionState) → t.queue ≡ s.queue → IsBetween t.receiver → (tag : Option ℕ) → Rests s (looked_by tag t).0
+rests_looked_by s t same between None = record { queue = same; quiet = quiet_between t between }
+rests_looked_by s t same between (Some tag) = rests_asked_for s t tag same between (unasked t)
+
+pub rests_looked : (s t : ConnectionState) → t.queue ≡ s.queue → IsBetween t.receiver → Rests s (looked t).0
+rests_looked s t same between = rests_looked_by s t same between (free_tag t.receiver.expected.transfers)
 
 rests_joined : (s : ConnectionState) (command : WaitingCommand) → IsBetween (next s.receiver) → Rests s (joined command s).0
-rests_joined s command between =
-    rests_looked s (record (with_next s) { commands = waiting_with command s.commands }) refl between
-    (cond (length s.commands.waiting == 0) (Some command) None)
+rests_joined s command between = rests_looked s (queued command s) refl between
 
 rests_judged : (s : ConnectionState) (entry : List ℕ) → IsBetween (next s.receiver) → (r : Result (Option ℕ) Status) → Rests s (judged r entry s).0
 rests_judged s entry between (Ok wanted) = rests_joined s (record { entry = entry; «data» = inside s; wanted = wanted }) between
@@ -172,24 +180,37 @@ pub ready_between : (s : ConnectionState) → IsConnection s → IsTrue (is_some
 ready_between s connection some =
     let one = one_some (waiting_ready s) (ready_open s (is_ended s.phase) refl some) in connection.quiet one.0 one.1
 
+-- its R2T is let go between PDUs
+pub between_let_go : (r : ReceiverState) → IsBetween r → (first : Option WaitingCommand) → IsBetween (let_go first r)
+between_let_go r between None = between
+between_let_go r between (Some first) = record { nothing = between.nothing; partial = between.partial }
+
+started_between : (s : ConnectionState) → IsConnection s → IsTrue (is_some (ready s)) → IsBetween (with_started s).receiver
+started_between s connection some = between_let_go s.receiver (ready_between s connection some) (first_of s.commands)
+
 pub gone_sound : (s : ConnectionState) → IsConnection s → IsTrue (is_some (ready s)) → IsConnection (gone s).0
 gone_sound s connection some =
-    let t : ConnectionState = record s { commands = started s.commands } in
-    sound s (gone s).0 connection (rests_looked s t refl (ready_between s connection some) (first_of t.commands))
+    sound s (gone s).0 connection (rests_looked s (with_started s) refl (started_between s connection some))
 
 -- behind it the receiver is between PDUs
-between_asked : (t : ConnectionState) (command : ℕ) → IsBetween t.receiver → (wanted : Option ℕ) → IsBetween (asked command wanted t).0.receiver
-between_asked t command between None = between
-between_asked t command between (Some wanted) = record { nothing = between.nothing; partial = between.partial }
+between_asked : (t : ConnectionState) (tag command : ℕ) → IsBetween t.receiver → (wanted : Option ℕ)
+    → IsBetween (asked tag command wanted t).0.receiver
+between_asked t tag command between None = between
+between_asked t tag command between (Some wanted) = record { nothing = between.nothing; partial = between.partial }
 
-between_looked : (t : ConnectionState) → IsBetween t.receiver → (first : Option WaitingCommand) → IsBetween (looked_at first t).0.receiver
+between_asked_for : (t : ConnectionState) (tag : ℕ) → IsBetween t.receiver → (command : Option WaitingCommand)
+    → IsBetween (asked_for tag command t).0.receiver
+between_asked_for t tag between None = between
+between_asked_for t tag between (Some command) = between_asked t tag (identifier_of command.entry) between command.wanted
+
+between_looked : (t : ConnectionState) → IsBetween t.receiver → (tag : Option ℕ) → IsBetween (looked_by tag t).0.receiver
 between_looked t between None = between
-between_looked t between (Some first) = between_asked t (identifier_of first.entry) between first.wanted
+between_looked t between (Some tag) = between_asked_for t tag between (unasked t)
 
 pub gone_between : (s : ConnectionState) → IsConnection s → IsTrue (is_some (ready s)) → IsBetween (gone s).0.receiver
 gone_between s connection some =
-    let t : ConnectionState = record s { commands = started s.commands } in
-    between_looked t (ready_between s connection some) (first_of t.commands)
+    let t : ConnectionState = with_started s in
+    between_looked t (started_between s connection some) (free_tag t.receiver.expected.transfers)
 
 -- ---- a command is completed
 

@@ -1,5 +1,5 @@
 -- A connection deals with each PDU as soon as it has come whole.
-use Rattle.std.proofs.Common.{◌≡◌, ℕ, ◌==◌, Bool, true, false, cond, List, [], ◌++◌, length, take, drop, Option, None, Some, is_some, Result, Ok, Err, refl}
+use Rattle.std.proofs.Common.{◌≡◌, ℕ, Bool, true, false, cond, List, [], ◌++◌, take, drop, Option, None, Some, is_some, Result, Ok, Err, refl}
 use Rattle.zone_state.specs.declared.status.Status.{Status}
 use Rattle.tcp_pdus.specs.declared.fatal_error.FatalError.{FatalError}
 use Rattle.tcp_pdus.specs.declared.fatal_error.FatalError.TheVariants.{PduSequence}
@@ -7,15 +7,17 @@ use Rattle.tcp_pdus.specs.declared.received.HostPdu.TheVariants.{IcReq, H2cTermR
 use Rattle.tcp_pdus.specs.Initialize.{initialize_checked, initialize_request_in}
 use Rattle.tcp_receiver.specs.declared.expected.Progress.{Progress}
 use Rattle.tcp_receiver.specs.declared.expected.Progress.TheVariants.{Partial, Whole, Failed}
+use Rattle.tcp_receiver.specs.Receiving.{ReceiverState}
+use Rattle.tcp_receiver.specs.Transfers.{free_tag}
 use Rattle.tcp_pdus.specs.Direction.{identifier_of}
 use Rattle.tcp_connection.specs.declared.queue.Outcome.{Outcome}
 use Rattle.tcp_connection.specs.declared.queue.Phase.{Phase}
 use Rattle.tcp_connection.specs.declared.queue.Phase.TheVariants.{Initializing, Open, Ended}
 use Rattle.tcp_connection.specs.declared.state.ConnectionState.{ConnectionState}
-use Rattle.tcp_connection.specs.Commands.{WaitingCommand, first_of, is_running, started, waiting_with, without}
+use Rattle.tcp_connection.specs.Commands.{WaitingCommand, first_of, is_running, without}
 use Rattle.tcp_connection.specs.Connection.{Step, takes, took}
-use Rattle.tcp_connection.specs.Dealing.{asked, checked, commanded_by, dealt_by, initialized_by, inside, judged, looked_at, may_come, with_next}
-use Rattle.tcp_connection.specs.Executing.{Execution, completed_in, data_sent, gone, ready, waiting_ready}
+use Rattle.tcp_connection.specs.Dealing.{asked, asked_for, checked, commanded_by, dealt_by, initialized_by, inside, judged, looked, looked_by, may_come, queued, unasked, with_next}
+use Rattle.tcp_connection.specs.Executing.{Execution, completed_in, data_sent, gone, let_go, ready, waiting_ready, with_started}
 use Rattle.tcp_connection.specs.Order.{Came, Completed, Happening, IsSettled, Went, after, received}
 use Rattle.tcp_connection.specs.Queue.{is_ended}
 use Rattle.tcp_connection.specs.Sending.{answered, failed}
@@ -24,10 +26,18 @@ use Rattle.tcp_connection.proofs.Quiet.{between_next}
 at_partial : (s : ConnectionState) → s.receiver.progress ≡ Partial → IsSettled s
 at_partial s is on = is
 
-looks_partial : (s : ConnectionState) → s.receiver.progress ≡ Partial → (first : Option WaitingCommand) → (looked_at first s).0.receiver.progress ≡ Partial
-looks_partial s is None = is
-looks_partial s is (Some first) =
-    elim first.wanted as (λ wanted. (asked (identifier_of first.entry) wanted s).0.receiver.progress ≡ Partial) [ None ↦ is | Some wanted ↦ is ]
+asks_partial : (s : ConnectionState) → s.receiver.progress ≡ Partial → (tag : ℕ) (command : Option WaitingCommand)
+    → (asked_for tag command s).0.receiver.progress ≡ Partial
+asks_partial s is tag None = is
+asks_partial s is tag (Some command) =
+    elim command.wanted as (λ wanted. (asked tag (identifier_of command.entry) wanted s).0.receiver.progress ≡ Partial) [ None ↦ is | Some wanted ↦ is ]
+
+looks_by : (s : ConnectionState) → s.receiver.progress ≡ Partial → (tag : Option ℕ) → (looked_by tag s).0.receiver.progress ≡ Partial
+looks_by s is None = is
+looks_by s is (Some tag) = asks_partial s is tag (unasked s)
+
+looks_partial : (s : ConnectionState) → s.receiver.progress ≡ Partial → (looked s).0.receiver.progress ≡ Partial
+looks_partial s is = looks_by s is (free_tag s.receiver.expected.transfers)
 
 -- ---- what has come is dealt with
 
@@ -39,10 +49,8 @@ module _ (s : ConnectionState) (next_is : (with_next s).receiver.progress ≡ Pa
   judges : (r : Result (Option ℕ) Status) → IsSettled (judged r entry s).0
   judges (Err status) = λ on. next_is
   judges (Ok wanted) =
-      let w : WaitingCommand = record { entry = entry; «data» = inside s; wanted = wanted } in
-      let t : ConnectionState = record (with_next s) { commands = waiting_with w s.commands } in
-      let first : Option WaitingCommand = cond (length s.commands.waiting == 0) (Some w) None in
-      at_partial (looked_at first t).0 (looks_partial t next_is first)
+      let t : ConnectionState = queued (record { entry = entry; «data» = inside s; wanted = wanted }) s in
+      at_partial (looked t).0 (looks_partial t next_is)
 
   commands : IsSettled (commanded_by entry s).0
   commands =
@@ -72,10 +80,14 @@ opened : (s : ConnectionState) (execution : Execution) (b : Bool) → cond {A = 
 opened s execution true is = absurd cc
 opened s execution false is = refl
 
+let_go_partial : (r : ReceiverState) → r.progress ≡ Partial → (first : Option WaitingCommand) → (let_go first r).progress ≡ Partial
+let_go_partial r is None = is
+let_go_partial r is (Some first) = is
+
 gone_partial : (s : ConnectionState) (execution : Execution) → IsSettled s → ready s ≡ Some execution → (gone s).0.receiver.progress ≡ Partial
 gone_partial s execution settled is =
-    let t : ConnectionState = record s { commands = started s.commands } in
-    looks_partial t (settled (opened s execution (is_ended s.phase) is)) (first_of t.commands)
+    looks_partial (with_started s)
+    (let_go_partial s.receiver (settled (opened s execution (is_ended s.phase) is)) (first_of s.commands))
 
 goes : (s : ConnectionState) → IsSettled s → (o : Option Execution) → ready s ≡ o → IsSettled (cond (is_some o) (gone s).0 s)
 goes s settled None is = settled

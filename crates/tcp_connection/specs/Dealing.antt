@@ -1,5 +1,5 @@
 -- What a connection makes of what has come (NVMe over TCP Transport 1.0, 3.6; NVMe Base 2.0, 3.3.3.1).
-use Rattle.std.specs.Prelude.{ℕ, Bool, nat_lt, not, ◌&&◌, ◌==◌, List, [], length, take, drop, Option, Some, None, Result, Ok, Err, if◌then◌else◌}
+use Rattle.std.specs.Prelude.{ℕ, Bool, nat_lt, not, ◌&&◌, List, [], find, length, take, drop, Option, Some, None, is_some, Result, Ok, Err, if◌then◌else◌}
 use Rattle.tcp_pdus.specs.declared.fatal_error.FatalError.{FatalError}
 use Rattle.tcp_pdus.specs.declared.fatal_error.FatalError.TheVariants.{PduSequence}
 use Rattle.tcp_pdus.specs.declared.received.HostPdu.TheVariants.{IcReq, H2cTermReq, CapsuleCmd, H2cData}
@@ -10,6 +10,7 @@ use Rattle.tcp_receiver.specs.declared.expected.Progress.{Progress}
 use Rattle.tcp_receiver.specs.declared.expected.Progress.TheVariants.{Partial, Whole, Failed}
 use Rattle.tcp_receiver.specs.declared.receiver.TheConstants.{MOST_IN_CAPSULE}
 use Rattle.tcp_receiver.specs.Receiving.{awaiting, expecting, next}
+use Rattle.tcp_receiver.specs.Transfers.{Transfer, free_tag, has_transfer}
 use Rattle.zone_state.specs.declared.status.Status.{Status}
 use Rattle.tcp_pdus.specs.Direction.{identifier_of}
 use Rattle.tcp_pdus.specs.Sgl.{wanted_checked}
@@ -34,29 +35,41 @@ initialized s = initialized_by (initialize_checked (initialize_request_in (take 
 
 -- ---- commands
 
--- the R2T for all data that a command wants, with tag 0, since no other is outstanding
-abbrev pub transfer_of : ℕ → ℕ → ReadyToTransfer
-transfer_of command wanted = record { command = command; tag = 0; length = wanted }
+-- the R2T for all data that a command wants
+abbrev pub transfer_of : ℕ → ℕ → ℕ → ReadyToTransfer
+transfer_of tag command wanted = record { command = command; tag = tag; length = wanted }
 
--- the first command that waits is looked at: if it wants data, that is asked for
-abbrev pub asked : ℕ → Option ℕ → ConnectionState → ConnectionState × List ℕ
-asked command None s = (s, [])
-asked command (Some wanted) s =
-    (record s { receiver = expecting (Some (transfer_of command wanted)) s.receiver }, r2t (transfer_of command wanted))
+abbrev pub asked : ℕ → ℕ → Option ℕ → ConnectionState → ConnectionState × List ℕ
+asked tag command None s = (s, [])
+asked tag command (Some wanted) s =
+    (record s { receiver = expecting (transfer_of tag command wanted) s.receiver }, r2t (transfer_of tag command wanted))
 
-abbrev pub looked_at : Option WaitingCommand → ConnectionState → ConnectionState × List ℕ
-looked_at None s = (s, [])
-looked_at (Some first) s = asked (identifier_of first.entry) first.wanted s
+-- a command that waits wants data by an R2T, and none is under way for it
+abbrev pub is_unasked : List (Option Transfer) → WaitingCommand → Bool
+is_unasked transfers command = is_some command.wanted && not (has_transfer (identifier_of command.entry) transfers)
 
--- a command joins those that wait: if there were none it is the first
+-- the first of them
+abbrev pub unasked : ConnectionState → Option WaitingCommand
+unasked s = find (λ command. is_unasked s.receiver.expected.transfers command) s.commands.waiting
+
+abbrev pub asked_for : ℕ → Option WaitingCommand → ConnectionState → ConnectionState × List ℕ
+asked_for tag None s = (s, [])
+asked_for tag (Some command) s = asked tag (identifier_of command.entry) command.wanted s
+
+-- its data is asked for under the lowest tag that is free, where one is
+abbrev pub looked_by : Option ℕ → ConnectionState → ConnectionState × List ℕ
+looked_by None s = (s, [])
+looked_by (Some tag) s = asked_for tag (unasked s) s
+
+abbrev pub looked : ConnectionState → ConnectionState × List ℕ
+looked s = looked_by (free_tag s.receiver.expected.transfers) s
+
+-- a command joins those that wait
 abbrev pub queued : WaitingCommand → ConnectionState → ConnectionState
 queued command s = record (with_next s) { commands = waiting_with command s.commands }
 
-abbrev pub joined_behind : List WaitingCommand → WaitingCommand → ConnectionState → ConnectionState × List ℕ
-joined_behind before command s = looked_at (if length before == 0 then Some command else None) (queued command s)
-
 abbrev pub joined : WaitingCommand → ConnectionState → ConnectionState × List ℕ
-joined command s = joined_behind s.commands.waiting command s
+joined command s = looked (queued command s)
 
 -- the data in the capsule that has come whole, and what the host is to send for it, or the status of the first check that fails
 abbrev pub inside : ConnectionState → List ℕ

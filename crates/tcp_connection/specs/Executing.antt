@@ -1,15 +1,16 @@
 -- The command that is to be executed next, and what completes one.
 use Rattle.std.specs.Prelude.{ℕ, ◌≡◌, List, [], ◌∷◌, ◌++◌, Option, Some, None, if◌then◌else◌}
-use Rattle.tcp_pdus.specs.declared.transfer.ReadyToTransfer.{ReadyToTransfer}
+use Rattle.tcp_pdus.specs.Direction.{identifier_of}
 use Rattle.tcp_pdus.specs.Sent.{c2h_data}
-use Rattle.tcp_receiver.specs.Receiving.{IsBetween, awaiting}
+use Rattle.tcp_receiver.specs.Receiving.{IsBetween, ReceiverState, awaiting, forgetting}
+use Rattle.tcp_receiver.specs.Transfers.{Transfer, data_of_command}
 use Rattle.tcp_connection.specs.declared.queue.Outcome.{Outcome}
 use Rattle.tcp_connection.specs.declared.queue.Phase.{Phase}
 use Rattle.tcp_connection.specs.declared.queue.Phase.TheVariants.{Initializing, Open, Ended}
 use Rattle.tcp_connection.specs.declared.queue.Queue.{Queue}
 use Rattle.tcp_connection.specs.declared.state.ConnectionState.{ConnectionState}
 use Rattle.tcp_connection.specs.Commands.{WaitingCommand, first_of, is_running, started, without}
-use Rattle.tcp_connection.specs.Dealing.{looked_at}
+use Rattle.tcp_connection.specs.Dealing.{looked}
 use Rattle.tcp_connection.specs.Queue.{is_ended}
 use Rattle.tcp_connection.specs.Sending.{answered}
 
@@ -18,19 +19,22 @@ pub record Execution : Type 0 where
   pub entry : List ℕ
   pub «data» : List ℕ
 
--- its data: what came for the R2T, where it wanted one; else what was in its capsule
-abbrev pub data_for : Option ℕ → List ℕ → List ℕ → List ℕ
-data_for None inside transferred = inside
-data_for (Some wanted) inside transferred = transferred
+-- its data: what is in its capsule; or, where it wants some by an R2T, all of that once it has come
+abbrev pub data_for : Option ℕ → WaitingCommand → List (Option Transfer) → Option (List ℕ)
+data_for None command transfers = Some command.data
+data_for (Some wanted) command transfers = data_of_command (identifier_of command.entry) transfers
 
--- the first command that waits, once all of the data that it wants has come
-abbrev pub first_ready : Option WaitingCommand → Option ReadyToTransfer → List ℕ → Option Execution
-first_ready None outstanding transferred = None
-first_ready (Some first) None transferred = Some (record { entry = first.entry; «data» = data_for first.wanted first.data transferred })
-first_ready (Some first) (Some wanted) transferred = None
+abbrev pub execution_of : List ℕ → Option (List ℕ) → Option Execution
+execution_of entry None = None
+execution_of entry (Some bytes) = Some (record { entry = entry; «data» = bytes })
+
+-- the first command that waits, once all of its data has come
+abbrev pub first_ready : Option WaitingCommand → List (Option Transfer) → Option Execution
+first_ready None transfers = None
+first_ready (Some first) transfers = execution_of first.entry (data_for first.wanted first transfers)
 
 abbrev pub waiting_ready : ConnectionState → Option Execution
-waiting_ready s = first_ready (first_of s.commands) s.receiver.expected.outstanding s.receiver.transferred
+waiting_ready s = first_ready (first_of s.commands) s.receiver.expected.transfers
 
 -- behind the end none is
 abbrev pub ready : ConnectionState → Option Execution
@@ -45,9 +49,16 @@ data_of (Some execution) = execution.data
 abbrev pub IsQuiet : ConnectionState → Type 0
 IsQuiet s = (execution : Execution) → waiting_ready s ≡ Some execution → IsBetween s.receiver
 
--- it goes to whoever executes it, and the next one is looked at
+-- it goes to whoever executes it, its R2T with it, and data is asked for another
+abbrev pub let_go : Option WaitingCommand → ReceiverState → ReceiverState
+let_go None r = r
+let_go (Some first) r = forgetting (identifier_of first.entry) r
+
+abbrev pub with_started : ConnectionState → ConnectionState
+with_started s = record s { receiver = let_go (first_of s.commands) s.receiver; commands = started s.commands }
+
 abbrev pub gone : ConnectionState → ConnectionState × List ℕ
-gone s = let t = record s { commands = started s.commands } in looked_at (first_of t.commands) t
+gone s = looked (with_started s)
 
 -- ---- completions
 

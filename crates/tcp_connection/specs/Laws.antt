@@ -1,15 +1,20 @@
 -- What holds of connections.
-use Rattle.std.specs.Prelude.{ℕ, ◌≡◌, ◌+◌, ◌==◌, false, List, [], ◌∷◌, ◌++◌, map}
+use Rattle.std.specs.Prelude.{ℕ, Bool, ◌≡◌, ◌+◌, ◌==◌, false, List, [], ◌∷◌, ◌++◌, drop, map, Option, Some, None, if◌then◌else◌}
 use Rattle.std.specs.List.{list_any}
 use Rattle.tcp_receiver.specs.declared.expected.Progress.{Progress}
 use Rattle.tcp_receiver.specs.declared.expected.Progress.TheVariants.{Partial, Whole, Failed}
+use Rattle.tcp_receiver.specs.Receiving.{ReceiverState, tag_in}
 use Rattle.tcp_receiver.specs.Receiving as receiving
+use Rattle.tcp_receiver.specs.Transfers.{Transfer, transfer_at}
+use Rattle.tcp_pdus.specs.declared.received.HostPdu.TheVariants.{IcReq, H2cTermReq, CapsuleCmd, H2cData}
 use Rattle.tcp_pdus.specs.Direction.{identifier_of}
 use Rattle.tcp_connection.specs.declared.queue.Outcome.{Outcome}
 use Rattle.tcp_connection.specs.declared.state.ConnectionState.{ConnectionState}
-use Rattle.tcp_connection.specs.Commands.{CommandsState}
+use Rattle.tcp_connection.specs.Commands.{CommandsState, WaitingCommand, first_of}
 use Rattle.tcp_connection.specs.Connection.{Step, begun, taken}
+use Rattle.tcp_connection.specs.Connection as connection
 use Rattle.tcp_connection.specs.Executing.{completed, gone}
+use Rattle.tcp_connection.specs.Order.{Came, Completed, Happening, Went, after, received}
 
 -- one step behind another
 abbrev pub both : Step → Step → Step
@@ -52,3 +57,38 @@ abbrev pub CompletedOnce : Type 0
 CompletedOnce =
     (s : ConnectionState) (command : ℕ) (first second : Outcome) (bytes more : List ℕ) → Differ (identifiers_of s.commands)
     → (completed command second more (completed command first bytes s).0).1 ≡ []
+
+-- ---- R2Ts
+
+-- the data that a whole PDU brings for a tag
+abbrev pub sent_by : Progress → ℕ → ReceiverState → List ℕ
+sent_by Partial tag r = []
+sent_by (Whole IcReq) tag r = []
+sent_by (Whole H2cTermReq) tag r = []
+sent_by (Whole CapsuleCmd) tag r = []
+sent_by (Whole H2cData) tag r = if tag_in r.pending == tag then drop 24 r.pending else []
+sent_by (Failed error) tag r = []
+
+abbrev pub sent_for : ℕ → Happening → ConnectionState → List ℕ
+sent_for tag (Came piece) s =
+    if connection.takes s then (let r = (received piece s).receiver in sent_by r.progress tag r) else []
+sent_for tag Went s = []
+sent_for tag (Completed command outcome bytes) s = []
+
+-- the command is the one that goes
+abbrev pub is_first : ℕ → Option WaitingCommand → Bool
+is_first command None = false
+is_first command (Some first) = command == identifier_of first.entry
+
+abbrev pub has_it_go : Happening → ℕ → ConnectionState → Bool
+has_it_go (Came piece) command s = false
+has_it_go Went command s = is_first command (first_of s.commands)
+has_it_go (Completed command outcome bytes) other s = false
+
+-- until the command of an R2T goes, the R2T stays under way, and the data that comes for its tag joins what came for it before: so no
+-- other data does
+abbrev pub TransfersAreKept : Type 0
+TransfersAreKept =
+    (happening : Happening) (s : ConnectionState) (tag : ℕ) (t : Transfer) → transfer_at tag s.receiver.expected.transfers ≡ Some t
+    → has_it_go happening t.wanted.command s ≡ false
+    → transfer_at tag (after happening s).receiver.expected.transfers ≡ Some (record t { came = t.came ++ sent_for tag happening s })

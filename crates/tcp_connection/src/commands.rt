@@ -1,11 +1,12 @@
 //! The commands of a connection that have no completion yet.
 
-ghost use Rattle.std.specs.Prelude.{◌≡◌, ◌==◌, ◌<◌, ◌≤◌, ◌++◌, ◌∷◌, [], IfOk, drop, is_some, length, vec_capacity, vec_len};
+ghost use Rattle.std.specs.Prelude.{◌≡◌, ◌==◌, ◌<◌, ◌≤◌, ◌++◌, ◌∷◌, [], IfOk, drop, find, is_some, vec_capacity, vec_len};
 ghost use Rattle.std.specs.Option.{option_map};
 ghost use Rattle.tcp_pdus.specs.declared.received.HostPdu.TheVariants.{CapsuleCmd};
 ghost use Rattle.tcp_receiver.specs.declared.expected.Progress.TheVariants.{Whole};
 ghost use Rattle.tcp_receiver.specs.Receiving.{IsBetween, next};
 ghost use Rattle.tcp_connection.specs.Commands.{count_of, first_of, has_command, is_running, none, place_of, removed, started, waiting_with, without};
+ghost use Rattle.tcp_connection.specs.Dealing.{is_unasked};
 ghost use Rattle.tcp_connection.specs.steps.Commands.{data_in, entry_of};
 
 use crate::waiting::{Waiting, WaitingEntry};
@@ -108,13 +109,6 @@ impl Commands {
         self.waiting.push(command, receiver);
     }
 
-    /// Does none wait?
-    pub(crate) fn none_waits(&self) -> bool
-        ensures { result ≡ (length self.now.waiting == 0) }
-    {
-        self.waiting.len() == 0
-    }
-
     /// The first of those that wait.
     pub(crate) fn first(&self) -> Option<WaitingEntry>
         ensures { result ≡ option_map entry_of (first_of self.now) }
@@ -127,6 +121,13 @@ impl Commands {
         ensures { result.now ≡ data_in (first_of self.now) }
     {
         self.waiting.first_data()
+    }
+
+    /// The first of those that wait which wants data by an R2T, where none is under way for it.
+    pub(crate) fn unasked(&self, receiver: &Receiver) -> Option<WaitingEntry>
+        ensures { result ≡ option_map entry_of (find (λ command. is_unasked receiver.now.expected.transfers command) self.now.waiting) }
+    {
+        self.waiting.unasked(receiver)
     }
 
     /// The first of those that wait is executed from now on.

@@ -5,7 +5,7 @@ ghost use Rattle.tcp_pdus.specs.declared.received.HostPdu.TheVariants.{CapsuleCm
 ghost use Rattle.tcp_receiver.specs.declared.expected.Progress.TheVariants.{Whole};
 ghost use Rattle.tcp_receiver.specs.Receiving.{IsBetween};
 ghost use Rattle.tcp_connection.specs.Commands.{count_of};
-ghost use Rattle.tcp_connection.specs.Dealing.{asked, checked, commanded, commanded_by, dealt, initialized, inside, judged, may_come, queued, refusal, with_next};
+ghost use Rattle.tcp_connection.specs.Dealing.{asked, asked_for, checked, commanded, commanded_by, dealt, initialized, inside, judged, looked, may_come, queued, refusal, unasked, with_next};
 ghost use Rattle.tcp_connection.specs.Sending.{Sends, answered};
 
 use crate::commands::MOST_ENTRIES;
@@ -142,7 +142,7 @@ impl ConnectionState {
         self.answer(command, outcome, out);
     }
 
-    /// Has a command wait for its turn, with the data in its capsule, and looks at it if it is the first.
+    /// Has a command wait for its turn, with the data in its capsule, and asks for data that is wanted.
     fn join(&mut self, entry: [u8; ENTRY_BYTES], wanted: Option<TransferLength>, out: &mut Vec<u8>)
         requires whole { self.old.receiver.progress ≡ Whole CapsuleCmd }
         requires few { count_of self.old.commands < MOST_ENTRIES }
@@ -150,11 +150,8 @@ impl ConnectionState {
         ensures state { self.new ≡ (judged (Ok wanted) entry self.old).0 }
         ensures sent { Sends out.old out.new (judged (Ok wanted) entry self.old).1 }
     {
-        let is_first = self.commands.none_waits();
         self.enqueue(entry, wanted);
-        if is_first {
-            self.look(out);
-        }
+        self.look(out);
     }
 
     /// Has a command wait for its turn, with the data in its capsule.
@@ -168,21 +165,47 @@ impl ConnectionState {
             .wait(WaitingEntry { entry, wanted }, &mut self.receiver);
     }
 
-    /// Asks for the data that the first command which waits wants.
-    pub(crate) fn ask(&mut self, command: u16, wanted: Option<TransferLength>, out: &mut Vec<u8>)
+    /// Asks for the data of a command that waits, where a tag is free.
+    pub(crate) fn look(&mut self, out: &mut Vec<u8>)
         requires between { IsBetween self.old.receiver }
         requires room { vec_len out.old + 24 ≤ vec_capacity out.old }
-        ensures state { self.new ≡ (asked command wanted self.old).0 }
-        ensures sent { Sends out.old out.new (asked command wanted self.old).1 }
+        ensures state { self.new ≡ (looked self.old).0 }
+        ensures sent { Sends out.old out.new (looked self.old).1 }
+    {
+        match self.receiver.free_tag() {
+            Some(tag) => self.ask_for(tag, out),
+            None => {}
+        }
+    }
+
+    /// Asks under this tag for the data of the first command that waits for it, where there is one.
+    fn ask_for(&mut self, tag: u16, out: &mut Vec<u8>)
+        requires between { IsBetween self.old.receiver }
+        requires room { vec_len out.old + 24 ≤ vec_capacity out.old }
+        ensures state { self.new ≡ (asked_for tag (unasked self.old) self.old).0 }
+        ensures sent { Sends out.old out.new (asked_for tag (unasked self.old) self.old).1 }
+    {
+        match self.commands.unasked(&self.receiver) {
+            Some(command) => self.ask(tag, identifier(&command.entry), command.wanted, out),
+            None => {}
+        }
+    }
+
+    /// Asks under this tag for the data that a command wants.
+    fn ask(&mut self, tag: u16, command: u16, wanted: Option<TransferLength>, out: &mut Vec<u8>)
+        requires between { IsBetween self.old.receiver }
+        requires room { vec_len out.old + 24 ≤ vec_capacity out.old }
+        ensures state { self.new ≡ (asked tag command wanted self.old).0 }
+        ensures sent { Sends out.old out.new (asked tag command wanted self.old).1 }
     {
         if let Some(length) = wanted {
             let transfer = ReadyToTransfer {
                 command,
-                tag: 0,
+                tag,
                 length: length.get(),
             };
             push_r2t(out, transfer);
-            self.receiver.expect_data(Some(transfer));
+            self.receiver.expect_data(transfer);
         }
     }
 }

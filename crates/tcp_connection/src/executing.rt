@@ -1,17 +1,17 @@
 //! The command that is to be executed next, and what completes one.
 
-ghost use Rattle.std.specs.Prelude.{◌≡◌, ◌≤◌, ◌<◌, ◌+◌, None, length, vec_capacity, vec_len};
+ghost use Rattle.std.specs.Prelude.{◌≡◌, ◌≤◌, ◌<◌, ◌+◌, Some, length, vec_capacity, vec_len};
 ghost use Rattle.std.specs.Option.{option_map};
 ghost use Rattle.tcp_receiver.specs.Receiving.{IsBetween};
 ghost use Rattle.tcp_connection.specs.Commands.{first_of};
-ghost use Rattle.tcp_connection.specs.Dealing.{looked_at};
-ghost use Rattle.tcp_connection.specs.steps.Commands.{wants};
-ghost use Rattle.tcp_connection.specs.Executing.{IsQuiet, completed, completed_open, data_of, data_sent, gone, ready, waiting_ready};
+ghost use Rattle.tcp_connection.specs.Executing.{completed, completed_open, data_of, data_sent, gone, ready, waiting_ready, with_started};
+ghost use Rattle.tcp_connection.specs.steps.Commands.{entry_of, entry_once_come, has_come};
 ghost use Rattle.tcp_connection.specs.Sending.{Sends};
 
 use crate::queue::{Outcome, Phase};
 use crate::state::ConnectionState;
-use tcp_pdus::{DataAlignment, ENTRY_BYTES, MOST_DATA, identifier, push_c2h_data};
+use crate::waiting::WaitingEntry;
+use tcp_pdus::{DataAlignment, ENTRY_BYTES, MOST_DATA, TransferLength, identifier, push_c2h_data};
 
 /// The most bytes that are sent before a completion's data, and with it: a C2HData's header, what aligns its data, and a CapsuleResp.
 pub const MOST_BESIDE_DATA: usize = 152;
@@ -32,25 +32,36 @@ impl ConnectionState {
     fn waiting_ready(&self) -> Option<[u8; ENTRY_BYTES]>
         ensures { result ≡ option_map (λ execution. execution.entry) (waiting_ready self.now) }
     {
-        match self.receiver.outstanding() {
-            Some(_) => None,
-            None => self.first_entry(),
+        match self.commands.first() {
+            Some(first) => self.entry_once_come(first),
+            None => None,
         }
     }
 
-    /// The entry of the first command that waits.
-    fn first_entry(&self) -> Option<[u8; ENTRY_BYTES]>
-        ensures { result ≡ option_map (λ command. command.entry) (first_of self.now.commands) }
+    /// The entry of a command, once all of its data has come.
+    fn entry_once_come(&self, command: WaitingEntry) -> Option<[u8; ENTRY_BYTES]>
+        ensures { result ≡ entry_once_come command self.now.receiver.expected.transfers }
     {
-        match self.commands.first() {
-            Some(first) => Some(first.entry),
-            None => None,
+        let entry = command.entry;
+        if self.has_come(identifier(&entry), command.wanted) {
+            Some(entry)
+        } else {
+            None
+        }
+    }
+
+    /// Has all data come that a command wants by an R2T?
+    fn has_come(&self, command: u16, wanted: Option<TransferLength>) -> bool
+        ensures { result ≡ has_come command self.now.receiver.expected.transfers wanted }
+    {
+        match wanted {
+            Some(_) => self.receiver.has_come(command),
+            None => true,
         }
     }
 
     /// All of its data.
     pub(crate) fn ready_data(&self) -> &[u8]
-        requires { IsQuiet self.now }
         ensures { result.now ≡ data_of (ready self.now) }
     {
         if self.phase.is_ended() {
@@ -62,60 +73,47 @@ impl ConnectionState {
 
     /// The data of the first command that waits, once all of it has come.
     fn waiting_data(&self) -> &[u8]
-        requires { IsQuiet self.now }
         ensures { result.now ≡ data_of (waiting_ready self.now) }
-    {
-        match self.receiver.outstanding() {
-            Some(_) => &[],
-            None => self.first_data(),
-        }
-    }
-
-    /// The data of the first command that waits: that of its R2T, where it wanted one, or that in its capsule.
-    fn first_data(&self) -> &[u8]
-        requires quiet { IsQuiet self.now }
-        requires come { self.now.receiver.expected.outstanding ≡ None }
-        ensures { result.now ≡ data_of (waiting_ready self.now) }
-    {
-        if self.first_wants() {
-            self.receiver.transfer()
-        } else {
-            self.commands.first_data()
-        }
-    }
-
-    /// Does the first command that waits want data for an R2T?
-    fn first_wants(&self) -> bool
-        ensures { result ≡ wants (first_of self.now.commands) }
     {
         match self.commands.first() {
-            Some(first) => first.wanted.is_some(),
-            None => false,
+            Some(first) => self.first_data(first),
+            None => &[],
         }
     }
 
-    /// Lets it go, and looks at the next one.
+    /// The data of the first command that waits, which is this: that of its R2T, where it wants one, or that in its capsule.
+    fn first_data(&self, first: WaitingEntry) -> &[u8]
+        requires { option_map entry_of (first_of self.now.commands) ≡ Some first }
+        ensures { result.now ≡ data_of (waiting_ready self.now) }
+    {
+        match first.wanted {
+            Some(_) => self.receiver.transfer(identifier(&first.entry)),
+            None => self.commands.first_data(),
+        }
+    }
+
+    /// Lets it go with its R2T, and asks for data that is wanted.
     pub(crate) fn go(&mut self, out: &mut Vec<u8>)
         requires between { IsBetween self.old.receiver }
         requires room { vec_len out.old + 24 ≤ vec_capacity out.old }
         ensures state { self.new ≡ (gone self.old).0 }
         ensures sent { Sends out.old out.new (gone self.old).1 }
     {
-        self.commands.start();
+        self.start();
         self.look(out);
     }
 
-    /// Looks at the first command that waits: if it wants data, that is asked for.
-    pub(crate) fn look(&mut self, out: &mut Vec<u8>)
-        requires between { IsBetween self.old.receiver }
-        requires room { vec_len out.old + 24 ≤ vec_capacity out.old }
-        ensures state { self.new ≡ (looked_at (first_of self.old.commands) self.old).0 }
-        ensures sent { Sends out.old out.new (looked_at (first_of self.old.commands) self.old).1 }
+    /// Lets the first command that waits go, with its R2T.
+    fn start(&mut self)
+        requires { IsBetween self.old.receiver }
+        ensures state { self.new ≡ with_started self.old }
+        ensures between { IsBetween self.new.receiver }
     {
         match self.commands.first() {
-            Some(first) => self.ask(identifier(&first.entry), first.wanted, out),
+            Some(first) => self.receiver.forget(identifier(&first.entry)),
             None => {}
         }
+        self.commands.start();
     }
 
     /// Completes a command.

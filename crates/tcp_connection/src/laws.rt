@@ -1,6 +1,6 @@
 //! Laws of the definitions. Each function does nothing: what it ensures is the law.
 
-ghost use Rattle.tcp_connection.specs.Laws.{CompletedOnce, IdentifiersDiffer, StepsJoin};
+ghost use Rattle.tcp_connection.specs.Laws.{CompletedOnce, IdentifiersDiffer, StepsJoin, TransfersAreKept};
 ghost use Rattle.tcp_connection.specs.Order.{CommandsGoInOrder};
 
 /// What a connection comes to, and what it sends, doesn't depend on how its stream is cut into pieces.
@@ -21,4 +21,9 @@ pub fn completed_once()
 /// Commands go in the order of their capsules, each once, and none is skipped.
 pub fn commands_go_in_order()
     ensures { CommandsGoInOrder }
+{}
+
+/// Until the command of an R2T goes, the data that comes for its tag joins what came for it before, and no other data does.
+pub fn transfers_are_kept()
+    ensures { TransfersAreKept }
 {}

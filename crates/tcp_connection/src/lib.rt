@@ -15,5 +15,7 @@ pub use commands::MOST_ENTRIES;
 pub use connection::Connection;
 pub use dealing::MOST_SENT;
 pub use executing::MOST_BESIDE_DATA;
-pub use laws::{commands_go_in_order, completed_once, identifiers_differ, steps_join};
+pub use laws::{
+    commands_go_in_order, completed_once, identifiers_differ, steps_join, transfers_are_kept,
+};
 pub use queue::{Outcome, Phase, Queue, UNCONNECTED};

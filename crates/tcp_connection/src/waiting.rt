@@ -1,14 +1,15 @@
 //! The commands that wait for their turn, and the data in their capsules.
 
-ghost use Rattle.std.specs.Prelude.{◌≡◌, ◌==◌, ◌<◌, ◌≤◌, ◌+◌, ◌++◌, ◌∷◌, [], IfOk, drop, length, vec_capacity, vec_len};
+ghost use Rattle.std.specs.Prelude.{◌≡◌, ◌==◌, ◌<◌, ◌≤◌, ◌+◌, ◌++◌, ◌∷◌, [], IfOk, drop, find, length, vec_capacity, vec_len};
 ghost use Rattle.std.specs.List.{All, list_any};
-ghost use Rattle.std.specs.Option.{option_map};
+ghost use Rattle.std.specs.Option.{option_copied, option_map};
 ghost use Rattle.tcp_pdus.specs.Direction.{identifier_of};
 ghost use Rattle.tcp_pdus.specs.declared.received.HostPdu.TheVariants.{CapsuleCmd};
 ghost use Rattle.tcp_receiver.specs.declared.expected.Progress.TheVariants.{Whole};
 ghost use Rattle.tcp_receiver.specs.Receiving.{IsBetween, next};
 ghost use Rattle.tcp_connection.specs.Commands.{first_in};
-ghost use Rattle.tcp_connection.specs.steps.Commands.{HasRooms, IsRoom, MakesRooms, data_in, entry_of, waiting_of};
+ghost use Rattle.tcp_connection.specs.Dealing.{is_unasked};
+ghost use Rattle.tcp_connection.specs.steps.Commands.{HasRooms, IsRoom, MakesRooms, data_in, entry_of, is_unasked_entry, waiting_of};
 
 use crate::commands::MOST_ENTRIES;
 use std::alloc::{AllocError, Global};
@@ -59,6 +60,31 @@ fn first_data(kept: &[KeptCommand]) -> &[u8]
         Some(first) => first.data.as_slice(),
         None => &[],
     }
+}
+
+/// The first of them that wants data by an R2T, where none is under way for it.
+fn kept_unasked<'a>(kept: &'a [KeptCommand], receiver: &Receiver) -> Option<&'a KeptCommand>
+    ensures { option_copied result ≡ find (λ it. is_unasked_entry receiver.now.expected.transfers it.command) kept.now }
+{
+    kept.iter().find(|it| is_unasked(&it.command, receiver))
+}
+
+/// What there is of it beside its data.
+fn first_unasked(kept: &[KeptCommand], receiver: &Receiver) -> Option<WaitingEntry>
+    ensures { result
+        ≡ option_map entry_of (find (λ command. is_unasked receiver.now.expected.transfers command) (waiting_of kept.now)) }
+{
+    match kept_unasked(kept, receiver) {
+        Some(first) => Some(first.command),
+        None => None,
+    }
+}
+
+/// Does a command want data by an R2T, and is none under way for it?
+fn is_unasked(command: &WaitingEntry, receiver: &Receiver) -> bool
+    ensures { result ≡ is_unasked_entry receiver.now.expected.transfers command.now }
+{
+    command.wanted.is_some() && !receiver.has_transfer(identifier(&command.entry))
 }
 
 /// A room for each command that may wait.
@@ -203,6 +229,13 @@ impl Waiting {
         ensures { result.now ≡ data_in (first_in self.now) }
     {
         first_data(self.kept.as_slice())
+    }
+
+    /// The first of them that wants data by an R2T, where none is under way for it.
+    pub(crate) fn unasked(&self, receiver: &Receiver) -> Option<WaitingEntry>
+        ensures { result ≡ option_map entry_of (find (λ command. is_unasked receiver.now.expected.transfers command) self.now) }
+    {
+        first_unasked(self.kept.as_slice(), receiver)
     }
 
     /// One more waits, whose capsule has come whole: its data goes with it, and the next PDU comes.

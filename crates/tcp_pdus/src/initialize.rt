@@ -11,7 +11,7 @@ use std::marker::Model;
 /// The most that HPDA may be: 128 bytes.
 const MOST_ALIGNMENT: u8 = 31;
 
-/// What an ICReq asks for (NVMe over TCP Transport 1.0, 3.6). Its digests are never granted, and one R2T at a time is outstanding,
+/// What an ICReq asks for (NVMe over TCP Transport 1.0, 3.6). Its digests are never granted, and a command has one R2T,
 /// whatever MAXR2T says.
 #[derive(Clone, Copy, Debug, PartialEq, Eq)]
 pub struct InitializeRequest {

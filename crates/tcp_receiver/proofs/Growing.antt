@@ -11,47 +11,46 @@ use Rattle.tcp_receiver.specs.declared.expected.Expected.{Expected}
 use Rattle.tcp_receiver.specs.declared.expected.Progress.{Progress}
 use Rattle.tcp_receiver.specs.declared.expected.Progress.TheVariants.{Partial, Failed}
 use Rattle.tcp_receiver.specs.declared.parts.Parts.{Parts}
-use Rattle.tcp_receiver.specs.steps.Parts.{Adds, Grows, IsApart, IsHeld, IsPlaced, body_of, pending_of, transferred_of}
+use Rattle.tcp_receiver.specs.steps.Parts.{Adds, Grows, IsApart, IsHeld, IsPlaced, body_of, pending_of}
 use Rattle.tcp_receiver.proofs.Filling.{Fills, all, all_length, front, header_front, new_length, pending_length, rest, stages, within}
 
 -- a PDU that grew to what was wanted
 pub grows_to : (e : Expected) (old new : Parts) (p : List ℕ) (n w : ℕ) (progress : Progress) (wanted : Progress × ℕ) → IsHeld e new
-    → transferred_of e.came new ≡ transferred_of e.came old → length (pending_of e.came old) + n ≡ w → n ≤ length p
-    → pending_of e.came new ≡ take w (pending_of e.came old ++ p) → wanted ≡ (progress, w) → Grows e old new p n progress wanted
-grows_to e old new p n w progress wanted held kept count most grown is =
+    → length (pending_of old) + n ≡ w → n ≤ length p
+    → pending_of new ≡ take w (pending_of old ++ p) → wanted ≡ (progress, w) → Grows e old new p n progress wanted
+grows_to e old new p n w progress wanted held count most grown is =
     let P : Progress × ℕ → Type 0 = λ x. Grows e old new p n progress x in
-    subst P (sym is) (record { held = held; to = refl; count = count; within = most; grown = grown; kept = kept })
+    subst P (sym is) (record { held = held; to = refl; count = count; within = most; grown = grown })
 
 -- that grew first to a part of it, and then to all
 pub grows_on : (e : Expected) (old mid new : Parts) (p : List ℕ) (n more : ℕ) (progress : Progress) (wanted later : Progress × ℕ)
-    → transferred_of e.came mid ≡ transferred_of e.came old → length (pending_of e.came mid) ≡ length (pending_of e.came old) + n → n ≤ length p
-    → pending_of e.came mid ++ drop n p ≡ pending_of e.came old ++ p → length (drop n p) + n ≡ length p → later ≡ wanted
+    → length (pending_of mid) ≡ length (pending_of old) + n → n ≤ length p
+    → pending_of mid ++ drop n p ≡ pending_of old ++ p → length (drop n p) + n ≡ length p → later ≡ wanted
     → Grows e mid new (drop n p) more progress later → Grows e old new p (n + more) progress wanted
-grows_on e old mid new p n more progress wanted later kept long most same left is g =
+grows_on e old mid new p n more progress wanted later long most same left is g =
     record {
       held = g.held;
       to = g.to ∙ ap (λ (x : Progress × ℕ). x.0) is;
       count = omega (arith, g.count, long, ap (λ (x : Progress × ℕ). x.1) is);
       within = omega (arith, g.within, left);
       grown = g.grown ∙ ap (λ (x : List ℕ). take later.1 x) same
-          ∙ ap (λ (x : Progress × ℕ). take x.1 (pending_of e.came old ++ p)) is;
-      kept = g.kept ∙ kept;
+          ∙ ap (λ (x : Progress × ℕ). take x.1 (pending_of old ++ p)) is;
     }
 
 -- nothing in both parts of the data, where there is none
-both_none : (e : Expected) (parts : Parts) → body_of e.came parts ≡ [] → (pdu : HostPdu) → IsApart pdu e.came parts
+both_none : (e : Expected) (parts : Parts) → body_of parts ≡ [] → (pdu : HostPdu) → IsApart pdu parts
 both_none e parts none =
-    let long = length-append parts.data.items (drop e.came parts.transfer.items) in
+    let long = length-append parts.data.items parts.transfer.items in
     let first : parts.data.items ≡ [] = nil_from_length parts.data.items (omega (arith, ap length none, long)) in
-    let second : drop e.came parts.transfer.items ≡ [] = nil_from_length (drop e.came parts.transfer.items) (omega (arith, ap length none, long)) in
-    λ pdu. elim pdu as (λ q. IsApart q e.came parts) [ IcReq ↦ second | H2cTermReq ↦ second | CapsuleCmd ↦ second | H2cData ↦ first ]
+    let second : parts.transfer.items ≡ [] = nil_from_length parts.transfer.items (omega (arith, ap length none, long)) in
+    λ pdu. elim pdu as (λ q. IsApart q parts) [ IcReq ↦ second | H2cTermReq ↦ second | CapsuleCmd ↦ second | H2cData ↦ first ]
 
 -- where data stands has nothing to do with the header
-still_apart : (pdu : HostPdu) (came : ℕ) (parts : Parts) (header : Vec ℕ Global) → IsApart pdu came parts → IsApart pdu came (record parts { header = header })
-still_apart IcReq came parts header apart = apart
-still_apart H2cTermReq came parts header apart = apart
-still_apart CapsuleCmd came parts header apart = apart
-still_apart H2cData came parts header apart = apart
+still_apart : (pdu : HostPdu) (parts : Parts) (header : Vec ℕ Global) → IsApart pdu parts → IsApart pdu (record parts { header = header })
+still_apart IcReq parts header apart = apart
+still_apart H2cTermReq parts header apart = apart
+still_apart CapsuleCmd parts header apart = apart
+still_apart H2cData parts header apart = apart
 
 -- ---- the header grows
 
@@ -60,45 +59,42 @@ pub record GrowsHeader (e : Expected) (old new : Parts) (p : List ℕ) (w n : �
   pub held : IsHeld e old
   pub adds : Adds old.header new.header p (w - length old.header.items) n
   pub same : new ≡ record old { header = new.header }
-  pub behind : length old.header.items < w → body_of e.came old ≡ []
+  pub behind : length old.header.items < w → body_of old ≡ []
   pub few : w ≤ 128
 
 module _ (e : Expected) (old new : Parts) (p : List ℕ) (w n : ℕ) (g : GrowsHeader e old new p w n) where
   fills : Fills w old.header.items new.header.items p n
   fills = record { count = g.adds.count; added = g.adds.added }
 
-  body_same : body_of e.came new ≡ body_of e.came old
-  body_same = ap (body_of e.came) g.same
+  body_same : body_of new ≡ body_of old
+  body_same = ap body_of g.same
 
-  pending_is : pending_of e.came new ≡ new.header.items ++ body_of e.came old
+  pending_is : pending_of new ≡ new.header.items ++ body_of old
   pending_is = ap (λ (b : List ℕ). new.header.items ++ b) body_same
-
-  pub kept : transferred_of e.came new ≡ transferred_of e.came old
-  kept = ap (transferred_of e.came) g.same
 
   pub most : n ≤ length p
   most = within w old.header.items new.header.items p n fills
 
-  pub grown_length : length (pending_of e.came new) ≡ length (pending_of e.came old) + n
+  pub grown_length : length (pending_of new) ≡ length (pending_of old) + n
   grown_length =
-      ap length pending_is ∙ pending_length w old.header.items new.header.items (body_of e.came old) p n fills g.behind
+      ap length pending_is ∙ pending_length w old.header.items new.header.items (body_of old) p n fills g.behind
 
-  pub and_rest : pending_of e.came new ++ drop n p ≡ pending_of e.came old ++ p
+  pub and_rest : pending_of new ++ drop n p ≡ pending_of old ++ p
   and_rest =
-      ap (λ (x : List ℕ). x ++ drop n p) pending_is ∙ rest w old.header.items new.header.items (body_of e.came old) p n fills g.behind
+      ap (λ (x : List ℕ). x ++ drop n p) pending_is ∙ rest w old.header.items new.header.items (body_of old) p n fills g.behind
 
-  pub grown_front : pending_of e.came new ≡ take (length (pending_of e.came old) + n) (pending_of e.came old ++ p)
-  grown_front = pending_is ∙ front w old.header.items new.header.items (body_of e.came old) p n fills g.behind
+  pub grown_front : pending_of new ≡ take (length (pending_of old) + n) (pending_of old ++ p)
+  grown_front = pending_is ∙ front w old.header.items new.header.items (body_of old) p n fills g.behind
 
-  pub front_of_header : (k : ℕ) → k ≤ length new.header.items → take k (pending_of e.came old ++ p) ≡ take k new.header.items
-  front_of_header k long = header_front w old.header.items new.header.items (body_of e.came old) p n fills g.behind k long
+  pub front_of_header : (k : ℕ) → k ≤ length new.header.items → take k (pending_of old ++ p) ≡ take k new.header.items
+  front_of_header k long = header_front w old.header.items new.header.items (body_of old) p n fills g.behind k long
 
   pub left : length (drop n p) + n ≡ length p
   left = omega (arith, length-drop n p, most)
 
   -- either enough had come before, or nothing had come behind the header, which is now at most as long as was wanted
   pub cases : ((w ≤ length old.header.items) × (n ≡ 0) × (new.header.items ≡ old.header.items))
-      ⊎ ((length old.header.items < w) × (length new.header.items ≤ w) × (body_of e.came new ≡ []))
+      ⊎ ((length old.header.items < w) × (length new.header.items ≤ w) × (body_of new ≡ []))
   cases =
       elim (stages w old.header.items new.header.items p n fills) [
         | inl same ↦ inl same
@@ -116,7 +112,6 @@ module _ (e : Expected) (old new : Parts) (p : List ℕ) (w n : ℕ) (g : GrowsH
       subst Q (sym g.same) (record {
         room = record { header = omega (arith, g.held.room.header, g.adds.room); «data» = g.held.room.«data»; transfer = g.held.room.transfer };
         bounded = g.held.bounded;
-        came = g.held.came;
         few = record {
           header = elim cases [
             | inl same ↦ omega (arith, ap length same.2, g.held.few.header)
@@ -129,48 +124,48 @@ module _ (e : Expected) (old new : Parts) (p : List ℕ) (w n : ℕ) (g : GrowsH
         placed = λ pdu long passes.
             elim cases [
               | inl same ↦
-                  (let before : IsPlaced pdu e.came old =
+                  (let before : IsPlaced pdu old =
                   g.held.placed pdu (omega (arith, long, ap length same.2))
                   (ap (λ (h : List ℕ). checked e.awaits (common_header_in (take 8 h))) (sym same.2) ∙ passes) in
                   record {
                     most = omega (arith, ap length same.2, before.most);
                     in_order = λ short. before.in_order (omega (arith, ap length same.2, short));
-                    apart = still_apart pdu e.came old new.header before.apart;
+                    apart = still_apart pdu old new.header before.apart;
                   })
               | inr grown ↦
                   (let fits : w ≤ header_bytes pdu = in_header pdu long grown.0 passes in
                   record {
                     most = omega (arith, grown.1, fits);
                     in_order = λ short. g.behind grown.0;
-                    apart = still_apart pdu e.came old new.header (both_none e old (g.behind grown.0) pdu);
+                    apart = still_apart pdu old new.header (both_none e old (g.behind grown.0) pdu);
                   })
             ];
       })
 
   -- all of the piece is used up, where not enough comes
-  pub far_header : length new.header.items < w → pending_of e.came new ≡ pending_of e.came old ++ p
-  far_header short = pending_is ∙ all w old.header.items new.header.items (body_of e.came old) p n fills g.behind short
+  pub far_header : length new.header.items < w → pending_of new ≡ pending_of old ++ p
+  far_header short = pending_is ∙ all w old.header.items new.header.items (body_of old) p n fills g.behind short
 
-  pub far_length : length new.header.items < w → length (pending_of e.came old ++ p) ≡ length new.header.items
-  far_length short = all_length w old.header.items new.header.items (body_of e.came old) p n fills g.behind short
+  pub far_length : length new.header.items < w → length (pending_of old ++ p) ≡ length new.header.items
+  far_length short = all_length w old.header.items new.header.items (body_of old) p n fills g.behind short
 
-  pub long_enough : length new.header.items ≤ length (pending_of e.came old ++ p)
+  pub long_enough : length new.header.items ≤ length (pending_of old ++ p)
   long_enough =
-      omega (arith, ap length and_rest, length-append (pending_of e.came new) (drop n p), ap length pending_is, length-append new.header.items (body_of e.came old))
+      omega (arith, ap length and_rest, length-append (pending_of new) (drop n p), ap length pending_is, length-append new.header.items (body_of old))
 
   -- it grew to what it has, less than what was wanted,
-  pub less_grows : (wanted : Progress × ℕ) → IsHeld e new → length new.header.items < w → wanted ≡ (Partial, length (pending_of e.came old ++ p))
+  pub less_grows : (wanted : Progress × ℕ) → IsHeld e new → length new.header.items < w → wanted ≡ (Partial, length (pending_of old ++ p))
       → Grows e old new p n Partial wanted
   less_grows wanted held short is =
-      grows_to e old new p n (length (pending_of e.came old ++ p)) Partial wanted held kept
+      grows_to e old new p n (length (pending_of old ++ p)) Partial wanted held
       (omega (arith, ap length (far_header short), grown_length)) most
-      (far_header short ∙ sym (take_all (length (pending_of e.came old ++ p)) (pending_of e.came old ++ p) (omega arith))) is
+      (far_header short ∙ sym (take_all (length (pending_of old ++ p)) (pending_of old ++ p) (omega arith))) is
 
   -- or just to what was wanted, where a check fails
-  pub fails_grows : (error : FatalError) (wanted : Progress × ℕ) → IsHeld e new → length new.header.items ≡ w → body_of e.came new ≡ []
+  pub fails_grows : (error : FatalError) (wanted : Progress × ℕ) → IsHeld e new → length new.header.items ≡ w → body_of new ≡ []
       → wanted ≡ (Failed error, w) → Grows e old new p n (Failed error) wanted
   fails_grows error wanted held whole none is =
-      let long : length (pending_of e.came old) + n ≡ w =
-      omega (arith, grown_length, length-append new.header.items (body_of e.came new), ap length none, whole) in
-      grows_to e old new p n w (Failed error) wanted held kept long most
-      (grown_front ∙ ap (λ (k : ℕ). take k (pending_of e.came old ++ p)) long) is
+      let long : length (pending_of old) + n ≡ w =
+      omega (arith, grown_length, length-append new.header.items (body_of new), ap length none, whole) in
+      grows_to e old new p n w (Failed error) wanted held long most
+      (grown_front ∙ ap (λ (k : ℕ). take k (pending_of old ++ p)) long) is

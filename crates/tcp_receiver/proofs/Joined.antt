@@ -14,13 +14,13 @@ use Rattle.tcp_receiver.proofs.Pieces.{settled, within}
 use Rattle.tcp_receiver.proofs.Readings.{no_failure, no_whole}
 
 -- what a receiver that reads these bytes is behind what they come to
-abbrev pub behind : Expected → List ℕ → List ℕ → Progress × ℕ → ReceiverState
-behind e bytes sent r = record { expected = e; pending = take r.1 bytes; progress = r.0; transferred = sent }
+abbrev pub behind : Expected → List ℕ → Progress × ℕ → ReceiverState
+behind e bytes r = record { expected = e; pending = take r.1 bytes; progress = r.0 }
 
 same_pair : (s t : ReceiverState) (m n : ℕ) → s ≡ t → m ≡ n → ◌≡◌ {A = ReceiverState × ℕ} (s, m) (t, n)
 same_pair s t m n same_state same_count = cc
 
-module _ (e : Expected) (x a b sent : List ℕ) where
+module _ (e : Expected) (x a b : List ℕ) where
   all_is : x ++ (a ++ b) ≡ (x ++ a) ++ b
   all_is = sym (append_assoc x a b)
 
@@ -37,13 +37,13 @@ module _ (e : Expected) (x a b sent : List ℕ) where
 
   -- and what is behind it isn't read
   stays_behind : ((n : ℕ) → reading e (x ++ a) ≡ (Partial, n) → ⊥)
-      → behind e (x ++ a) sent (reading e (x ++ a)) ≡ behind e (x ++ (a ++ b)) sent (reading e (x ++ (a ++ b)))
+      → behind e (x ++ a) (reading e (x ++ a)) ≡ behind e (x ++ (a ++ b)) (reading e (x ++ (a ++ b)))
   stays_behind more =
       let inside = within e (x ++ a) (comes e (x ++ a)) in
       let bytes : take (reading e (x ++ a)).1 (x ++ a) ≡ take (reading e (x ++ a)).1 (x ++ (a ++ b)) =
       sym (ap (take (reading e (x ++ a)).1) all_is ∙ take-append-le (reading e (x ++ a)).1 (x ++ a) b inside) in
-      ap (λ (taken : List ℕ). record { expected = e; pending = taken; progress = (reading e (x ++ a)).0; transferred = sent }) bytes
-      ∙ ap (λ (r : Progress × ℕ). behind e (x ++ (a ++ b)) sent r) (sym (stays more))
+      ap (λ (taken : List ℕ). record { expected = e; pending = taken; progress = (reading e (x ++ a)).0 }) bytes
+      ∙ ap (λ (r : Progress × ℕ). behind e (x ++ (a ++ b)) r) (sym (stays more))
 
   -- what comes to nothing yet is read whole, whatever comes behind it
   reads_on_to : reading e (x ++ a) ≡ (Partial, length (x ++ a)) → ((n : ℕ) → reading e (x ++ (a ++ b)) ≡ (Partial, n) → ⊥)
@@ -65,31 +65,31 @@ module _ (e : Expected) (x a b sent : List ℕ) where
 
   -- what the second piece makes of what the first came to
   after : ReceiverState × ℕ
-  after = taken_by (reading e (x ++ a)).0 (behind e (x ++ a) sent (reading e (x ++ a))) b
+  after = taken_by (reading e (x ++ a)).0 (behind e (x ++ a) (reading e (x ++ a))) b
 
   Joins : Type 0
   Joins =
       ◌≡◌ {A = ReceiverState × ℕ} (after.0, ((reading e (x ++ a)).1 - length x) + after.1)
-      (behind e (x ++ (a ++ b)) sent (reading e (x ++ (a ++ b))), (reading e (x ++ (a ++ b))).1 - length x)
+      (behind e (x ++ (a ++ b)) (reading e (x ++ (a ++ b))), (reading e (x ++ (a ++ b))).1 - length x)
 
-  settles : (p : Progress) → (reading e (x ++ a)).0 ≡ p → taken_by p (behind e (x ++ a) sent (reading e (x ++ a))) b ≡ (behind e (x ++ a) sent (reading e (x ++ a)), 0)
+  settles : (p : Progress) → (reading e (x ++ a)).0 ≡ p → taken_by p (behind e (x ++ a) (reading e (x ++ a))) b ≡ (behind e (x ++ a) (reading e (x ++ a)), 0)
       → ((n : ℕ) → reading e (x ++ a) ≡ (Partial, n) → ⊥) → Joins
   unfolding after Joins
   settles p is none more =
-      let same : after ≡ (behind e (x ++ a) sent (reading e (x ++ a)), 0) =
-      ap (λ (q : Progress). taken_by q (behind e (x ++ a) sent (reading e (x ++ a))) b) is ∙ none in
+      let same : after ≡ (behind e (x ++ a) (reading e (x ++ a)), 0) =
+      ap (λ (q : Progress). taken_by q (behind e (x ++ a) (reading e (x ++ a))) b) is ∙ none in
       same_pair _ _ _ _ (ap (λ (t : ReceiverState × ℕ). t.0) same ∙ stays_behind more)
       (omega (arith, ap (λ (t : ReceiverState × ℕ). t.1) same, ap (λ (r : Progress × ℕ). r.1) (stays more)))
 
   goes_on : Comes e (x ++ a) → Joins
   unfolding after Joins
   goes_on (less is) =
-      let same : after ≡ taken_by Partial (record { expected = e; pending = x ++ a; progress = Partial; transferred = sent }) b =
-      ap (λ (r : Progress × ℕ). taken_by r.0 (behind e (x ++ a) sent r) b) is
-      ∙ ap (λ (bytes : List ℕ). taken_by Partial (record { expected = e; pending = bytes; progress = Partial; transferred = sent }) b)
+      let same : after ≡ taken_by Partial (record { expected = e; pending = x ++ a; progress = Partial }) b =
+      ap (λ (r : Progress × ℕ). taken_by r.0 (behind e (x ++ a) r) b) is
+      ∙ ap (λ (bytes : List ℕ). taken_by Partial (record { expected = e; pending = bytes; progress = Partial }) b)
       (take_all (length (x ++ a)) (x ++ a) (omega arith)) in
       same_pair _ _ _ _
-      (ap (λ (t : ReceiverState × ℕ). t.0) same ∙ ap (λ (bytes : List ℕ). behind e bytes sent (reading e bytes)) (append_assoc x a b))
+      (ap (λ (t : ReceiverState × ℕ). t.0) same ∙ ap (λ (bytes : List ℕ). behind e bytes (reading e bytes)) (append_assoc x a b))
       (omega (
         arith,
         ap (λ (t : ReceiverState × ℕ). t.1) same,
@@ -106,14 +106,14 @@ module _ (e : Expected) (x a b sent : List ℕ) where
       settles (Whole pdu) (ap (λ (r : Progress × ℕ). r.0) is) refl (λ n partial. no_whole pdu (common_of (x ++ a)).pdu_length n (sym is ∙ partial))
 
 -- by what had come before
-joined : (e : Expected) (x : List ℕ) (p : Progress) (sent a b : List ℕ)
-    → let s : ReceiverState = record { expected = e; pending = x; progress = p; transferred = sent } in
+joined : (e : Expected) (x : List ℕ) (p : Progress) (a b : List ℕ)
+    → let s : ReceiverState = record { expected = e; pending = x; progress = p } in
     let one = taken_by p s a in
     let two = taken_by one.0.progress one.0 b in (two.0, one.1 + two.1) ≡ taken_by p s (a ++ b)
 unfolding after Joins
-joined e x Partial sent a b = goes_on e x a b sent (comes e (x ++ a))
-joined e x (Whole pdu) sent a b = refl
-joined e x (Failed error) sent a b = refl
+joined e x Partial a b = goes_on e x a b (comes e (x ++ a))
+joined e x (Whole pdu) a b = refl
+joined e x (Failed error) a b = refl
 
 pub pieces_join : PiecesJoin
-pieces_join = λ s first second. joined s.expected s.pending s.progress s.transferred first second
+pieces_join = λ s first second. joined s.expected s.pending s.progress first second

@@ -1,5 +1,5 @@
 -- What passes at a common header, or at a header, is no longer than there is room for.
-use Rattle.std.proofs.Common.{◌≡◌, ℕ, ◌+◌, ◌-◌, ◌≤◌, ◌<◌, ◌==◌, nat_le, List, Option, Some, None, Ok, IfSome, refl, subst, sym, lit<, lit≤, arith}
+use Rattle.std.proofs.Common.{◌≡◌, ℕ, ◌+◌, ◌-◌, ◌≤◌, ◌<◌, ◌==◌, nat_le, Bool, true, false, cond, List, length, Option, Some, None, Ok, IfSome, refl, subst, sym, lit<, lit≤, arith}
 use Rattle.std.specs.Option.{ok_or}
 use Rattle.std.proofs.lemmas.Bool.{and_parts, eqb-true, leb-true}
 use Rattle.common_definitions.specs.Checks.{first_failed, unless_failed}
@@ -15,8 +15,8 @@ use Rattle.tcp_pdus.specs.declared.transfer.ReadyToTransfer.{ReadyToTransfer}
 use Rattle.tcp_pdus.specs.Received.{checked, checks, header_bytes, host_pdu, least_bytes, most_bytes}
 use Rattle.tcp_pdus.specs.Transfer.{data_checked, data_checks, data_header_in}
 use Rattle.tcp_receiver.specs.declared.expected.Expected.{Expected}
-use Rattle.tcp_receiver.specs.Reading.{error_of, header_error}
-use Rattle.tcp_receiver.specs.steps.Parts.{IsBounded}
+use Rattle.tcp_receiver.specs.Reading.{data_error, error_of, header_error}
+use Rattle.tcp_receiver.specs.Transfers.{Transfer, is_outstanding, outstanding_in, transfer_at}
 
 none_fails : (awaits : Awaits) (h : CommonHeader) (pdu : HostPdu) (fault : FatalError) (found : Option HostPdu)
     → (ok_or found fault >>= λ q. unless_failed (first_failed (checks awaits q h)) q) ≡ Ok pdu → first_failed (checks awaits pdu h) ≡ None
@@ -66,20 +66,28 @@ no_error : (fault : Option FatalError) → error_of {X = Unit {0}} (unless_faile
 no_error None e = refl
 no_error (Some fault) e = absurd cc
 
-in_range : (common : CommonHeader) (outstanding : Option ReadyToTransfer) (came : ℕ) (sent : DataHeader) (most : ℕ)
-    → IfSome outstanding (λ wanted. wanted.length ≤ most) → error_of (data_checked common outstanding came sent) ≡ None
-    → came + (common.pdu_length - 24) ≤ most
-in_range common None came sent most small e = absurd cc
-in_range common (Some wanted) came sent most small e =
+in_range : (common : CommonHeader) (wanted : ReadyToTransfer) (came : ℕ) (sent : DataHeader)
+    → error_of (data_checked common (Some wanted) came sent) ≡ None → came + (common.pdu_length - 24) ≤ wanted.length
+in_range common wanted came sent e =
     let none = no_error (first_failed (data_checks common wanted came sent)) e in
     let ranges = and_parts (sent.offset == came) (nat_le (sent.offset + sent.length) wanted.length)
     (demanded _ _ (passed (data_checks common wanted came sent) 2 none)) in
     let begins : sent.offset ≡ came = eqb-true _ _ ranges.0 in
     let ends : sent.offset + sent.length ≤ wanted.length = leb-true _ _ ranges.1 in
     let long : sent.length + 24 ≡ common.pdu_length = eqb-true _ _ (demanded _ _ (passed (data_checks common wanted came sent) 3 none)) in
-    omega (arith, small, begins, ends, long)
+    omega (arith, begins, ends, long)
 
--- the data of an H2CData that passes fits behind what came before
-pub data_fits : (e : Expected) (common : CommonHeader) (header : List ℕ) → IsBounded e → header_error e common H2cData header ≡ None
-    → e.came + (common.pdu_length - 24) ≤ 131072
-data_fits e common header bounded passes = in_range common e.outstanding e.came (data_header_in header) 131072 bounded.wanted passes
+fits_in : (common : CommonHeader) (sent : DataHeader) (place : Option Transfer) → data_error common sent (outstanding_in place) ≡ None
+    → IfSome place (λ t. length t.came + (common.pdu_length - 24) ≤ t.wanted.length)
+fits_in common sent None e = absurd cc
+fits_in common sent (Some t) e = fits_by (is_outstanding t) e
+  where
+    fits_by : (b : Bool) → data_error common sent (cond b (Some t) None) ≡ None → length t.came + (common.pdu_length - 24) ≤ t.wanted.length
+    fits_by true passes = in_range common t.wanted (length t.came) sent passes
+    fits_by false passes = absurd cc
+
+-- the data of an H2CData that passes fits to what came for its R2T before
+pub data_fits : (e : Expected) (common : CommonHeader) (header : List ℕ) → header_error e common H2cData header ≡ None
+    → IfSome (transfer_at (data_header_in header).tag e.transfers) (λ t. length t.came + (common.pdu_length - 24) ≤ t.wanted.length)
+data_fits e common header passes =
+    let sent = data_header_in header in fits_in common sent (transfer_at sent.tag e.transfers) passes

@@ -1,3 +1,4 @@
+mod Apart
 mod Comes
 mod CommonHeaders
 mod DataParts

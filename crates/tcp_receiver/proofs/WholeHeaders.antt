@@ -13,7 +13,7 @@ use Rattle.tcp_receiver.specs.declared.expected.Progress.TheVariants.{Partial, F
 use Rattle.tcp_receiver.specs.declared.parts.Parts.{Parts}
 use Rattle.tcp_receiver.specs.Reading.{behind_common, behind_header, header_error}
 use Rattle.tcp_receiver.specs.steps.Parts.{Adds, Grows, IsHeld, IsPlaced, PassesCommon, PassesHeader, body_of, pending_of}
-use Rattle.tcp_receiver.proofs.Growing.{GrowsHeader, and_rest, cases, fails_grows, far_length, front_of_header, grown_header, grown_length, grows_on, held_then, kept, left, less_grows, long_enough, most}
+use Rattle.tcp_receiver.proofs.Growing.{GrowsHeader, and_rest, cases, fails_grows, far_length, front_of_header, grown_header, grown_length, grows_on, held_then, left, less_grows, long_enough, most}
 use Rattle.tcp_receiver.proofs.Lengths.{header_least, header_most, length_fits}
 use Rattle.tcp_receiver.proofs.Readings.{at_header, at_pdu, less_than_header, no_failure, no_whole}
 
@@ -22,7 +22,7 @@ same_pdu e h pdu other first second = cc
 
 module _ (e : Expected) (old new : Parts) (common : CommonHeader) (pdu : HostPdu) (p : List ℕ) (n : ℕ) (passes : PassesCommon e old common pdu)
     (adds : Adds old.header new.header p (header_bytes pdu - length old.header.items) n) (same : new ≡ record old { header = new.header }) where
-  placed : IsPlaced pdu e.came old
+  placed : IsPlaced pdu old
   placed = passes.held.placed pdu passes.long (ap (checked e.awaits) (sym passes.is) ∙ passes.passes)
 
   grows : GrowsHeader e old new p (header_bytes pdu) n
@@ -51,43 +51,43 @@ module _ (e : Expected) (old new : Parts) (common : CommonHeader) (pdu : HostPdu
 
   -- less than a header
   pub less_grown : length new.header.items < header_bytes pdu
-      → Grows e old new p n Partial (behind_common e common (pending_of e.came old ++ p) (Ok pdu))
+      → Grows e old new p n Partial (behind_common e common (pending_of old ++ p) (Ok pdu))
   less_grown short =
-      less_grows e old new p (header_bytes pdu) n grows (behind_common e common (pending_of e.came old ++ p) (Ok pdu)) held short
-      (less_than_header e (pending_of e.came old ++ p) common pdu (omega (arith, far_length e old new p (header_bytes pdu) n grows short, short)))
+      less_grows e old new p (header_bytes pdu) n grows (behind_common e common (pending_of old ++ p) (Ok pdu)) held short
+      (less_than_header e (pending_of old ++ p) common pdu (omega (arith, far_length e old new p (header_bytes pdu) n grows short, short)))
 
   module _ (enough : header_bytes pdu ≤ length new.header.items) where
     pub whole : length new.header.items ≡ header_bytes pdu
     whole = omega (arith, enough, no_more)
 
-    read_on : behind_common e common (pending_of e.came old ++ p) (Ok pdu)
-        ≡ behind_header pdu common (pending_of e.came old ++ p) (header_error e common pdu new.header.items)
+    read_on : behind_common e common (pending_of old ++ p) (Ok pdu)
+        ≡ behind_header pdu common (pending_of old ++ p) (header_error e common pdu new.header.items)
     read_on =
-        at_header e (pending_of e.came old ++ p) common pdu new.header.items
+        at_header e (pending_of old ++ p) common pdu new.header.items
         (omega (arith, enough, long_enough e old new p (header_bytes pdu) n grows))
         (front_of_header e old new p (header_bytes pdu) n grows (header_bytes pdu) enough
         ∙ take_all (header_bytes pdu) new.header.items (omega (arith, whole)))
 
     -- what had come before, if it had the whole header
     before : header_bytes pdu ≤ length old.header.items → new.header.items ≡ old.header.items
-        → behind_header pdu common (pending_of e.came old) (header_error e common pdu new.header.items) ≡ (Partial, length (pending_of e.came old))
+        → behind_header pdu common (pending_of old) (header_error e common pdu new.header.items) ≡ (Partial, length (pending_of old))
     before was same_header =
-        sym (at_header e (pending_of e.came old) common pdu new.header.items
-        (omega (arith, was, length-append old.header.items (body_of e.came old)))
-        (take_at old.header.items (body_of e.came old) (header_bytes pdu) (omega (arith, ap length same_header, whole)) ∙ sym same_header))
+        sym (at_header e (pending_of old) common pdu new.header.items
+        (omega (arith, was, length-append old.header.items (body_of old)))
+        (take_at old.header.items (body_of old) (header_bytes pdu) (omega (arith, ap length same_header, whole)) ∙ sym same_header))
         ∙ passes.less
 
     -- a header that fails
     pub failed : (error : FatalError) → header_error e common pdu new.header.items ≡ Some error
-        → Grows e old new p n (Failed error) (behind_common e common (pending_of e.came old ++ p) (Ok pdu))
+        → Grows e old new p n (Failed error) (behind_common e common (pending_of old ++ p) (Ok pdu))
     failed error fails =
         elim (cases e old new p (header_bytes pdu) n grows) [
           | inl all ↦
-              absurd (no_failure error (header_bytes pdu) (length (pending_of e.came old))
-              (ap (behind_header pdu common (pending_of e.came old)) (sym fails) ∙ before all.0 all.2))
+              absurd (no_failure error (header_bytes pdu) (length (pending_of old))
+              (ap (behind_header pdu common (pending_of old)) (sym fails) ∙ before all.0 all.2))
           | inr grown ↦
-              fails_grows e old new p (header_bytes pdu) n grows error (behind_common e common (pending_of e.came old ++ p) (Ok pdu)) held whole grown.2
-              (read_on ∙ ap (behind_header pdu common (pending_of e.came old ++ p)) fails)
+              fails_grows e old new p (header_bytes pdu) n grows error (behind_common e common (pending_of old ++ p) (Ok pdu)) held whole grown.2
+              (read_on ∙ ap (behind_header pdu common (pending_of old ++ p)) fails)
         ]
 
     -- one that passes
@@ -101,27 +101,27 @@ module _ (e : Expected) (old new : Parts) (common : CommonHeader) (pdu : HostPdu
         no_error = none;
         most = elim (cases e old new p (header_bytes pdu) n grows) [
           | inl all ↦
-              (let unchanged : pending_of e.came new ≡ pending_of e.came old =
-              ap (pending_of e.came) same ∙ ap (λ (h : List ℕ). h ++ body_of e.came old) all.2 in
-              elim (cases_lt (length (pending_of e.came old)) common.pdu_length) [
+              (let unchanged : pending_of new ≡ pending_of old =
+              ap pending_of same ∙ ap (λ (h : List ℕ). h ++ body_of old) all.2 in
+              elim (cases_lt (length (pending_of old)) common.pdu_length) [
                 | inl short ↦ omega (arith, ap length unchanged, short)
                 | inr long ↦
-                    absurd (no_whole pdu common.pdu_length (length (pending_of e.came old))
-                    (sym (at_pdu e (pending_of e.came old) common pdu long)
-                    ∙ ap (behind_header pdu common (pending_of e.came old)) (sym none) ∙ before all.0 all.2))
+                    absurd (no_whole pdu common.pdu_length (length (pending_of old))
+                    (sym (at_pdu e (pending_of old) common pdu long)
+                    ∙ ap (behind_header pdu common (pending_of old)) (sym none) ∙ before all.0 all.2))
               ])
           | inr grown ↦
               (let fits = length_fits e.awaits common pdu passes.passes in
-              omega (arith, length-append new.header.items (body_of e.came new), ap length grown.2, whole, header_least pdu, fits.least))
+              omega (arith, length-append new.header.items (body_of new), ap length grown.2, whole, header_least pdu, fits.least))
         ];
       }
 
       pub grown_on : (last : Parts) (more : ℕ) (progress : Progress)
-          → Grows e new last (drop n p) more progress (behind_header pdu common (pending_of e.came new ++ drop n p) None)
-          → Grows e old last p (n + more) progress (behind_common e common (pending_of e.came old ++ p) (Ok pdu))
+          → Grows e new last (drop n p) more progress (behind_header pdu common (pending_of new ++ drop n p) None)
+          → Grows e old last p (n + more) progress (behind_common e common (pending_of old ++ p) (Ok pdu))
       grown_on last more progress g =
           let w = header_bytes pdu in
-          grows_on e old new last p n more progress _ _ (kept e old new p w n grows) (grown_length e old new p w n grows) (most e old new p w n grows)
+          grows_on e old new last p n more progress _ _ (grown_length e old new p w n grows) (most e old new p w n grows)
           (and_rest e old new p w n grows) (left e old new p w n grows)
           (ap (λ (x : List ℕ). behind_header pdu common x None) (and_rest e old new p w n grows)
-          ∙ ap (behind_header pdu common (pending_of e.came old ++ p)) (sym none) ∙ sym read_on) g
+          ∙ ap (behind_header pdu common (pending_of old ++ p)) (sym none) ∙ sym read_on) g

@@ -1,4 +1,4 @@
-pub mod Outstanding
+pub mod Transfers
 pub mod Reading
 pub mod Receiving
 pub mod Laws

@@ -7,22 +7,31 @@ use Rattle.tcp_pdus.specs.declared.received.HostPdu.TheVariants.{IcReq, H2cTermR
 use Rattle.tcp_pdus.specs.CommonHeader.{common_header_in}
 use Rattle.tcp_pdus.specs.Initialize.{initialize_checked, initialize_request_in}
 use Rattle.tcp_pdus.specs.Received.{checked, header_bytes}
+use Rattle.tcp_pdus.specs.declared.fatal_error.FatalError.TheVariants.{InvalidHeaderField}
+use Rattle.tcp_pdus.specs.declared.transfer.DataHeader.{DataHeader}
 use Rattle.tcp_pdus.specs.Transfer.{data_checked, data_header_in}
 use Rattle.tcp_receiver.specs.declared.expected.Expected.{Expected}
 use Rattle.tcp_receiver.specs.declared.expected.Progress.{Progress}
 use Rattle.tcp_receiver.specs.declared.expected.Progress.TheVariants.{Partial, Whole, Failed}
+use Rattle.tcp_receiver.specs.Transfers.{Transfer, outstanding}
 
 -- why a reading failed
 abbrev pub error_of : {X : Type 0} → Result X FatalError → Option FatalError
 error_of (Ok x) = None
 error_of (Err error) = Some error
 
+-- the fatal error of data that comes for an outstanding R2T, or for none
+abbrev pub data_error : CommonHeader → DataHeader → Option Transfer → Option FatalError
+data_error common sent None = Some (InvalidHeaderField 10)
+data_error common sent (Some t) = error_of (data_checked common (Some t.wanted) (length t.came) sent)
+
 -- the fatal error of a whole header: of an ICReq and of an H2CData. What else is asked of a capsule, whoever deals with it checks
 abbrev pub header_error : Expected → CommonHeader → HostPdu → List ℕ → Option FatalError
 header_error expected common IcReq header = error_of (initialize_checked (initialize_request_in header))
 header_error expected common H2cTermReq header = None
 header_error expected common CapsuleCmd header = None
-header_error expected common H2cData header = error_of (data_checked common expected.outstanding expected.came (data_header_in header))
+header_error expected common H2cData header =
+    let sent = data_header_in header in data_error common sent (outstanding sent.tag expected.transfers)
 
 -- behind the header: a PDU is whole once all of its bytes have come
 abbrev pub behind_header : HostPdu → CommonHeader → List ℕ → Option FatalError → Progress × ℕ

@@ -1,2 +1,3 @@
 -- What private functions hand on to each other; no public contract speaks of it.
 pub mod Parts
+pub mod Transfers

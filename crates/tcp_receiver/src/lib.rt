@@ -5,7 +5,8 @@ mod expected;
 mod laws;
 mod parts;
 mod receiver;
+mod transfers;
 
-pub use expected::{Expected, Progress};
-pub use laws::pieces_join;
+pub use expected::Progress;
+pub use laws::{pieces_join, transfers_stay_apart};
 pub use receiver::{MOST_IN_CAPSULE, Receiver};

@@ -12,14 +12,14 @@ use tcp_pdus::{
     COMMON_HEADER_BYTES, CommonHeader, DataHeader, FatalError, HostPdu, InitializeRequest,
 };
 
-/// The parts of a PDU, as far as they have come, and what came of the data of the outstanding R2T.
+/// The parts of a PDU, as far as they have come.
 #[derive(Drop)]
 pub(crate) struct Parts {
     /// The header.
     pub(crate) header: Vec<u8>,
     /// The data behind it, but for that of an H2CData.
     pub(crate) data: Vec<u8>,
-    /// The data of the R2T, with that of an H2CData which has come in part.
+    /// The data of an H2CData.
     pub(crate) transfer: Vec<u8>,
 }
 
@@ -36,9 +36,9 @@ fn add(bytes: &mut Vec<u8>, missing: usize, piece: &[u8]) -> usize
 }
 
 /// Adds the bytes of a piece that the PDU still wants, up to its end or to the check that fails first, and gives how many they are.
-pub(crate) fn grow(parts: &mut Parts, expected: Expected, piece: &[u8]) -> (usize, Progress)
-    requires { IsReceiver expected parts.old Partial }
-    ensures { GrowsToReading expected parts.old parts.new piece.now result }
+pub(crate) fn grow(parts: &mut Parts, expected: &Expected, piece: &[u8]) -> (usize, Progress)
+    requires { IsReceiver expected.now parts.old Partial }
+    ensures { GrowsToReading expected.now parts.old parts.new piece.now result }
 {
     let missing = COMMON_HEADER_BYTES.saturating_sub(parts.header.len());
     let first = add(&mut parts.header, missing, piece);
@@ -58,13 +58,13 @@ pub(crate) fn grow(parts: &mut Parts, expected: Expected, piece: &[u8]) -> (usiz
 /// Adds the bytes of a piece behind a common header that passes.
 fn grow_header(
     parts: &mut Parts,
-    expected: Expected,
+    expected: &Expected,
     common: CommonHeader,
     pdu: HostPdu,
     piece: &[u8],
 ) -> (usize, Progress)
-    requires { PassesCommon expected parts.old common pdu }
-    ensures { GrowsBehindCommon expected common pdu parts.old parts.new piece.now result }
+    requires { PassesCommon expected.now parts.old common pdu }
+    ensures { GrowsBehindCommon expected.now common pdu parts.old parts.new piece.now result }
 {
     let wanted = pdu.header_bytes() as usize;
     let missing = wanted.saturating_sub(parts.header.len());
@@ -83,13 +83,13 @@ fn grow_header(
 
 /// Checks the whole header of a PDU.
 fn check_header(
-    expected: Expected,
+    expected: &Expected,
     common: CommonHeader,
     pdu: HostPdu,
     header: &[u8],
 ) -> Result<(), FatalError>
     requires { length header.now ≡ header_bytes pdu }
-    ensures { error_of result ≡ header_error expected common pdu header.now }
+    ensures { error_of result ≡ header_error expected.now common pdu header.now }
 {
     match pdu {
         HostPdu::IcReq => match InitializeRequest::read(header).check() {
@@ -97,26 +97,22 @@ fn check_header(
             Err(error) => Err(error),
         },
         HostPdu::H2cTermReq | HostPdu::CapsuleCmd => Ok(()),
-        HostPdu::H2cData => DataHeader::read(header).check(
-            common,
-            expected.outstanding,
-            expected.came,
-        ),
+        HostPdu::H2cData => expected.transfers.check(common, DataHeader::read(header)),
     }
 }
 
-/// Adds the bytes of a piece behind a header that passes: of an H2CData to what came for the R2T.
+/// Adds the bytes of a piece behind a header that passes.
 fn grow_data(
     parts: &mut Parts,
-    expected: Expected,
+    expected: &Expected,
     common: CommonHeader,
     pdu: HostPdu,
     piece: &[u8],
 ) -> (usize, Progress)
-    requires { PassesHeader expected parts.old common pdu }
-    ensures { GrowsBehindHeader expected common pdu parts.old parts.new piece.now result }
+    requires { PassesHeader expected.now parts.old common pdu }
+    ensures { GrowsBehindHeader expected.now common pdu parts.old parts.new piece.now result }
 {
-    let missing = common.pdu_length as usize - come(parts, expected.came);
+    let missing = common.pdu_length as usize - come(parts);
     let count = add_data(parts, pdu, missing, piece);
     if count < missing {
         (count, Progress::Partial)
@@ -126,12 +122,11 @@ fn grow_data(
 }
 
 /// How many bytes of the PDU have come.
-fn come(parts: &Parts, came: u32) -> usize
-    requires room { HasFew parts.now }
-    requires before { came ≤ length parts.now.transfer.items }
-    ensures { result ≡ length (pending_of came parts.now) }
+fn come(parts: &Parts) -> usize
+    requires { HasFew parts.now }
+    ensures { result ≡ length (pending_of parts.now) }
 {
-    parts.header.len() + parts.data.len() + (parts.transfer.len() - came as usize)
+    parts.header.len() + parts.data.len() + parts.transfer.len()
 }
 
 /// Adds the bytes of a piece to the data of a PDU, but no more than are missing.

@@ -1,25 +1,29 @@
 //! A receiver of PDUs.
 
-ghost use Rattle.std.specs.Prelude.{◌≡◌, ◌≤◌, ◌+◌, ◌++◌, [], IfOk, IfSome, None, drop, length, vec_capacity};
+ghost use Rattle.std.specs.Prelude.{◌≡◌, ◌≤◌, ◌+◌, [], IfOk, drop, is_some, length, unwrap_or, vec_capacity};
 ghost use Rattle.tcp_pdus.specs.declared.received.HostPdu.{HostPdu};
 ghost use Rattle.tcp_pdus.specs.declared.received.HostPdu.TheVariants.{CapsuleCmd};
 ghost use Rattle.tcp_pdus.specs.Received.{header_bytes};
+ghost use Rattle.tcp_pdus.specs.Transfer.{data_header_in};
 ghost use Rattle.tcp_receiver.specs.declared.expected.Progress.TheVariants.{Partial, Whole};
-ghost use Rattle.tcp_receiver.specs.Receiving.{IsBetween, IsDataOf, IsHeaderOf, IsTransferOf, awaiting, expecting, fresh, next, taken};
+ghost use Rattle.tcp_receiver.specs.Receiving.{IsBetween, IsDataOf, IsHeaderOf, awaiting, expecting, forgetting, fresh, next, taken};
+ghost use Rattle.tcp_receiver.specs.Transfers.{data_of_command, free_tag, has_transfer, with_data};
+ghost use Rattle.tcp_receiver.specs.steps.Parts.{EndsData, FitsData, HasRoom, transfers_after};
 
 use crate::expected::{Expected, Progress};
 use crate::parts::{Parts, grow};
+use crate::transfers::Transfers;
 use std::alloc::{AllocError, Global};
 use std::marker::Model;
 use std::mem::replace;
-use tcp_pdus::{Awaits, MAX_H2C_DATA, MOST_HEADER_BYTES, ReadyToTransfer};
+use tcp_pdus::{Awaits, DataHeader, HostPdu, MAX_H2C_DATA, MOST_HEADER_BYTES, ReadyToTransfer};
 
 /// The most bytes of data in a capsule, whatever is awaited.
 pub const MOST_IN_CAPSULE: u16 = 8192;
 
 /// Receives the PDUs of one connection, whose bytes come in any pieces: one PDU at a time, each of which is dealt with before the next
-/// is read. A clause sees what is expected, the bytes of the PDU that have come, what they amount to, and the data of the outstanding
-/// R2T that came before.
+/// is read. The data of up to four R2Ts comes, each for its tag. A clause sees what is expected, with these R2Ts and what came for them
+/// in whole PDUs, the bytes of the PDU that have come, and what they amount to.
 #[derive(Drop)]
 pub struct Receiver {
     expected: Expected,
@@ -39,8 +43,8 @@ impl Model for Receiver {
 }
 
 impl Receiver {
-    /// A receiver to which nothing has come, with room for the longest header, for the data of a capsule, and for that of an R2T.
-    /// It takes no other memory later.
+    /// A receiver to which nothing has come, with room for the longest header, for the data of a capsule and of an H2CData, and for
+    /// that of four R2Ts: 650 KiB. It takes no other memory later.
     ///
     /// # Errors
     ///
@@ -51,8 +55,7 @@ impl Receiver {
         Ok(Receiver {
             expected: Expected {
                 awaits: Awaits::Initialization,
-                outstanding: None,
-                came: 0,
+                transfers: Transfers::new(alloc)?,
             },
             parts: Parts {
                 header: Vec::with_capacity(alloc, MOST_HEADER_BYTES)?,
@@ -71,11 +74,8 @@ impl Receiver {
         parts.header.clear();
         parts.data.clear();
         parts.transfer.clear();
-        self.expected = Expected {
-            awaits: Awaits::Initialization,
-            outstanding: None,
-            came: 0,
-        };
+        self.expected.awaits = Awaits::Initialization;
+        self.expected.transfers.clear();
         self.progress = Progress::Partial;
     }
 
@@ -89,7 +89,7 @@ impl Receiver {
     {
         match self.progress {
             Progress::Partial => {
-                let (count, progress) = grow(&mut self.parts, self.expected, piece);
+                let (count, progress) = grow(&mut self.parts, &self.expected, piece);
                 self.progress = progress;
                 count
             }
@@ -104,11 +104,32 @@ impl Receiver {
         self.progress
     }
 
-    /// The R2T that is outstanding.
-    pub fn outstanding(&self) -> Option<ReadyToTransfer>
-        ensures { result ≡ self.now.expected.outstanding }
+    /// The lowest tag that no R2T has which is under way.
+    pub fn free_tag(&self) -> Option<u16>
+        ensures { result ≡ free_tag self.now.expected.transfers }
     {
-        self.expected.outstanding
+        self.expected.transfers.free_tag()
+    }
+
+    /// Is an R2T for this command under way?
+    pub fn has_transfer(&self, command: u16) -> bool
+        ensures { result ≡ has_transfer command self.now.expected.transfers }
+    {
+        self.expected.transfers.has(command)
+    }
+
+    /// Has all data of a command's R2T come?
+    pub fn has_come(&self, command: u16) -> bool
+        ensures { result ≡ is_some (data_of_command command self.now.expected.transfers) }
+    {
+        self.expected.transfers.is_whole(command)
+    }
+
+    /// All data of a command's R2T, once that has come.
+    pub fn transfer(&self, command: u16) -> &[u8]
+        ensures { result.now ≡ unwrap_or (data_of_command command self.now.expected.transfers) [] }
+    {
+        self.expected.transfers.data(command)
     }
 
     /// The header of a whole PDU; or what was read of one in which a check failed, which a C2HTermReq gives back.
@@ -127,23 +148,14 @@ impl Receiver {
         self.parts.data.as_slice()
     }
 
-    /// What has come of the data of the R2T, with that of the whole PDU; or between PDUs.
-    pub fn transfer(&self) -> &[u8]
-        ensures { IsTransferOf self.now.progress self.now result.now }
-    {
-        self.parts.transfer.as_slice()
-    }
-
-    /// Lets a whole PDU go, and begins the next one. An R2T of which all data has come isn't outstanding any more.
+    /// Lets a whole PDU go, and begins the next one. The data of an H2CData joins what came for its R2T.
     pub fn next(&mut self)
         ensures state { self.new ≡ next self.old }
         ensures between { (pdu : HostPdu) → self.old.progress ≡ Whole pdu → IsBetween self.new }
     {
         match self.progress {
             Progress::Whole(pdu) => {
-                self.parts.header.clear();
-                self.parts.data.clear();
-                self.expected = self.expected.behind(pdu, self.parts.transfer.len() as u32);
+                end_pdu(pdu, &mut self.expected.transfers, &mut self.parts);
                 self.progress = Progress::Partial;
             }
             Progress::Partial | Progress::Failed(_) => {}
@@ -175,14 +187,52 @@ impl Receiver {
         self.expected.awaits = Awaits::Commands { in_capsule };
     }
 
-    /// Expects the data of an R2T, or none, and forgets what came for the one before. It is called between PDUs.
-    pub fn expect_data(&mut self, outstanding: Option<ReadyToTransfer>)
-        requires few { IfSome outstanding (λ wanted. wanted.length ≤ MAX_H2C_DATA) }
+    /// Expects the data of an R2T, too. It is called between PDUs.
+    pub fn expect_data(&mut self, wanted: ReadyToTransfer)
+        requires few { wanted.length ≤ MAX_H2C_DATA }
         requires between { IsBetween self.old }
-        ensures { self.new ≡ expecting outstanding self.old }
+        ensures { self.new ≡ expecting wanted self.old }
     {
-        self.parts.transfer.clear();
-        self.expected.outstanding = outstanding;
-        self.expected.came = 0;
+        self.expected.transfers.begin(wanted);
     }
+
+    /// Lets the R2T of a command go, where it has one, with its data. It is called between PDUs.
+    pub fn forget(&mut self, command: u16)
+        requires { IsBetween self.old }
+        ensures { self.new ≡ forgetting command self.old }
+    {
+        self.expected.transfers.forget(command);
+    }
+}
+
+/// Lets a whole PDU go. The data of an H2CData joins what came for its R2T.
+fn end_pdu(pdu: HostPdu, transfers: &mut Transfers, parts: &mut Parts)
+    requires fits { FitsData pdu transfers.old parts.old }
+    requires room { HasRoom parts.old }
+    ensures transfers { transfers.new ≡ transfers_after pdu parts.old transfers.old }
+    ensures header { parts.new.header.items ≡ [] }
+    ensures inside { parts.new.data.items ≡ [] }
+    ensures transfer { parts.new.transfer.items ≡ [] }
+    ensures room { HasRoom parts.new }
+{
+    match pdu {
+        HostPdu::H2cData => join_data(transfers, parts),
+        HostPdu::IcReq | HostPdu::H2cTermReq | HostPdu::CapsuleCmd => parts.transfer.clear(),
+    }
+    parts.header.clear();
+    parts.data.clear();
+}
+
+/// Adds the data of a whole H2CData to what came for its R2T.
+fn join_data(transfers: &mut Transfers, parts: &mut Parts)
+    requires fits { EndsData transfers.old parts.old }
+    requires room { HasRoom parts.old }
+    ensures transfers { transfers.new ≡ with_data (data_header_in parts.old.header.items).tag parts.old.transfer.items transfers.old }
+    ensures header { parts.new.header ≡ parts.old.header }
+    ensures inside { parts.new.data ≡ parts.old.data }
+    ensures transfer { parts.new.transfer.items ≡ [] }
+    ensures room { HasRoom parts.new }
+{
+    let tag = DataHeader::read(parts.header.as_slice()).tag;
+    transfers.join(tag, &mut parts.transfer);
 }

@@ -83,16 +83,17 @@ fn deal(receiver: &mut Receiver, pdu: HostPdu, outcome: &mut Outcome) -> Result<
 {
     outcome.pdus.push(pdu)?;
     outcome.bytes.extend_from_slice(receiver.header())?;
-    if pdu == HostPdu::H2cData {
-        outcome.transferred.extend_from_slice(receiver.transfer())?;
-    } else {
+    if pdu != HostPdu::H2cData {
         outcome.bytes.extend_from_slice(receiver.data())?;
     }
     receiver.next();
     match pdu {
         HostPdu::IcReq => receiver.await_commands(0),
-        HostPdu::CapsuleCmd => receiver.expect_data(Some(WANTED)),
-        HostPdu::H2cTermReq | HostPdu::H2cData => {}
+        HostPdu::CapsuleCmd => receiver.expect_data(WANTED),
+        HostPdu::H2cData => outcome
+            .transferred
+            .extend_from_slice(receiver.transfer(WANTED.command))?,
+        HostPdu::H2cTermReq => {}
     }
     Ok(())
 }

@@ -1,7 +1,9 @@
 -- Room for the commands without a completion, and how those that wait are kept.
-use Rattle.std.specs.Prelude.{ℕ, Bool, false, ◌≡◌, ◌≤◌, ◌+◌, List, [], ◌∷◌, length, Option, Some, None, is_some, Vec, vec_capacity}
+use Rattle.std.specs.Prelude.{ℕ, Bool, true, not, ◌&&◌, ◌≡◌, ◌≤◌, ◌+◌, List, [], ◌∷◌, length, Option, Some, None, is_some, Vec, vec_capacity, if◌then◌else◌}
 use Rattle.std.specs.List.{All}
 use Rattle.std.specs.declared.alloc.Global.{Global}
+use Rattle.tcp_pdus.specs.Direction.{identifier_of}
+use Rattle.tcp_receiver.specs.Transfers.{Transfer, data_of_command, has_transfer}
 use Rattle.tcp_connection.specs.declared.waiting.KeptCommand.{KeptCommand}
 use Rattle.tcp_connection.specs.declared.waiting.WaitingEntry.{WaitingEntry}
 use Rattle.tcp_connection.specs.Commands.{WaitingCommand}
@@ -22,10 +24,19 @@ abbrev pub data_in : Option WaitingCommand → List ℕ
 data_in None = []
 data_in (Some command) = command.data
 
--- it wants data for an R2T
-abbrev pub wants : Option WaitingCommand → Bool
-wants None = false
-wants (Some command) = is_some command.wanted
+-- it wants data by an R2T, and none is under way for it
+abbrev pub is_unasked_entry : List (Option Transfer) → WaitingEntry → Bool
+is_unasked_entry transfers command = is_some command.wanted && not (has_transfer (identifier_of command.entry) transfers)
+
+-- all data has come that a command wants by an R2T
+abbrev pub has_come : ℕ → List (Option Transfer) → Option ℕ → Bool
+has_come command transfers None = true
+has_come command transfers (Some wanted) = is_some (data_of_command command transfers)
+
+-- its entry then
+abbrev pub entry_once_come : WaitingEntry → List (Option Transfer) → Option (List ℕ)
+entry_once_come command transfers =
+    if has_come (identifier_of command.entry) transfers command.wanted then Some command.entry else None
 
 -- room for the data in a capsule, where there is none
 pub record IsRoom (room : Vec ℕ Global) : Type 0 where

@@ -15,7 +15,7 @@ returns-then-len-lt-COMMON_HEADER_BYTES c =
     let adds : Adds old.header new.header c.args.piece.now (8 - length old.header.items) c.add-first.result =
     subst (λ (m : ℕ). Adds old.header new.header c.args.piece.now m c.add-first.result) (omega (arith, c.saturating_sub-missing.ensures, c.len.ensures))
     c.add-first.ensures in
-    less_grown c.args.expected old new c.args.piece.now c.add-first.result c.requires adds refl (omega (arith, c.if-len-lt-COMMON_HEADER_BYTES.true, c.len-2.ensures))
+    less_grown c.args.expected.now old new c.args.piece.now c.add-first.result c.requires adds refl (omega (arith, c.if-len-lt-COMMON_HEADER_BYTES.true, c.len-2.ensures))
 
 pub grow_header-more-requires : goal.grow_header-more-requires
 grow_header-more-requires c =
@@ -24,7 +24,7 @@ grow_header-more-requires c =
     let adds : Adds old.header new.header c.args.piece.now (8 - length old.header.items) c.add-first.result =
     subst (λ (m : ℕ). Adds old.header new.header c.args.piece.now m c.add-first.result) (omega (arith, c.saturating_sub-missing.ensures, c.len.ensures))
     c.add-first.ensures in
-    passed c.args.expected old new c.args.piece.now c.add-first.result c.requires adds refl c.read-common.result
+    passed c.args.expected.now old new c.args.piece.now c.add-first.result c.requires adds refl c.read-common.result
     (omega (arith, c.if-len-lt-COMMON_HEADER_BYTES.false, c.len-2.ensures))
     (c.read-common.ensures ∙ ap (λ (h : List ℕ). common_header_in (take 8 h)) c.deref.ensures.value) c.in-Ok.pdu (sym c.in-Ok.ensures)
 
@@ -36,12 +36,12 @@ returns-in-Ok c =
     let adds : Adds old.header new.header c.args.piece.now (8 - length old.header.items) n =
     subst (λ (m : ℕ). Adds old.header new.header c.args.piece.now m n) (omega (arith, c.saturating_sub-missing.ensures, c.len.ensures))
     c.add-first.ensures in
-    grown_on c.args.expected old new c.args.piece.now n c.requires adds refl c.read-common.result
+    grown_on c.args.expected.now old new c.args.piece.now n c.requires adds refl c.read-common.result
     (omega (arith, c.if-len-lt-COMMON_HEADER_BYTES.false, c.len-2.ensures))
     (c.read-common.ensures ∙ ap (λ (h : List ℕ). common_header_in (take 8 h)) c.deref.ensures.value) c.in-Ok.pdu (sym c.in-Ok.ensures)
     c.grow_header-more.new.parts c.grow_header-more.result.0 c.grow_header-more.result.1
-    (subst (λ (p : List ℕ). Grows c.args.expected new c.grow_header-more.new.parts p c.grow_header-more.result.0 c.grow_header-more.result.1
-    (behind_common c.args.expected c.read-common.result (pending_of c.args.expected.came new ++ p) (Ok c.in-Ok.pdu)))
+    (subst (λ (p : List ℕ). Grows c.args.expected.now new c.grow_header-more.new.parts p c.grow_header-more.result.0 c.grow_header-more.result.1
+    (behind_common c.args.expected.now c.read-common.result (pending_of new ++ p) (Ok c.in-Ok.pdu)))
     (take_rest c.args.piece.now n) c.grow_header-more.ensures)
 
 pub returns-in-Err : goal.returns-in-Err
@@ -51,6 +51,6 @@ returns-in-Err c =
     let adds : Adds old.header new.header c.args.piece.now (8 - length old.header.items) c.add-first.result =
     subst (λ (m : ℕ). Adds old.header new.header c.args.piece.now m c.add-first.result) (omega (arith, c.saturating_sub-missing.ensures, c.len.ensures))
     c.add-first.ensures in
-    failed c.args.expected old new c.args.piece.now c.add-first.result c.requires adds refl c.read-common.result
+    failed c.args.expected.now old new c.args.piece.now c.add-first.result c.requires adds refl c.read-common.result
     (omega (arith, c.if-len-lt-COMMON_HEADER_BYTES.false, c.len-2.ensures))
     (c.read-common.ensures ∙ ap (λ (h : List ℕ). common_header_in (take 8 h)) c.deref.ensures.value) c.in-Err.error (sym c.in-Err.ensures)

@@ -1,16 +1,18 @@
-use Rattle.std.proofs.Common.{ap, sym, ◌∙◌}
+use Rattle.std.proofs.Common.{ℕ, [], unwrap_or, ap, ◌∙◌}
+use Rattle.tcp_receiver.specs.Transfers.{data_of_command}
 use Rattle.tcp_connection.specs.Commands.{first_of}
-use Rattle.tcp_connection.specs.Executing.{data_of}
-use Rattle.tcp_connection.proofs.Ready.{capsule_data, ready_is, transferred_is}
+use Rattle.tcp_connection.proofs.Ready.{data_by_r2t, data_in_capsule}
 use Rattle.tcp_connection.proofs.state.ConnectionState.first_data.Goals as goal
 
-pub returns-then-first_wants : goal.returns-then-first_wants
-returns-then-first_wants c =
-    transferred_is c.args.self.now c.requires.come c.requires.quiet c.transfer.result.now c.transfer.ensures (sym c.first_wants.ensures ∙ c.if-first_wants.true)
-
-pub returns-else-first_wants : goal.returns-else-first_wants
-returns-else-first_wants c =
+pub returns-in-Some : goal.returns-in-Some
+returns-in-Some c =
     let s = c.args.self.now in
-    c.first_data.ensures
-    ∙ capsule_data (first_of s.commands) s.receiver.transferred (sym c.first_wants.ensures ∙ c.if-first_wants.false)
-    ∙ sym (ap data_of (ready_is s c.requires.come))
+    let transfers = s.receiver.expected.transfers in
+    c.transfer.ensures
+    ∙ ap (λ (command : ℕ). unwrap_or (data_of_command command transfers) []) c.identifier.ensures
+    ∙ data_by_r2t (first_of s.commands) c.args.first _ transfers c.requires c.in-Some.is
+
+pub returns-in-None : goal.returns-in-None
+returns-in-None c =
+    let s = c.args.self.now in
+    c.first_data.ensures ∙ data_in_capsule (first_of s.commands) c.args.first s.receiver.expected.transfers c.requires c.in-None.is

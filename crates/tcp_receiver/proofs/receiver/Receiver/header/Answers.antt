@@ -25,4 +25,4 @@ returns-clause-whole c =
     let progress : inside.progress ≡ Whole pdu = ap (λ (s : ReceiverState). s.progress) c.self.view_is ∙ is in
     ap (length {A = ℕ}) c.as_slice.ensures.value
     ∙ (whole_stands inside.expected inside.parts pdu (subst P progress c.self.invariant)
-    (comes inside.expected (pending_of inside.expected.came inside.parts))).long
+    (comes inside.expected (pending_of inside.parts))).long

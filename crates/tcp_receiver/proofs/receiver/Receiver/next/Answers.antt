@@ -1,40 +1,33 @@
-use Rattle.std.proofs.Common.{◌≡◌, length, vec_len, sym, ap, refl, subst, ◌∙◌, rules, arith}
-use Rattle.tcp_receiver.specs.declared.expected.Expected.{Expected}
+use Rattle.std.proofs.Common.{◌≡◌, sym, ap, subst, ◌∙◌}
 use Rattle.tcp_receiver.specs.declared.expected.Progress.{Progress}
-use Rattle.tcp_receiver.specs.declared.expected.Progress.TheVariants.{Partial, Whole}
-use Rattle.tcp_receiver.specs.declared.parts.Parts.{Parts}
+use Rattle.tcp_receiver.specs.declared.expected.Progress.TheVariants.{Whole}
 use Rattle.tcp_receiver.specs.Receiving.{IsBetween, ReceiverState, next, next_by}
-use Rattle.tcp_receiver.specs.steps.Parts.{HasRoom, IsReceiver, state_of}
-use Rattle.tcp_receiver.proofs.Receivers.{next_is, next_between, next_receiver}
+use Rattle.tcp_receiver.specs.steps.Parts.{IsReceiver, state_of}
+use Rattle.tcp_receiver.proofs.Receivers.{data_fits, end_is, end_receiver, next_between}
 use Rattle.tcp_receiver.proofs.receiver.Receiver.next.Goals as goal
+
+pub end_pdu-requires-clause-fits : goal.end_pdu-requires-clause-fits
+end_pdu-requires-clause-fits c =
+    let e = c.self.inside.expected in
+    let old = c.self.inside.parts in
+    let P : Progress → Type 0 = λ p. IsReceiver e old p in
+    data_fits e old c.in-Whole.pdu (subst P c.in-Whole.is c.self.invariant)
 
 pub invariant_of-self : goal.invariant_of-self
 invariant_of-self c =
     let e = c.self.inside.expected in
     let old = c.self.inside.parts in
-    let new : Parts = record { header = c.clear.new.self; «data» = c.clear-in-Whole.new.self; transfer = old.transfer } in
-    let P : Progress → Type 0 = λ p. IsReceiver e old p in
-    let receiver : IsReceiver e old (Whole c.in-Whole.pdu) = subst P c.in-Whole.is c.self.invariant in
-    let counted : vec_len old.transfer ≡ length old.transfer.items = search rules in
-    let room : HasRoom new = record {
-      header = omega (arith, c.clear.ensures.capacity, receiver.held.room.header);
-      «data» = omega (arith, c.clear-in-Whole.ensures.capacity, receiver.held.room.«data»);
-      transfer = receiver.held.room.transfer;
-    } in
-    let Q : Expected → Type 0 = λ expected. IsReceiver expected new Partial in
-    subst Q (sym c.behind-self-inside.ensures)
-    (next_receiver e old new c.len.result c.clear.ensures.items c.clear-in-Whole.ensures.items refl (c.len.ensures ∙ counted) c.in-Whole.pdu room receiver)
+    let then = c.end_pdu.ensures in
+    end_receiver e c.end_pdu.new.transfers old c.end_pdu.new.parts then.header then.inside then.transfer then.room c.self.invariant.held.bounded
 
 pub returns-in-Whole-clause-state : goal.returns-in-Whole-clause-state
 returns-in-Whole-clause-state c =
     let e = c.self.inside.expected in
     let old = c.self.inside.parts in
-    let new : Parts = record { header = c.clear.new.self; «data» = c.clear-in-Whole.new.self; transfer = old.transfer } in
     let P : Progress → Type 0 = λ p. IsReceiver e old p in
-    let receiver : IsReceiver e old (Whole c.in-Whole.pdu) = subst P c.in-Whole.is c.self.invariant in
-    let counted : vec_len old.transfer ≡ length old.transfer.items = search rules in
-    ap (λ (expected : Expected). state_of expected new Partial) c.behind-self-inside.ensures
-    ∙ next_is e old new c.len.result c.clear.ensures.items c.clear-in-Whole.ensures.items refl (c.len.ensures ∙ counted) c.in-Whole.pdu receiver
+    let then = c.end_pdu.ensures in
+    end_is e c.end_pdu.new.transfers old c.end_pdu.new.parts then.header then.inside then.transfer c.in-Whole.pdu then.transfers
+    (subst P c.in-Whole.is c.self.invariant)
     ∙ ap (λ (p : Progress). next_by p (state_of e old p)) (sym c.in-Whole.is)
     ∙ ap next c.self.view_is
 

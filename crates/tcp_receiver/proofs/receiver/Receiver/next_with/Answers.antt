@@ -23,8 +23,8 @@ invariant_of-self c =
       «data» = subst (λ (v : Vec ℕ Global). 8192 ≤ vec_capacity v) (sym c.replace.ensures.after) c.requires.room;
       transfer = receiver.held.room.transfer;
     } in
-    next_receiver e old new (length old.transfer.items) c.clear.ensures.items
-    (ap (λ (v : Vec ℕ Global). v.items) c.replace.ensures.after ∙ c.requires.empty) refl refl CapsuleCmd room receiver
+    next_receiver e old new c.clear.ensures.items
+    (ap (λ (v : Vec ℕ Global). v.items) c.replace.ensures.after ∙ c.requires.empty) refl CapsuleCmd room receiver (λ same. absurd cc)
 
 pub returns-clause-state : goal.returns-clause-state
 returns-clause-state c =
@@ -34,8 +34,8 @@ returns-clause-state c =
     let is : c.self.inside.progress ≡ Whole CapsuleCmd = ap (λ (s : ReceiverState). s.progress) c.self.view_is ∙ c.requires.whole in
     let P : Progress → Type 0 = λ p. IsReceiver e old p in
     let receiver : IsReceiver e old (Whole CapsuleCmd) = subst P is c.self.invariant in
-    next_is e old new (length old.transfer.items) c.clear.ensures.items
-    (ap (λ (v : Vec ℕ Global). v.items) c.replace.ensures.after ∙ c.requires.empty) refl refl CapsuleCmd receiver
+    next_is e old new c.clear.ensures.items
+    (ap (λ (v : Vec ℕ Global). v.items) c.replace.ensures.after ∙ c.requires.empty) refl CapsuleCmd receiver (λ same. absurd cc)
     ∙ ap (λ (p : Progress). next_by p (state_of e old p)) (sym is)
     ∙ ap next c.self.view_is
 

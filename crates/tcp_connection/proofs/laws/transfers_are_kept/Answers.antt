@@ -1,0 +1,5 @@
+use Rattle.tcp_connection.proofs.Transfers.{transfers_are_kept}
+use Rattle.tcp_connection.proofs.laws.transfers_are_kept.Goals as goal
+
+pub returns : goal.returns
+returns c = transfers_are_kept
