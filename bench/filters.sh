@@ -2,8 +2,8 @@
 # Runs the filters of examples/ and of bench/filters, as clang makes them for v2, over a block of 4096 bytes:
 # with every check, over their superinstructions, and in DPDK's interpreter (Debian's libdpdk-dev), which takes no 32-bit compares.
 # Prints the nanoseconds of a block run, the least of several rounds and launches, with their ratios to DPDK's, and the geometric
-# mean of the ratios of the second. A filter that DPDK doesn't load in 5 seconds has no ratio. Then the same of bench/unseen: filters
-# of other kinds, which no superinstruction was chosen by.
+# mean of the ratios of the second. A filter that DPDK doesn't load in 5 seconds has no ratio. Then the same of bench/counted, filters
+# of other kinds whose instructions were counted to choose superinstructions, and of bench/unseen, by which none was chosen.
 set -eu
 here=$(cd "$(dirname "$0")" && pwd)
 program=filters
@@ -12,11 +12,13 @@ ours=$here/../crates/bench_programs/out/bench_programs
 awk 'BEGIN { for (i = 0; i < 4096; i++) printf "%02x", (i * i * 31 + int(i / 7)) % 256 }' | xxd -r -p > "$work/block.bin"
 rounds=10
 repeats=1000
-mkdir "$work/seen" "$work/unseen"
+mkdir "$work/seen" "$work/counted" "$work/unseen"
 for folder in "$here/../examples" "$here/filters"; do
     make -s -f "$here/../examples/Makefile" FROM="$folder" TO="$work/seen" CPU=v2 texts
 done
-make -s -f "$here/../examples/Makefile" FROM="$here/unseen" TO="$work/unseen" CPU=v2 texts
+for folder in counted unseen; do
+    make -s -f "$here/../examples/Makefile" FROM="$here/$folder" TO="$work/$folder" CPU=v2 texts
+done
 # builds the program where it has to
 (cd "$here/../crates/bench_programs" && rt run -- "$work/seen/filter.text" "$work/block.bin" 0 0 checked > /dev/null 2>&1)
 # times each filter of a folder
@@ -57,7 +59,7 @@ printed() {
     END { if (count) printf "geometric mean of %d: %.2f\n", count, exp(sum / count) }'
 }
 
-for folder in seen unseen; do
+for folder in seen counted unseen; do
     timed "$work/$folder" > "$work/times"
     printed < "$work/times"
 done
