@@ -1,5 +1,5 @@
 -- Events that are done one after another, and what answers them.
-use Rattle.std.proofs.Common.{◌≡◌, ℕ, suc, ◌+◌, ◌-◌, ◌%◌, ◌<◌, ◌≤◌, ◌≢◌, ◌⊎◌, Bool, true, false, cond, not, List, [], ◌∷◌, ◌++◌, append-nil, append_assoc, length, length-append, map, Option, Some, None, inl, inr, refl, ap, subst, sym, ◌∙◌, arith}
+use Rattle.std.proofs.Common.{◌≡◌, ℕ, zero, suc, ◌+◌, ◌-◌, ◌%◌, ◌<◌, ◌≤◌, ◌≢◌, ◌⊎◌, Bool, true, false, cond, not, List, [], ◌∷◌, ◌++◌, append-nil, append_assoc, get_or, get_or-set_other, get_or-set_same, length, length-append, map, replicate, set, Option, Some, None, inl, inr, refl, ap, subst, sym, ◌∙◌, arith}
 use Rattle.std.specs.Prelude.{flat_map}
 use Rattle.std.proofs.Math.Dec.{eqb}
 use Rattle.std.proofs.lemmas.Bool.Decides.{eqb_tells}
@@ -12,12 +12,12 @@ use Rattle.device_events.specs.declared.event.Event.TheVariants as event
 use Rattle.device_events.specs.ToldEvents.{ToldEvent, told_of}
 use Rattle.device_meaning.specs.Events.{HasHappened, HasServed, Occurrence, replies_to, state_after}
 use Rattle.device_meaning.specs.State.{Place, State, place_at}
-use Rattle.device_meaning.specs.Happenings.{take_turn, turn_reply, turned_at}
+use Rattle.device_meaning.specs.Happenings.{place_left, take_turn, turn_reply, turn_state, turned, turned_at}
 use Rattle.device_meaning.specs.Outcome.{Ending, Turn}
 use Rattle.device_meaning.proofs.Proved.{events_in_parts}
 use Rattle.event_frames.specs.Frames.{reply_frame}
 use Rattle.device_serve.specs.FrameStream.{Answers, Began, GivesTurns, HasNone, TookTurns, WentRound, is_idle, of_runs, turns_round}
-use Rattle.device_serve.specs.steps.FrameParts.{GaveTurn, HasGrown}
+use Rattle.device_serve.specs.steps.FrameParts.{AreFree, GaveTurn, HasGrown}
 
 -- ---- events in parts
 
@@ -92,6 +92,39 @@ idle_stays : (s : State) (run : ℕ) (at : Option Place) → is_idle (turned_at 
 idle_stays s run None idle = refl
 idle_stays s run (Some place) idle = taken_stays s run place place.turns idle
 
+-- a turn starts no run
+same_reply_of : (s t : State) (n : ℕ) (place : Place) (turns : List Turn) → (take_turn t n place turns).reply ≡ (take_turn s n place turns).reply
+same_reply_of s t n place [] = refl
+same_reply_of s t n place (turn ∷ later) = refl
+
+same_reply : (s t : State) (n : ℕ) (at : Option Place) → (turned_at t n at).reply ≡ (turned_at s n at).reply
+same_reply s t n None = refl
+same_reply s t n (Some place) = same_reply_of s t n place place.turns
+
+takes_none : (s : State) (run n : ℕ) (place : Place) (turns : List Turn) → place_at s run ≡ Some place → place.turns ≡ turns → HasNone s n
+    → ((eqb n run ≡ true) × (n ≡ run)) ⊎ ((eqb n run ≡ false) × (n ≢ run)) → HasNone (take_turn s run place turns).state n
+takes_none s run n place [] here are none which = none
+takes_none s run n place (turn ∷ later) here are none (inl same) =
+    let at_run : HasNone s run = subst (HasNone s) same.1 none in
+    let taken : is_idle (take_turn s run place place.turns).reply.reply ≡ true =
+    subst (λ (at : Option Place). is_idle (turned_at s run at).reply.reply ≡ true) here at_run in
+    absurd (answers_turn run place turn.ending (subst (λ (turns : List Turn). is_idle (take_turn s run place turns).reply.reply ≡ true) are taken))
+takes_none s run n place (turn ∷ later) here are none (inr differs) =
+    let then : State = turn_state s run place turn later in
+    ap (λ (at : Option Place). is_idle (turned_at then n at).reply.reply)
+    (get_or-set_other s.places run n (place_left place later turn.ending) None differs.1)
+    ∙ ap (λ (r : ReplyWithData). is_idle r.reply) (same_reply s then n (place_at s n))
+    ∙ none
+
+gets_none_at : (s : State) (run n : ℕ) (at : Option Place) → place_at s run ≡ at → HasNone s n → HasNone (turned_at s run at).state n
+gets_none_at s run n None here none = none
+gets_none_at s run n (Some place) here none = takes_none s run n place place.turns here refl none (eqb_tells n run)
+
+gets_none : (run : ℕ) (old new : State) (r : ReplyWithData) → HasHappened interval_judge (event.Turn run) old new r → (n : ℕ) → HasNone old n
+    → HasNone new n
+gets_none run old new r happened n none =
+    subst (λ (s : State). HasNone s n) (sym happened.state) (gets_none_at old run n (place_at old run) refl none)
+
 -- a turn of a number that no run has
 pub gave_none : (run : ℕ) (old new : State) (r : ReplyWithData) (before : List ℕ) → HasHappened interval_judge (event.Turn run) old new r
     → is_idle r.reply ≡ true → GaveTurn run false old new before before
@@ -103,7 +136,14 @@ gave_none run old new r before happened idle =
           served_one (TookTurns (before, count) (before, count)) (event.Turn run) old new r happened
           (subst (λ (l : List ReplyWithData). before ≡ before ++ flat_map reply_frame l) (sym none) (sym (append-nil before)), omega (arith, ap length none));
       none = λ same. (happened.state ∙ idle_stays old run (place_at old run) has_none, has_none);
+      starts_none = gets_none run old new r happened;
     }
+
+-- a turn that isn't given to a number of which this is known comes to the same
+pub gave_free : (run : ℕ) (s : State) (before : List ℕ) → HasNone s run → GaveTurn run false s s before before
+gave_free run s before none =
+    gave_none run s s (turned s run).reply before
+    (record { starved = false; state = sym (idle_stays s run (place_at s run) none); replied = refl }) none
 
 -- a turn of a run
 pub gave_one : (run : ℕ) (old new : State) (r : ReplyWithData) (before after : List ℕ) → HasHappened interval_judge (event.Turn run) old new r
@@ -117,7 +157,42 @@ gave_one run old new r before after happened busy added =
             omega (arith, ap length one),
           );
       none = λ same. cc;
+      starts_none = gets_none run old new r happened;
     }
+
+-- ---- numbers that no run has
+
+not_both : false ≡ true → ⊥
+not_both both = cc
+
+free_at : (marks : List Bool) (run n : ℕ) (was : Bool) (old new : State) → run < length marks → AreFree marks old
+    → (was ≡ false → (new ≡ old) × HasNone old run) → ((k : ℕ) → HasNone old k → HasNone new k) → get_or (set marks run (not was)) n false ≡ true
+    → ((eqb n run ≡ true) × (n ≡ run)) ⊎ ((eqb n run ≡ false) × (n ≢ run)) → HasNone new n
+free_at marks run n true old new within free none stays marked (inl same) =
+    absurd (not_both (sym (get_or-set_same marks run false false within) ∙ subst (λ (k : ℕ). get_or (set marks run false) k false ≡ true) same.1 marked))
+free_at marks run n false old new within free none stays marked (inl same) = subst (HasNone new) (sym same.1) (stays run (none refl).1)
+free_at marks run n was old new within free none stays marked (inr differs) =
+    stays n (free n (sym (get_or-set_other marks run n (not was) false differs.1) ∙ marked))
+
+-- the number of a turn is marked where no run has it
+pub free_on : (marks : List Bool) (at run : ℕ) (was : Bool) (old new : State) (before after : List ℕ) → run < length marks → AreFree marks old
+    → GaveTurn run was old new before after → at ≡ run → AreFree (set marks at (not was)) new
+free_on marks at run was old new before after within free gave is n marked =
+    free_at marks run n was old new within free gave.none gave.starts_none
+    (subst (λ (k : ℕ). get_or (set marks k (not was)) n false ≡ true) is marked) (eqb_tells n run)
+
+-- no run has a number that is marked
+pub free_there : (marks : List Bool) (s : State) (at run : ℕ) → AreFree marks s → at ≡ run → get_or marks at false ≡ true → HasNone s run
+free_there marks s at run free is marked = free run (subst (λ (k : ℕ). get_or marks k false ≡ true) is marked)
+
+none_marked : (k n : ℕ) → get_or (replicate k false) n false ≡ false
+none_marked zero n = refl
+none_marked (suc k) zero = refl
+none_marked (suc k) (suc n) = none_marked k n
+
+-- none is marked at first
+pub free_begun : (s : State) → AreFree (replicate 8 false) s
+free_begun s n marked = absurd (not_both (sym (none_marked 8 n) ∙ marked))
 
 -- turns went round the runs, and so many were given; the last so many numbers are of no run
 pub record GoesRound (most given idle run : ℕ) (old new : State) (before after : List ℕ) : Type 0 where

@@ -1,9 +1,9 @@
 //! Turns, round the runs.
 
-ghost use Rattle.std.specs.Prelude.{◌≡◌, ◌≤◌, ◌<◌, ◌+◌, ◌*◌, ◌-◌, ◌^◌, if◌then◌else◌, length, IfOk, OnErr};
+ghost use Rattle.std.specs.Prelude.{◌≡◌, ◌≤◌, ◌<◌, ◌+◌, ◌*◌, ◌-◌, ◌^◌, if◌then◌else◌, true, length, IfOk, OnErr};
 ghost use Rattle.nvme_entry.specs.declared.command.TheConstants.{MOST_TRANSFER};
 ghost use Rattle.device_events.specs.declared.event.Event.TheVariants.{Turn};
-ghost use Rattle.device_serve.specs.FrameStream.{Began, GivesTurns, WentRound, is_idle};
+ghost use Rattle.device_serve.specs.FrameStream.{Began, GivesTurns, HasNone, WentRound, is_idle};
 ghost use Rattle.device_serve.specs.steps.FrameParts.{GaveTurn, HasGrown};
 
 use crate::frames::spelling::add_frame;
@@ -42,12 +42,39 @@ pub(crate) fn give_turns<S: Store<FrameDevice> + Drop>(
     let mut given = 0;
     let mut idle = 0;
     let mut run = 0;
+    // The numbers that were found to have no run. A turn starts none, so these aren't tried again.
+    let mut free = [false; RUNS];
     while given < turns && idle < NUMBERS {
-        let was = give_turn(kept, run, output, answer)?;
+        let place = usize::from(run);
+        let was = turn_unless(free[place], kept, run, output, answer)?;
+        free[place] = !was;
         (given, idle) = counted(was, given, idle);
         run = (run + 1) % NUMBERS;
     }
     Ok(given)
+}
+
+/// Gives a turn, unless it is known that no run has the number, and says whether one has.
+fn turn_unless<S: Store<FrameDevice> + Drop>(
+    is_free: bool,
+    kept: &mut KeptDevice<S>,
+    run: u8,
+    output: &mut [u8],
+    answer: &mut Vec<u8>,
+) -> Result<bool, AllocError>
+    requires free { is_free ≡ true → HasNone kept.old.device.value run }
+    requires room { length output.old ≡ MOST_TRANSFER }
+    requires kept { S.keeps kept.old.device.value (S.waits kept.old.events) (S.disk kept.old.events) }
+    ensures kept { S.keeps kept.new.device.value (S.waits kept.new.events) (S.disk kept.new.events) }
+    ensures same { S.disk kept.new.events ≡ S.disk kept.old.events }
+    ensures gave { IfOk result (λ was. GaveTurn run was kept.old.device.value kept.new.device.value answer.old.items answer.new.items) }
+    ensures began { OnErr result (Began (Turn run) kept.old.device.value kept.new.device.value) }
+    ensures unanswered { OnErr result (answer.new.items ≡ answer.old.items) }
+{
+    if is_free {
+        return Ok(false);
+    }
+    give_turn(kept, run, output, answer)
 }
 
 /// Gives a turn, and says whether a run has the number. Then the frame of the reply is added to the answer.

@@ -1,4 +1,5 @@
-use Rattle.std.proofs.Common.{◌≡◌, ◌+◌, ◌-◌, ◌*◌}
+use Rattle.std.proofs.Common.{◌≡◌, ◌+◌, ◌-◌, ◌*◌, length}
+use Rattle.device_serve.specs.steps.FrameParts.{AreFree}
 use Rattle.device_serve.proofs.FrameTurns.{GoesRound}
 use Rattle.device_serve.proofs.frames.turns.give_turns.Given as goal
 
@@ -7,6 +8,8 @@ invariant-loop-given g l = record {
   round : GoesRound l.turns l.given l.idle l.run l.fn.kept.device.value l.kept.device.value l.fn.answer.items l.answer.items;
   kept : g.S.Store.keeps l.kept.device.value (g.S.Store.waits l.kept.events) (g.S.Store.disk l.kept.events);
   same : g.S.Store.disk l.kept.events ≡ g.S.Store.disk l.fn.kept.events;
+  free : AreFree l.free l.kept.device.value;
+  all : length l.free ≡ 8;
 }
 
 abbrev pub decreases-loop-given : goal.decreases-loop-given
