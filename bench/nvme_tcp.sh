@@ -9,6 +9,7 @@ work=$(mktemp -d /dev/shm/nvme_tcp.XXXXXX)
 trap 'rm -r "$work"' EXIT
 cc -O2 -Wall -o "$work/host" "$here/nvme_tcp.c"
 cc -std=c11 -O2 -Wall -Wextra -I "$here/../hosts/c" -o "$work/answers" "$here/../hosts/nvme_tcp/nvme_tcp.c" \
+    "$here/../hosts/nvme_tcp/operations.c" \
     "$here/../hosts/c/pifnjarl_device.c" "$here/../hosts/c/image_file.c" "$here/../hosts/c/kept_file.c" \
     "$here/../hosts/nvme_tcp/image_uuid.c" "$here/nvme_tcp_answers.c"
 "$here/../hosts/nvme_tcp/build.sh" "$work"

@@ -1,6 +1,7 @@
 // In the place of crates/device_library: answers each PDU of bench/nvme_tcp.c at once, checks nothing, and has no device. What is written
 // is thrown away, and what is read are zeros.
 #include "../hosts/c/pifnjarl_handle.h"
+#include "../hosts/nvme_tcp/pifnjarl_loop.h"
 
 #include <string.h>
 
@@ -12,7 +13,7 @@ static struct connection {
   uint8_t head[MOST_HEADER], *unsent_end, *unsent, out[MOST_OUT];
   uint32_t came, queue, identifiers[128], first, waiting, asked;
 } connections[PIFNJARL_CONNECTIONS];
-static size_t begun;
+static size_t begun, writing;
 
 static uint32_t number(const uint8_t *at) {
   uint32_t value;
@@ -76,13 +77,6 @@ static size_t receive(struct connection *c, const uint8_t *piece, size_t count) 
   return taken;
 }
 
-static size_t unsent(struct connection *c, uint8_t *out, size_t room) {
-  size_t count = c->unsent_end - c->unsent;
-  if (count > room) count = room;
-  memcpy(out, c->unsent, count);
-  return count;
-}
-
 size_t pifnjarl_handle_bytes(void) { return 1; }
 
 void pifnjarl_handle_open(unsigned char *handle, uint32_t door, const unsigned char *bytes, size_t count) {
@@ -92,23 +86,84 @@ void pifnjarl_handle_open(unsigned char *handle, uint32_t door, const unsigned c
 size_t pifnjarl_handle_call(unsigned char *handle, uint32_t kind, size_t which, size_t count, const unsigned char *piece,
                             size_t piece_bytes, const unsigned char *beside, size_t beside_bytes, struct pifnjarl_reply *reply,
                             unsigned char *out, size_t room) {
-  struct connection *c = &connections[which];
-  (void)handle, (void)beside, (void)beside_bytes, (void)reply;
-  switch (kind) {
-  case PIFNJARL_ASK_ACCEPT:
-    if (begun < PIFNJARL_CONNECTIONS) connections[begun].unsent = connections[begun].unsent_end = connections[begun].out;
-    return begun < PIFNJARL_CONNECTIONS ? begun++ : begun;
-  case PIFNJARL_ASK_RECEIVE: return piece_bytes ? receive(c, piece, piece_bytes) : 0;
-  case PIFNJARL_ASK_UNSENT: return unsent(c, out, room);
-  case PIFNJARL_ASK_SENT:
-    c->unsent += count;
-    if (c->unsent == c->unsent_end) c->unsent = c->unsent_end = c->out;
-    return count;
-  case PIFNJARL_ASK_NAME: return 1;
-  case PIFNJARL_ASK_COMMIT: return 1;
-  case PIFNJARL_ASK_SAVE: return 1;
-  default: return 0;
-  }
+  (void)handle, (void)which, (void)count, (void)piece, (void)piece_bytes, (void)beside, (void)beside_bytes, (void)reply, (void)out, (void)room;
+  return kind == PIFNJARL_ASK_NAME;
 }
 
 void pifnjarl_handle_end(unsigned char *handle) { (void)handle; }
+
+// ---- a loop: it waits, reads each connection where something came, writes each, and takes hosts
+
+static struct pifnjarl_answer ready;
+
+static bool has_unsent(size_t place) { return connections[place].unsent < connections[place].unsent_end; }
+
+static struct pifnjarl_operation waits(void) {
+  struct pifnjarl_operation wait = {.kind = PIFNJARL_POLL, .number = 1000, .flag = 1};
+  for (size_t place = 0; place < begun; place++) wait.reads[place] = 1, wait.writes[place] = has_unsent(place);
+  return wait;
+}
+
+static struct pifnjarl_operation accepts(void) {
+  bool is_there = begun < PIFNJARL_PLACES && ready.number & PIFNJARL_ACCEPTS;
+  return is_there ? (struct pifnjarl_operation){.kind = PIFNJARL_ACCEPT, .number = begun} : waits();
+}
+
+static struct pifnjarl_operation writes_from(size_t place) {
+  while (place < begun && !has_unsent(place)) place++;
+  writing = place;
+  return place < begun ? (struct pifnjarl_operation){.kind = PIFNJARL_WRITE, .number = place} : accepts();
+}
+
+static struct pifnjarl_operation reads_from(size_t place) {
+  while (place < begun && !ready.reads[place]) place++;
+  return place < begun ? (struct pifnjarl_operation){.kind = PIFNJARL_READ, .number = place} : writes_from(0);
+}
+
+bool pifnjarl_loop_begin(unsigned char *handle, size_t level, struct pifnjarl_operation *operation) {
+  (void)handle, (void)level;
+  *operation = waits();
+  return true;
+}
+
+static void sent(struct connection *c, size_t count) {
+  size_t left = c->unsent_end - (c->unsent += count);
+  if (left > 0 && c->unsent < c->out + MOST_OUT / 2) return;
+  memmove(c->out, c->unsent, left);
+  c->unsent = c->out, c->unsent_end = c->out + left;
+}
+
+static struct pifnjarl_operation happened(const struct pifnjarl_answer *answer) {
+  ready = *answer;
+  return ready.number & PIFNJARL_SIGNALS ? (struct pifnjarl_operation){.kind = PIFNJARL_END, .flag = 1} : reads_from(0);
+}
+
+void pifnjarl_loop_step(unsigned char *handle, const struct pifnjarl_answer *answer, const unsigned char *came, size_t count,
+                        struct pifnjarl_operation *operation) {
+  size_t place = operation->number;
+  struct connection *c = &connections[place];
+  (void)handle;
+  switch (operation->kind) {
+  case PIFNJARL_READ:
+    for (size_t taken = 0; taken < count;) taken += receive(c, came + taken, count - taken);
+    *operation = reads_from(place + 1);
+    break;
+  case PIFNJARL_WRITE:
+    sent(c, answer->number);
+    *operation = writes_from(place + 1);
+    break;
+  case PIFNJARL_ACCEPT:
+    if (answer->kind == PIFNJARL_DID) c->unsent = c->unsent_end = c->out, begun++;
+    *operation = waits();
+    break;
+  default: *operation = happened(answer); break;
+  }
+}
+
+size_t pifnjarl_loop_carried(unsigned char *handle, size_t from, unsigned char *out, size_t room) {
+  const struct connection *c = &connections[writing];
+  size_t count = (size_t)(c->unsent_end - c->unsent) < room ? (size_t)(c->unsent_end - c->unsent) : room;
+  (void)handle, (void)from;
+  memcpy(out, c->unsent, count);
+  return count;
+}

@@ -5,11 +5,10 @@
    - The memory of a handle has as many bytes as are told, is aligned to 16, and is used by one call at a time. Each handle is opened once,
      and ended once, whatever opening came to.
    - A pointer that comes with a number of bytes isn't null, and what a call writes to overlaps nothing else that it is given.
-   - The stack has room for 1 MiB, and where a target is opened for 3 MiB.
+   - The stack has room for 1 MiB, and where a target is opened or a loop begins for 4 MiB.
    - Of a file: the bytes that a handle is opened on are all bytes of its file, all on the disk. The calls that are told are made in order,
      each whole, and told as done only where they are; none is made behind one that failed.
-   - Of a target: what came on a connection, and what was sent, is told before the time that went by meanwhile. Names are given before the
-     first connection begins. */
+   - Of a loop: each operation is made as hosts/nvme_tcp/pifnjarl_loop.h says, with the bytes that it carries, and what came of it is told. */
 #ifndef PIFNJARL_HANDLE_H
 #define PIFNJARL_HANDLE_H
 
@@ -27,8 +26,7 @@ size_t pifnjarl_handle_bytes(void);
 /* Opens a handle by a door. Where the bytes are refused or memory is wanting, nothing is behind it, and all the same it has to be ended. */
 void pifnjarl_handle_open(unsigned char *handle, uint32_t door, const unsigned char *bytes, size_t count);
 
-/* Does what is asked for, and gives the answer: 0, and nothing is done, where what is behind the handle doesn't know the kind, or no
-   connection can have the number. */
+/* Does what is asked for, and gives the answer: 0, and nothing is done, where what is behind the handle doesn't know the kind. */
 size_t pifnjarl_handle_call(unsigned char *handle, uint32_t kind, size_t number, size_t count, const unsigned char *piece,
                             size_t piece_bytes, const unsigned char *beside, size_t beside_bytes, struct pifnjarl_reply *reply,
                             unsigned char *out, size_t room);
@@ -57,12 +55,12 @@ enum pifnjarl_asked {
                                     data beside; gives an enum pifnjarl_result, PIFNJARL_NO_DEVICE where there is no such device */
     PIFNJARL_ASK_LOWEST_RUN = 2, /* the lowest active run, or PIFNJARL_NO_RUN */
     PIFNJARL_ASK_SAVE = 3,       /* how many bytes the image has, which are put in front where there is room for all; 0 where memory is
-                                    wanting; of a target too */
+                                    wanting */
     /* a device in a file */
     PIFNJARL_ASK_SERVE = 4,   /* does what the frames in the piece ask for, of enum pifnjarl_served */
     PIFNJARL_ASK_REPLIES = 5, /* puts the frames of the replies from byte `count` on, as many as there is room for, and how many: none
                                  before the calls for them are told as done */
-    PIFNJARL_ASK_FOLD = 6,    /* folds the journal into a new file of at most `count` bytes, of enum pifnjarl_folded; of a target too */
+    PIFNJARL_ASK_FOLD = 6,    /* folds the journal into a new file of at most `count` bytes, of enum pifnjarl_folded */
     PIFNJARL_ASK_FOLDED = 7,  /* what came of the last fold, also of one that PIFNJARL_ASK_SERVE tried; PIFNJARL_FOLD_DONE before any */
     /* what is kept in a file */
     PIFNJARL_ASK_NEXT = 8,    /* the next call for the file, of enum pifnjarl_call */
@@ -72,19 +70,18 @@ enum pifnjarl_asked {
     PIFNJARL_ASK_DONE = 12,   /* it is done */
     PIFNJARL_ASK_FAILED = 13, /* it failed: the file has to be opened again, and nothing is given out any more */
     /* a target; the functions below say what they do */
-    PIFNJARL_ASK_ACCEPT = 14,
-    PIFNJARL_ASK_RECEIVE = 15,
-    PIFNJARL_ASK_COMMAND = 16,
-    PIFNJARL_ASK_UNSENT = 17,
-    PIFNJARL_ASK_SENT = 18,
-    PIFNJARL_ASK_ENDING = 19,
-    PIFNJARL_ASK_CLOSE = 20,
-    PIFNJARL_ASK_TICK = 21,
-    PIFNJARL_ASK_TURN = 22,
-    PIFNJARL_ASK_COMMIT = 23,
-    PIFNJARL_ASK_RESUME = 24,
-    PIFNJARL_ASK_NAME = 25,
-    PIFNJARL_ASK_NQN = 26
+    PIFNJARL_ASK_NAME = 14,
+    PIFNJARL_ASK_NQN = 15,
+    /* of a target too: hosts/nvme_tcp/pifnjarl_loop.h has functions for these */
+    PIFNJARL_ASK_BEGIN = 16,     /* has a loop serve it from now on, with as much told as the number says: 1 where it does */
+    /* of a loop */
+    PIFNJARL_ASK_OPERATION = 17, /* the operation that is to be made: its kind as the reply's number, its number as the reply's data bytes, its flag
+                                    as the first byte of the reply's completion; gives how many bytes it carries */
+    PIFNJARL_ASK_READS = 18,     /* puts 1 for each place on which bytes may come, where it waits, and 0 for the others */
+    PIFNJARL_ASK_WRITES = 19,    /* for each that may take bytes */
+    PIFNJARL_ASK_CARRIED = 20,   /* puts the bytes that it carries from byte `count` on, as many as there is room for, and how many */
+    PIFNJARL_ASK_STEP = 21       /* takes what came of it: the answer's kind as number, its number as count, the bytes that came as piece; of
+                                    what happened, not 0 for each place on which bytes came as piece, and for each that takes some beside */
 };
 
 /* a call that is to be made for a file */
@@ -116,25 +113,9 @@ enum pifnjarl_folded {
     PIFNJARL_FOLD_NO_MEMORY = 3 /* memory is wanting for it: the journal is used on */
 };
 
-/* what came of a commit of a target */
-enum pifnjarl_committed {
-    PIFNJARL_COMMIT_NOT = 0,      /* the file had to be opened again already */
-    PIFNJARL_COMMIT_DONE = 1,     /* it is done, once the calls for it are made */
-    PIFNJARL_COMMIT_FAILED = 2,   /* a call was refused: the file has to be opened again */
-    PIFNJARL_COMMIT_NO_MEMORY = 3 /* memory is wanting; the file has to be opened again */
-};
-
 #define PIFNJARL_CONNECTIONS 40 /* numbers of connections are below it */
-#define PIFNJARL_RUNS 8         /* and those of runs below this */
 #define PIFNJARL_UUID_BYTES 16
 #define PIFNJARL_NQN_BYTES 223 /* the most bytes of the subsystem's name */
-
-/* what is to be done with a connection */
-enum pifnjarl_ending {
-    PIFNJARL_GOES_ON = 0,
-    PIFNJARL_ENDS = 1,   /* it is to be closed once all is sent */
-    PIFNJARL_CUT_OFF = 2 /* it is to be closed at once */
-};
 
 /* ---- calls */
 
@@ -175,56 +156,6 @@ static inline size_t pifnjarl_opened(unsigned char *handle)
 
 /* ---- targets */
 
-/* Begins a connection, and gives its number; PIFNJARL_CONNECTIONS where none is free. */
-static inline size_t pifnjarl_target_accept(unsigned char *target)
-{
-    return pifnjarl_ask(target, PIFNJARL_ASK_ACCEPT, 0, 0);
-}
-
-/* Takes the first bytes of what came on a connection, and gives how many. */
-static inline size_t pifnjarl_target_receive(unsigned char *target, size_t number, const unsigned char *bytes, size_t count)
-{
-    return pifnjarl_give(target, PIFNJARL_ASK_RECEIVE, number, bytes, count);
-}
-
-/* Does the command that is ready on a connection, and says whether there was one. */
-static inline bool pifnjarl_target_command(unsigned char *target, size_t number)
-{
-    return pifnjarl_ask(target, PIFNJARL_ASK_COMMAND, number, 0) != 0;
-}
-
-/* Puts the first bytes of what is to be sent into `out`, as many as there are and it has room for, and gives how many: none before what
-   they answer is on the disk, where the device is kept there. */
-static inline size_t pifnjarl_target_unsent(unsigned char *target, size_t number, unsigned char *out, size_t room)
-{
-    return pifnjarl_ask_for(target, PIFNJARL_ASK_UNSENT, number, 0, out, room);
-}
-
-/* Is anything to be sent? */
-static inline bool pifnjarl_target_has_unsent(unsigned char *target, size_t number)
-{
-    unsigned char first[1];
-    return pifnjarl_target_unsent(target, number, first, sizeof first) > 0;
-}
-
-/* Forgets the first bytes of what is to be sent, which were sent. */
-static inline void pifnjarl_target_sent(unsigned char *target, size_t number, size_t count)
-{
-    pifnjarl_ask(target, PIFNJARL_ASK_SENT, number, count);
-}
-
-/* What is to be done with a connection. */
-static inline enum pifnjarl_ending pifnjarl_target_ending(unsigned char *target, size_t number)
-{
-    return (enum pifnjarl_ending)pifnjarl_ask(target, PIFNJARL_ASK_ENDING, number, 0);
-}
-
-/* Says that a connection is closed. */
-static inline void pifnjarl_target_close(unsigned char *target, size_t number)
-{
-    pifnjarl_ask(target, PIFNJARL_ASK_CLOSE, number, 0);
-}
-
 /* Has the target take the names that come of a UUID: SUBNQN, the serial number and NGUID. False where memory is wanting. */
 static inline bool pifnjarl_target_name(unsigned char *target, const unsigned char uuid[PIFNJARL_UUID_BYTES])
 {
@@ -235,38 +166,6 @@ static inline bool pifnjarl_target_name(unsigned char *target, const unsigned ch
 static inline size_t pifnjarl_target_nqn(unsigned char *target, unsigned char *out, size_t room)
 {
     return pifnjarl_ask_for(target, PIFNJARL_ASK_NQN, 0, 0, out, room);
-}
-
-/* Says that so many milliseconds went by, the last of which end now. The first tick after something came, or was sent, doesn't count for
-   it, since that may have been within it. */
-static inline void pifnjarl_target_tick(unsigned char *target, size_t milliseconds)
-{
-    pifnjarl_ask(target, PIFNJARL_ASK_TICK, 0, milliseconds);
-}
-
-/* Gives a run a turn, and says whether there was one that could have it. */
-static inline bool pifnjarl_target_turn(unsigned char *target)
-{
-    return pifnjarl_ask(target, PIFNJARL_ASK_TURN, 0, 0) != 0;
-}
-
-/* Commits what was done. Where the device is in memory alone there is nothing to do. Where the journal has grown by 64 MiB, one of the
-   calls is PIFNJARL_CALL_WANT: it is to be folded. */
-static inline enum pifnjarl_committed pifnjarl_target_commit(unsigned char *target)
-{
-    return (enum pifnjarl_committed)pifnjarl_ask(target, PIFNJARL_ASK_COMMIT, 0, 0);
-}
-
-/* Gives a run a turn that was kept in the file, and of which no host waits; says whether there was one. */
-static inline bool pifnjarl_target_resume(unsigned char *target, size_t run)
-{
-    return pifnjarl_ask(target, PIFNJARL_ASK_RESUME, run, 0) != 0;
-}
-
-/* Gives how many bytes the image has, which are in front of `out` where it has room for all; 0 where memory is wanting. */
-static inline size_t pifnjarl_target_save(unsigned char *target, unsigned char *out, size_t room)
-{
-    return pifnjarl_ask_for(target, PIFNJARL_ASK_SAVE, 0, 0, out, room);
 }
 
 #endif

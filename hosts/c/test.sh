@@ -60,7 +60,10 @@ named() {
 
 # the doors and kinds of calls have the numbers of the definitions
 kinds_agree() {
-    { defined 'memory\|kept\|target' && echo OPENED 0; } | sort > "$work/kinds"
+    {
+        defined 'memory\|kept\|target\|looped'
+        sed -n 's/^pub const \(OPENED\|BEGIN\): u32 = \([0-9]*\);/\1 \2/p' "$here/../../crates/device_library/src/kind.rt"
+    } | sort > "$work/kinds"
     named ASK | diff "$work/kinds" - && defined door | sed 's/TARGETFILE/TARGET_FILE/' > "$work/doors" && named OPEN | diff "$work/doors" -
 }
 

@@ -67,9 +67,9 @@ def initialized() -> bytes:
     return pdu(Kind.IC_RESP, struct.pack("<HBBI112x", 0, 0, 0, 131072))
 
 
-def r2t(length: int, identifier: int = 7) -> bytes:
+def r2t(length: int, identifier: int = 7, tag: int = 0) -> bytes:
     """The R2T for all data of a command."""
-    return pdu(Kind.R2T, struct.pack("<HHII4x", identifier, 0, 0, length))
+    return pdu(Kind.R2T, struct.pack("<HHII4x", identifier, tag, 0, length))
 
 
 def given(data: bytes, identifier: int = 7) -> bytes:

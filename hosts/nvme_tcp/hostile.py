@@ -18,7 +18,7 @@ from typing import Iterator, List
 import target
 from cases import ADMIN, HOST_DATA, INITIALIZED, IO, OPENED, PEER_IDENTIFIER, PEER_NQN
 from cases import Case, answered, completed, fatal, head, initialized, outcome, peer_data, r2t, refused
-from nvme_tcp_connection import Fabrics, Kind, Opcode, Sgl, capsule, connect_data, connect_entry, entry, h2c_data
+from nvme_tcp_connection import LAST, Fabrics, Kind, Opcode, Sgl, capsule, connect_data, connect_entry, entry, h2c_data
 from nvme_tcp_connection import initialize_request, pdu
 from nvme_tcp_host import ANY_CONTROLLER, ENABLED, HOST_IDENTIFIER, HOST_NQN, SUBSYSTEM_NQN, Host
 
@@ -312,6 +312,7 @@ def transfers() -> Iterator[Case]:
     refused_write = capsule(sized(WRITE, 256)) + h2c_data(7, 0, half)
     answer = r2t(256) + completed(IO, 0x002)
     yield fatal("data behind the last", IO, h2c_data(7, 256, half)[:24], 1, 10, 24, before=refused_write, answer=answer)
+    yield from many_transfers()
     by_r2t = connect_entry(7, 0, 31, sgl=Sgl.TRANSPORT)
     for name, behind in {"a capsule": capsule(READ), "another Connect": capsule(CONNECT, WANTED)}.items():
         yield fatal(f"{name} before Connect's data", INITIALIZED, behind, 2, 0, 72, before=capsule(by_r2t), answer=r2t(1024))
@@ -319,6 +320,40 @@ def transfers() -> Iterator[Case]:
     pieces = h2c_data(7, 0, bytes(65536), 0) + h2c_data(7, 65536, bytes(65536))
     answer = r2t(131072) + completed(INITIALIZED, 0x00F)
     yield answered("131072 bytes of a Connect", INITIALIZED, capsule(command) + pieces, answer)
+
+
+def many_transfers() -> Iterator[Case]:
+    """H2CData PDUs where 511 bytes are asked for of each of the commands 7 to 10, under the tags 0 to 3."""
+    writes = b"".join(capsule(sized(write_of(identifier), 511)) for identifier in range(7, 11))
+    asked = b"".join(r2t(511, identifier, identifier - 7) for identifier in range(7, 11))
+
+    def part(identifier: int, at: int, end: int) -> bytes:
+        """A part of a command's data."""
+        return h2c_data(identifier, at, bytes(end - at), LAST if end == 511 else 0, identifier - 7)
+
+    def wrong(name: str, failing: bytes, status: int, information: int, before: bytes = b"") -> Case:
+        """A PDU in error, behind the Writes and what came before."""
+        return fatal(f"{name}, of four R2Ts", IO, failing[:24], status, information, 24, before=writes + before, answer=asked)
+
+    done = b"".join(completed(IO, 0x002, identifier=identifier, nth=identifier - 6) for identifier in range(7, 11))
+    turns = b"".join(part(identifier, at, min(at + 100, 511)) for at in range(0, 511, 100) for identifier in (10, 8, 7, 9))
+    yield answered("data of four R2Ts in turn", IO, writes + turns, asked + done)
+    backwards = b"".join(part(identifier, 0, 511) for identifier in (10, 9, 8, 7))
+    yield answered("data of four R2Ts, the last first", IO, writes + backwards, asked + done)
+    yield wrong("another command's TTAG", h2c_data(7, 0, bytes(511), LAST, 1), 1, 8)
+    yield wrong("TTAG 4", h2c_data(7, 0, bytes(511), LAST, 4), 1, 10)
+    yield wrong("another command's DATAO", part(8, 100, 200), 4, 0, part(7, 0, 100))
+    yield wrong("DATAO 0 again", part(8, 0, 100), 4, 0, part(8, 0, 100) + part(7, 0, 100))
+    yield wrong("data behind the last of a command that waits", part(8, 0, 511), 1, 10, part(8, 0, 511))
+    whole = part(7, 0, 511)
+    yield fatal("data of an R2T whose command is done", IO, whole[:24], 1, 10, 24, before=writes + whole, answer=asked + done[:24])
+    before, answer = writes + whole + part(8, 0, 511) + capsule(sized(write_of(11), 511)), asked + done[:48] + r2t(511, 11, 0)
+    yield fatal("the tag of a command that is done", IO, h2c_data(11, 0, whole, LAST, 1)[:24], 1, 10, 24, before=before, answer=answer)
+
+
+def write_of(identifier: int) -> bytes:
+    """The Write under another identifier."""
+    return WRITE[:2] + struct.pack("<H", identifier) + WRITE[4:]
 
 
 # ---- all of them

@@ -128,6 +128,10 @@ class Target:
         fields = Path(f"/proc/{self._program.pid}/stat").read_text().rpartition(")")[2].split()
         return (int(fields[11]) + int(fields[12])) / os.sysconf("SC_CLK_TCK")
 
+    def send(self, which: signal.Signals) -> None:
+        """Sends the program a signal."""
+        self._program.send_signal(which)
+
     def stop(self, by: signal.Signals = signal.SIGTERM) -> int:
         """Ends the program by a signal, and gives its exit status. Does nothing more where it has ended."""
         if self.runs:

@@ -4,10 +4,10 @@ from __future__ import annotations
 
 import random
 import struct
-from typing import Dict
+from typing import Dict, List, Tuple
 
 import target
-from nvme_tcp_connection import Connection, Kind, Opcode, Sgl, TimedOut, capsule, connect_entry, entry
+from nvme_tcp_connection import DATA_FIELDS, LAST, Connection, Kind, Opcode, Pdu, Sgl, TimedOut, capsule, connect_entry, entry, h2c_data
 from nvme_tcp_host import CAP, CC, CSTS, ENABLED, SUBSYSTEM_NQN, VS, Action, Host, ZoneState
 from target import FILTER, Over, little, order
 
@@ -202,6 +202,48 @@ class IoQueues(Over):
             self.assertEqual(self.queue.read(lba, blocks), data)
             lba += blocks
         self.assertEqual(lba, self.queue.report(most=1)[0].write_pointer)
+
+    def test_four_r2ts_are_under_way(self) -> None:
+        """Of the four oldest commands, whatever MAXR2T is. What comes for one is its own, and with each that goes another is asked for."""
+        rng = random.Random(5)
+        for zone, most in ((0, 0), (512, 3)):
+            connection, blocks = Connection(self.target.address), [rng.randbytes(20 * 512) for _ in range(9)]
+            connection.initialize(most_r2t=most)
+            connection.send(capsule(connect_entry(0, 2, 31), self.host.connect_data()))
+            connection.receive()
+            for number, data in enumerate(blocks):
+                connection.send(capsule(entry(Opcode.WRITE, number, zone + 20 * number, 19, length=len(data))))
+            tags = dict(self.asked_for(connection.receive()) for _ in range(4))
+            self.assertEqual(tags, {0: 0, 1: 1, 2: 2, 3: 3})
+            for at in (0, 1000):
+                for number in (3, 1, 2):
+                    last = LAST if at else 0
+                    connection.send(h2c_data(number, at, blocks[number][at : None if at else 1000], last, tags[number]))
+            with self.assertRaises(TimedOut):
+                connection.receive(0.05)
+            self.assertEqual(self.done_in_order(connection, blocks, tags), list(range(9)))
+            connection.shut()
+            self.assertEqual(self.queue.read(zone, 180), b"".join(blocks))
+
+    def asked_for(self, came: Pdu) -> Tuple[int, int]:
+        """The command and the tag of an R2T, which asks for all data."""
+        self.assertEqual(came.kind, Kind.R2T)
+        number, tag, offset, count = DATA_FIELDS.unpack_from(came.header, 8)
+        self.assertEqual((offset, count), (0, 20 * 512))
+        return number, tag
+
+    def done_in_order(self, connection: Connection, blocks: List[bytes], tags: Dict[int, int]) -> List[int]:
+        """Sends the data that is still asked for, and gives the commands in the order in which they are completed."""
+        done: List[int] = []
+        for number in (0, 4, 5, 6, 7, 8):
+            connection.send(h2c_data(number, 0, blocks[number], LAST, tags[number]))
+            while number not in done:
+                came = connection.receive()
+                if came.kind == Kind.R2T:
+                    tags.update([self.asked_for(came)])
+                else:
+                    done.append(int.from_bytes(came.header[20:22], "little"))
+        return done
 
     def test_data_is_aligned_as_the_host_wants_it(self) -> None:
         """It begins at a multiple of 4 (HPDA + 1), the least one behind the header."""

@@ -111,6 +111,9 @@ class InFlight(Over):
 BLOCKS = 32768
 """The blocks of a zone over which a run goes, each with a record."""
 
+SLOW_FILTER = bytes.fromhex("b700000000000000") * 600 + FILTER  # mov r0, 0
+"""The filter, behind instructions that take their time."""
+
 APPENDED = 4682
 """The blocks that their records come to: 7 of 66 bytes in a block of 512."""
 
@@ -125,7 +128,7 @@ class Runs(Over):
         super().setUp()
         for lba in range(0, BLOCKS, 256):
             self.queue.write(lba, order(3) * 256)
-        self.queue.load(0, FILTER, emit=66)
+        self.queue.load(0, SLOW_FILTER, emit=66)
 
     def start(self, zone: int, queue: Queue) -> int:
         """Starts a run over zone 0 into another, and gives its identifier."""

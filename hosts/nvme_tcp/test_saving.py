@@ -109,5 +109,5 @@ class Words(Image):
         for words in (["--memory", "--durable"], ["--durable", "--memory"], ["--memory", "--memory"], ["--listen"], ["--what"]):
             ran = subprocess.run([os.environ["NVME_TCP_TARGET"], self.image, *words], capture_output=True, text=True, check=False)
             self.assertEqual((ran.returncode, ran.stdout), (2, ""), words)
-            self.assertEqual(ran.stderr, "usage: nvme_tcp IMAGE [--memory] [--listen ADDRESS:PORT]\n")
+            self.assertEqual(ran.stderr, "usage: nvme_tcp IMAGE [--memory] [--listen ADDRESS:PORT] [-v]\n")
         self.assertEqual(self.image.read_bytes(), self.before)

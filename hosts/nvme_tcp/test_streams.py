@@ -8,7 +8,7 @@ from typing import Callable, List
 import fuzz
 import hostile
 from cases import IO, OPENED, PEER_IDENTIFIER, PEER_NQN, outcome, peer_data, reached
-from nvme_tcp_connection import Connection, Fabrics, Kind, Opcode, Pdu, Sgl, capsule, connect_entry, entry, h2c_data
+from nvme_tcp_connection import LAST, Connection, Fabrics, Kind, Opcode, Pdu, Sgl, capsule, connect_entry, entry, h2c_data
 from nvme_tcp_connection import initialize_request
 from nvme_tcp_host import ANY_CONTROLLER, ENABLED, Action, Host
 from target import FILTER, Over
@@ -89,6 +89,19 @@ class Pieces(Over):
         """Also where a run is the last."""
         sent = io_session(self.host.connect_data())
         self.assert_pieces(b"".join(sent), len([piece for piece in sent if piece[0] == Kind.CAPSULE_CMD]))
+
+
+    def test_data_of_four_r2ts(self) -> None:
+        """Which comes in turn, and of commands whose data is in the capsule between them."""
+        sent = [initialize_request(), capsule(connect_entry(1, 2, 31), self.host.connect_data())]
+        sent += [capsule(entry(Opcode.ZONE_MANAGEMENT_SEND, 2, 0, 0, Action.RESET | 0x100))]
+        for identifier in range(3, 9):
+            sgl = Sgl.IN_CAPSULE if identifier == 5 else Sgl.TRANSPORT
+            sent += [capsule(entry(Opcode.ZONE_APPEND, identifier, 0, length=512, sgl=sgl), BLOCK if identifier == 5 else b"")]
+        for at in range(0, 512, 128):
+            sent += [h2c_data(identifier, at, BLOCK[at : at + 128], LAST * (at == 384), tag) for tag, identifier in enumerate((3, 4, 6, 7))]
+        sent += [h2c_data(8, 0, BLOCK)]
+        self.assert_pieces(b"".join(sent), 8)
 
 
 def raw(came: Pdu) -> bytes:

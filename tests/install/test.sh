@@ -71,7 +71,8 @@ make_target() {
         echo 'the target is a stub, as its crate is not built'
         target=stub
         stub pifnjarl_handle_bytes pifnjarl_handle_open pifnjarl_handle_call pifnjarl_handle_end pifnjarl_words &&
-            ${CC:-gcc} -std=c11 -I "$top/hosts/c" "$top/hosts/nvme_tcp/nvme_tcp.c" "$top/hosts/nvme_tcp/image_uuid.c" \
+            ${CC:-gcc} -std=c11 -I "$top/hosts/c" "$top/hosts/nvme_tcp/nvme_tcp.c" "$top/hosts/nvme_tcp/loop.c" \
+                "$top/hosts/nvme_tcp/operations.c" "$top/hosts/nvme_tcp/image_uuid.c" \
                 "$top/hosts/c/image_file.c" "$top/hosts/c/kept_file.c" "$work/stub.o" -o "$work/made/nvme_tcp"
     fi
 }

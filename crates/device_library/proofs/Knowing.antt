@@ -1,7 +1,7 @@
 -- What is known of a file whose calls are all told.
 use Rattle.std.proofs.Common.{◌≡◌, List, ap}
 use Rattle.stored_file.specs.Calls.{Call}
-use Rattle.handed_file.specs.Handed.{made_calls, noted, told, told_of}
+use Rattle.handed_file.specs.Handed.{made_calls, noted, told_of}
 use Rattle.handed_file.specs.declared.handed_file.HandedFile.{HandedFile}
 use Rattle.device_library.specs.Files.{known_by, promised_of}
 

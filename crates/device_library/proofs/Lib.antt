@@ -1,6 +1,6 @@
 mod Calling
-mod Committing
 mod Reopening
 mod Refusing
 mod ServedRounds
 mod Knowing
+mod Beginning

@@ -6,7 +6,7 @@ use Rattle.durable_machine.specs.declared.fault.Fault.TheVariants.{Unreadable, D
 use Rattle.durable_device.specs.Kept.{RefusesFile}
 use Rattle.image_text.specs.Fault.{load_number}
 use Rattle.image_text.specs.declared.fault.LoadFault.TheVariants.{Memory}
-use Rattle.device_library.specs.Opening.{IsNoImage, IsNoJournal, IsRefusedImage, IsRefusedTarget, IsToldOfFault, IsToldOfJournal, WantsMemory}
+use Rattle.device_library.specs.Opening.{IsNoJournal, IsRefusedImage, IsRefusedTarget, IsToldOfFault, IsToldOfJournal}
 
 -- it is no image, or memory is wanting
 pub refused_target : (bytes : List ℕ) (number : ℕ) → IsRefusedImage bytes number → IsRefusedTarget bytes number

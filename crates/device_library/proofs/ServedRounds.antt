@@ -1,5 +1,5 @@
 -- Frames that are served.
-use Rattle.std.proofs.Common.{◌≡◌, ◌≤◌, ◌⊎◌, ◌∙◌, ℕ, false, List, [], ◌∷◌, Option, None, inl, inr, ⊎_elim, ap, length, take, refl, subst, sym, arith}
+use Rattle.std.proofs.Common.{◌≡◌, ◌⊎◌, ◌∙◌, ℕ, false, List, [], ◌∷◌, Option, None, inl, inr, ⊎_elim, ap, length, subst, sym, arith}
 use Rattle.std.proofs.lemmas.List.{take_all}
 use Rattle.stored_file.specs.File.{FileState, LeavesOnly}
 use Rattle.stored_file.proofs.Moments.{then_on, weaken}

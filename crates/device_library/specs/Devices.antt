@@ -1,5 +1,5 @@
 -- A device and its journal, in a file for which C makes the calls.
-use Rattle.std.specs.Prelude.{◌≡◌, List, ℕ, []}
+use Rattle.std.specs.Prelude.{◌≡◌, []}
 use Rattle.stored_file.specs.File.{FileState}
 use Rattle.device_meaning.specs.State.{State}
 use Rattle.device_serve.specs.declared.kept.KeptDevice.{KeptDevice}

@@ -4,6 +4,8 @@ use Rattle.device_library.specs.declared.kind.Door.{Door}
 use Rattle.device_library.specs.declared.kind.Door.TheVariants as door
 use Rattle.device_library.specs.declared.kind.KeptKind.{KeptKind}
 use Rattle.device_library.specs.declared.kind.KeptKind.TheVariants as kept
+use Rattle.device_library.specs.declared.kind.LoopKind.{LoopKind}
+use Rattle.device_library.specs.declared.kind.LoopKind.TheVariants as looped
 use Rattle.device_library.specs.declared.kind.MemoryKind.{MemoryKind}
 use Rattle.device_library.specs.declared.kind.MemoryKind.TheVariants as memory
 use Rattle.device_library.specs.declared.kind.Question.TheVariants as question
@@ -42,30 +44,27 @@ kept_kind number =
     else if number == 13 then Some kept.Failed
     else None
 
--- of a target
+-- of a target, before a loop serves it; 16 has a loop serve it
 abbrev pub target_kind : ℕ → Option TargetKind
 target_kind number =
-    if number == 3 then Some target.Save
-    else if number == 6 then Some target.Fold
-    else if number == 8 then Some (target.Ask question.Next)
+    if number == 8 then Some (target.Ask question.Next)
     else if number == 9 then Some (target.Ask question.Place)
     else if number == 10 then Some (target.Ask question.Size)
     else if number == 11 then Some (target.Ask question.Bytes)
     else if number == 12 then Some target.Done
     else if number == 13 then Some target.Failed
-    else if number == 14 then Some target.Accept
-    else if number == 15 then Some target.Receive
-    else if number == 16 then Some target.Command
-    else if number == 17 then Some target.Unsent
-    else if number == 18 then Some target.Sent
-    else if number == 19 then Some target.Ending
-    else if number == 20 then Some target.Close
-    else if number == 21 then Some target.Tick
-    else if number == 22 then Some target.Turn
-    else if number == 23 then Some target.Commit
-    else if number == 24 then Some target.Resume
-    else if number == 25 then Some target.Name
-    else if number == 26 then Some target.Nqn
+    else if number == 14 then Some target.Name
+    else if number == 15 then Some target.Nqn
+    else None
+
+-- of a loop that serves a target
+abbrev pub loop_kind : ℕ → Option LoopKind
+loop_kind number =
+    if number == 17 then Some looped.Operation
+    else if number == 18 then Some looped.Reads
+    else if number == 19 then Some looped.Writes
+    else if number == 20 then Some looped.Carried
+    else if number == 21 then Some looped.Step
     else None
 
 -- what is answered where nothing is done, since a handle has nothing that knows a kind: to an event that there is no device, and for the

@@ -14,3 +14,4 @@ pub mod Sessions
 pub mod Opening
 pub mod Calls
 pub mod Lying
+pub mod Looping

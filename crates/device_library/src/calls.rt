@@ -1,15 +1,18 @@
 //! What C asks of a handle.
 
 ghost use Rattle.device_library.specs.Asked.{Asked, told_by};
-ghost use Rattle.device_library.specs.Calls.{AnswersAs, Called, Held, Lent};
+ghost use Rattle.std.specs.Prelude.{ℕ, ◌≡◌, List, IfSome};
+ghost use Rattle.device_library.specs.Calls.{AnswersAs, Begins, Called, Held, Lent, ServesSession, is_target};
 ghost use Rattle.device_library.specs.Sessions.{KeepsAll, KeepsSession};
 
 use crate::asked::AskedBy;
 use crate::event::ReplyHead;
 use crate::handle::{Handle, Session};
-use crate::kind::{OPENED, nothing};
-use crate::{kept_answers, memory, target_answers};
+use crate::kind::{BEGIN, OPENED, nothing};
+use crate::looping::Serving;
+use crate::{kept_answers, looping, memory, target_answers};
 use std::alloc::Global;
+use std::mem;
 
 /// Does what is asked for, and gives the answer. Where there is nothing that knows the kind, nothing is done.
 pub fn call(
@@ -53,6 +56,9 @@ fn do_asked(
         return handle.opened as usize;
     }
     let alloc = handle.alloc;
+    if kind == BEGIN {
+        return begin(handle, alloc, asked.number);
+    }
     match &mut handle.session {
         Some(session) => answer(session, alloc, kind, asked, reply, out),
         None => nothing(kind),
@@ -80,5 +86,55 @@ fn answer(
             kept_answers::answer_to(kept, alloc, kind, asked.count, asked.piece, out)
         }
         Session::Target(target) => target_answers::answer_to(target, alloc, kind, asked, out),
+        Session::Loop(serving) => looping::answer_to(serving, kind, asked, reply, out),
+    }
+}
+
+/// Has a loop serve the target of a handle from now on: 1 where it does. Where there is no target, nothing happens, and where memory is
+/// wanting for the loop, there is nothing any more. Not inlined, since it has room for the target on the stack.
+#[inline(never)]
+fn begin(handle: &mut Handle, alloc: Global, level: usize) -> usize
+    requires { KeepsAll handle.old }
+    ensures begins { (reply : ReplyHead) (out : List ℕ) → Begins handle.old.session
+        (record { handle = handle.old; reply = reply; out = out }) (record { handle = handle.new; reply = reply; out = out }) result }
+    ensures kept { KeepsAll handle.new }
+{
+    if !is_target(&handle.session) {
+        return 0;
+    }
+    match begun(alloc, mem::replace(&mut handle.session, None), level) {
+        Some(serving) => {
+            handle.session = Some(Session::Loop(serving));
+            1
+        }
+        None => 0,
+    }
+}
+
+/// Is there a target?
+fn is_target(session: &Option<Session>) -> bool
+    ensures { result ≡ is_target session.now }
+{
+    match session {
+        Some(Session::Target(_)) => true,
+        Some(Session::Memory(_)) => false,
+        Some(Session::Kept(_)) => false,
+        Some(Session::Loop(_)) => false,
+        None => false,
+    }
+}
+
+/// The loop that serves a target; `None` where there is none, or memory is wanting.
+#[inline(never)]
+fn begun(alloc: Global, session: Option<Session>, level: usize) -> Option<Serving>
+    requires { IfSome session KeepsSession }
+    ensures { IfSome result (ServesSession session) }
+{
+    match session {
+        Some(Session::Target(target)) => looping::begin(alloc, target, level),
+        Some(Session::Memory(_)) => None,
+        Some(Session::Kept(_)) => None,
+        Some(Session::Loop(_)) => None,
+        None => None,
     }
 }

@@ -5,6 +5,7 @@ ghost use Rattle.device_library.specs.Opening.{IsMade, IsMadeBy};
 
 use crate::kept::Kept;
 use crate::kind::Door;
+use crate::looping::Serving;
 use crate::memory;
 use crate::numbers::{DONE, NO_DOOR};
 use crate::opening::{open_file, open_target, open_target_file};
@@ -21,6 +22,8 @@ pub enum Session {
     Kept(Kept),
     /// A target, before a device in memory or in a file.
     Target(Target),
+    /// One that a loop serves.
+    Loop(Serving),
 }
 
 /// What lies in the memory that C brings: a session, or none and why.

@@ -1,12 +1,15 @@
 //! What C asks a handle for, by the numbers of `hosts/c/pifnjarl_handle.h`.
 
 ghost use Rattle.std.specs.Prelude.{◌≡◌};
-ghost use Rattle.device_library.specs.Kinds.{door_of, kept_kind, memory_kind, nothing_of, target_kind};
+ghost use Rattle.device_library.specs.Kinds.{door_of, kept_kind, loop_kind, memory_kind, nothing_of, target_kind};
 
 use crate::numbers::{NO_DEVICE, NO_RUN};
 
 /// The number that asks what opening came to. The others are those of a kind.
 pub const OPENED: u32 = 0;
+
+/// The number that has a loop serve a target from then on.
+pub const BEGIN: u32 = 16;
 
 /// The number that asks a device in memory for an event.
 const EVENT: u32 = 1;
@@ -120,41 +123,15 @@ impl KeptKind {
     }
 }
 
-/// What a target is asked for.
+/// What a target is asked for, before a loop serves it.
 #[derive(Clone, Copy)]
 pub enum TargetKind {
-    /// For the image as it is now.
-    Save,
-    /// To fold the journal into a new file of at most so many bytes.
-    Fold,
     /// About the call that C is to make next.
     Ask(Question),
     /// To take it for done.
     Done,
     /// To take it for failed.
     Failed,
-    /// To begin a connection.
-    Accept,
-    /// To take bytes that came on a connection.
-    Receive,
-    /// To do the command that is ready on a connection.
-    Command,
-    /// For the bytes that are to be sent on a connection.
-    Unsent,
-    /// To forget the first of them, which were sent.
-    Sent,
-    /// Whether a connection is to be closed.
-    Ending,
-    /// To forget a connection, which is closed.
-    Close,
-    /// To let time go by.
-    Tick,
-    /// To give the next run a turn.
-    Turn,
-    /// To commit what was done, once C has made the calls for it, and to fold the journal where that is due.
-    Commit,
-    /// To give a run a turn of whose command no connection waits.
-    Resume,
     /// To take the names that come of a UUID.
     Name,
     /// For the name of the subsystem.
@@ -167,27 +144,45 @@ impl TargetKind {
         ensures { result ≡ target_kind number }
     {
         match number {
-            3 => Some(TargetKind::Save),
-            6 => Some(TargetKind::Fold),
             8 => Some(TargetKind::Ask(Question::Next)),
             9 => Some(TargetKind::Ask(Question::Place)),
             10 => Some(TargetKind::Ask(Question::Size)),
             11 => Some(TargetKind::Ask(Question::Bytes)),
             12 => Some(TargetKind::Done),
             13 => Some(TargetKind::Failed),
-            14 => Some(TargetKind::Accept),
-            15 => Some(TargetKind::Receive),
-            16 => Some(TargetKind::Command),
-            17 => Some(TargetKind::Unsent),
-            18 => Some(TargetKind::Sent),
-            19 => Some(TargetKind::Ending),
-            20 => Some(TargetKind::Close),
-            21 => Some(TargetKind::Tick),
-            22 => Some(TargetKind::Turn),
-            23 => Some(TargetKind::Commit),
-            24 => Some(TargetKind::Resume),
-            25 => Some(TargetKind::Name),
-            26 => Some(TargetKind::Nqn),
+            14 => Some(TargetKind::Name),
+            15 => Some(TargetKind::Nqn),
+            _ => None,
+        }
+    }
+}
+
+/// What a loop is asked for.
+#[derive(Clone, Copy)]
+pub enum LoopKind {
+    /// For the operation that is to be made.
+    Operation,
+    /// On which connections bytes may come, where it waits.
+    Reads,
+    /// Which may take bytes.
+    Writes,
+    /// For the bytes that it carries, from one on.
+    Carried,
+    /// To take what came of it.
+    Step,
+}
+
+impl LoopKind {
+    /// The kind with a number.
+    pub fn from_number(number: u32) -> Option<LoopKind>
+        ensures { result ≡ loop_kind number }
+    {
+        match number {
+            17 => Some(LoopKind::Operation),
+            18 => Some(LoopKind::Reads),
+            19 => Some(LoopKind::Writes),
+            20 => Some(LoopKind::Carried),
+            21 => Some(LoopKind::Step),
             _ => None,
         }
     }

@@ -14,6 +14,7 @@ mod kept;
 mod kept_answers;
 mod kind;
 pub mod laws;
+mod looping;
 mod memory;
 mod numbers;
 mod opening;
@@ -28,5 +29,6 @@ pub use exports::{
 };
 pub use handle::{Handle, Session};
 pub use kept::Kept;
-pub use kind::{Door, KeptKind, MemoryKind, Question, TargetKind};
-pub use target::{Committed, Folded, Target};
+pub use kind::{Door, KeptKind, LoopKind, MemoryKind, Question, TargetKind};
+pub use looping::Serving;
+pub use target::Target;

@@ -5,9 +5,10 @@ use Rattle.std.specs.Prelude.{is_some, nat_le, nat_lt, slice_index_or, slice_set
 use Rattle.tcp_pdus.specs.declared.transfer.ReadyToTransfer.{ReadyToTransfer}
 use Rattle.tcp_pdus.specs.Sent.{r2t}
 use Rattle.tcp_connection.specs.declared.state.ConnectionState.{ConnectionState}
-use Rattle.tcp_connection.specs.Commands.{WaitingCommand, first_of, started}
-use Rattle.tcp_connection.specs.Dealing.{asked, looked_at, transfer_of}
-use Rattle.tcp_connection.specs.Executing.{Execution, gone, ready}
+use Rattle.tcp_receiver.specs.Transfers.{free_tag}
+use Rattle.tcp_connection.specs.Commands.{WaitingCommand}
+use Rattle.tcp_connection.specs.Dealing.{asked, asked_for, looked_by, transfer_of, unasked}
+use Rattle.tcp_connection.specs.Executing.{Execution, gone, ready, with_started}
 use Rattle.tcp_queues.specs.Events.{handed_over}
 use Rattle.tcp_queues.specs.Places.{PlaceState, goes_on, has_room, ready_at, vacant}
 use Rattle.tcp_queues.specs.Commands.{handed_over_at}
@@ -17,16 +18,20 @@ r2t_length : (wanted : ReadyToTransfer) → length (r2t wanted) ≡ 24
 r2t_length wanted = refl
 
 -- what a command sends that goes is an R2T at most
-few_asked : (command : ℕ) (wanted : Option ℕ) (s : ConnectionState) → length (asked command wanted s).1 ≤ 24
-few_asked command None s = omega arith
-few_asked command (Some size) s = omega (arith, r2t_length (transfer_of command size))
+few_asked : (tag command : ℕ) (wanted : Option ℕ) (s : ConnectionState) → length (asked tag command wanted s).1 ≤ 24
+few_asked tag command None s = omega arith
+few_asked tag command (Some size) s = omega (arith, r2t_length (transfer_of tag command size))
 
-few_looked : (first : Option WaitingCommand) (s : ConnectionState) → length (looked_at first s).1 ≤ 24
+few_asked_for : (tag : ℕ) (command : Option WaitingCommand) (s : ConnectionState) → length (asked_for tag command s).1 ≤ 24
+few_asked_for tag None s = omega arith
+few_asked_for tag (Some command) s = few_asked tag _ command.wanted s
+
+few_looked : (tag : Option ℕ) (s : ConnectionState) → length (looked_by tag s).1 ≤ 24
 few_looked None s = omega arith
-few_looked (Some first) s = few_asked _ first.wanted s
+few_looked (Some tag) s = few_asked_for tag (unasked s) s
 
 few_gone : (s : ConnectionState) → length (gone s).1 ≤ 24
-few_gone s = let t = record s { commands = started s.commands } in few_looked (first_of t.commands) t
+few_gone s = let t = with_started s in few_looked (free_tag t.receiver.expected.transfers) t
 
 few_handed : (p : PlaceState) → length p.unsent ≤ 262144 → length (handed_over p).unsent ≤ 262168
 few_handed p few = omega (arith, few, few_gone p.connection, length-append p.unsent (gone p.connection).1)

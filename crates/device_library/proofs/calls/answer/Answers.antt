@@ -30,3 +30,12 @@ returns-in-Target-clause-answered c =
     let new : Lent = record { session = session.Target answered.new.session; reply = c.args.reply.now; out = answered.new.out } in
     subst (λ (s : Session). AnswersAs s c.args.kind asked old new answered.result) (sym c.in-Target.is)
     (record { left = answered.new.session; session_is = refl; reply = refl; answers = answered.ensures.answered })
+
+pub returns-in-Loop-clause-answered : goal.returns-in-Loop-clause-answered
+returns-in-Loop-clause-answered c =
+    let answered = c.answer_to-in-Loop in
+    let asked : Asked = told_by c.args.asked.now in
+    let old : Lent = record { session = c.args.session.now; reply = c.args.reply.now; out = c.args.out.now } in
+    let new : Lent = record { session = session.Loop answered.new.serving; reply = answered.new.reply; out = answered.new.out } in
+    subst (λ (s : Session). AnswersAs s c.args.kind asked old new answered.result) (sym c.in-Loop.is)
+    (record { left = answered.new.serving; session_is = refl; answers = answered.ensures.answered })

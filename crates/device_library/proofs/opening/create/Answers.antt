@@ -1,6 +1,6 @@
 use Rattle.std.proofs.Common.{rules, ◌≡◌, ◌∙◌, sym, List, subst}
 use Rattle.std.specs.Prelude.{Ok}
-use Rattle.handed_file.specs.Handed.{made_calls, noted, told_of}
+use Rattle.handed_file.specs.Handed.{made_calls, noted}
 use Rattle.stored_file.specs.File.{FileState, LeavesOnly}
 use Rattle.stored_file.specs.Calls.{Call}
 use Rattle.durable_device.specs.Kept.{IsOldOrStandsFor}

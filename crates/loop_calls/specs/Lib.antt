@@ -1,0 +1,4 @@
+pub mod Flags
+pub mod Operations
+pub mod Answers
+pub mod Laws

@@ -1,0 +1,5 @@
+use Rattle.tcp_loop.proofs.Fairness.{tells_begins}
+use Rattle.tcp_loop.proofs.serving.Loop.tell.Goals as goal
+
+pub returns-else-self-clause-fair : goal.returns-else-self-clause-fair
+returns-else-self-clause-fair g c = λ o trace f. c.begin_round.ensures.fair o trace (tells_begins g.T.KeptTarget.means g.T.KeptTarget.free o trace _ _ _ c.if-self.false f)

@@ -1,0 +1,12 @@
+use Rattle.std.proofs.Common.{sym, ◌∙◌}
+use Rattle.tcp_loop.specs.Fair.{Writes}
+use Rattle.tcp_loop.proofs.serving.Loop.was_called.Goals as goal
+
+pub returns-then-is_done-clause-keeps : goal.returns-then-is_done-clause-keeps
+returns-then-is_done-clause-keeps g c = rw (c.requires, sym c.is_done.ensures ∙ c.if-is_done.true) c.call_done.ensures.keeps
+
+pub returns-else-is_done-clause-keeps : goal.returns-else-is_done-clause-keeps
+returns-else-is_done-clause-keeps g c = c.fail.ensures.keeps _
+
+pub returns-else-is_done-clause-fair : goal.returns-else-is_done-clause-fair
+returns-else-is_done-clause-fair g c = c.fail.ensures.fair (Writes 0)

@@ -1,0 +1,16 @@
+pub mod Trace
+pub mod Sockets
+pub mod Disk
+pub mod Clock
+pub mod Deeds
+pub mod Times
+pub mod Keeping
+pub mod Law
+pub mod Rounds
+pub mod Orderly
+pub mod Stages
+pub mod Kept
+pub mod Timed
+pub mod Holding
+pub mod Fair
+pub mod Running

@@ -1,0 +1,6 @@
+mod Covering
+mod Explaining
+mod Next
+mod Waiting
+mod Ordering
+mod Beginning

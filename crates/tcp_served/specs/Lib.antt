@@ -1,0 +1,6 @@
+pub mod Meaning
+pub mod Files
+pub mod Kept
+pub mod Laws
+pub mod Waiting
+pub mod Orderly
