@@ -171,7 +171,7 @@ formats() {
 }
 
 target_helps() {
-    [ "$("$a/bin/pifnjarl-nvme-tcp" --help)" = 'usage: pifnjarl-nvme-tcp IMAGE [--memory] [--listen ADDRESS:PORT]' ]
+    [ "$("$a/bin/pifnjarl-nvme-tcp" --help)" = 'usage: pifnjarl-nvme-tcp IMAGE [--memory] [--listen ADDRESS:PORT] [-v]' ]
 }
 
 # serves until it is ended
