@@ -50,18 +50,19 @@ impl Sums {
         remainder
     }
 
-    /// What sixteen bytes make of a remainder, all at once. It is added to the first four: the others don't wait for it.
+    /// What sixteen bytes make of a remainder, all at once. It is added to the first four. The others don't wait for it, so they are
+    /// looked up first.
     fn after_sixteen(&self, remainder: u32, bytes: &[u8; 16]) -> u32
         ensures { result ≡ fold next_byte remainder bytes.now }
     {
+        let later = self.four(8, bytes[4], bytes[5], bytes[6], bytes[7])
+            ^ (self.four(4, bytes[8], bytes[9], bytes[10], bytes[11])
+                ^ self.four(0, bytes[12], bytes[13], bytes[14], bytes[15]));
         let first = (remainder % 256) as u8 ^ bytes[0];
         let second = (remainder / 256 % 256) as u8 ^ bytes[1];
         let third = (remainder / 256 / 256 % 256) as u8 ^ bytes[2];
         let fourth = (remainder / 256 / 256 / 256 % 256) as u8 ^ bytes[3];
-        self.four(12, first, second, third, fourth)
-            ^ (self.four(8, bytes[4], bytes[5], bytes[6], bytes[7])
-                ^ (self.four(4, bytes[8], bytes[9], bytes[10], bytes[11])
-                    ^ self.four(0, bytes[12], bytes[13], bytes[14], bytes[15])))
+        self.four(12, first, second, third, fourth) ^ later
     }
 
     /// What four bytes and so many bytes of 0 after them come to, where nothing was before.
