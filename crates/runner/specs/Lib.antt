@@ -1,5 +1,6 @@
 pub mod DeviceState
 pub mod Keeping
 pub mod Restored
+pub mod Stored
 pub mod Taken
 pub mod steps

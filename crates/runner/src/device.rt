@@ -1,7 +1,8 @@
 //! The device, to which events happen.
 
-ghost use Rattle.std.specs.Prelude.{◌≡◌, ◌≢◌, true, false, ◌≤◌, ◌<◌, ◌+◌, ◌*◌, ◌^◌, length, map, take, drop, OnOk, IfErr, IfOk, IfSome, MatchOption};
+ghost use Rattle.std.specs.Prelude.{◌≡◌, ◌≢◌, true, false, ◌≤◌, ◌<◌, ◌+◌, ◌*◌, ◌^◌, is_some, length, map, take, drop, OnOk, IfErr, IfOk, IfSome, MatchOption};
 ghost use Rattle.device_meaning.specs.Judging.{judge_by};
+ghost use Rattle.nvme_entry.specs.Entry.{decoded};
 ghost use Rattle.nvme_entry.specs.declared.command.TheConstants.{MOST_BLOCKS};
 ghost use Rattle.device_events.specs.Replies.{data_length};
 ghost use Rattle.device_meaning.specs.Draining.{HasDrained, HasStoppedDraining, lowest_run, turns_left};
@@ -13,12 +14,13 @@ ghost use Rattle.nvme_entry.specs.declared.program_slot.TheConstants.{PROGRAM_SL
 ghost use Rattle.zone_resources.specs.declared.holds.TheConstants.{RUNS};
 ghost use Rattle.kept_device.specs.Kept.{place_told, slot_told};
 ghost use Rattle.runner.specs.Restored.{IsRestoredBy, TellNoneBy};
+ghost use Rattle.runner.specs.Stored.{asks_for_stored};
 ghost use Rattle.runner.specs.Taken.{HasTakenBy};
 ghost use Rattle.runner.specs.steps.ServedOne.{HasServedOne};
 
 use crate::device_state::DeviceState;
 use crate::restoring::{KeptDevice, kept_of, state_again};
-use crate::submission::{Submission, submit};
+use crate::submission::{StoredReply, Submission, read, submit};
 use crate::turn::turn;
 use device_events::{Event, NotTaken, Out, Reply};
 use device_meaning::laws::domains_judge_soundly;
@@ -191,6 +193,20 @@ impl<D: Domain> Device<D> {
     {
         let submission = Submission::new(queue, entry, input);
         submit(self.alloc, &mut self.state, &submission, output)
+    }
+
+    /// Does the event of an entry as [`Device::submit`] does, and gives the data of the reply as it lies in the image: where
+    /// the entry is a Read that isn't refused and whose blocks are all written. `None` for every other entry, whose event is
+    /// yet to be done.
+    pub fn read<'a>(&'a self, queue: u16, entry: &[u8; 64], input: &[u8]) -> Option<StoredReply<'a>>
+        ensures stored { is_some result ≡ asks_for_stored self.now.namespace (decoded entry.now) input.now }
+        ensures submitted { IfSome result (λ given. HasTakenBy (judge_by D.operations) queue entry.now input.now self.now self.now
+            (record { reply = given.reply; bytes = given.bytes.now })) }
+        ensures length { IfSome result (λ given. data_length given.reply ≡ length given.bytes.now) }
+        ensures most { IfSome result (λ given. length given.bytes.now ≤ MOST_TRANSFER) }
+    {
+        let submission = Submission::new(queue, entry, input);
+        read(&self.state, &submission)
     }
 
     /// Does one event, and hands out the reply with its data.

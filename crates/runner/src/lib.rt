@@ -24,3 +24,4 @@ mod turn;
 pub use device::{Device, Stopped};
 pub use device_events::{Event, NotTaken, Out, Reply};
 pub use restoring::KeptDevice;
+pub use submission::StoredReply;

@@ -1,11 +1,14 @@
 //! Entries that hosts submit.
 
-ghost use Rattle.std.specs.Prelude.{◌≡◌, ◌≤◌, ◌<◌, ◌^◌, drop, length, Ok};
+ghost use Rattle.std.specs.Prelude.{◌≡◌, ◌≤◌, ◌<◌, ◌^◌, drop, is_some, length, IfSome, Ok};
 ghost use Rattle.common_definitions.specs.Bytes.{AreBytes};
 ghost use Rattle.nvme_entry.specs.Entry.{decoded, identifier_of};
 ghost use Rattle.nvme_entry.specs.declared.command.Command.TheVariants as commands;
+ghost use Rattle.nvme_entry.specs.declared.command.StandardCommand.TheVariants.{Read};
 ghost use Rattle.device_events.specs.Replies.{data_length, without_data};
 ghost use Rattle.device_meaning.specs.Judging.{judge_by};
+ghost use Rattle.zns_commands.specs.Read.{is_stored};
+ghost use Rattle.runner.specs.Stored.{asks_for_stored};
 ghost use Rattle.runner.specs.steps.Answered.{HasExecuted, HasSubmitted, complete_reply, with_data};
 
 use crate::admission::start;
@@ -14,10 +17,10 @@ use crate::device_state::DeviceState;
 use crate::load::load;
 use crate::results::give_result;
 use device_events::Reply;
-use nvme_entry::{Command, Entry, MOST_TRANSFER, RunCommand, StandardCommand};
+use nvme_entry::{BlockCount, Command, Entry, MOST_TRANSFER, RunCommand, StandardCommand};
 use std::alloc::Global;
 use word_domain::Domain;
-use zns_commands::Answer;
+use zns_commands::{Answer, read_stored};
 
 /// An entry that a host submits to a queue, with the data that stands beside it.
 #[derive(Clone, Copy)]
@@ -124,5 +127,72 @@ fn run<D: Domain>(
     match start(state, submission.queue, cid, command, submission.input) {
         Ok(run) => Reply::Pending { run },
         Err(status) => submission.reply_with(Answer::refused(status)),
+    }
+}
+
+/// The reply to a Read, with its data as it lies in the image.
+#[derive(Drop)]
+pub struct StoredReply<'a> {
+    /// The reply.
+    pub reply: Reply,
+    /// Its data.
+    pub bytes: &'a [u8],
+}
+
+/// Does the command of an entry from the image alone: of a Read that isn't refused and whose blocks are all written. `None`
+/// for every other entry.
+pub fn read<'a, D: Domain>(
+    state: &'a DeviceState<D>,
+    submission: &Submission<'_>,
+) -> Option<StoredReply<'a>>
+    ensures stored { is_some result ≡ asks_for_stored state.now.namespace (decoded submission.now.entry.now) submission.now.input.now }
+    ensures submitted { IfSome result (λ given. HasSubmitted (judge_by D.operations) submission.now (decoded submission.now.entry.now)
+        state.now state.now (record { reply = given.reply; bytes = given.bytes.now })) }
+    ensures length { IfSome result (λ given. data_length given.reply ≡ length given.bytes.now) }
+    ensures most { IfSome result (λ given. length given.bytes.now ≤ MOST_TRANSFER) }
+{
+    match Entry::decode(submission.entry) {
+        Ok(Command::Standard(command)) => read_by(state, &command, submission),
+        _ => None,
+    }
+}
+
+/// What [`read`] does of a standard command.
+fn read_by<'a, D: Domain>(
+    state: &'a DeviceState<D>,
+    command: &StandardCommand,
+    submission: &Submission<'_>,
+) -> Option<StoredReply<'a>>
+    ensures stored { is_some result ≡ asks_for_stored state.now.namespace (Ok (commands.Standard command.now)) submission.now.input.now }
+    ensures submitted { IfSome result (λ given. HasSubmitted (judge_by D.operations) submission.now (Ok (commands.Standard command.now))
+        state.now state.now (record { reply = given.reply; bytes = given.bytes.now })) }
+    ensures length { IfSome result (λ given. data_length given.reply ≡ length given.bytes.now) }
+    ensures most { IfSome result (λ given. length given.bytes.now ≤ MOST_TRANSFER) }
+{
+    match *command {
+        StandardCommand::Read { lba, blocks } => read_blocks(state, lba, blocks, submission),
+        _ => None,
+    }
+}
+
+/// Gives the blocks from `lba` on, with the reply to their Read.
+fn read_blocks<'a, D: Domain>(
+    state: &'a DeviceState<D>,
+    lba: u64,
+    blocks: BlockCount,
+    submission: &Submission<'_>,
+) -> Option<StoredReply<'a>>
+    ensures stored { is_some result ≡ is_stored state.now.namespace lba blocks submission.now.input.now }
+    ensures submitted { IfSome result (λ given. HasSubmitted (judge_by D.operations) submission.now
+        (Ok (commands.Standard (Read lba blocks))) state.now state.now (record { reply = given.reply; bytes = given.bytes.now })) }
+    ensures length { IfSome result (λ given. data_length given.reply ≡ length given.bytes.now) }
+    ensures most { IfSome result (λ given. length given.bytes.now ≤ MOST_TRANSFER) }
+{
+    match read_stored(state.namespace().image(), lba, blocks, submission.input) {
+        Some(bytes) => Some(StoredReply {
+            reply: submission.reply_with(Answer::success(0, bytes.len())),
+            bytes,
+        }),
+        None => None,
     }
 }

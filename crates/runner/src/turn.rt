@@ -19,6 +19,7 @@ use crate::loaded_program::LoadedProgram;
 use crate::places;
 use device_events::Reply;
 use device_meaning::laws::domains_judge_soundly;
+use emit_append::Packer;
 use nvme_entry::{PROGRAM_SLOTS, Status};
 use program_interface::{Context, LARGEST_BLOCK};
 use program_meaning::TrapFree;
@@ -102,7 +103,19 @@ fn put(namespace: &mut Namespace, active: &mut ActiveRun, group: &[u8])
     if !active.packer.has_room(group.len()) {
         release(namespace, active);
     }
-    active.packer.add(group);
+    add(&mut active.packer, group);
+}
+
+/// Adds a group to the pending block, which has room for it. A block from which nothing is emitted costs no copy.
+fn add(packer: &mut Packer, group: &[u8])
+    requires { length packer.old.pending + length group.now ≤ packer.old.block }
+    ensures blocks { [] ≡ given_by_put packer.old group.now }
+    ensures state { packer.new ≡ after_put packer.old group.now }
+    ensures fits { length packer.new.pending ≤ packer.new.block }
+{
+    if !group.is_empty() {
+        packer.add(group);
+    }
 }
 
 /// Appends the pending block, where it has a group.

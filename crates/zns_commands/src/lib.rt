@@ -19,7 +19,7 @@ pub use answer::Answer;
 pub use image_store::{Geometry, Image};
 pub use namespace::Namespace;
 pub use nvme_entry::{BlockCount, DwordCount, MOST_TRANSFER, StandardCommand, Status, ZoneFilter};
-pub use read::check_readable;
+pub use read::{check_readable, read_stored};
 pub use transfer::check_transfer;
 pub use zone_resources::{Holds, Limits};
 pub use zone_state::{FaultRefused, FaultState};

@@ -1,6 +1,6 @@
 //! Read.
 
-ghost use Rattle.std.specs.Prelude.{◌≡◌, ◌≤◌, ◌<◌, ◌*◌, ◌+◌, ◌++◌, length, take, drop, replicate, IfOk, OnOk};
+ghost use Rattle.std.specs.Prelude.{◌≡◌, ◌≤◌, ◌<◌, ◌*◌, ◌+◌, ◌++◌, nat_le, length, take, drop, replicate, is_some, IfOk, IfSome, OnOk};
 ghost use Rattle.std.specs.List.{concat};
 ghost use Rattle.std.specs.Result.{result_err};
 ghost use Rattle.zone_resources.specs.Holds.{no_holds};
@@ -8,9 +8,10 @@ ghost use Rattle.nvme_entry.specs.declared.command.StandardCommand.TheVariants.{
 ghost use Rattle.image_store.specs.Namespace.{zone_at};
 ghost use Rattle.common_definitions.specs.Checks.{first_failed, unless_failed};
 ghost use Rattle.zns_commands.specs.Address.{zone_block_in};
+ghost use Rattle.zns_commands.specs.Answer.{success_answer};
 ghost use Rattle.zns_commands.specs.Effect.{effect_of_answer};
 ghost use Rattle.zns_commands.specs.Meaning.{meaning};
-ghost use Rattle.zns_commands.specs.Read.{read_checks, read_refusal, blocks_read};
+ghost use Rattle.zns_commands.specs.Read.{read_checks, read_refusal, blocks_read, is_stored};
 
 use crate::address::range;
 use crate::answer::Answer;
@@ -100,5 +101,39 @@ pub fn read(image: &Image, lba: u64, blocks: BlockCount, input: &[u8], output: &
     match check_read(image, lba, blocks, input) {
         Ok(first) => Answer::success(0, give_blocks(image, first, blocks, output)),
         Err(status) => Answer::refused(status),
+    }
+}
+
+/// The bytes of the blocks from this one on as they lie in the image; `None` where one of them isn't written.
+fn stored_blocks(image: &Image, from: ZoneBlock, blocks: BlockCount) -> Option<&[u8]>
+    requires { from.zone < length image.now.zones }
+    ensures written { is_some result ≡ nat_le (from.offset + blocks) (length (zone_at image.now from.zone).blocks) }
+    ensures length { IfSome result (λ bytes. length bytes.now ≡ blocks * image.now.block) }
+    ensures value { IfSome result (λ bytes.
+        bytes.now ≡ concat (blocks_read image.now.block (zone_at image.now from.zone).blocks from.offset blocks)) }
+{
+    let end = u64::from(from.offset) + u64::from(blocks.get());
+    if end > u64::from(image.zone(from.zone).written()) {
+        return None;
+    }
+    Some(image.blocks(from.zone, from.offset, blocks.get()))
+}
+
+/// The data that [`read`] gives, as it lies in the image: where the Read isn't refused and all its blocks are written.
+/// `None` otherwise.
+pub fn read_stored<'a>(
+    image: &'a Image,
+    lba: u64,
+    blocks: BlockCount,
+    input: &[u8],
+) -> Option<&'a [u8]>
+    ensures stored { is_some result ≡ is_stored image.now lba blocks input.now }
+    ensures meaning { IfSome result (λ bytes. effect_of_answer (success_answer 0 (length bytes.now)) image.now bytes.now
+        ≡ meaning image.now no_holds (Read lba blocks) input.now) }
+    ensures most { IfSome result (λ bytes. length bytes.now ≤ MOST_TRANSFER) }
+{
+    match check_read(image, lba, blocks, input) {
+        Ok(first) => stored_blocks(image, first, blocks),
+        Err(_) => None,
     }
 }
