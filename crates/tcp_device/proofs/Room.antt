@@ -26,7 +26,7 @@ few_asked_for : (tag : ℕ) (command : Option WaitingCommand) (s : ConnectionSta
 few_asked_for tag None s = omega arith
 few_asked_for tag (Some command) s = few_asked tag _ command.wanted s
 
-few_looked : (tag : Option ℕ) (s : ConnectionState) → length (looked_by tag s).1 ≤ 24
+pub few_looked : (tag : Option ℕ) (s : ConnectionState) → length (looked_by tag s).1 ≤ 24
 few_looked None s = omega arith
 few_looked (Some tag) s = few_asked_for tag (unasked s) s
 

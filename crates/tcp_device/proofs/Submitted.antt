@@ -1,10 +1,12 @@
 -- An entry that is submitted.
-use Rattle.std.proofs.Common.{◌≡◌, ℕ, List, take, Option, None, Some, refl, ap, subst, ◌∙◌}
+use Rattle.std.proofs.Common.{◌≡◌, ℕ, ◌≤◌, List, length, take, Option, None, Some, refl, ap, subst, ◌∙◌, arith}
 use Rattle.std.specs.Option.{option_map}
+use Rattle.std.proofs.lemmas.List.{length-take}
 use Rattle.device_events.specs.Replies.{data_length}
 use Rattle.device_events.specs.declared.reply.Reply.{Reply}
 use Rattle.device_meaning.specs.State.{State}
 use Rattle.runner.specs.Taken.{HasTaken}
+use Rattle.tcp_pdus.specs.declared.sent.TheConstants.{MOST_DATA}
 use Rattle.tcp_connection.specs.Executing.{Execution}
 use Rattle.tcp_queues.specs.Commands.{connect_data_at, given_to_device}
 use Rattle.tcp_queues.specs.Laws.{GivenAreLive}
@@ -20,17 +22,26 @@ abbrev behind : State → TargetState → List (Option CommandOfRun) → ServedS
 behind device target pending s = record { device = device; target = target; pending = pending; next = s.next }
 
 -- what the device gave for an entry, and what the target became by it
-pub handed : (entry input asked output : List ℕ) (count number : ℕ) (device device' : State) (reply : Reply) (target between after : TargetState)
-    → HasTaken number entry asked device device' (record { reply = reply; bytes = take (data_length reply) output })
+pub handed : (entry input asked bytes : List ℕ) (number : ℕ) (device device' : State) (reply : Reply) (target between after : TargetState)
+    → HasTaken number entry asked device device' (record { reply = reply; bytes = bytes }) → length bytes ≤ MOST_DATA
+    → asked ≡ input → between ≡ handed_over number target → after ≡ completed_by reply bytes number entry between
+    → Hands entry input number device device' target after reply
+handed entry input asked bytes number device device' reply target between after taken few asked_is between_is after_is = record {
+  bytes = bytes;
+  taken = subst (λ (x : List ℕ). HasTaken number entry x device device' (record { reply = reply; bytes = bytes })) asked_is taken;
+  few = few;
+  completed = after_is ∙ ap (completed_by reply bytes number entry) between_is;
+}
+
+-- the same, where the bytes are the first ones of what the device was lent for them
+pub handed_front : (entry input asked output : List ℕ) (count number : ℕ) (device device' : State) (reply : Reply) (target between after : TargetState)
+    → HasTaken number entry asked device device' (record { reply = reply; bytes = take (data_length reply) output }) → length output ≤ MOST_DATA
     → asked ≡ input → between ≡ handed_over number target → count ≡ data_length reply → after ≡ completed_by reply (take count output) number entry between
     → Hands entry input number device device' target after reply
-handed entry input asked output count number device device' reply target between after taken asked_is between_is count_is after_is = record {
-  bytes = take (data_length reply) output;
-  taken = subst (λ (x : List ℕ). HasTaken number entry x device device' (record { reply = reply; bytes = take (data_length reply) output })) asked_is taken;
-  completed =
-      after_is ∙ ap (λ (n : ℕ). completed_by reply (take n output) number entry between) count_is
-      ∙ ap (completed_by reply (take (data_length reply) output) number entry) between_is;
-}
+handed_front entry input asked output count number device device' reply target between after taken few asked_is between_is count_is after_is =
+    handed entry input asked (take (data_length reply) output) number device device' reply target between after taken
+    (omega (arith, few, length-take (data_length reply) output)) asked_is between_is
+    (after_is ∙ ap (λ (n : ℕ). completed_by reply (take n output) number entry between) count_is)
 
 -- and the commands of runs
 abbrev submits : (entry input : List ℕ) (number : ℕ) (old : ServedState) (device : State) (reply : Reply) (after : TargetState)
@@ -39,6 +50,7 @@ abbrev submits : (entry input : List ℕ) (number : ℕ) (old : ServedState) (de
 submits entry input number old device reply after pending hands pending_is = record {
   reply = record { reply = reply; bytes = hands.bytes };
   taken = hands.taken;
+  few = hands.few;
   rest =
       ap (λ (t : TargetState). behind device t pending old) hands.completed
       ∙ ap (λ (p : List (Option CommandOfRun)). behind device (completed_by reply hands.bytes number entry (handed_over number old.target)) p old) pending_is;

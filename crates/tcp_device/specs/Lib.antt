@@ -8,3 +8,9 @@ pub mod Pieces
 pub mod Order
 pub mod steps
 pub mod Resuming
+pub mod Turning
+pub mod Answering
+pub mod Taking
+pub mod Rounds
+pub mod Counting
+pub mod Waiting

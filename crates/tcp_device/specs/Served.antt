@@ -1,5 +1,5 @@
 -- What a served target does with commands, and with runs.
-use Rattle.std.specs.Prelude.{ℕ, Bool, false, ◌≡◌, ◌+◌, ◌%◌, List, drop, position, Option, Some, None, slice_index_or, slice_set}
+use Rattle.std.specs.Prelude.{ℕ, Bool, false, ◌≡◌, ◌≤◌, ◌+◌, ◌%◌, List, drop, length, position, Option, Some, None, slice_index_or, slice_set}
 use Rattle.device_events.specs.Replies.{ReplyWithData}
 use Rattle.device_events.specs.declared.event.Event.TheVariants as event
 use Rattle.device_events.specs.declared.reply.Reply.{Reply}
@@ -9,6 +9,7 @@ use Rattle.device_meaning.specs.Judging.{interval_judge}
 use Rattle.device_meaning.specs.State.{State}
 use Rattle.runner.specs.Taken.{HasTaken}
 use Rattle.tcp_pdus.specs.Direction.{identifier_of}
+use Rattle.tcp_pdus.specs.declared.sent.TheConstants.{MOST_DATA}
 use Rattle.tcp_connection.specs.Executing.{Execution}
 use Rattle.tcp_queues.specs.Places.{has_room}
 use Rattle.tcp_queues.specs.Commands.{given_to_device}
@@ -47,10 +48,12 @@ returned r number entry device s = record {
   next = s.next;
 }
 
--- an entry, with just its data, is submitted to the device, on the queue that has the connection's number
+-- an entry, with just its data, is submitted to the device, on the queue that has the connection's number, and the device gives at most
+-- as much data as one command moves
 pub record Submits (entry input : List ℕ) (number : ℕ) (old new : ServedState) : Type 0 where
   pub reply : ReplyWithData
   pub taken : HasTaken number entry input old.device new.device reply
+  pub few : length reply.bytes ≤ MOST_DATA
   pub rest : new ≡ returned reply number entry new.device old
 
 -- the target executes the command that is ready on a connection itself, or it goes to the device

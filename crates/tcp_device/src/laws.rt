@@ -1,10 +1,18 @@
 //! Laws of the definitions. Each function does nothing: what it ensures is the law.
 
+ghost use Rattle.tcp_device.specs.Answering.{CommandsAreAnswered};
+ghost use Rattle.tcp_device.specs.Counting.{RunsAreAlwaysCounted};
 ghost use Rattle.tcp_device.specs.Laws.{DeedsAreEvents, QueuesAreApart, RunsHaveTheirCommands};
 ghost use Rattle.tcp_device.specs.Order.{CommandsAreInOrder};
 ghost use Rattle.tcp_device.specs.Outcome.{OutcomesAreTold};
+ghost use Rattle.tcp_device.specs.Rounds.{ReadyIsAnswered, RoundsGoOn};
+ghost use Rattle.tcp_device.specs.Taking.{BytesAreAlwaysTaken};
+ghost use Rattle.tcp_device.specs.Turning.{RunsTakeTurns};
+ghost use Rattle.tcp_device.specs.Waiting.{RunsGoOn};
 
 use nvme_entry::laws::completions_tell;
+use tcp_admin::structures_are_whole;
+use tcp_pdus::data_begins_aligned;
 use tcp_target::{connections_stay, queues_stay_apart};
 
 /// Whatever is done with a served target, its device did a list of events: the entries that were handed over, each with just its data
@@ -38,6 +46,54 @@ pub fn outcomes_are_told()
 /// answers itself.
 pub fn commands_are_in_order()
     ensures { CommandsAreInOrder }
+{
+    connections_stay();
+}
+
+/// Of any eight turns one is that of a run which may have it: no other run, and no host that doesn't read, keeps it from that.
+pub fn runs_take_turns()
+    ensures { RunsTakeTurns }
+{}
+
+/// A command that is ready on a connection stays next there, whatever else is done, and the first service of the connection answers it.
+pub fn commands_are_answered()
+    ensures { CommandsAreAnswered }
+{
+    connections_stay();
+}
+
+/// Bytes that come on a connection wait for no other: at least one is taken, unless the connection has ended, a command is ready on it or its
+/// host doesn't read; and a command that is ready is the next of its connection.
+pub fn bytes_are_taken()
+    ensures { BytesAreAlwaysTaken }
+{}
+
+/// In so many rounds in which bytes of a connection come, at least as many of them are taken and commands of it go, together.
+pub fn rounds_go_on()
+    ensures { RoundsGoOn }
+{
+    connections_stay();
+}
+
+/// The commands that the device has of a connection are its runs, 8 at most: so they never keep it from taking more.
+pub fn runs_are_counted()
+    ensures { RunsAreAlwaysCounted }
+{
+    connections_stay();
+}
+
+/// A run waits for no host to read: there is always room for its completion, so of any eight turns one is its own until it ends.
+pub fn runs_go_on()
+    ensures { RunsGoOn }
+{
+    connections_stay();
+    data_begins_aligned();
+    structures_are_whole();
+}
+
+/// A command that is ready is answered in the next round in which its connection is served, whatever is done for others.
+pub fn ready_is_answered()
+    ensures { ReadyIsAnswered }
 {
     connections_stay();
 }

@@ -29,6 +29,18 @@ impl ServedTarget {
         ensures ready { result ≡ is_ready number self.old.target }
         ensures done { Does (Served number) self.old self.new }
     {
+        if !self.target.is_open(number) {
+            return false;
+        }
+        self.serve_open(number)
+    }
+
+    /// As [`ServedTarget::serve`], where a host has the connection: each round asks for all numbers, and most have none.
+    fn serve_open(&mut self, number: usize) -> bool
+        requires { number < MOST_CONNECTIONS }
+        ensures ready { result ≡ is_ready number self.old.target }
+        ensures done { Does (Served number) self.old self.new }
+    {
         let is_ready = self.target.is_ready(number);
         match self.target.given_to_device(number) {
             Some(entry) => {
@@ -78,7 +90,8 @@ impl ServedTarget {
     }
 }
 
-/// Hands an entry to the device, and completes the command if the device executes it at once.
+/// Hands an entry to the device, and completes the command if the device executes it at once. The data of a Read is sent from
+/// where it lies in the image, if all its blocks are written.
 fn hand(
     device: &mut Device,
     target: &mut Target,
@@ -92,6 +105,11 @@ fn hand(
     ensures { Hands entry.now (connect_data_at number target.old.queues) number device.old device.new target.old target.new result }
 {
     let input = target.given_data(number);
+    if let Some(stored) = device.read(number as u16, entry, input) {
+        target.hand_over(number);
+        complete(target, number, entry, stored.reply, stored.bytes);
+        return stored.reply;
+    }
     let reply = device.submit(number as u16, entry, input, output);
     target.hand_over(number);
     let bytes = &output[..reply.data_length()];

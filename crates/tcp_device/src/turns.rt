@@ -14,7 +14,8 @@ use zone_resources::RUNS;
 
 impl ServedTarget {
     /// Gives the next run a turn, round the runs, and says whether there is one. Where the turn ends the run, its command is
-    /// completed, unless its connection was closed. A run whose connection has no room for a completion is passed over.
+    /// completed, unless its connection was closed. A run whose connection has no room for a completion is passed over; by the law
+    /// `runs_go_on` there is none.
     pub fn turn(&mut self) -> bool
         ensures given { result ≡ is_some (next_run self.old) }
         ensures done { Does Turned self.old self.new }

@@ -7,7 +7,7 @@ use Rattle.stored_file.specs.Calls.{told_of}
 use Rattle.tcp_loop.specs.Deeds.{AreDone, Deed, Meaning}
 use Rattle.tcp_loop.specs.Disk.{NewFile, calls_by, is_done, named, new_file_by, no_file, seen_after, written}
 use Rattle.tcp_loop.specs.Keeping.{Covers, IsCommitted, IsFolded, IsNext, IsSettled, IsToldDone, KeptState, Keeping, Leaves, done_call, new_call, wanted_by}
-use Rattle.tcp_loop.specs.Kept.{Answered, Begun, Called, Committing, Due, Folding, IsAnswered, IsAsked, IsAtRest, IsKept, IsPlacing, IsToName, IsToPlace, IsUnderWay, Knows, Pending, Phase, Placing, Resting, Settled, Stopped, Told, after_call, after_part, not_made}
+use Rattle.tcp_loop.specs.Kept.{Answered, Attending, Begun, Called, Committing, Due, Folding, IsAnswered, IsAsked, IsAtRest, IsKept, IsPlacing, IsToName, IsToPlace, IsUnderWay, Knows, Pending, Phase, Placing, Resting, Settled, Stopped, Told, after_call, after_part, not_made}
 use Rattle.tcp_loop.specs.Law.{HasAnswered, sends, state_before}
 use Rattle.tcp_loop.specs.Stages.{operation_of_call, operation_of_part}
 use Rattle.tcp_loop.specs.declared.operation.Answer.{Answer}
@@ -121,6 +121,8 @@ module _ {State : Type 0} (m : Meaning State) where
   pub kept_leaves : (phase : Phase) (asked : List calls.Call) (beside : NewFile) (file : Keeping) (deeds : List Deed) (begun s : State) (done : AreDone m deeds begun s)
       → IsKept m phase asked beside file deeds begun s done → Leaves m asked (λ c. HasAnswered m c deeds begun s done)
   kept_leaves Resting asked beside file deeds begun s done k = λ c now.
+      record { missing = k.1.missing; unanswered = k.1.unanswered; stands = k.1.settled.left c (k.0.left c now) }
+  kept_leaves (Attending from) asked beside file deeds begun s done k = λ c now.
       record { missing = k.1.missing; unanswered = k.1.unanswered; stands = k.1.settled.left c (k.0.left c now) }
   kept_leaves Due asked beside file deeds begun s done k = λ c now.
       record { missing = k.1.missing; unanswered = k.1.unanswered; stands = k.1.settled.left c (k.0.left c now) }

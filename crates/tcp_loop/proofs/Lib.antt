@@ -2,6 +2,7 @@ pub mod Lists
 pub mod Knowing
 pub mod Keeping
 pub mod Timing
+pub mod Attending
 pub mod Holding
 pub mod Phasing
 pub mod Making
@@ -10,3 +11,4 @@ pub mod Fairness
 pub mod Owing
 pub mod Fair
 pub mod Waits
+mod Progress

@@ -14,6 +14,7 @@ use Rattle.tcp_loop.specs.Holding.{Holds, piece_of}
 use Rattle.tcp_loop.specs.declared.operation.Answer.{Answer}
 use Rattle.tcp_loop.specs.declared.operation.Answer.TheVariants as answer
 use Rattle.tcp_loop.specs.declared.operation.Operation.TheVariants as operation
+use Rattle.tcp_loop.proofs.Attending.{made_in_round, one_more}
 use Rattle.tcp_loop.proofs.Keeping.{rests_more, settled_sent}
 use Rattle.tcp_loop.proofs.Making.{IsApart, made}
 use Rattle.tcp_loop.proofs.Lists.{at_places}
@@ -67,6 +68,7 @@ module _ {State : Type 0} (m : Meaning State) where
     lives = λ p low. (apart p).lives ∙ h.lives p low;
     kept = h.kept;
     timed = h.timed;
+    in_round = made_in_round _ Resting Resting trace h.deeds (λ rounds each. (tt, each)) (λ round before. tt) h.in_round;
   }
 
   pub read : (place : ℕ) (carried bytes : List ℕ) (a : Answer) (opened : List calls.Call) (begun : State) (now : KeptState State) (trace : Trace)
@@ -81,6 +83,7 @@ module _ {State : Type 0} (m : Meaning State) where
     kept = h.kept;
     lives = h.lives;
     timed = h.timed;
+    in_round = made_in_round _ Resting Resting trace h.deeds (λ rounds each. (tt, each)) (λ round before. tt) h.in_round;
   }
   read place carried bytes answer.Done opened begun now trace waiting clock within none h =
       no_bytes place carried bytes answer.Done opened begun now trace waiting clock within none (λ p. record { came = append-nil _; written = append-nil _; lives = refl }) h
@@ -118,6 +121,8 @@ module _ {State : Type 0} (m : Meaning State) where
     kept = settled_sent m (calls_of opened trace) now.file now'.file now.state now'.state is keeps h.kept;
     lives = h.lives;
     timed = h.timed;
+    in_round = one_more Settled Settled _ _ h.deeds (λ round before all reached. tt)
+        (made_in_round _ Settled Settled trace h.deeds (λ rounds each. (tt, each)) (λ round before. tt) h.in_round);
   }
 
   -- or none are
@@ -125,14 +130,14 @@ module _ {State : Type 0} (m : Meaning State) where
       (waiting : List (List ℕ)) (clock : Clock) → taken_of a ≡ None → Holds m opened begun trace Settled now waiting clock
       → Holds m opened begun (record { asked = operation.Write place; carried = carried; answer = a; came = bytes } ∷ trace) Settled now waiting clock
   not_written place carried bytes (answer.Taken count) opened begun now trace waiting clock none h = absurd (cc)
-  not_written place carried bytes answer.Done opened begun now trace waiting clock none h = made m _ Settled Settled opened begun now trace waiting clock (λ p low. record { came = append-nil _; written = append-nil _; lives = refl }) h h.kept h.timed
-  not_written place carried bytes answer.Came opened begun now trace waiting clock none h = made m _ Settled Settled opened begun now trace waiting clock (λ p low. record { came = append-nil _; written = append-nil _; lives = refl }) h h.kept h.timed
-  not_written place carried bytes answer.Again opened begun now trace waiting clock none h = made m _ Settled Settled opened begun now trace waiting clock (λ p low. record { came = append-nil _; written = append-nil _; lives = refl }) h h.kept h.timed
-  not_written place carried bytes answer.NoRoom opened begun now trace waiting clock none h = made m _ Settled Settled opened begun now trace waiting clock (λ p low. record { came = append-nil _; written = append-nil _; lives = refl }) h h.kept h.timed
-  not_written place carried bytes answer.Failed opened begun now trace waiting clock none h = made m _ Settled Settled opened begun now trace waiting clock (λ p low. record { came = append-nil _; written = append-nil _; lives = refl }) h h.kept h.timed
-  not_written place carried bytes (answer.Happened ready) opened begun now trace waiting clock none h = made m _ Settled Settled opened begun now trace waiting clock (λ p low. record { came = append-nil _; written = append-nil _; lives = refl }) h h.kept h.timed
-  not_written place carried bytes (answer.Time time) opened begun now trace waiting clock none h = made m _ Settled Settled opened begun now trace waiting clock (λ p low. record { came = append-nil _; written = append-nil _; lives = refl }) h h.kept h.timed
-  not_written place carried bytes (answer.Signal ends) opened begun now trace waiting clock none h = made m _ Settled Settled opened begun now trace waiting clock (λ p low. record { came = append-nil _; written = append-nil _; lives = refl }) h h.kept h.timed
+  not_written place carried bytes answer.Done opened begun now trace waiting clock none h = made m _ Settled Settled opened begun now trace waiting clock (λ p low. record { came = append-nil _; written = append-nil _; lives = refl }) (λ rounds each. (tt, each)) (λ round before. tt) h h.kept h.timed
+  not_written place carried bytes answer.Came opened begun now trace waiting clock none h = made m _ Settled Settled opened begun now trace waiting clock (λ p low. record { came = append-nil _; written = append-nil _; lives = refl }) (λ rounds each. (tt, each)) (λ round before. tt) h h.kept h.timed
+  not_written place carried bytes answer.Again opened begun now trace waiting clock none h = made m _ Settled Settled opened begun now trace waiting clock (λ p low. record { came = append-nil _; written = append-nil _; lives = refl }) (λ rounds each. (tt, each)) (λ round before. tt) h h.kept h.timed
+  not_written place carried bytes answer.NoRoom opened begun now trace waiting clock none h = made m _ Settled Settled opened begun now trace waiting clock (λ p low. record { came = append-nil _; written = append-nil _; lives = refl }) (λ rounds each. (tt, each)) (λ round before. tt) h h.kept h.timed
+  not_written place carried bytes answer.Failed opened begun now trace waiting clock none h = made m _ Settled Settled opened begun now trace waiting clock (λ p low. record { came = append-nil _; written = append-nil _; lives = refl }) (λ rounds each. (tt, each)) (λ round before. tt) h h.kept h.timed
+  not_written place carried bytes (answer.Happened ready) opened begun now trace waiting clock none h = made m _ Settled Settled opened begun now trace waiting clock (λ p low. record { came = append-nil _; written = append-nil _; lives = refl }) (λ rounds each. (tt, each)) (λ round before. tt) h h.kept h.timed
+  not_written place carried bytes (answer.Time time) opened begun now trace waiting clock none h = made m _ Settled Settled opened begun now trace waiting clock (λ p low. record { came = append-nil _; written = append-nil _; lives = refl }) (λ rounds each. (tt, each)) (λ round before. tt) h h.kept h.timed
+  not_written place carried bytes (answer.Signal ends) opened begun now trace waiting clock none h = made m _ Settled Settled opened begun now trace waiting clock (λ p low. record { came = append-nil _; written = append-nil _; lives = refl }) (λ rounds each. (tt, each)) (λ round before. tt) h h.kept h.timed
 
   -- a connection begins
   pub begins : (place : ℕ) (carried bytes : List ℕ) (opened : List calls.Call) (begun : State) (now now' : KeptState State) (trace : Trace) (waiting : List (List ℕ)) (clock : Clock)
@@ -152,6 +157,8 @@ module _ {State : Type 0} (m : Meaning State) where
     lives = λ p low. at_places place p (λ b. (if b then true ∷ life_on p trace else life_on p trace)
         ≡ (if b then true ∷ life_of p h.deeds else life_of p h.deeds)) (λ here. ap (λ (l : List Bool). true ∷ l) (h.lives p low)) (λ there. h.lives p low);
     timed = h.timed;
+    in_round = one_more Resting Resting (Opened place) _ h.deeds (λ round before all reached. tt)
+        (made_in_round _ Resting Resting trace h.deeds (λ rounds each. (tt, each)) (λ round before. tt) h.in_round);
   }
 
   -- or none does, at a place
@@ -167,12 +174,12 @@ module _ {State : Type 0} (m : Meaning State) where
             (λ here. let far : 40 ≤ place = beyond refl in absurd (omega (arith, far, low, here))) (λ there. append-nil _);
         lives = at_places place p (λ b. (if b then true ∷ life_on p trace else life_on p trace) ≡ life_on p trace)
             (λ here. let far : 40 ≤ place = beyond refl in absurd (omega (arith, far, low, here))) (λ there. refl);
-      }) h h.kept h.timed
-  not_begun place carried bytes answer.Came opened begun now trace waiting clock beyond h = made m _ Resting Resting opened begun now trace waiting clock (λ p low. record { came = append-nil _; written = append-nil _; lives = refl }) h h.kept h.timed
-  not_begun place carried bytes (answer.Taken count) opened begun now trace waiting clock beyond h = made m _ Resting Resting opened begun now trace waiting clock (λ p low. record { came = append-nil _; written = append-nil _; lives = refl }) h h.kept h.timed
-  not_begun place carried bytes answer.Again opened begun now trace waiting clock beyond h = made m _ Resting Resting opened begun now trace waiting clock (λ p low. record { came = append-nil _; written = append-nil _; lives = refl }) h h.kept h.timed
-  not_begun place carried bytes answer.NoRoom opened begun now trace waiting clock beyond h = made m _ Resting Resting opened begun now trace waiting clock (λ p low. record { came = append-nil _; written = append-nil _; lives = refl }) h h.kept h.timed
-  not_begun place carried bytes answer.Failed opened begun now trace waiting clock beyond h = made m _ Resting Resting opened begun now trace waiting clock (λ p low. record { came = append-nil _; written = append-nil _; lives = refl }) h h.kept h.timed
-  not_begun place carried bytes (answer.Happened ready) opened begun now trace waiting clock beyond h = made m _ Resting Resting opened begun now trace waiting clock (λ p low. record { came = append-nil _; written = append-nil _; lives = refl }) h h.kept h.timed
-  not_begun place carried bytes (answer.Time time) opened begun now trace waiting clock beyond h = made m _ Resting Resting opened begun now trace waiting clock (λ p low. record { came = append-nil _; written = append-nil _; lives = refl }) h h.kept h.timed
-  not_begun place carried bytes (answer.Signal ends) opened begun now trace waiting clock beyond h = made m _ Resting Resting opened begun now trace waiting clock (λ p low. record { came = append-nil _; written = append-nil _; lives = refl }) h h.kept h.timed
+      }) (λ rounds each. (tt, each)) (λ round before. tt) h h.kept h.timed
+  not_begun place carried bytes answer.Came opened begun now trace waiting clock beyond h = made m _ Resting Resting opened begun now trace waiting clock (λ p low. record { came = append-nil _; written = append-nil _; lives = refl }) (λ rounds each. (tt, each)) (λ round before. tt) h h.kept h.timed
+  not_begun place carried bytes (answer.Taken count) opened begun now trace waiting clock beyond h = made m _ Resting Resting opened begun now trace waiting clock (λ p low. record { came = append-nil _; written = append-nil _; lives = refl }) (λ rounds each. (tt, each)) (λ round before. tt) h h.kept h.timed
+  not_begun place carried bytes answer.Again opened begun now trace waiting clock beyond h = made m _ Resting Resting opened begun now trace waiting clock (λ p low. record { came = append-nil _; written = append-nil _; lives = refl }) (λ rounds each. (tt, each)) (λ round before. tt) h h.kept h.timed
+  not_begun place carried bytes answer.NoRoom opened begun now trace waiting clock beyond h = made m _ Resting Resting opened begun now trace waiting clock (λ p low. record { came = append-nil _; written = append-nil _; lives = refl }) (λ rounds each. (tt, each)) (λ round before. tt) h h.kept h.timed
+  not_begun place carried bytes answer.Failed opened begun now trace waiting clock beyond h = made m _ Resting Resting opened begun now trace waiting clock (λ p low. record { came = append-nil _; written = append-nil _; lives = refl }) (λ rounds each. (tt, each)) (λ round before. tt) h h.kept h.timed
+  not_begun place carried bytes (answer.Happened ready) opened begun now trace waiting clock beyond h = made m _ Resting Resting opened begun now trace waiting clock (λ p low. record { came = append-nil _; written = append-nil _; lives = refl }) (λ rounds each. (tt, each)) (λ round before. tt) h h.kept h.timed
+  not_begun place carried bytes (answer.Time time) opened begun now trace waiting clock beyond h = made m _ Resting Resting opened begun now trace waiting clock (λ p low. record { came = append-nil _; written = append-nil _; lives = refl }) (λ rounds each. (tt, each)) (λ round before. tt) h h.kept h.timed
+  not_begun place carried bytes (answer.Signal ends) opened begun now trace waiting clock beyond h = made m _ Resting Resting opened begun now trace waiting clock (λ p low. record { came = append-nil _; written = append-nil _; lives = refl }) (λ rounds each. (tt, each)) (λ round before. tt) h h.kept h.timed

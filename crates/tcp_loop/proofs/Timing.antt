@@ -1,6 +1,6 @@
 -- What is counted of time goes on from phase to phase.
 use Rattle.std.proofs.Common.{ℕ, ◌≡◌, ◌<◌, ◌+◌, ◌*◌, Bool, true, false, if◌then◌else◌, Option, Some, None, refl, sym, ap, ◌∙◌, arith}
-use Rattle.tcp_loop.specs.Kept.{Answered, Begun, Called, Committing, Due, Folding, Pending, Phase, Placing, Resting, Settled, Stopped, Told, after_call, after_part, not_made}
+use Rattle.tcp_loop.specs.Kept.{Answered, Attending, Begun, Called, Committing, Due, Folding, Pending, Phase, Placing, Resting, Settled, Stopped, Told, after_call, after_part, not_made}
 use Rattle.tcp_loop.specs.Times.{gone}
 use Rattle.tcp_loop.specs.Timed.{IsLast, IsTimed, most_untold}
 use Rattle.tcp_loop.specs.declared.clock.Clock.{Clock}
@@ -12,6 +12,7 @@ use Rattle.tcp_loop.specs.declared.target.Call.{Call}
 pub few_all : (phase : Phase) (n : ℕ) → n < most_untold phase → n < 2000000
 few_all Resting n few = omega (arith, few)
 few_all Due n few = few
+few_all (Attending from) n few = omega (arith, few)
 few_all Begun n few = omega (arith, few)
 few_all Pending n few = few
 few_all Told n few = few
@@ -45,6 +46,12 @@ module _ (c t : ℕ) (f : Bool) (l : ℕ) (clock : Clock) where
 
   pub timed_begun : IsTimed Begun c t f l clock → IsTimed Resting c t f l clock
   timed_begun h = record { counts = h.counts; few = h.few; last_is = h.last_is }
+
+  pub timed_attending : (from : ℕ) → IsTimed Resting c t f l clock → IsTimed (Attending from) c t f l clock
+  timed_attending from h = record { counts = h.counts; few = h.few; last_is = h.last_is }
+
+  pub timed_attended : (from : ℕ) → IsTimed (Attending from) c t f l clock → IsTimed Resting c t f l clock
+  timed_attended from h = record { counts = h.counts; few = h.few; last_is = h.last_is }
 
   pub timed_told : IsTimed Answered c t f l clock → IsTimed Told c t f l clock
   timed_told h = record { counts = h.counts; few = h.few; last_is = h.last_is }

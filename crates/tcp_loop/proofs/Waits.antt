@@ -8,6 +8,7 @@ use Rattle.tcp_loop.specs.Kept.{Phase}
 use Rattle.tcp_loop.specs.Holding.{Holds}
 use Rattle.tcp_loop.specs.Orderly.{IsOrderly}
 use Rattle.tcp_loop.specs.Fair.{IsFair, IsFairTo, Point}
+use Rattle.tcp_loop.specs.Progress.{EndsRounds, Falls}
 use Rattle.tcp_loop.specs.Running.{NeverOwes, NeverOwesMore, OwesNothingAt}
 use Rattle.tcp_loop.specs.declared.clock.Clock.{Clock}
 use Rattle.tcp_loop.specs.declared.hosts.Hosts.{Hosts}
@@ -15,6 +16,7 @@ use Rattle.tcp_loop.specs.declared.operation.Answer.{Answer}
 use Rattle.tcp_loop.specs.declared.operation.Operation.{Operation}
 use Rattle.tcp_loop.specs.declared.operation.Operation.TheVariants.{Accept, Close, Create, Discard, End, Fsync, Ftruncate, Log}
 use Rattle.tcp_loop.specs.declared.operation.Operation.TheVariants.{Now, Poll, Pwrite, Read, Rename, Signal, SyncFolder, Write}
+use Rattle.tcp_loop.proofs.Progress.{ends_by}
 
 module _ {State : Type 0} (m : Meaning State) (free : State → Option ℕ) (o : IsOrderly m free) where
   pub owes_nothing_at : (asked : Operation) (trace : Trace) (waiting : List (List ℕ)) (s : State) → IsFairTo m free o asked trace waiting s
@@ -60,6 +62,10 @@ module _ (trace trace' : Trace) (asked asked' : Operation) (carried : List ℕ) 
       → OwesNothingAt asked' trace → NeverOwes trace → NeverOwesMore m free o p trace' h waiting s
   fair_next m free o p h waiting s fair nothing never =
       subst (λ (t : Trace). NeverOwesMore m free o p t h waiting s) (sym made_is) (record { fair = fair; never = (nothing, never) })
+
+  pub ends_next : (before after : ℕ) → Falls asked' before after → EndsRounds trace before → EndsRounds trace' after
+  ends_next before after falls ends =
+      subst (λ (t : Trace). EndsRounds t after) (sym made_is) (ends_by (one asked' carried answer came') trace before after falls ends)
 
 -- it is one more
 pub made_more : {made : Made} (trace trace' : Trace) → trace' ≡ made ∷ trace → length trace' ≡ length trace + 1

@@ -17,6 +17,8 @@ use Rattle.tcp_loop.specs.declared.target.Call.{Call}
 pub data Phase : Type 0 where
   -- no call waits: a crash leaves the device before the last deeds, none of which sent something
   Resting : Phase
+  -- so it is too, and in this round runs were given turns, and connections below this place were attended to
+  Attending : (from : ℕ) → Phase
   -- so it is too, and the time was told at which hosts were read
   Due : Phase
   -- a file was opened, by calls of which some wait
@@ -41,7 +43,7 @@ pub data Phase : Type 0 where
   Stopped : Phase
 
 abbrev pub phase_of : Stage → Phase
-phase_of (stage.Polling watched milliseconds) = Resting
+phase_of (stage.Polling watched milliseconds) = Attending 40
 phase_of stage.Signalled = Resting
 phase_of (stage.Reading place) = Resting
 phase_of stage.Timing = Resting
@@ -84,6 +86,7 @@ after_part part.Discarded done = Answered
 abbrev pub phase_after : Stage → Bool → Phase
 phase_after (stage.Calling call) done = after_call (wanted_by call) done
 phase_after (stage.Placing part) done = after_part part done
+phase_after (stage.Polling watched milliseconds) done = Resting
 phase_after stage done = phase_of stage
 
 -- a new file of these bytes that is on the disk
@@ -158,6 +161,7 @@ module _ {State : Type 0} (m : Meaning State) where
 
   abbrev pub IsKept : Phase → List calls.Call → NewFile → Keeping → (deeds : List Deed) (old new : State) → AreDone m deeds old new → Type 0
   IsKept Resting asked beside file deeds old new done = Knows m.may_be_left asked file.made × IsAtRest file deeds old new done
+  IsKept (Attending from) asked beside file deeds old new done = Knows m.may_be_left asked file.made × IsAtRest file deeds old new done
   IsKept Due asked beside file deeds old new done = Knows m.may_be_left asked file.made × IsAtRest file deeds old new done
   IsKept Begun asked beside file deeds old new done = Knows m.may_be_left asked file.made × IsUnderWay file deeds old new done
   IsKept Told asked beside file deeds old new done = Knows m.may_be_left asked file.made × IsUnderWay file deeds old new done

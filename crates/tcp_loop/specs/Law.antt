@@ -6,6 +6,7 @@ use Rattle.tcp_loop.specs.Trace.{Trace}
 use Rattle.tcp_loop.specs.Sockets.{came_on, life_on, written_on}
 use Rattle.tcp_loop.specs.Disk.{calls_of}
 use Rattle.tcp_loop.specs.Deeds.{AreDone, Deed, Meaning, Sent, life_of, received_on, sent_on}
+use Rattle.tcp_loop.specs.Attended.{IsAttended}
 use Rattle.tcp_loop.specs.Times.{TicksAreTime}
 
 abbrev pub sends : Deed → Bool
@@ -48,5 +49,7 @@ module _ {State : Type 0} (m : Meaning State) where
     pub lives : (place : ℕ) → place < 40 → life_on place trace ≡ life_of place deeds
     -- a crash leaves a file that has all that was answered
     pub left : (c : List ℕ) → MayLeave (told_of m.may_be_left (calls_of opened trace)) c → HasAnswered c deeds old new done
+    -- each wait ended a round in which a run was given a turn, and each connection was attended to
+    pub attended : IsAttended trace deeds
     -- and the target was let count the time for which hosts might have been heard
     pub timed : TicksAreTime trace deeds

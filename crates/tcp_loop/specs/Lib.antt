@@ -11,6 +11,8 @@ pub mod Orderly
 pub mod Stages
 pub mod Kept
 pub mod Timed
+pub mod Attended
 pub mod Holding
 pub mod Fair
+pub mod Progress
 pub mod Running

@@ -1,12 +1,13 @@
 -- What a loop has counted of time, at each phase.
 use Rattle.std.specs.Prelude.{ℕ, ◌≡◌, ◌<◌, ◌+◌, ◌*◌, Bool, true, false, Option, Some, None, if◌then◌else◌}
 use Rattle.tcp_loop.specs.Times.{gone}
-use Rattle.tcp_loop.specs.Kept.{Answered, Begun, Called, Due, Pending, Phase, Resting, Settled, Told}
+use Rattle.tcp_loop.specs.Kept.{Answered, Attending, Begun, Called, Due, Pending, Phase, Resting, Settled, Told}
 use Rattle.tcp_loop.specs.declared.clock.Clock.{Clock}
 
 -- how much isn't told, at most
 abbrev pub most_untold : Phase → ℕ
 most_untold Resting = 1000000
+most_untold (Attending from) = 1000000
 most_untold Begun = 1000000
 most_untold _ = 2000000
 
@@ -16,6 +17,7 @@ IsLast for_file last clock = clock.last ≡ (if for_file then 0 else last)
 
 abbrev pub LastIs : Phase → Bool → ℕ → Clock → Type 0
 LastIs Resting for_file last clock = IsLast for_file last clock
+LastIs (Attending from) for_file last clock = IsLast for_file last clock
 LastIs Begun for_file last clock = IsLast for_file last clock
 LastIs Due for_file last clock = IsLast for_file last clock
 LastIs Pending for_file last clock = IsLast for_file last clock

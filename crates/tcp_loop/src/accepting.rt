@@ -1,9 +1,10 @@
 //! Connections that hosts begin.
 
-ghost use Rattle.std.specs.Prelude.{◌≡◌, ◌≤◌, ◌<◌, false, ℕ, List, IsTrue, None, Some};
+ghost use Rattle.std.specs.Prelude.{◌≡◌, ◌≤◌, ◌<◌, ◌+◌, false, ℕ, List, IsTrue, None, Some};
 ghost use Rattle.tcp_loop.specs.Fair.{Accepts, Fairly, FairlyMakes, Takes, Tells, ToAccept, point_of};
 ghost use Rattle.tcp_loop.specs.Holding.{Keeps, Makes};
 ghost use Rattle.tcp_loop.specs.Kept.{Resting, phase_of};
+ghost use Rattle.tcp_loop.specs.Progress.{left_of, to_take};
 ghost use Rattle.tcp_loop.specs.Stages.{IsReady};
 ghost use Rattle.tcp_loop.specs.declared.operation.Answer.TheVariants as answer;
 ghost use Rattle.tcp_loop.specs.declared.operation.Operation.TheVariants as operation;
@@ -26,6 +27,7 @@ impl<T: KeptTarget + Drop> Loop<T> {
             (T.at self.new.target) self.new.incoming.items self.new.clock }
         ensures fair { Fairly T.means T.free (Accepts more) self.old.hosts self.old.incoming.items (T.at self.old.target)
             (point_of self.new.stage) self.new.hosts self.new.incoming.items (T.at self.new.target) }
+        ensures ends { left_of self.new.stage self.new.hosts.there self.new.lines self.new.finished ≤ to_take more }
     {
         if self.may_accept(more) {
             self.stage = Stage::Accepting {
@@ -68,6 +70,7 @@ impl<T: KeptTarget + Drop> Loop<T> {
             (record { asked = operation.Accept place; carried = carried; answer = answer; came = came })
             Takes self.old.hosts self.old.incoming.items (T.at self.old.target)
             (point_of self.new.stage) self.new.hosts self.new.incoming.items (T.at self.new.target) }
+        ensures ends { left_of self.new.stage self.new.hosts.there self.new.lines self.new.finished ≤ to_take more + 1 }
     {
         let begins = begins_at(place, answer);
         if begins {
@@ -85,6 +88,7 @@ impl<T: KeptTarget + Drop> Loop<T> {
             (T.at self.new.target) self.new.incoming.items self.new.clock }
         ensures fair { Fairly T.means T.free Tells self.old.hosts self.old.incoming.items (T.at self.old.target)
             (point_of self.new.stage) self.new.hosts self.new.incoming.items (T.at self.new.target) }
+        ensures ends { left_of self.new.stage self.new.hosts.there self.new.lines self.new.finished ≤ to_take more + 1 }
     {
         match answer {
             Answer::Done => {

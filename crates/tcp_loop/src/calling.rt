@@ -1,12 +1,13 @@
 //! Commits, and the calls for the file.
 
-ghost use Rattle.std.specs.Prelude.{◌≡◌, ℕ, List, None, false, true};
+ghost use Rattle.std.specs.Prelude.{◌≡◌, ◌≤◌, ◌<◌, ℕ, List, None, false, true};
 ghost use Rattle.tcp_loop.specs.Disk.{is_done};
 ghost use Rattle.tcp_loop.specs.Fair.{Fairly, Tells, Writes, point_of};
 ghost use Rattle.tcp_loop.specs.Holding.{Keeps, Makes};
 ghost use Rattle.tcp_loop.specs.Keeping.{wanted_by};
 ghost use Rattle.tcp_loop.specs.Kept.{Answered, Called, Committing, Due, Folding, Pending, Resting, Settled};
 ghost use Rattle.tcp_loop.specs.Kept.{after_call, after_part, not_made, phase_of};
+ghost use Rattle.tcp_loop.specs.Progress.{left_of, to_begin, to_call, to_commit, to_time};
 ghost use Rattle.tcp_loop.specs.Stages.{IsReady};
 ghost use Rattle.tcp_loop.specs.declared.stage.Part.TheVariants as part;
 ghost use Rattle.tcp_loop.specs.declared.operation.Operation.TheVariants as operation;
@@ -27,6 +28,7 @@ impl<T: KeptTarget + Drop> Loop<T> {
             (T.at self.new.target) self.new.incoming.items self.new.clock }
         ensures fair { Fairly T.means T.free (Writes 0) self.old.hosts self.old.incoming.items (T.at self.old.target)
             (point_of self.new.stage) self.new.hosts self.new.incoming.items (T.at self.new.target) }
+        ensures ends { left_of self.new.stage self.new.hosts.there self.new.lines self.new.finished ≤ to_commit }
     {
         match commit(&mut self.target) {
             Ok(()) => self.make_calls(),
@@ -41,6 +43,7 @@ impl<T: KeptTarget + Drop> Loop<T> {
             (T.at self.new.target) self.new.incoming.items self.new.clock }
         ensures fair { Fairly T.means T.free (Writes 0) self.old.hosts self.old.incoming.items (T.at self.old.target)
             (point_of self.new.stage) self.new.hosts self.new.incoming.items (T.at self.new.target) }
+        ensures ends { left_of self.new.stage self.new.hosts.there self.new.lines self.new.finished ≤ to_commit }
     {
         match self.target.next_call() {
             Some(call) => {
@@ -58,6 +61,7 @@ impl<T: KeptTarget + Drop> Loop<T> {
             (T.at self.new.target) self.new.incoming.items self.new.clock }
         ensures fair { Fairly T.means T.free Tells self.old.hosts self.old.incoming.items (T.at self.old.target)
             (point_of self.new.stage) self.new.hosts self.new.incoming.items (T.at self.new.target) }
+        ensures ends { left_of self.new.stage self.new.hosts.there self.new.lines self.new.finished ≤ to_begin }
     {
         self.finished = true;
         match finish(&mut self.target) {
@@ -73,6 +77,7 @@ impl<T: KeptTarget + Drop> Loop<T> {
             (T.at self.new.target) self.new.incoming.items self.new.clock }
         ensures fair { Fairly T.means T.free (Writes 0) self.old.hosts self.old.incoming.items (T.at self.old.target)
             (point_of self.new.stage) self.new.hosts self.new.incoming.items (T.at self.new.target) }
+        ensures ends { left_of self.new.stage self.new.hosts.there self.new.lines self.new.finished ≤ to_call self.old.finished }
     {
         match self.target.next_call() {
             Some(call) => self.call(call),
@@ -88,6 +93,7 @@ impl<T: KeptTarget + Drop> Loop<T> {
             (T.at self.new.target) self.new.incoming.items self.new.clock }
         ensures fair { Fairly T.means T.free (Writes 0) self.old.hosts self.old.incoming.items (T.at self.old.target)
             (point_of self.new.stage) self.new.hosts self.new.incoming.items (T.at self.new.target) }
+        ensures ends { left_of self.new.stage self.new.hosts.there self.new.lines self.new.finished ≤ to_call self.old.finished }
     {
         match wanted_by(call) {
             Some(wants) => self.stage = Stage::Placing {
@@ -106,6 +112,7 @@ impl<T: KeptTarget + Drop> Loop<T> {
             (phase_of self.new.stage) (T.at self.new.target) self.new.incoming.items self.new.clock }
         ensures fair { Fairly T.means T.free (Writes 0) self.old.hosts self.old.incoming.items (T.at self.old.target)
             (point_of self.new.stage) self.new.hosts self.new.incoming.items (T.at self.new.target) }
+        ensures ends { left_of self.new.stage self.new.hosts.there self.new.lines self.new.finished ≤ to_call self.old.finished }
     {
         let _call = call;
         if is_done(answer) {
@@ -122,6 +129,7 @@ impl<T: KeptTarget + Drop> Loop<T> {
             (T.at self.new.target) self.new.incoming.items self.new.clock }
         ensures fair { Fairly T.means T.free (Writes 0) self.old.hosts self.old.incoming.items (T.at self.old.target)
             (point_of self.new.stage) self.new.hosts self.new.incoming.items (T.at self.new.target) }
+        ensures ends { left_of self.new.stage self.new.hosts.there self.new.lines self.new.finished ≤ to_call self.old.finished }
     {
         call_done(&mut self.target);
         match self.target.next_call() {
@@ -139,6 +147,7 @@ impl<T: KeptTarget + Drop> Loop<T> {
             (phase_of self.new.stage) (T.at self.new.target) self.new.incoming.items self.new.clock }
         ensures fair { Fairly T.means T.free (Writes 0) self.old.hosts self.old.incoming.items (T.at self.old.target)
             (point_of self.new.stage) self.new.hosts self.new.incoming.items (T.at self.new.target) }
+        ensures ends { left_of self.new.stage self.new.hosts.there self.new.lines self.new.finished < to_time self.old.finished }
     {
         self.clock.skip(answer);
         self.go_on_once_called();
@@ -151,6 +160,7 @@ impl<T: KeptTarget + Drop> Loop<T> {
             (T.at self.new.target) self.new.incoming.items self.new.clock }
         ensures fair { Fairly T.means T.free (Writes 0) self.old.hosts self.old.incoming.items (T.at self.old.target)
             (point_of self.new.stage) self.new.hosts self.new.incoming.items (T.at self.new.target) }
+        ensures ends { left_of self.new.stage self.new.hosts.there self.new.lines self.new.finished < to_time self.old.finished }
     {
         let finished = self.finished;
         if finished {
@@ -169,6 +179,7 @@ impl<T: KeptTarget + Drop> Loop<T> {
             (phase_of self.new.stage) (T.at self.new.target) self.new.incoming.items self.new.clock }
         ensures fair { Fairly T.means T.free (Writes 0) self.old.hosts self.old.incoming.items (T.at self.old.target)
             (point_of self.new.stage) self.new.hosts self.new.incoming.items (T.at self.new.target) }
+        ensures ends { left_of self.new.stage self.new.hosts.there self.new.lines self.new.finished ≤ to_call self.old.finished }
     {
         if is_done(answer) {
             self.part_is_done(part);
@@ -184,6 +195,7 @@ impl<T: KeptTarget + Drop> Loop<T> {
             (phase_of self.new.stage) (T.at self.new.target) self.new.incoming.items self.new.clock }
         ensures fair { Fairly T.means T.free (Writes 0) self.old.hosts self.old.incoming.items (T.at self.old.target)
             (point_of self.new.stage) self.new.hosts self.new.incoming.items (T.at self.new.target) }
+        ensures ends { left_of self.new.stage self.new.hosts.there self.new.lines self.new.finished ≤ to_call self.old.finished }
     {
         match part {
             Part::Made { wants } => self.stage = Stage::Placing {
@@ -209,6 +221,7 @@ impl<T: KeptTarget + Drop> Loop<T> {
             (phase_of self.new.stage) (T.at self.new.target) self.new.incoming.items self.new.clock }
         ensures fair { Fairly T.means T.free (Writes 0) self.old.hosts self.old.incoming.items (T.at self.old.target)
             (point_of self.new.stage) self.new.hosts self.new.incoming.items (T.at self.new.target) }
+        ensures ends { left_of self.new.stage self.new.hosts.there self.new.lines self.new.finished ≤ to_call self.old.finished }
     {
         if wants {
             self.fold();
@@ -224,6 +237,7 @@ impl<T: KeptTarget + Drop> Loop<T> {
             (phase_of self.new.stage) (T.at self.new.target) self.new.incoming.items self.new.clock }
         ensures fair { Fairly T.means T.free (Writes 0) self.old.hosts self.old.incoming.items (T.at self.old.target)
             (point_of self.new.stage) self.new.hosts self.new.incoming.items (T.at self.new.target) }
+        ensures ends { left_of self.new.stage self.new.hosts.there self.new.lines self.new.finished ≤ to_call self.old.finished }
     {
         match part {
             Part::Made { wants } => self.was_not_made(wants),
@@ -242,6 +256,7 @@ impl<T: KeptTarget + Drop> Loop<T> {
             (T.at self.new.target) self.new.incoming.items self.new.clock }
         ensures fair { Fairly T.means T.free (Writes 0) self.old.hosts self.old.incoming.items (T.at self.old.target)
             (point_of self.new.stage) self.new.hosts self.new.incoming.items (T.at self.new.target) }
+        ensures ends { left_of self.new.stage self.new.hosts.there self.new.lines self.new.finished ≤ to_call self.old.finished }
     {
         match fold(&mut self.target) {
             Ok(put) => {
@@ -263,6 +278,7 @@ impl<T: KeptTarget + Drop> Loop<T> {
             (T.at self.new.target) self.new.incoming.items self.new.clock }
         ensures fair { Fairly T.means T.free (Writes 0) self.old.hosts self.old.incoming.items (T.at self.old.target)
             (point_of self.new.stage) self.new.hosts self.new.incoming.items (T.at self.new.target) }
+        ensures ends { left_of self.new.stage self.new.hosts.there self.new.lines self.new.finished ≤ to_call self.old.finished }
     {
         if wants {
             tell_no_room(&mut self.lines, &mut self.lacks_room);

@@ -3,7 +3,7 @@
 ghost use Rattle.std.specs.Prelude.{◌≡◌, ◌<◌, ◌+◌, ◌*◌, true, false, ℕ, List, IfOk, OnErr, OnOk};
 ghost use Rattle.tcp_loop.specs.Deeds.{Closed};
 ghost use Rattle.tcp_loop.specs.Holding.{Keeps, Makes};
-ghost use Rattle.tcp_loop.specs.Kept.{Answered, Due, Folding, Pending, Placing, Resting, Settled, Stopped, Told};
+ghost use Rattle.tcp_loop.specs.Kept.{Answered, Attending, Due, Folding, Pending, Placing, Resting, Settled, Stopped, Told};
 ghost use Rattle.tcp_loop.specs.Orderly.{HasGrown, IsOrderly};
 ghost use Rattle.tcp_loop.specs.declared.clock.Clock.{Clock};
 ghost use Rattle.tcp_loop.specs.declared.operation.Answer.{Answer};
@@ -21,6 +21,8 @@ use stored_file::FileError;
 ///
 /// No memory for the journal.
 pub(crate) fn turn<T: KeptTarget>(target: &mut T) -> Result<bool, AllocError>
+    ensures attends { OnOk result ((waiting : List (List ℕ)) (clock : Clock) → Keeps T.means Resting (T.at target.old) waiting clock
+        (Attending 0) (T.at target.new) waiting clock) }
     ensures keeps { (waiting : List (List ℕ)) (clock : Clock) → Keeps T.means Resting (T.at target.old) waiting clock
         Resting (T.at target.new) waiting clock }
     ensures grows { (o : IsOrderly T.means T.free) → HasGrown T.means T.free o (T.at target.old).state (T.at target.new).state }
@@ -61,9 +63,8 @@ pub(crate) fn close<T: KeptTarget>(target: &mut T, number: usize)
 
 /// Says that so many milliseconds went by.
 pub(crate) fn tick<T: KeptTarget>(target: &mut T, milliseconds: u32)
-    ensures keeps { (waiting : List (List ℕ)) (clock clock' : Clock) → clock'.last ≡ clock.last → clock.untold ≡ milliseconds * 1000 +
-        clock'.untold
-        → (clock.untold < 2000000 → clock'.untold < 1000000)
+    ensures keeps { (waiting : List (List ℕ)) (clock clock' : Clock) → clock'.last ≡ clock.last
+        → clock.untold ≡ milliseconds * 1000 + clock'.untold → (clock.untold < 2000000 → clock'.untold < 1000000)
         → Keeps T.means Settled (T.at target.old) waiting clock Resting (T.at target.new) waiting clock' }
     ensures grows { (o : IsOrderly T.means T.free) → HasGrown T.means T.free o (T.at target.old).state (T.at target.new).state }
 {

@@ -1,8 +1,11 @@
 //! The lines of the log.
 
+ghost use Rattle.std.specs.Prelude.{◌≤◌, ◌<◌, IfSome};
+
 use crate::counters::Counters;
 use std::alloc::{AllocError, Global};
 use std::collections::VecDeque;
+use std::marker::Model;
 
 /// How many lines wait to be printed, at most: more are dropped, and counted.
 const MOST_LINES: usize = 256;
@@ -53,6 +56,18 @@ pub(crate) struct Lines {
     line: Vec<u8>,
 }
 
+// How many are to be printed, with the one that says how many were dropped.
+impl Model for Lines {
+    ghost use Rattle.std.specs.Prelude.{ℕ, ◌≤◌, ◌+◌, ◌==◌, if◌then◌else◌};
+    ghost use Rattle.std.specs.VecDeque.{deque_len};
+
+    ghost Value = { ℕ };
+
+    ghost view = { λ l. deque_len l.waiting + (if l.dropped == 0 then 0 else 1) };
+
+    ghost invariant = { λ l. deque_len l.waiting ≤ 256 };
+}
+
 impl Lines {
     pub(crate) fn new(alloc: Global, level: Level) -> Result<Lines, AllocError> {
         Ok(Lines {
@@ -74,7 +89,10 @@ impl Lines {
     }
 
     /// Makes the next line, and says whether the failure of the last operation is its cause; `None` where there is none.
-    pub(crate) fn next(&mut self) -> Option<bool> {
+    pub(crate) fn next(&mut self) -> Option<bool>
+        ensures few { self.old ≤ 257 }
+        ensures fewer { IfSome result (λ cause. self.new < self.old) }
+    {
         let news = self.next_news()?;
         self.line.clear();
         write_news(&mut self.line, news);
@@ -82,7 +100,10 @@ impl Lines {
     }
 
     /// What is told next.
-    fn next_news(&mut self) -> Option<News> {
+    fn next_news(&mut self) -> Option<News>
+        ensures few { self.old ≤ 257 }
+        ensures fewer { IfSome result (λ news. self.new < self.old) }
+    {
         if let Some(news) = self.waiting.pop_front() {
             return Some(news);
         }

@@ -1,10 +1,11 @@
 //! Reading what came on connections.
 
-ghost use Rattle.std.specs.Prelude.{◌≡◌, ◌≤◌, ◌<◌, ℕ, List, [], IfSome, IsTrue, false, length, slice_index_or, slice_set};
+ghost use Rattle.std.specs.Prelude.{◌≡◌, ◌≤◌, ◌<◌, ◌+◌, ℕ, List, [], IfSome, IsTrue, false, length, slice_index_or, slice_set};
 ghost use Rattle.tcp_loop.specs.Fair.{Fairly, FairlyMakes, IsFirst, Reads, ToRead, point_of};
 ghost use Rattle.tcp_loop.specs.Holding.{Keeps, piece_of};
 ghost use Rattle.tcp_loop.specs.Kept.{Resting, phase_of};
 ghost use Rattle.tcp_loop.specs.Sockets.{has_come};
+ghost use Rattle.tcp_loop.specs.Progress.{left_of, to_read};
 ghost use Rattle.tcp_loop.specs.Stages.{IsReady};
 ghost use Rattle.tcp_loop.specs.declared.operation.Answer.TheVariants as answer;
 ghost use Rattle.tcp_loop.specs.declared.operation.Operation.TheVariants as operation;
@@ -28,6 +29,7 @@ impl<T: KeptTarget + Drop> Loop<T> {
             (T.at self.new.target) self.new.incoming.items self.new.clock }
         ensures fair { Fairly T.means T.free (Reads from) self.old.hosts self.old.incoming.items (T.at self.old.target)
             (point_of self.new.stage) self.new.hosts self.new.incoming.items (T.at self.new.target) }
+        ensures ends { left_of self.new.stage self.new.hosts.there self.new.lines self.new.finished ≤ to_read from }
     {
         match self.next_read(from) {
             Some(place) => self.stage = Stage::Reading { place },
@@ -73,6 +75,7 @@ impl<T: KeptTarget + Drop> Loop<T> {
             (record { asked = operation.Read place; carried = carried; answer = answer; came = came.now })
             (Reads place) self.old.hosts self.old.incoming.items (T.at self.old.target)
             (point_of self.new.stage) self.new.hosts self.new.incoming.items (T.at self.new.target) }
+        ensures ends { left_of self.new.stage self.new.hosts.there self.new.lines self.new.finished ≤ to_read (place + 1) }
     {
         if has_come(answer) {
             self.take_piece(place, came);
@@ -92,6 +95,7 @@ impl<T: KeptTarget + Drop> Loop<T> {
             (record { asked = operation.Read place; carried = carried; answer = answer; came = came })
             (Reads place) self.old.hosts self.old.incoming.items (T.at self.old.target)
             (point_of self.new.stage) self.new.hosts self.new.incoming.items (T.at self.new.target) }
+        ensures ends { left_of self.new.stage self.new.hosts.there self.new.lines self.new.finished ≤ to_read (place + 1) }
     {
         mark(&mut self.hosts.lost, place, !is_again(answer));
         self.read(place + 1);
@@ -108,6 +112,7 @@ impl<T: KeptTarget + Drop> Loop<T> {
             (record { asked = operation.Read place; carried = carried; answer = answer.Came; came = came })
             (Reads place) self.old.hosts self.old.incoming.items (T.at self.old.target)
             (point_of self.new.stage) self.new.hosts self.new.incoming.items (T.at self.new.target) }
+        ensures ends { left_of self.new.stage self.new.hosts.there self.new.lines self.new.finished ≤ to_read (place + 1) }
     {
         add(&mut self.counters.came, piece.len() as u64);
         let done = advance(&mut self.target, place, piece);

@@ -1,7 +1,7 @@
 //! What is done with bytes that came.
 
-ghost use Rattle.std.specs.Prelude.{◌≡◌, ◌≤◌, ◌<◌, drop, length};
-ghost use Rattle.tcp_loop.specs.Holding.{Takes};
+ghost use Rattle.std.specs.Prelude.{◌≡◌, ◌≤◌, ◌<◌, drop, false, length, true};
+ghost use Rattle.tcp_loop.specs.Holding.{Attends, Takes};
 ghost use Rattle.tcp_loop.specs.Keeping.{KeptState};
 ghost use Rattle.tcp_loop.specs.Orderly.{HasGrown, IsOrderly};
 
@@ -24,6 +24,14 @@ pub struct Advanced {
     pub failed: bool,
 }
 
+/// Nothing.
+const NOTHING: Advanced = Advanced {
+    taken: 0,
+    commands: 0,
+    goes_on: true,
+    failed: false,
+};
+
 impl Advanced {
     /// Was something done?
     pub fn is_something(self) -> bool {
@@ -36,15 +44,11 @@ pub fn advance<T: KeptTarget>(target: &mut T, number: usize, piece: &[u8]) -> Ad
     requires { number < PLACES }
     ensures within { result.taken ≤ length piece.now }
     ensures takes { Takes T.means number piece.now result.taken (T.at target.old) (T.at target.new) }
+    ensures attends { result.failed ≡ false → Attends T.means number piece.now 0 result.taken (T.at target.old) (T.at target.new) }
     ensures grows { (o : IsOrderly T.means T.free) → HasGrown T.means T.free o (T.at target.old).state (T.at target.new).state }
 {
-    let mut done = Advanced {
-        taken: 0,
-        commands: 0,
-        goes_on: true,
-        failed: false,
-    };
-    for _ in 0..MOST_COMMANDS {
+    let mut done = advance_once(target, number, piece, NOTHING);
+    for _ in 1..MOST_COMMANDS {
         if !done.goes_on {
             return done;
         }
@@ -65,6 +69,9 @@ fn advance_once<T: KeptTarget>(
     ensures within { result.taken ≤ length piece.now }
     ensures takes { (begun : KeptState T.State) → Takes T.means number piece.now done.taken begun (T.at target.old)
         → Takes T.means number piece.now result.taken begun (T.at target.new) }
+    ensures attends { result.failed ≡ false
+        → Attends T.means number piece.now done.taken result.taken (T.at target.old) (T.at target.new) }
+    ensures well { result.goes_on ≡ true → result.failed ≡ false }
     ensures grows { (o : IsOrderly T.means T.free) → HasGrown T.means T.free o (T.at target.old).state (T.at target.new).state }
 {
     let count = target.receive(number, &piece[done.taken..]);

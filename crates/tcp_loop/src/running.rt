@@ -3,6 +3,7 @@
 ghost use Rattle.std.specs.Prelude.{◌≡◌, ◌≤◌, ◌+◌, ◌∷◌, length};
 ghost use Rattle.tcp_loop.specs.Fair.{point_of};
 ghost use Rattle.tcp_loop.specs.Kept.{phase_of};
+ghost use Rattle.tcp_loop.specs.Progress.{EndsRounds, left_of};
 ghost use Rattle.tcp_loop.specs.Running.{FairOn, HoldsOn};
 ghost use Rattle.tcp_loop.specs.Stages.{IsReady};
 ghost use Rattle.tcp_loop.specs.Trace.{Trace};
@@ -42,6 +43,8 @@ impl<T: KeptTarget + Drop> Loop<T> {
         ensures fair { FairOn T.means T.free
             (W.trace world.old) (point_of self.old.stage) self.old.hosts self.old.incoming.items (T.at self.old.target)
             (W.trace world.new) (point_of self.new.stage) self.new.hosts self.new.incoming.items (T.at self.new.target) }
+        ensures ends { EndsRounds (W.trace world.old) (left_of self.old.stage self.old.hosts.there self.old.lines self.old.finished)
+            → EndsRounds (W.trace world.new) (left_of self.new.stage self.new.hosts.there self.new.lines self.new.finished) }
     {
         let mut came = Vec::new(alloc);
         for _made in 0..operations {

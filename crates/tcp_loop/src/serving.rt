@@ -9,6 +9,7 @@ ghost use Rattle.tcp_loop.specs.Keeping.{Covers};
 ghost use Rattle.tcp_loop.specs.Kept.{Begun, phase_after, phase_of};
 ghost use Rattle.tcp_loop.specs.Law.{IsExplained};
 ghost use Rattle.tcp_loop.specs.Orderly.{IsOrderly};
+ghost use Rattle.tcp_loop.specs.Progress.{Falls, left_of, most};
 ghost use Rattle.tcp_loop.specs.Rounds.{flag};
 ghost use Rattle.tcp_loop.specs.Stages.{IsReady, is_quiet, operation_of};
 ghost use Rattle.tcp_loop.specs.Trace.{Trace};
@@ -26,7 +27,7 @@ use std::alloc::{AllocError, Global};
 /// What a loop is told when it begins.
 #[derive(Clone, Copy, Debug, PartialEq, Eq)]
 pub struct Options {
-    /// How many turns runs are given in a round.
+    /// How many turns runs are given in a round, and one at least.
     pub turns: u32,
     /// Whether runs may have been kept with the device, of whose commands no connection waits.
     pub has_kept_runs: bool,
@@ -72,6 +73,7 @@ impl<T: KeptTarget + Drop> Loop<T> {
         ensures fair { IfOk result (λ made. (o : IsOrderly T.means T.free)
             → ((place : ℕ) → place < 40 → o.is_there place (T.at target).state ≡ false)
             → IsFair T.means T.free o (point_of made.stage) [] made.hosts made.incoming.items (T.at made.target).state) }
+        ensures ends { IfOk result (λ made. left_of made.stage made.hosts.there made.lines made.finished ≤ most) }
     {
         let mut made = Loop::idle(alloc, target, options)?;
         made.make_first_calls();
@@ -85,6 +87,7 @@ impl<T: KeptTarget + Drop> Loop<T> {
             (T.at self.new.target) self.new.incoming.items self.new.clock }
         ensures fair { Fairly T.means T.free (Writes 0) self.old.hosts self.old.incoming.items (T.at self.old.target)
             (point_of self.new.stage) self.new.hosts self.new.incoming.items (T.at self.new.target) }
+        ensures ends { left_of self.new.stage self.new.hosts.there self.new.lines self.new.finished ≤ most }
     {
         match self.target.next_call() {
             Some(call) => self.call(call),
@@ -166,6 +169,9 @@ impl<T: KeptTarget + Drop> Loop<T> {
             (record { asked = operation_of self.old.stage; carried = carried; answer = answer; came = came.now })
             (point_of self.old.stage) self.old.hosts self.old.incoming.items (T.at self.old.target)
             (point_of self.new.stage) self.new.hosts self.new.incoming.items (T.at self.new.target) }
+        ensures ends { Falls (operation_of self.old.stage)
+            (left_of self.old.stage self.old.hosts.there self.old.lines self.old.finished)
+            (left_of self.new.stage self.new.hosts.there self.new.lines self.new.finished) }
     {
         let stage = self.stage;
         if stage.is_quiet() {
@@ -188,6 +194,8 @@ impl<T: KeptTarget + Drop> Loop<T> {
             (record { asked = operation_of stage; carried = carried; answer = answer; came = came })
             (point_of stage) self.old.hosts self.old.incoming.items (T.at self.old.target)
             (point_of self.new.stage) self.new.hosts self.new.incoming.items (T.at self.new.target) }
+        ensures ends { Falls (operation_of stage) (left_of stage self.old.hosts.there self.old.lines self.old.finished)
+            (left_of self.new.stage self.new.hosts.there self.new.lines self.new.finished) }
     {
         match stage {
             Stage::Polling { .. } => self.happened(answer),
@@ -220,6 +228,8 @@ impl<T: KeptTarget + Drop> Loop<T> {
             (record { asked = operation_of stage; carried = carried; answer = answer; came = came.now })
             (point_of stage) self.old.hosts self.old.incoming.items (T.at self.old.target)
             (point_of self.new.stage) self.new.hosts self.new.incoming.items (T.at self.new.target) }
+        ensures ends { Falls (operation_of stage) (left_of stage self.old.hosts.there self.old.lines self.old.finished)
+            (left_of self.new.stage self.new.hosts.there self.new.lines self.new.finished) }
     {
         match stage {
             Stage::Reading { place } => self.was_read(place, answer, came),

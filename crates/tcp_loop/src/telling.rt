@@ -1,9 +1,10 @@
 //! Lines, and the end.
 
-ghost use Rattle.std.specs.Prelude.{◌≡◌, if◌then◌else◌, ℕ, List};
+ghost use Rattle.std.specs.Prelude.{◌≡◌, ◌≤◌, if◌then◌else◌, ℕ, List};
 ghost use Rattle.tcp_loop.specs.Fair.{Fairly, Over, Point, Tells, point_of};
 ghost use Rattle.tcp_loop.specs.Holding.{Keeps};
 ghost use Rattle.tcp_loop.specs.Kept.{Phase, Resting, Stopped, phase_of};
+ghost use Rattle.tcp_loop.specs.Progress.{left_of, to_fail, to_print, to_take};
 ghost use Rattle.tcp_loop.specs.Stages.{IsReady};
 
 use crate::news::{Level, News};
@@ -19,6 +20,8 @@ impl<T: KeptTarget + Drop> Loop<T> {
             (T.at self.new.target) self.new.incoming.items self.new.clock }
         ensures fair { Fairly T.means T.free Tells self.old.hosts self.old.incoming.items (T.at self.old.target)
             (point_of self.new.stage) self.new.hosts self.new.incoming.items (T.at self.new.target) }
+        ensures ends { left_of self.new.stage self.new.hosts.there self.new.lines self.new.finished ≤ to_print self.old.lines }
+        ensures few { left_of self.new.stage self.new.hosts.there self.new.lines self.new.finished ≤ to_take 0 }
     {
         match self.lines.next() {
             Some(cause) => self.stage = Stage::Telling {
@@ -38,6 +41,8 @@ impl<T: KeptTarget + Drop> Loop<T> {
             (T.at self.new.target) self.new.incoming.items self.new.clock }
         ensures fair { Fairly T.means T.free (if fails then Over else Tells) self.old.hosts self.old.incoming.items (T.at self.old.target)
             (point_of self.new.stage) self.new.hosts self.new.incoming.items (T.at self.new.target) }
+        ensures ends { left_of self.new.stage self.new.hosts.there self.new.lines self.new.finished
+            ≤ (if fails then self.old.lines else to_print self.old.lines) }
     {
         if fails {
             self.tell_failure();
@@ -54,6 +59,7 @@ impl<T: KeptTarget + Drop> Loop<T> {
             (T.at self.new.target) self.new.incoming.items self.new.clock }
         ensures fair { (p : Point) → Fairly T.means T.free p self.old.hosts self.old.incoming.items (T.at self.old.target)
             (point_of self.new.stage) self.new.hosts self.new.incoming.items (T.at self.new.target) }
+        ensures ends { left_of self.new.stage self.new.hosts.there self.new.lines self.new.finished ≤ to_fail }
     {
         self.lines.tell(Level::Failures, news);
         self.tell_failure();
@@ -66,6 +72,8 @@ impl<T: KeptTarget + Drop> Loop<T> {
             (T.at self.new.target) self.new.incoming.items self.new.clock }
         ensures fair { Fairly T.means T.free Over self.old.hosts self.old.incoming.items (T.at self.old.target)
             (point_of self.new.stage) self.new.hosts self.new.incoming.items (T.at self.new.target) }
+        ensures ends { left_of self.new.stage self.new.hosts.there self.new.lines self.new.finished ≤ self.old.lines }
+        ensures few { left_of self.new.stage self.new.hosts.there self.new.lines self.new.finished ≤ to_fail }
     {
         match self.lines.next() {
             Some(cause) => self.stage = Stage::Telling { cause, fails: true },

@@ -1,16 +1,16 @@
 //! The beginning of a round: turns of runs, and what is still there of what came.
 
-ghost use Rattle.std.specs.Prelude.{◌≡◌, ◌<◌, ℕ, List};
+ghost use Rattle.std.specs.Prelude.{◌≡◌, ◌≤◌, ◌<◌, ◌+◌, false, ℕ, List};
 ghost use Rattle.tcp_loop.specs.Fair.{Begins, Fairly, point_of};
 ghost use Rattle.tcp_loop.specs.Holding.{Keeps};
-ghost use Rattle.tcp_loop.specs.Kept.{Resting, phase_of};
+ghost use Rattle.tcp_loop.specs.Kept.{Attending, Resting, phase_of};
 ghost use Rattle.tcp_loop.specs.Orderly.{HasGrown, IsOrderly};
+ghost use Rattle.tcp_loop.specs.Progress.{left_of, to_begin};
 ghost use Rattle.tcp_loop.specs.Stages.{IsReady};
 ghost use Rattle.tcp_loop.specs.declared.clock.Clock.{Clock};
 
 use crate::counters::{add, note_commands};
 use crate::deeds::{resume, turn};
-use crate::hosts::is_set;
 use crate::incoming::{rest_at, take_at};
 use crate::news::News;
 use crate::operation::PLACES;
@@ -42,6 +42,7 @@ impl<T: KeptTarget + Drop> Loop<T> {
             (T.at self.new.target) self.new.incoming.items self.new.clock }
         ensures fair { Fairly T.means T.free Begins self.old.hosts self.old.incoming.items (T.at self.old.target)
             (point_of self.new.stage) self.new.hosts self.new.incoming.items (T.at self.new.target) }
+        ensures ends { left_of self.new.stage self.new.hosts.there self.new.lines self.new.finished ≤ to_begin }
     {
         let given = self.give_turns();
         if given.failed {
@@ -57,28 +58,50 @@ impl<T: KeptTarget + Drop> Loop<T> {
 
     /// Gives runs turns, a few. Says whether there was one.
     fn give_turns(&mut self) -> Did
+        ensures attends { result.failed ≡ false
+            → Keeps T.means Resting (T.at self.old.target) self.old.incoming.items self.old.clock
+            (Attending 0) (T.at self.new.target) self.new.incoming.items self.new.clock }
         ensures keeps { Keeps T.means Resting (T.at self.old.target) self.old.incoming.items self.old.clock
             Resting (T.at self.new.target) self.new.incoming.items self.new.clock }
         ensures fair { Fairly T.means T.free Begins self.old.hosts self.old.incoming.items (T.at self.old.target)
             Begins self.new.hosts self.new.incoming.items (T.at self.new.target) }
     {
-        let mut did = NOTHING;
-        for _ in 0..self.turns {
-            let one = give_turn(&mut self.target, self.has_kept_runs);
-            self.has_kept_runs &= one.resumed;
-            did.failed = one.failed;
-            if !one.goes_on {
-                return did;
+        let mut last = self.turn_once();
+        let something = last.goes_on;
+        for _ in 1..self.turns {
+            if !last.goes_on {
+                break;
             }
-            did.something = true;
-            add(&mut self.counters.turns, 1);
+            last = self.turn_once();
         }
-        did
+        Did {
+            something,
+            failed: last.failed,
+        }
+    }
+
+    /// Gives a turn, and counts it.
+    fn turn_once(&mut self) -> Turn
+        ensures attends { result.failed ≡ false
+            → Keeps T.means Resting (T.at self.old.target) self.old.incoming.items self.old.clock
+            (Attending 0) (T.at self.new.target) self.new.incoming.items self.new.clock }
+        ensures keeps { Keeps T.means Resting (T.at self.old.target) self.old.incoming.items self.old.clock
+            Resting (T.at self.new.target) self.new.incoming.items self.new.clock }
+        ensures fair { Fairly T.means T.free Begins self.old.hosts self.old.incoming.items (T.at self.old.target)
+            Begins self.new.hosts self.new.incoming.items (T.at self.new.target) }
+    {
+        let one = give_turn(&mut self.target, self.has_kept_runs);
+        self.has_kept_runs &= one.resumed;
+        add(&mut self.counters.turns, u64::from(one.goes_on));
+        one
     }
 
     /// Hands on what is still there of what came on connections, and has commands done that were passed over. Says whether something
     /// happened.
     fn advance_all(&mut self) -> Did
+        ensures attends { result.failed ≡ false
+            → Keeps T.means (Attending 0) (T.at self.old.target) self.old.incoming.items self.old.clock
+            (Attending 40) (T.at self.new.target) self.new.incoming.items self.new.clock }
         ensures keeps { Keeps T.means Resting (T.at self.old.target) self.old.incoming.items self.old.clock
             Resting (T.at self.new.target) self.new.incoming.items self.new.clock }
         ensures fair { Fairly T.means T.free Begins self.old.hosts self.old.incoming.items (T.at self.old.target)
@@ -96,17 +119,17 @@ impl<T: KeptTarget + Drop> Loop<T> {
         did
     }
 
-    /// Hands on what is still there of what came on a connection.
+    /// Hands on what is still there of what came on a connection. A place without a connection has nothing.
     fn advance_at(&mut self, place: usize) -> Did
         requires { place < PLACES }
+        ensures attends { result.failed ≡ false
+            → Keeps T.means (Attending place) (T.at self.old.target) self.old.incoming.items self.old.clock
+            (Attending (place + 1)) (T.at self.new.target) self.new.incoming.items self.new.clock }
         ensures keeps { Keeps T.means Resting (T.at self.old.target) self.old.incoming.items self.old.clock
             Resting (T.at self.new.target) self.new.incoming.items self.new.clock }
         ensures fair { Fairly T.means T.free Begins self.old.hosts self.old.incoming.items (T.at self.old.target)
             Begins self.new.hosts self.new.incoming.items (T.at self.new.target) }
     {
-        if !is_set(&self.hosts.there, place) || is_set(&self.hosts.lost, place) {
-            return NOTHING;
-        }
         let done = advance(&mut self.target, place, rest_at(&self.incoming, place));
         take_at(&mut self.incoming, place, done.taken);
         note_commands(&mut self.counters, &mut self.lines, place, done.commands);
@@ -142,6 +165,8 @@ const FAILED: Turn = Turn {
 
 /// Gives the next run a turn, and each that was kept, where there may be some.
 fn give_turn<T: KeptTarget>(target: &mut T, has_kept_runs: bool) -> Turn
+    ensures attends { (waiting : List (List ℕ)) (clock : Clock) → result.failed ≡ false
+        → Keeps T.means Resting (T.at target.old) waiting clock (Attending 0) (T.at target.new) waiting clock }
     ensures keeps { (waiting : List (List ℕ)) (clock : Clock) → Keeps T.means Resting (T.at target.old) waiting clock
         Resting (T.at target.new) waiting clock }
     ensures grows { (o : IsOrderly T.means T.free) → HasGrown T.means T.free o (T.at target.old).state (T.at target.new).state }

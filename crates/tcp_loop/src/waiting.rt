@@ -1,9 +1,10 @@
 //! Waiting, and what happened then.
 
-ghost use Rattle.std.specs.Prelude.{◌≡◌, ◌<◌, ℕ, List, [], IsTrue, false, slice_index_or, true};
+ghost use Rattle.std.specs.Prelude.{◌≡◌, ◌≤◌, ◌<◌, ℕ, List, [], IsTrue, false, slice_index_or, true};
 ghost use Rattle.tcp_loop.specs.Fair.{Begins, Fairly, FairlyMakes, IsWatched, Reads, Waits, Writes, point_of};
 ghost use Rattle.tcp_loop.specs.Holding.{Keeps, Makes};
-ghost use Rattle.tcp_loop.specs.Kept.{Resting, phase_of};
+ghost use Rattle.tcp_loop.specs.Kept.{Attending, Resting, phase_of};
+ghost use Rattle.tcp_loop.specs.Progress.{left_of, most, to_begin, to_commit, to_read};
 ghost use Rattle.tcp_loop.specs.Rounds.{flag};
 ghost use Rattle.tcp_loop.specs.Stages.{IsReady};
 ghost use Rattle.tcp_loop.specs.declared.operation.Operation.TheVariants as operation;
@@ -22,10 +23,11 @@ impl<T: KeptTarget + Drop> Loop<T> {
     /// Ends a round, and waits for the next.
     pub(crate) fn poll(&mut self, is_busy: bool)
         ensures ready { IsReady self.new.stage self.new.incoming.items (T.free (T.at self.new.target).state) }
-        ensures keeps { Keeps T.means Resting (T.at self.old.target) self.old.incoming.items self.old.clock (phase_of self.new.stage)
+        ensures keeps { Keeps T.means (Attending 40) (T.at self.old.target) self.old.incoming.items self.old.clock (phase_of self.new.stage)
             (T.at self.new.target) self.new.incoming.items self.new.clock }
         ensures fair { Fairly T.means T.free Begins self.old.hosts self.old.incoming.items (T.at self.old.target)
             (point_of self.new.stage) self.new.hosts self.new.incoming.items (T.at self.new.target) }
+        ensures ends { left_of self.new.stage self.new.hosts.there self.new.lines self.new.finished ≤ to_begin }
     {
         add(&mut self.counters.rounds, 1);
         self.stage = Stage::Polling {
@@ -53,8 +55,10 @@ impl<T: KeptTarget + Drop> Loop<T> {
     /// Is there a connection at a place, of which no bytes wait?
     fn may_read(&self, place: usize) -> bool
         requires { place < PLACES }
-        ensures yes { IsTrue result → (flag place self.now.hosts.there ≡ true) × (slice_index_or self.now.incoming.items place [] ≡ []) }
-        ensures no { result ≡ false → flag place self.now.hosts.there ≡ true → slice_index_or self.now.incoming.items place [] ≡ [] → ⊥ }
+        ensures yes { IsTrue result
+            → (flag place self.now.hosts.there ≡ true) × (slice_index_or self.now.incoming.items place [] ≡ []) }
+        ensures no { result ≡ false
+            → flag place self.now.hosts.there ≡ true → slice_index_or self.now.incoming.items place [] ≡ [] → ⊥ }
     {
         is_set(&self.hosts.there, place) && rest_at(&self.incoming, place).is_empty()
     }
@@ -79,6 +83,7 @@ impl<T: KeptTarget + Drop> Loop<T> {
             (record { asked = operation.Poll watched milliseconds; carried = carried; answer = answer; came = came })
             (Waits watched) self.old.hosts self.old.incoming.items (T.at self.old.target)
             (point_of self.new.stage) self.new.hosts self.new.incoming.items (T.at self.new.target) }
+        ensures ends { left_of self.new.stage self.new.hosts.there self.new.lines self.new.finished ≤ most }
     {
         self.hosts.ready = ready_of(answer);
         self.hosts.full = still_full(&self.hosts.full, &self.hosts.ready.writes);
@@ -98,6 +103,7 @@ impl<T: KeptTarget + Drop> Loop<T> {
             (record { asked = operation.Signal; carried = carried; answer = answer; came = came })
             (Reads 0) self.old.hosts self.old.incoming.items (T.at self.old.target)
             (point_of self.new.stage) self.new.hosts self.new.incoming.items (T.at self.new.target) }
+        ensures ends { left_of self.new.stage self.new.hosts.there self.new.lines self.new.finished ≤ to_read 0 }
     {
         let ends = is_to_end(answer);
         report_unless(ends, self.counters, &mut self.lines);
@@ -114,6 +120,7 @@ impl<T: KeptTarget + Drop> Loop<T> {
             (phase_of self.new.stage) (T.at self.new.target) self.new.incoming.items self.new.clock }
         ensures fair { Fairly T.means T.free (Writes 0) self.old.hosts self.old.incoming.items (T.at self.old.target)
             (point_of self.new.stage) self.new.hosts self.new.incoming.items (T.at self.new.target) }
+        ensures ends { left_of self.new.stage self.new.hosts.there self.new.lines self.new.finished ≤ to_commit }
     {
         self.clock.count(answer);
         self.commit();

@@ -1,9 +1,10 @@
 //! Writing what is to be sent, closing connections, and time.
 
-ghost use Rattle.std.specs.Prelude.{◌≡◌, ◌<◌, ◌+◌, ℕ, List, IsNone, false};
+ghost use Rattle.std.specs.Prelude.{◌≡◌, ◌≤◌, ◌<◌, ◌+◌, ℕ, List, IfSome, IsNone, false, true};
 ghost use Rattle.tcp_loop.specs.Fair.{Closes, Fairly, FairlyMakes, IsFirst, ToClose, ToWrite, Writes, point_of};
 ghost use Rattle.tcp_loop.specs.Holding.{Keeps, Makes};
 ghost use Rattle.tcp_loop.specs.Kept.{Resting, Settled, phase_of};
+ghost use Rattle.tcp_loop.specs.Progress.{left_of, open_below, open_but, to_close, to_write};
 ghost use Rattle.tcp_loop.specs.Rounds.{flag};
 ghost use Rattle.tcp_loop.specs.Stages.{IsReady};
 ghost use Rattle.tcp_loop.specs.declared.operation.Answer.{Answer};
@@ -27,6 +28,7 @@ impl<T: KeptTarget + Drop> Loop<T> {
             (T.at self.new.target) self.new.incoming.items self.new.clock }
         ensures fair { Fairly T.means T.free (Writes from) self.old.hosts self.old.incoming.items (T.at self.old.target)
             (point_of self.new.stage) self.new.hosts self.new.incoming.items (T.at self.new.target) }
+        ensures ends { left_of self.new.stage self.new.hosts.there self.new.lines self.new.finished ≤ to_write from }
     {
         match self.next_write(from) {
             Some(place) => self.stage = Stage::Writing { place },
@@ -78,6 +80,7 @@ impl<T: KeptTarget + Drop> Loop<T> {
             (record { asked = operation.Write place; carried = carried; answer = answer; came = came })
             (Writes place) self.old.hosts self.old.incoming.items (T.at self.old.target)
             (point_of self.new.stage) self.new.hosts self.new.incoming.items (T.at self.new.target) }
+        ensures ends { left_of self.new.stage self.new.hosts.there self.new.lines self.new.finished ≤ to_write (place + 1) }
     {
         self.take_written(place, answer);
         self.write(place + 1);
@@ -138,6 +141,8 @@ impl<T: KeptTarget + Drop> Loop<T> {
             (T.at self.new.target) self.new.incoming.items self.new.clock }
         ensures fair { Fairly T.means T.free Closes self.old.hosts self.old.incoming.items (T.at self.old.target)
             (point_of self.new.stage) self.new.hosts self.new.incoming.items (T.at self.new.target) }
+        ensures ends { left_of self.new.stage self.new.hosts.there self.new.lines self.new.finished
+            ≤ to_close (open_below 40 self.old.hosts.there) }
     {
         match self.next_close() {
             Some(place) => self.stage = Stage::Closing { place },
@@ -147,7 +152,8 @@ impl<T: KeptTarget + Drop> Loop<T> {
 
     /// That connection.
     fn next_close(&self) -> Option<usize>
-        ensures { IsFirst (λ place. ToClose place self.now.hosts) 0 result }
+        ensures first { IsFirst (λ place. ToClose place self.now.hosts) 0 result }
+        ensures there { IfSome result (λ place. flag place self.now.hosts.there ≡ true) }
     {
         for place in 0..PLACES {
             if is_set(&self.hosts.there, place) && self.why_closed(place).is_some() {
@@ -185,6 +191,8 @@ impl<T: KeptTarget + Drop> Loop<T> {
             (record { asked = operation.Close place; carried = carried; answer = answer; came = came })
             Closes self.old.hosts self.old.incoming.items (T.at self.old.target)
             (point_of self.new.stage) self.new.hosts self.new.incoming.items (T.at self.new.target) }
+        ensures ends { left_of self.new.stage self.new.hosts.there self.new.lines self.new.finished
+            ≤ to_close (open_but place self.old.hosts.there) }
     {
         if let Some(why) = self.why_closed(place) {
             self.lines

@@ -1,5 +1,5 @@
 -- A loop before a device, from its beginning.
-use Rattle.std.proofs.Common.{◌≡◌, ◌<◌, ℕ, zero, suc, Bool, true, false, List, [], ◌∷◌, map, Option, Result, Ok, Err, refl, sym, ap, subst, ◌∙◌}
+use Rattle.std.proofs.Common.{◌≡◌, ◌≤◌, ◌<◌, ℕ, zero, suc, Bool, true, false, List, [], ◌∷◌, map, Option, Result, Ok, Err, refl, sym, ap, subst, ◌∙◌, arith}
 use Rattle.std.specs.Prelude.{IfOk, replicate, slice_index_or}
 use Rattle.stored_file.specs.Calls.{Call}
 use Rattle.handed_file.specs.Handed.{is_settled, made_calls, noted, waiting, waits}
@@ -16,6 +16,7 @@ use Rattle.tcp_loop.specs.Keeping.{Covers, Keeping, KeptState}
 use Rattle.tcp_loop.specs.Kept.{Phase}
 use Rattle.tcp_loop.specs.Law.{IsExplained}
 use Rattle.tcp_loop.specs.Orderly.{IsOrderly}
+use Rattle.tcp_loop.specs.Progress.{EndsRounds, most}
 use Rattle.tcp_loop.specs.Running.{NeverOwesMore}
 use Rattle.tcp_loop.specs.Trace.{Trace}
 use Rattle.tcp_loop.specs.declared.clock.Clock.{Clock}
@@ -69,6 +70,9 @@ module _ (m : Meaning ServedState) (trace : Trace) (waiting_bytes : List (List �
       → IsFair m free o p [] h waiting_bytes s → NeverOwesMore m free o p trace h waiting_bytes s
   never_from free o p h s none fair =
       subst (λ (t : Trace). NeverOwesMore m free o p t h waiting_bytes s) (sym none) (record { fair = fair; never = tt })
+
+pub ends_from : (trace : Trace) (left : ℕ) → trace ≡ [] → left ≤ most → EndsRounds trace left
+ends_from trace left none few = subst (λ (t : Trace). EndsRounds t left) (sym none) (record { few = omega (arith, few); never_more = tt })
 
 -- ---- a target without connections
 

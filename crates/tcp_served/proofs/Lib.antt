@@ -1,4 +1,5 @@
 mod Covering
+mod Answering
 mod Explaining
 mod Next
 mod Waiting

@@ -15,6 +15,7 @@ use Rattle.tcp_device.specs.State.{ServedState, begun_on}
 use Rattle.tcp_loop.specs.Disk.{calls_of}
 use Rattle.tcp_loop.specs.Law.{IsExplained}
 use Rattle.tcp_loop.specs.Trace.{Trace}
+use Rattle.tcp_served.specs.Answered.{RoundsAnswer}
 use Rattle.tcp_served.specs.Meaning.{deeds_of, in_memory, kept_in_file}
 
 -- the device did just the events that these deeds are, in order, and gave the replies of which hosts' answers are made
@@ -47,12 +48,13 @@ AreInOrder deeds old new =
     → IsInOrder number later between new done
 
 -- of a target before a device, without connections at the beginning: what explains a trace is done by the device, in order, and whatever
--- a crash leaves has all that was answered
+-- a crash leaves has all that was answered; and each round answers hosts
 pub record DeviceIsExplained (opened : List Call) (old : ServedState) (trace : Trace) : Type 0 where
   pub explained : IsExplained kept_in_file opened old trace
   pub done : AreDone (deeds_of explained.deeds) old explained.new
   pub did : DidEvents (deeds_of explained.deeds) old explained.new done
   pub in_order : AreInOrder (deeds_of explained.deeds) old explained.new
+  pub answered : RoundsAnswer explained.attended.rounds
   pub left : (c : List ℕ) → MayLeave (told_of MayBeLeft (calls_of opened trace)) c
       → HasAllAnswered c (deeds_of explained.deeds) old explained.new
 
@@ -68,6 +70,7 @@ pub record MemoryIsExplained (opened : List Call) (old : ServedState) (trace : T
   pub done : AreDone (deeds_of explained.deeds) old explained.new
   pub did : DidEvents (deeds_of explained.deeds) old explained.new done
   pub in_order : AreInOrder (deeds_of explained.deeds) old explained.new
+  pub answered : RoundsAnswer explained.attended.rounds
 
 abbrev pub MemoriesAreExplained : Type 0
 MemoriesAreExplained =

@@ -87,8 +87,8 @@ impl DurableTarget {
         ensures file { result.file ≡ keeping_of (file_of keeper) }
 
         // Where nothing waits, a crash leaves the device.
-        ensures covers { events_of keeper.events.waiting ≡ [] → has_refused (noted (file_of keeper)) ≡ false → waits (file_of keeper) ≡ []
-            → Covers kept_in_file result.file.waits result.file.made result.state result.state }
+        ensures covers { events_of keeper.events.waiting ≡ [] → has_refused (noted (file_of keeper)) ≡ false
+            → waits (file_of keeper) ≡ [] → Covers kept_in_file result.file.waits result.file.made result.state result.state }
     {
         <InFile<HandedFile> as Store<FrameDevice>>::rests();
         let failed = keeper.events.journal.file.has_failed();

@@ -71,9 +71,11 @@ pub(crate) fn fold(
     requires { WillBeKept keeper.old served.now.device }
     ensures kept { OnOk result (WillBeKept keeper.new served.now.device) }
     ensures folds { OnOk result (Folds keeper.old keeper.new served.now.device) }
-    ensures put { IfOk result (λ is_put. (rest : List Call) → waits (file_of keeper.old) ≡ NotReplaced ∷ rest → is_put ≡ true
-        → (more : List Call) × (waits (file_of keeper.new) ≡ NotReplaced ∷ Replaced (next_bytes (waiting (file_of keeper.old))) true ∷ more)) }
-    ensures not_put { IfOk result (λ is_put. (rest : List Call) → waits (file_of keeper.old) ≡ NotReplaced ∷ rest → is_put ≡ false
+    ensures put { IfOk result (λ is_put. (rest : List Call)
+        → waits (file_of keeper.old) ≡ NotReplaced ∷ rest → is_put ≡ true → (more : List Call)
+        × (waits (file_of keeper.new) ≡ NotReplaced ∷ Replaced (next_bytes (waiting (file_of keeper.old))) true ∷ more)) }
+    ensures not_put { IfOk result (λ is_put. (rest : List Call)
+        → waits (file_of keeper.old) ≡ NotReplaced ∷ rest → is_put ≡ false
         → (more : List Call) × (waits (file_of keeper.new) ≡ NotReplaced ∷ more)) }
 {
     waiting_calls_are_covered();

@@ -1,6 +1,6 @@
 //! A loop before a device, from its beginning, whatever the world answers.
 
-ghost use Rattle.std.specs.Prelude.{◌≡◌, ◌<◌, [], false, true, ℕ, List, length, IfOk, OnErr, OnOk};
+ghost use Rattle.std.specs.Prelude.{◌≡◌, ◌≤◌, ◌<◌, [], false, true, ℕ, List, length, IfOk, OnErr, OnOk};
 ghost use Rattle.stored_file.specs.Calls.{Call};
 ghost use Rattle.durable_device.specs.Kept.{IsCommittedBut};
 ghost use Rattle.durable_machine.specs.Seals.{events_of};
@@ -9,6 +9,7 @@ ghost use Rattle.tcp_loop.specs.Fair.{IsFair, point_of};
 ghost use Rattle.tcp_loop.specs.Holding.{Holds};
 ghost use Rattle.tcp_loop.specs.Kept.{phase_of};
 ghost use Rattle.tcp_loop.specs.Orderly.{IsOrderly};
+ghost use Rattle.tcp_loop.specs.Progress.{RoundsEnd, left_of, most};
 ghost use Rattle.tcp_loop.specs.Running.{NeverOwes};
 ghost use Rattle.tcp_loop.specs.Stages.{IsReady};
 ghost use Rattle.tcp_served.specs.Files.{keeping_of};
@@ -41,11 +42,12 @@ pub fn begin_in_file(
     requires none { events_of keeper.events.waiting ≡ [] }
     requires settled { is_settled (file_of keeper) ≡ true }
     ensures ready { IfOk result (λ l. IsReady l.stage l.incoming.items (free_of l.target.state)) }
-    ensures holds { IfOk result (λ l. Holds kept_in_file (made_calls (file_of keeper)) served [] (phase_of l.stage) l.target l.incoming.items
-        l.clock) }
+    ensures holds { IfOk result (λ l.
+        Holds kept_in_file (made_calls (file_of keeper)) served [] (phase_of l.stage) l.target l.incoming.items l.clock) }
     ensures fair { IfOk result (λ l. (o : IsOrderly kept_in_file free_of)
         → ((place : ℕ) → place < 40 → o.is_there place served ≡ false)
         → IsFair kept_in_file free_of o (point_of l.stage) [] l.hosts l.incoming.items l.target.state) }
+    ensures ends { IfOk result (λ l. left_of l.stage l.hosts.there l.lines l.finished ≤ most) }
 {
     let target = DurableTarget::of(alloc, served, keeper);
     Loop::new(alloc, target, options)
@@ -67,6 +69,7 @@ pub fn begin_in_memory(
     ensures fair { IfOk result (λ l. (o : IsOrderly in_memory free_of)
         → ((place : ℕ) → place < 40 → o.is_there place served ≡ false)
         → IsFair in_memory free_of o (point_of l.stage) [] l.hosts l.incoming.items l.target.served) }
+    ensures ends { IfOk result (λ l. left_of l.stage l.hosts.there l.lines l.finished ≤ most) }
 {
     let file = HandedFile::new(alloc, &[]);
     let target = MemoryTarget {
@@ -101,6 +104,7 @@ pub fn serve_in_file<W: World>(
     ensures made { OnOk result (length (W.trace world.new) ≡ operations) }
     ensures explained { OnOk result (DeviceIsExplained (made_calls (file_of keeper)) served (W.trace world.new)) }
     ensures fair { OnOk result (NeverOwes (W.trace world.new)) }
+    ensures rounds { OnOk result (RoundsEnd (W.trace world.new)) }
     ensures refused { OnErr result (W.trace world.new ≡ []) }
 {
     devices_are_explained();
@@ -128,6 +132,7 @@ pub fn serve_in_memory<W: World>(
     ensures made { OnOk result (length (W.trace world.new) ≡ operations) }
     ensures explained { OnOk result ((opened : List Call) × MemoryIsExplained opened served (W.trace world.new)) }
     ensures fair { OnOk result (NeverOwes (W.trace world.new)) }
+    ensures rounds { OnOk result (RoundsEnd (W.trace world.new)) }
     ensures refused { OnErr result (W.trace world.new ≡ []) }
 {
     devices_are_explained();

@@ -1,7 +1,7 @@
 use Rattle.std.proofs.Common.{◌≡◌, ap, arith, length}
 use Rattle.tcp_served.specs.Meaning.{kept_in_file}
 use Rattle.tcp_served.specs.Orderly.{free_of}
-use Rattle.tcp_served.proofs.Beginning.{device_explained, holds_from, never_from, none_in_file}
+use Rattle.tcp_served.proofs.Beginning.{device_explained, ends_from, holds_from, never_from, none_in_file}
 use Rattle.tcp_served.proofs.serving.serve_in_file.Goals as goal
 
 pub returns-clause-made : goal.returns-clause-made
@@ -23,3 +23,7 @@ returns-clause-fair g c =
     (c.run.ensures.fair o.of_file
     (never_from kept_in_file (g.W.World.trace c.args.world.now) _ free_of o.of_file _ _ _ c.requires.nothing
     (c.in_ok-serving.ensures.fair o.of_file (none_in_file o c.args.served c.requires.begins)))).never
+
+pub returns-clause-rounds : goal.returns-clause-rounds
+returns-clause-rounds g c =
+    (c.run.ensures.ends (ends_from (g.W.World.trace c.args.world.now) _ c.requires.nothing c.in_ok-serving.ensures.ends)).never_more

@@ -1,7 +1,7 @@
 use Rattle.std.proofs.Common.{◌≡◌, ap, arith, length}
 use Rattle.tcp_served.specs.Meaning.{in_memory}
 use Rattle.tcp_served.specs.Orderly.{free_of}
-use Rattle.tcp_served.proofs.Beginning.{holds_from, memory_explained, never_from, none_in_memory}
+use Rattle.tcp_served.proofs.Beginning.{ends_from, holds_from, memory_explained, never_from, none_in_memory}
 use Rattle.tcp_served.proofs.serving.serve_in_memory.Goals as goal
 
 pub returns-clause-made : goal.returns-clause-made
@@ -26,3 +26,7 @@ returns-clause-fair g c =
     (c.run.ensures.fair o.of_memory
     (never_from in_memory (g.W.World.trace c.args.world.now) _ free_of o.of_memory _ _ _ c.requires.nothing
     (c.in_ok-serving.ensures.fair o.of_memory (none_in_memory o c.args.served c.requires.begins)))).never
+
+pub returns-clause-rounds : goal.returns-clause-rounds
+returns-clause-rounds g c =
+    (c.run.ensures.ends (ends_from (g.W.World.trace c.args.world.now) _ c.requires.nothing c.in_ok-serving.ensures.ends)).never_more

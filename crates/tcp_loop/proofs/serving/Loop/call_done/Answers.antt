@@ -1,3 +1,4 @@
+use Rattle.tcp_loop.proofs.Progress.{time_call}
 use Rattle.std.proofs.Common.{refl}
 use Rattle.tcp_loop.proofs.Phasing.{tells_last, tells_next}
 use Rattle.tcp_loop.proofs.Fairness.{fair_same}
@@ -17,3 +18,9 @@ returns-in-Some-clause-fair g c = λ o trace f. c.call.ensures.fair o trace (fai
 
 pub returns-in-None-clause-fair : goal.returns-in-None-clause-fair
 returns-in-None-clause-fair g c = λ o trace f. fair_same g.T.KeptTarget.means g.T.KeptTarget.free o (Writes 0) trace _ _ _ _ c.call_done.ensures.same f
+
+pub returns-in-Some-clause-ends : goal.returns-in-Some-clause-ends
+returns-in-Some-clause-ends g c = c.call.ensures.ends
+
+pub returns-in-None-clause-ends : goal.returns-in-None-clause-ends
+returns-in-None-clause-ends g c = time_call c.args.self.now.finished

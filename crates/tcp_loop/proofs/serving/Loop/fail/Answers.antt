@@ -8,3 +8,6 @@ returns-clause-keeps g c = λ phase opened begun trace h.
 
 pub returns-clause-fair : goal.returns-clause-fair
 returns-clause-fair g c = λ p o trace f. c.tell_failure.ensures.fair o trace (ends_all g.T.KeptTarget.means g.T.KeptTarget.free o trace _ _ _ p f)
+
+pub returns-clause-ends : goal.returns-clause-ends
+returns-clause-ends g c = c.tell_failure.ensures.few

@@ -1,3 +1,4 @@
+use Rattle.tcp_loop.proofs.Progress.{fail_begin}
 use Rattle.tcp_loop.proofs.Phasing.{is_due}
 use Rattle.tcp_loop.proofs.Fairness.{fair_same, tells_writes}
 use Rattle.tcp_loop.specs.Fair.{Tells, Writes}
@@ -17,3 +18,9 @@ returns-in-Ok-clause-fair g c = λ o trace f. c.make_last_calls.ensures.fair o t
 
 pub returns-in-Err-clause-fair : goal.returns-in-Err-clause-fair
 returns-in-Err-clause-fair g c = λ o trace f. c.fail.ensures.fair Tells o trace (fair_same g.T.KeptTarget.means g.T.KeptTarget.free o Tells trace _ _ _ _ c.finish.ensures.same f)
+
+pub returns-in-Ok-clause-ends : goal.returns-in-Ok-clause-ends
+returns-in-Ok-clause-ends g c = c.make_last_calls.ensures.ends
+
+pub returns-in-Err-clause-ends : goal.returns-in-Err-clause-ends
+returns-in-Err-clause-ends g c = fail_begin _ c.fail.ensures.ends

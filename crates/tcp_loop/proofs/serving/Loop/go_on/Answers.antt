@@ -1,3 +1,4 @@
+use Rattle.tcp_loop.proofs.Progress.{below, below_most, falls_call, falls_part, falls_told, same}
 use Rattle.std.proofs.Common.{subst, if◌then◌else◌}
 use Rattle.tcp_loop.specs.Stages.{IsReady}
 use Rattle.tcp_loop.specs.declared.stage.Stage.{Stage}
@@ -54,3 +55,24 @@ returns-in-Telling-clause-fair g c = rw c.in-Telling.is (λ carried came o trace
 
 pub returns-in-Ended-clause-fair : goal.returns-in-Ended-clause-fair
 returns-in-Ended-clause-fair g c = rw c.in-Ended.is (λ carried came o trace f. plain g.T.KeptTarget.means g.T.KeptTarget.free o Over carried came c.args.answer trace _ _ _ f (stage.Ended c.in-Ended.done) tt)
+
+pub returns-in-Polling-clause-ends : goal.returns-in-Polling-clause-ends
+returns-in-Polling-clause-ends g c = rw c.in-Polling.is c.happened.ensures.ends
+
+pub returns-in-Signalled-clause-ends : goal.returns-in-Signalled-clause-ends
+returns-in-Signalled-clause-ends g c = rw c.in-Signalled.is (below_most _ c.take_signal.ensures.ends)
+
+pub returns-in-Calling-clause-ends : goal.returns-in-Calling-clause-ends
+returns-in-Calling-clause-ends g c = rw c.in-Calling.is (falls_call c.in-Calling.call _ _ c.was_called.ensures.ends)
+
+pub returns-in-Placing-clause-ends : goal.returns-in-Placing-clause-ends
+returns-in-Placing-clause-ends g c = rw c.in-Placing.is (falls_part c.in-Placing.part _ _ c.was_placed.ensures.ends)
+
+pub returns-in-Refusing-clause-ends : goal.returns-in-Refusing-clause-ends
+returns-in-Refusing-clause-ends g c = rw c.in-Refusing.is (below _ _ c.accept.ensures.ends)
+
+pub returns-in-Telling-clause-ends : goal.returns-in-Telling-clause-ends
+returns-in-Telling-clause-ends g c = rw c.in-Telling.is (falls_told c.in-Telling.fails _ _ c.was_told.ensures.ends)
+
+pub returns-in-Ended-clause-ends : goal.returns-in-Ended-clause-ends
+returns-in-Ended-clause-ends g c = rw c.in-Ended.is (same 0)

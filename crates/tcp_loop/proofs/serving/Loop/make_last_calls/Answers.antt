@@ -13,3 +13,6 @@ returns-in-None-clause-keeps g c = λ opened begun trace h. stops g.T.KeptTarget
 
 pub returns-in-None-clause-fair : goal.returns-in-None-clause-fair
 returns-in-None-clause-fair g c = λ o trace f. ends_all g.T.KeptTarget.means g.T.KeptTarget.free o trace _ _ _ (Writes 0) f
+
+pub returns-in-Some-clause-ends : goal.returns-in-Some-clause-ends
+returns-in-Some-clause-ends g c = c.call.ensures.ends

@@ -10,3 +10,6 @@ returns-clause-begins g c = rw (sym c.in_ok-made.ensures.target) (λ covers. c.m
 pub returns-clause-fair : goal.returns-clause-fair
 returns-clause-fair g c = λ o none. c.make_first_calls.ensures.fair o []
     (fair_at_first g.T.KeptTarget.means g.T.KeptTarget.free o _ _ _ c.in_ok-made.ensures.hosts (rw c.in_ok-made.ensures.target none))
+
+pub returns-clause-ends : goal.returns-clause-ends
+returns-clause-ends g c = c.make_first_calls.ensures.ends

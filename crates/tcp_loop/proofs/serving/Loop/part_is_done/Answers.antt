@@ -17,3 +17,12 @@ returns-in-Placed-clause-keeps g c = rw c.in-Placed.is c.call_done.ensures.keeps
 
 pub returns-in-Discarded-clause-keeps : goal.returns-in-Discarded-clause-keeps
 returns-in-Discarded-clause-keeps g c = rw c.in-Discarded.is c.call_done-in-Discarded.ensures.keeps
+
+pub returns-in-Flushed-clause-ends : goal.returns-in-Flushed-clause-ends
+returns-in-Flushed-clause-ends g c = c.part_is_flushed.ensures.ends
+
+pub returns-in-Placed-clause-ends : goal.returns-in-Placed-clause-ends
+returns-in-Placed-clause-ends g c = c.call_done.ensures.ends
+
+pub returns-in-Discarded-clause-ends : goal.returns-in-Discarded-clause-ends
+returns-in-Discarded-clause-ends g c = c.call_done-in-Discarded.ensures.ends

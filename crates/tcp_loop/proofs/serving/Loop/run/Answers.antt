@@ -1,9 +1,9 @@
 use Rattle.std.proofs.Common.{arith}
-use Rattle.tcp_loop.proofs.Waits.{fair_next, holds_next, made_more, owes_nothing_at}
+use Rattle.tcp_loop.proofs.Waits.{ends_next, fair_next, holds_next, made_more, owes_nothing_at}
 use Rattle.tcp_loop.proofs.serving.Loop.run.Goals as goal
 
 pub loop-made-init : goal.loop-made-init
-loop-made-init g c = (c.requires, λ opened begun h. h, λ o f. f, omega arith)
+loop-made-init g c = (c.requires, λ opened begun h. h, λ o f. f, λ ends. ends, omega arith)
 
 pub is_fair-requires : goal.is_fair-requires
 is_fair-requires g c = c.loop-made.invariant.0
@@ -25,5 +25,7 @@ loop-made-preserved g c = (
       (c.step.ensures.fair c.bytes.result.now o _ (c.loop-made.invariant.2 o f).fair)
       (owes_nothing_at g.T.KeptTarget.means g.T.KeptTarget.free o _ _ _ _ (c.is_fair.ensures o _ (c.loop-made.invariant.2 o f).fair))
       (c.loop-made.invariant.2 o f).never,
-  (let more = made_more _ _ c.make-answer.ensures.made in omega (arith, more, c.loop-made.invariant.3)),
+  λ ends. ends_next _ _ _ _ c.bytes.result.now _ _ _ c.make-answer.ensures.made c.operation.ensures c.as_slice.ensures.value _ _
+      c.step.ensures.ends (c.loop-made.invariant.3 ends),
+  (let more = made_more _ _ c.make-answer.ensures.made in omega (arith, more, c.loop-made.invariant.4)),
 )

@@ -18,3 +18,9 @@ returns-then-is_quiet-clause-fair g c = λ carried o trace f. c.go_on.ensures.fa
 
 pub returns-else-is_quiet-clause-fair : goal.returns-else-is_quiet-clause-fair
 returns-else-is_quiet-clause-fair g c = λ carried o trace f. c.take.ensures.fair carried o trace f
+
+pub returns-then-is_quiet-clause-ends : goal.returns-then-is_quiet-clause-ends
+returns-then-is_quiet-clause-ends g c = c.go_on.ensures.ends
+
+pub returns-else-is_quiet-clause-ends : goal.returns-else-is_quiet-clause-ends
+returns-else-is_quiet-clause-ends g c = c.take.ensures.ends

@@ -1,3 +1,4 @@
+use Rattle.tcp_loop.proofs.Progress.{below, below_read, below_two, below_write}
 use Rattle.std.proofs.Common.{◌<◌, ◌∷◌, ℕ, List, length, refl, rules, subst, sym}
 use Rattle.tcp_loop.specs.Holding.{Holds}
 use Rattle.tcp_loop.specs.Kept.{phase_of}
@@ -72,3 +73,21 @@ returns-in-Timing-clause-fair g c = rw c.in-Timing.is (λ carried o trace f. c.w
 
 pub returns-in-Called-clause-fair : goal.returns-in-Called-clause-fair
 returns-in-Called-clause-fair g c = rw c.in-Called.is (λ carried o trace f. c.calls_were_timed.ensures.fair o _ (plain g.T.KeptTarget.means g.T.KeptTarget.free o (Writes 0) carried c.args.came.now c.args.answer trace _ _ _ f stage.Called tt))
+
+pub returns-in-Reading-clause-ends : goal.returns-in-Reading-clause-ends
+returns-in-Reading-clause-ends g c = rw c.in-Reading.is (below_read c.in-Reading.place _ (subst (λ (s : Stage). IsReady s c.args.self.now.incoming.items (g.T.KeptTarget.free (g.T.KeptTarget.at c.args.self.now.target).state)) c.in-Reading.is c.requires.ready).0 c.was_read.ensures.ends)
+
+pub returns-in-Writing-clause-ends : goal.returns-in-Writing-clause-ends
+returns-in-Writing-clause-ends g c = rw c.in-Writing.is (below_write c.in-Writing.place _ (subst (λ (s : Stage). IsReady s c.args.self.now.incoming.items (g.T.KeptTarget.free (g.T.KeptTarget.at c.args.self.now.target).state)) c.in-Writing.is c.requires.ready) c.was_written.ensures.ends)
+
+pub returns-in-Accepting-clause-ends : goal.returns-in-Accepting-clause-ends
+returns-in-Accepting-clause-ends g c = rw c.in-Accepting.is (below_two _ _ c.was_accepted.ensures.ends)
+
+pub returns-in-Closing-clause-ends : goal.returns-in-Closing-clause-ends
+returns-in-Closing-clause-ends g c = rw c.in-Closing.is (below _ _ c.was_closed.ensures.ends)
+
+pub returns-in-Timing-clause-ends : goal.returns-in-Timing-clause-ends
+returns-in-Timing-clause-ends g c = rw c.in-Timing.is (below _ _ c.was_timed.ensures.ends)
+
+pub returns-in-Called-clause-ends : goal.returns-in-Called-clause-ends
+returns-in-Called-clause-ends g c = rw c.in-Called.is c.calls_were_timed.ensures.ends

@@ -1,3 +1,4 @@
+use Rattle.tcp_loop.proofs.Progress.{fail_read}
 use Rattle.tcp_loop.proofs.Owing.{or_false, read_made}
 use Rattle.std.proofs.Common.{[], ◌+◌, refl, sym}
 use Rattle.std.proofs.lemmas.List.{get_or-set_other}
@@ -16,3 +17,9 @@ returns-else-done-clause-fair g c = λ carried came o trace f. c.read.ensures.fa
     (read_made g.T.KeptTarget.means g.T.KeptTarget.free o c.args.place carried came Came trace _ _ _ _ _ _ (c.advance-done.ensures.grows o)
     (sym (or_false _)) (λ q other. refl)
     (λ q other. rw c.put_at.ensures (get_or-set_other _ c.args.place q _ [] other)) f)
+
+pub returns-then-done-clause-ends : goal.returns-then-done-clause-ends
+returns-then-done-clause-ends g c = fail_read (c.args.place + 1) _ c.fail.ensures.ends
+
+pub returns-else-done-clause-ends : goal.returns-else-done-clause-ends
+returns-else-done-clause-ends g c = c.read.ensures.ends

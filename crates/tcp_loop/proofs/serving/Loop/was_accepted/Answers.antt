@@ -1,3 +1,4 @@
+use Rattle.tcp_loop.proofs.Progress.{one_more}
 use Rattle.std.proofs.Common.{◌∷◌, subst, sym}
 use Rattle.tcp_loop.specs.Holding.{Holds}
 use Rattle.tcp_loop.specs.Kept.{Resting}
@@ -29,3 +30,9 @@ pub returns-else-begins-clause-fair : goal.returns-else-begins-clause-fair
 returns-else-begins-clause-fair g c = λ carried came o trace f.
     c.was_not_begun.ensures.fair o _
     (not_begun_made g.T.KeptTarget.means g.T.KeptTarget.free o c.args.place carried came c.args.answer trace _ _ _ (c.begins_at-begins.ensures.no c.if-begins.false) f)
+
+pub returns-then-begins-clause-ends : goal.returns-then-begins-clause-ends
+returns-then-begins-clause-ends g c = one_more _ _ c.accept.ensures.ends
+
+pub returns-else-begins-clause-ends : goal.returns-else-begins-clause-ends
+returns-else-begins-clause-ends g c = c.was_not_begun.ensures.ends

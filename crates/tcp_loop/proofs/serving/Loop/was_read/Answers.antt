@@ -19,3 +19,9 @@ returns-else-has_come-clause-fair g c = λ carried. c.read_none.ensures.fair car
 
 pub read_none-requires-clause-none : goal.read_none-requires-clause-none
 read_none-requires-clause-none g c = sym c.has_come.ensures ∙ c.if-has_come.false
+
+pub returns-then-has_come-clause-ends : goal.returns-then-has_come-clause-ends
+returns-then-has_come-clause-ends g c = c.take_piece.ensures.ends
+
+pub returns-else-has_come-clause-ends : goal.returns-else-has_come-clause-ends
+returns-else-has_come-clause-ends g c = c.read_none.ensures.ends

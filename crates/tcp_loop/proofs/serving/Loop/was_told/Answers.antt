@@ -11,3 +11,9 @@ returns-then-fails-clause-fair g c = rw c.if-fails.true c.tell_failure.ensures.f
 
 pub returns-else-fails-clause-fair : goal.returns-else-fails-clause-fair
 returns-else-fails-clause-fair g c = rw c.if-fails.false c.tell.ensures.fair
+
+pub returns-then-fails-clause-ends : goal.returns-then-fails-clause-ends
+returns-then-fails-clause-ends g c = rw c.if-fails.true c.tell_failure.ensures.ends
+
+pub returns-else-fails-clause-ends : goal.returns-else-fails-clause-ends
+returns-else-fails-clause-ends g c = rw c.if-fails.false c.tell.ensures.ends

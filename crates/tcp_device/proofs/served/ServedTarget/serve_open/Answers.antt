@@ -3,7 +3,7 @@ use Rattle.std.specs.Option.{option_map}
 use Rattle.tcp_connection.specs.Executing.{Execution}
 use Rattle.tcp_queues.specs.Commands.{given_to_device}
 use Rattle.tcp_device.specs.State.{ServedState}
-use Rattle.tcp_device.proofs.served.ServedTarget.serve.Goals as goal
+use Rattle.tcp_device.proofs.served.ServedTarget.serve_open.Goals as goal
 
 pub submit-requires-clause-given : goal.submit-requires-clause-given
 submit-requires-clause-given c =
