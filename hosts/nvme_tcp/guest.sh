@@ -4,9 +4,10 @@
 #     guest.sh PORT NQN [PROGRAM]
 #
 # NQN is the name that the target prints. guest_session.sh is what it does with the disk; PROGRAM is the filter that it loads, or
-# examples/filter.bin. The image wants zones of
-# a power of two of blocks, at least eight of them, and 4 MiB of writable blocks in each for f2fs and btrfs. Wants apt, dpkg,
-# gcc and qemu-system-x86 of Debian 12, and python3. What it downloads, 81 MB, it keeps in GUEST_CACHE. No part of the gate.
+# examples/filter.bin, which `make -C examples filter.bin` makes. The image wants zones of a power of two of blocks, at least eight of
+# them, and 4 MiB of writable blocks in each for f2fs and btrfs. With GUEST_MULTIPATH=N Linux has no native multipath, and btrfs is tried
+# too. Wants apt, dpkg, gcc and qemu-system-x86 of Debian 12, and python3. What it downloads, 81 MB, it keeps in GUEST_CACHE. No part of
+# the gate.
 set -eu
 port=$1
 nqn=$2
@@ -100,5 +101,6 @@ echo "$wanted" > "$guest/modules"
 # ---- the machine: two processors, and a network in which 10.0.2.2 is this machine's loopback
 
 timeout "${GUEST_SECONDS:-300}" qemu-system-x86_64 -accel "${GUEST_ACCELERATOR:-tcg}" -smp 2 -m 1024 -no-reboot -display none -serial stdio -monitor none \
-    -kernel "$root/boot/vmlinuz-$release" -initrd "$work/initramfs" -append "console=ttyS0 quiet panic=-1 target_port=$port target_nqn=$nqn" \
+    -kernel "$root/boot/vmlinuz-$release" -initrd "$work/initramfs" \
+    -append "console=ttyS0 quiet panic=-1 nvme_core.multipath=${GUEST_MULTIPATH:-Y} target_port=$port target_nqn=$nqn" \
     -netdev user,id=net -device virtio-net-pci,netdev=net < /dev/null | tr -d '\r'

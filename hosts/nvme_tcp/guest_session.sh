@@ -96,9 +96,12 @@ shell "mkfs.f2fs -f -m -c $disk /dev/loop0 | tail -n 3"
 files f2fs /dev/loop0
 run /bin/losetup -d /dev/loop0
 
-echo "== btrfs"
-shell "mkfs.btrfs -f -O zoned -d single -m single $disk | grep -i zone"
-files btrfs "$disk"
+# with native multipath btrfs of Linux 6.1 follows a null pointer, on a zoned namespace of QEMU too
+if [ "$path" = "$queue" ]; then
+    echo "== btrfs"
+    shell "mkfs.btrfs -f -O zoned -d single -m single $disk | grep -i zone"
+    files btrfs "$disk"
+fi
 
 echo "== a reset of the controller, and the end"
 run nvme reset /dev/nvme0

@@ -36,12 +36,13 @@ static uint32_t close_one(int *descriptor) /* where there is one */
     return PIFNJARL_DID;
 }
 
-/* Adds a descriptor that there is: a process may poll no more of them than it may have. */
-static size_t watch(struct pollfd *polled, size_t *of, size_t count, int descriptor, int events, size_t what)
+static size_t watch(struct pollfd *polled, size_t *of, size_t count, int descriptor, int events, size_t what) /* where there is one */
 {
+    if (descriptor < 0)
+        return count;
     polled[count] = (struct pollfd){.fd = descriptor, .events = (short)events};
     of[count] = what;
-    return descriptor < 0 ? count : count + 1;
+    return count + 1;
 }
 
 static uint32_t await(struct descriptors *d, const struct pifnjarl_operation *o, struct pifnjarl_answer *a)

@@ -16,7 +16,9 @@ import random
 import struct
 import sys
 from enum import IntEnum
-from typing import Callable, Dict, List, NamedTuple, Optional, Set, Tuple
+from itertools import compress
+from operator import or_
+from typing import Callable, Dict, Iterable, List, NamedTuple, Optional, Set, Tuple
 from uuid import UUID
 
 from nvme_tcp_connection import Fabrics, Kind, Opcode, Sgl, capsule, connect_data, connect_entry, entry, initialize_request
@@ -37,7 +39,10 @@ MOST_ROUNDS = 400
 SECOND = 1_000_000
 
 PATIENCE = 29 * SECOND
-"""No connection is closed by the target before so much time has gone by in which its host might have been heard."""
+"""No connection is closed by the target before so much time has gone by in which its host might have been heard,"""
+
+MOST_UNREAD = 58 * SECOND
+"""or so much in which it might have read what is sent to it, whatever it sends itself."""
 
 NO_CONTROLLER = 0x4182
 """The status of a Connect to a controller that there isn't (Connect Invalid Parameters, and Do Not Retry)."""
@@ -121,21 +126,25 @@ class Answer(NamedTuple):
     came: bytes = b""
 
 
+def marked(places: Iterable[int]) -> bytes:
+    """A byte for each place: 1 for these.
+
+    >>> marked({1, 3})[:5]
+    b'\\x00\\x01\\x00\\x01\\x00'
+    """
+    marks = bytearray(PLACES)
+    for place in places:
+        marks[place] = 1
+    return bytes(marks)
+
+
 DONE, AGAIN, NO_ROOM, FAILED = Answer(Came.DONE), Answer(Came.AGAIN), Answer(Came.NO_ROOM), Answer(Came.FAILED)
 
 
-class _Operation(ctypes.Structure):
-    """An operation, as pifnjarl_loop.h has it."""
-
-    _fields_ = [("kind", ctypes.c_uint32), ("number", ctypes.c_uint64), ("carried", ctypes.c_uint64), ("flag", ctypes.c_uint8)]
-    _fields_ += [("reads", ctypes.c_uint8 * PLACES), ("writes", ctypes.c_uint8 * PLACES)]
-
-
-class _Answer(ctypes.Structure):
-    """What came of it."""
-
-    _fields_ = [("kind", ctypes.c_uint32), ("number", ctypes.c_uint64)]
-    _fields_ += [("reads", ctypes.c_uint8 * PLACES), ("writes", ctypes.c_uint8 * PLACES)]
+# as pifnjarl_loop.h lays them out: the kind, the number, of an operation how many bytes it carries and its flag, and a byte for each place
+_OPERATION = struct.Struct(f"@IQQB{PLACES}s{PLACES}s")
+_ANSWER = struct.Struct(f"@IQ{PLACES}s{PLACES}s")
+_KINDS = tuple(Do)
 
 
 class Ask(IntEnum):
@@ -160,18 +169,26 @@ class Handle:
     """A handle of the library, which has a target and then its loop."""
 
     def __init__(self, library: ctypes.CDLL) -> None:
+        at, size, number = ctypes.c_void_p, ctypes.c_size_t, ctypes.c_uint32
+        piece = ctypes.c_char_p, size
+        library.pifnjarl_handle_bytes.restype = library.pifnjarl_handle_call.restype = size
+        library.pifnjarl_loop_carried.restype, library.pifnjarl_loop_begin.restype = size, ctypes.c_bool
+        library.pifnjarl_handle_open.argtypes = [at, number, *piece]
+        library.pifnjarl_handle_call.argtypes = [at, number, size, size, *piece, *piece, at, at, size]
+        library.pifnjarl_handle_end.argtypes = [at]
+        library.pifnjarl_loop_begin.argtypes = [at, size, at]
+        library.pifnjarl_loop_step.argtypes = [at, at, *piece, at]
+        library.pifnjarl_loop_carried.argtypes = [at, size, at, size]
         self._library = library
-        library.pifnjarl_handle_bytes.restype = library.pifnjarl_handle_call.restype = ctypes.c_size_t
-        library.pifnjarl_loop_carried.restype, library.pifnjarl_loop_begin.restype = ctypes.c_size_t, ctypes.c_bool
         self._memory = ctypes.create_string_buffer(library.pifnjarl_handle_bytes() + 15)
         start = ctypes.addressof(self._memory)
-        self._at = ctypes.c_void_p(start + -start % 16)
+        self._at = start + -start % 16
         self._reply = ctypes.create_string_buffer(REPLY_BYTES)
-        self._next = _Operation()
+        self._told, self._next = ctypes.create_string_buffer(_ANSWER.size), ctypes.create_string_buffer(_OPERATION.size)
 
     def open(self, content: bytes) -> int:
         """Opens a target on the bytes of a file, and gives what that came to."""
-        self._library.pifnjarl_handle_open(self._at, TARGET_IN_FILE, content, ctypes.c_size_t(len(content)))
+        self._library.pifnjarl_handle_open(self._at, TARGET_IN_FILE, content, len(content))
         return self._ask(Ask.OPENED)
 
     def next_call(self) -> Tuple[int, int, bytes]:
@@ -187,16 +204,13 @@ class Handle:
     def begin(self) -> Operation:
         """Names the target, begins its loop, and gives the first operation."""
         expect(self._ask(Ask.NAME, UUID(SUBSYSTEM_NQN[-36:]).bytes) == 1, "the target takes no name")
-        begun = self._library.pifnjarl_loop_begin(self._at, ctypes.c_size_t(MOST_TOLD), ctypes.byref(self._next))
-        expect(begun, "the loop doesn't begin")
+        expect(self._library.pifnjarl_loop_begin(self._at, MOST_TOLD, self._next), "the loop doesn't begin")
         return self._operation()
 
     def step(self, answer: Answer) -> Operation:
         """Says what came of the last operation, and gives the next."""
-        places = ctypes.c_uint8 * PLACES
-        told = _Answer(answer.kind, answer.number, places(*answer.reads), places(*answer.writes))
-        count = ctypes.c_size_t(len(answer.came))
-        self._library.pifnjarl_loop_step(self._at, ctypes.byref(told), answer.came, count, ctypes.byref(self._next))
+        _ANSWER.pack_into(self._told, 0, answer.kind, answer.number, answer.reads, answer.writes)
+        self._library.pifnjarl_loop_step(self._at, self._told, answer.came, len(answer.came), self._next)
         return self._operation()
 
     def end(self) -> None:
@@ -204,18 +218,18 @@ class Handle:
         self._library.pifnjarl_handle_end(self._at)
 
     def _ask(self, kind: Ask, piece: bytes = b"", out: Optional[ctypes.Array[ctypes.c_char]] = None, room: int = 0) -> int:
-        size = ctypes.c_size_t
         to = self._reply if out is None else out
-        more = size(0), size(0), piece, size(len(piece)), b"", size(0), self._reply, to, size(room)
-        return int(self._library.pifnjarl_handle_call(self._at, ctypes.c_uint32(kind), *more))
+        return int(self._library.pifnjarl_handle_call(self._at, kind, 0, 0, piece, len(piece), b"", 0, self._reply, to, room))
 
     def _operation(self) -> Operation:
-        now = self._next
-        room = ctypes.create_string_buffer(now.carried + 1)
-        size = ctypes.c_size_t
-        count = self._library.pifnjarl_loop_carried(self._at, size(0), room, size(now.carried)) if now.carried else 0
-        expect(count == now.carried, "an operation carries other bytes than it says")
-        return Operation(Do(now.kind), now.number, bool(now.flag), bytes(now.reads), bytes(now.writes), room.raw[:count])
+        kind, number, size, flag, reads, writes = _OPERATION.unpack_from(self._next)
+        carried = b""
+        if size:
+            room = ctypes.create_string_buffer(size)
+            count = self._library.pifnjarl_loop_carried(self._at, 0, room, size)
+            expect(count == size, "an operation carries other bytes than it says")
+            carried = room.raw
+        return Operation(_KINDS[kind], number, bool(flag), reads, writes, carried)
 
 
 # ---- the disk
@@ -312,7 +326,7 @@ class Caller:
         self.takes = True
         self.is_dead = self.is_over = False
         self.rounds = 0
-        self.begun = self.heard = 0
+        self.begun = self.heard = self.read = 0
         self.admin: Optional[Caller] = None
 
     def submit(self, command: bytes, data: bytes = b"") -> int:
@@ -441,8 +455,8 @@ class World:
         expect(not self.lost, f"connections {self.lost} are over, and aren't closed")
         expect(not self.is_to_end, "it goes on after a signal to end")
         self.operations = 0
-        watched = {place for place in range(PLACES) if operation.reads[place] or operation.writes[place]}
-        expect(watched <= set(self.callers), "a place is watched that has no connection")
+        watched = compress(range(PLACES), map(or_, operation.reads, operation.writes))
+        expect(self.callers.keys() >= set(watched), "a place is watched that has no connection")
         for place, caller in self.callers.items():
             self.host_works(caller)
             if caller.owes_answers() and caller.takes and not caller.is_dead:
@@ -454,8 +468,7 @@ class World:
         self.is_to_end = self.numbers.random() < 0.001
         self.owes_accept = wants and not self.is_to_end
         self.now += self.numbers.randrange(operation.number * 1000 + 1000)
-        reads, writes = (bytes(place in owed for place in range(PLACES)) for owed in (self.owed_reads, self.owed_writes))
-        return Answer(Came.HAPPENED, wants * ACCEPTS + self.is_to_end * SIGNALS, reads, writes)
+        return Answer(Came.HAPPENED, wants * ACCEPTS + self.is_to_end * SIGNALS, marked(self.owed_reads), marked(self.owed_writes))
 
     def ready(self, watched: bytes, is_ready: Callable[[Caller], bool]) -> Set[int]:
         """The connections of some that are watched where something can be done, by and by."""
@@ -508,7 +521,7 @@ class World:
             return AGAIN
         caller = self.next_caller()
         if place < PLACES:
-            self.callers[place], caller.begun, caller.heard = caller, self.counted, self.counted
+            self.callers[place], caller.begun, caller.heard, caller.read = caller, self.counted, self.counted, self.counted
         return DONE
 
     def next_caller(self) -> Caller:
@@ -554,7 +567,7 @@ class World:
             return AGAIN
         count = self.numbers.choice((1, 24, 25, len(operation.carried)))
         count = min(count, len(operation.carried))
-        was_ready, caller.heard = caller.is_ready, self.counted
+        was_ready, caller.heard, caller.read = caller.is_ready, self.counted, self.counted
         caller.take(operation.carried[:count])
         if caller.queue == 0 and caller.is_ready and not was_ready:
             self.waiting.append(caller.zone)
@@ -562,11 +575,11 @@ class World:
         return Answer(Came.TAKEN, count)
 
     def close(self, operation: Operation) -> Answer:
-        """A connection is closed: its host is gone, was silent or owed its Connect too long, or it is one without a place."""
+        """A connection is closed: its host is gone, was silent, owed its Connect or read nothing too long, or it has no place."""
         if operation.number < PLACES:
             caller = self.at(operation.number)
             heard = caller.heard if caller.has_connected() else caller.begun
-            was_silent = self.counted - heard >= PATIENCE
+            was_silent = self.counted - heard >= PATIENCE or self.counted - caller.read >= MOST_UNREAD
             is_over = caller.is_dead or caller.admin is not None and caller.admin not in self.callers.values()
             expect(was_silent or is_over, f"connection {operation.number} is closed, and its host was heard")
             caller.is_over = True
