@@ -105,7 +105,7 @@ impl Packer {
     }
 
     /// Packs one more group into the pending block, which has room for it, whole and behind what is pending. A group of
-    /// no bytes changes nothing.
+    /// no bytes changes nothing, and costs no copy.
     #[inline]
     pub fn add(&mut self, group: &[u8])
         requires { length self.old.pending + length group.now ≤ self.old.block }
@@ -113,6 +113,9 @@ impl Packer {
         ensures state { self.new ≡ after_put self.old group.now }
         ensures fits { length self.new.pending ≤ self.new.block }
     {
+        if group.is_empty() {
+            return;
+        }
         let pending = self.pending;
         append(&mut self.bytes, pending, group);
         self.pending = pending + group.len();

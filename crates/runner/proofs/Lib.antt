@@ -6,6 +6,7 @@ mod DeviceTurns
 mod Drains
 mod Holding
 mod Loads
+mod ManyTurns
 mod MayBeThere
 mod NewDevices
 mod NextBlockRun

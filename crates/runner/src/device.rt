@@ -16,12 +16,13 @@ ghost use Rattle.kept_device.specs.Kept.{place_told, slot_told};
 ghost use Rattle.runner.specs.Restored.{IsRestoredBy, TellNoneBy};
 ghost use Rattle.runner.specs.Stored.{asks_for_stored};
 ghost use Rattle.runner.specs.Taken.{HasTakenBy};
+ghost use Rattle.runner.specs.Turns.{turned_on};
 ghost use Rattle.runner.specs.steps.ServedOne.{HasServedOne};
 
 use crate::device_state::DeviceState;
 use crate::restoring::{KeptDevice, kept_of, state_again};
 use crate::submission::{StoredReply, Submission, read, submit};
-use crate::turn::turn;
+use crate::turn::{turn, turns};
 use device_events::{Event, NotTaken, Out, Reply};
 use device_meaning::laws::domains_judge_soundly;
 use interval_domain::Intervals;
@@ -260,6 +261,17 @@ impl<D: Domain> Device<D> {
         // Brings in that the device is in a state that events leave, also where it was given none.
         let _ = self.image();
         Ok(())
+    }
+
+    /// Gives a run a turn, and up to `more` after it as long as it has turns left: the reply, which has no data, is that to the
+    /// last of them. The device is then in a state that events leave.
+    pub fn turns(&mut self, run: u8, more: usize) -> Reply
+        ensures reply { result ≡ (turned_on more self.old run).reply.reply }
+        ensures state { self.new ≡ (turned_on more self.old run).state }
+        ensures no_data { data_length result ≡ 0 }
+        ensures reached { IsReached (judge_by D.operations) self.new }
+    {
+        turns(&mut self.state, &mut self.stack, &mut self.group, run, more)
     }
 
     /// The number of the run that a turn is given next, where all runs are to end: the lowest.

@@ -8,6 +8,7 @@ ghost use Rattle.common_definitions.specs.Bytes.{padded};
 ghost use Rattle.device_events.specs.Replies.{data_length};
 ghost use Rattle.device_meaning.specs.Happenings.{added, turned};
 ghost use Rattle.runner.specs.DeviceState.{active_of};
+ghost use Rattle.runner.specs.Turns.{has_turns_left, turned_on};
 ghost use Rattle.runner.specs.steps.Ready.{FitsNamespace};
 ghost use Rattle.device_meaning.specs.Reached.{IsReached};
 ghost use Rattle.runner.specs.steps.Turning.{FitsAt, FitsIn, FitsOn, HasRoom, HasRunNext, IsTaking, Keeps, PlaceTurned, SlotTurned, Turned, next_block, next_block_run, steps_by, steps_in, steps_of_turn, with_packer};
@@ -40,6 +41,7 @@ fn source_block<'a>(namespace: &'a Namespace, active: &ActiveRun) -> &'a [u8]
 }
 
 /// Runs the program on the block that is next.
+#[inline(always)]
 fn run_next<V: TrapFree + Drop>(
     namespace: &Namespace,
     prepared: &Prepared<V>,
@@ -81,7 +83,8 @@ fn release(namespace: &mut Namespace, active: &mut ActiveRun)
     requires block { active.old.packer.block ≡ namespace.old.block }
     requires room { IsTaking namespace.old active.old.destination 1 }
     requires few { active.old.appended + 1 < 2 ^ 32 }
-    ensures namespace { namespace.new ≡ added namespace.old active.old.destination (padded active.old.packer.block active.old.packer.pending ∷ []) }
+    ensures namespace { namespace.new
+        ≡ added namespace.old active.old.destination (padded active.old.packer.block active.old.packer.pending ∷ []) }
     ensures active { active.new ≡ with_packer active.old (new_packer active.old.packer.block) 1 }
 {
     namespace.append_blocks(active.destination, active.packer.padded());
@@ -90,32 +93,22 @@ fn release(namespace: &mut Namespace, active: &mut ActiveRun)
 }
 
 /// Packs a group. Where it doesn't fit into the pending block, that one is appended first.
+#[inline(always)]
 fn put(namespace: &mut Namespace, active: &mut ActiveRun, group: &[u8])
     requires block { active.old.packer.block ≡ namespace.old.block }
     requires whole { length group.now ≤ namespace.old.block }
     requires room { HasRoom namespace.old active.old.destination (given_by_put active.old.packer group.now) }
     requires few { active.old.appended + 1 < 2 ^ 32 }
     ensures namespace { namespace.new ≡ added namespace.old active.old.destination (given_by_put active.old.packer group.now) }
-    ensures active { active.new ≡ with_packer active.old (after_put active.old.packer group.now) (length (given_by_put active.old.packer group.now)) }
+    ensures active { active.new
+        ≡ with_packer active.old (after_put active.old.packer group.now) (length (given_by_put active.old.packer group.now)) }
     ensures one { length (given_by_put active.old.packer group.now) ≤ 1 }
     ensures begun { length active.old.packer.pending ≤ active.old.packer.block }
 {
     if !active.packer.has_room(group.len()) {
         release(namespace, active);
     }
-    add(&mut active.packer, group);
-}
-
-/// Adds a group to the pending block, which has room for it. A block from which nothing is emitted costs no copy.
-fn add(packer: &mut Packer, group: &[u8])
-    requires { length packer.old.pending + length group.now ≤ packer.old.block }
-    ensures blocks { [] ≡ given_by_put packer.old group.now }
-    ensures state { packer.new ≡ after_put packer.old group.now }
-    ensures fits { length packer.new.pending ≤ packer.new.block }
-{
-    if !group.is_empty() {
-        packer.add(group);
-    }
+    active.packer.add(group);
 }
 
 /// Appends the pending block, where it has a group.
@@ -133,6 +126,7 @@ fn finish(namespace: &mut Namespace, active: &mut ActiveRun)
 
 /// A turn of a run: its program on the next block, and what that emits is packed. Gives the run's answer
 /// where it has ended.
+#[inline(always)]
 fn advance<V: TrapFree + Drop>(
     namespace: &mut Namespace,
     prepared: &Prepared<V>,
@@ -167,6 +161,7 @@ fn advance<V: TrapFree + Drop>(
 
 /// A turn of a run by the program of its slot, which has the run's scratch bytes as its result once the run
 /// has ended.
+#[inline(always)]
 fn advance_by_slot<D: Domain>(
     namespace: &mut Namespace,
     slot: &mut Option<LoadedProgram<D>>,
@@ -197,6 +192,7 @@ fn free(place: &mut Option<ActiveRun>)
 }
 
 /// Gives the run at a place a turn, where there is one. The place is free once the run has ended.
+#[inline(always)]
 fn turn_place<D: Domain>(
     namespace: &mut Namespace,
     slots: &mut [Option<LoadedProgram<D>>; PROGRAM_SLOTS],
@@ -224,6 +220,7 @@ fn turn_place<D: Domain>(
 }
 
 /// Gives a run a turn.
+#[inline(always)]
 pub fn turn<D: Domain>(
     state: &mut DeviceState<D>,
     stack: &mut Stack,
@@ -249,4 +246,38 @@ pub fn turn<D: Domain>(
         group,
         run,
     )
+}
+
+/// Has a run turns left, by the reply to its turn?
+fn has_turns_left(reply: &Reply) -> bool
+    ensures { result ≡ has_turns_left reply.now }
+{
+    match reply {
+        Reply::Pending { .. } => true,
+        Reply::Complete { .. } | Reply::Idle | Reply::FaultTaken | Reply::FaultRefused => false,
+    }
+}
+
+/// Gives a run a turn, and up to `more` after it as long as it has turns left: the reply is that to the last of them.
+pub fn turns<D: Domain>(
+    state: &mut DeviceState<D>,
+    stack: &mut Stack,
+    group: &mut [u8; LARGEST_BLOCK],
+    run: u8,
+    more: usize,
+) -> Reply
+    requires reached { IsReached (judge_by D.operations) state.old }
+    ensures reply { result ≡ (turned_on more state.old run).reply.reply }
+    ensures state { state.new ≡ (turned_on more state.old run).state }
+    ensures no_data { data_length result ≡ 0 }
+    ensures reached { IsReached (judge_by D.operations) state.new }
+{
+    let mut left = more;
+    loop {
+        let reply = turn(state, stack, group, run);
+        if left == 0 || !has_turns_left(&reply) {
+            return reply;
+        }
+        left -= 1;
+    }
 }

@@ -21,7 +21,8 @@ pub record IsRefused (judge : Judge) (bytes : List ℕ) (sizes : Sizes) : Type 0
 pub record AreAgain {D : Type 0} {domain : Ghosts D} (block : ℕ) (kept : List (Option KeptProgram)) (slots : List (Option (LoadedProgram D domain))) (n : ℕ)
     : Type 0 where
   pub number : length slots ≡ PROGRAM_SLOTS
-  pub each : (k : ℕ) → k < n → slot_again (judge_by domain.operations) block (slot_told (get_or kept k None)) ≡ Some (loaded_slot (get_or slots k None))
+  pub each : (k : ℕ) → k < n → slot_again (judge_by domain.operations) block (slot_told (get_or kept k None))
+      ≡ Some (loaded_slot (get_or slots k None))
   pub sizes : (k : ℕ) (p : LoadedProgram D domain) → get_or slots k None ≡ Some p → (sizes_of p.prepared).block ≡ block
   pub bytes : (k : ℕ) → k < n → IfSome (slot_told (get_or kept k None)) IsOfBytes
 

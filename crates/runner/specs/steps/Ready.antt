@@ -56,4 +56,5 @@ module _ {D : Type 0} {domain : Ghosts D} where
   pub record IsReady (ns : ZonedNamespace) (slots : List (Option (LoadedProgram D domain))) (runs : List (Option ActiveRun)) : Type 0 where
     pub programs : AreForBlocks ns slots
     pub running : (k : ℕ) (a : ActiveRun) → get_or runs k None ≡ Some a → IsRunning ns slots a
-    pub apart : (j k : ℕ) (a b : ActiveRun) → get_or runs j None ≡ Some a → get_or runs k None ≡ Some b → a.destination ≡ b.destination → j ≡ k
+    pub apart : (j k : ℕ) (a b : ActiveRun) → get_or runs j None ≡ Some a → get_or runs k None ≡ Some b → a.destination ≡ b.destination
+        → j ≡ k

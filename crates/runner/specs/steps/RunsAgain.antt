@@ -43,7 +43,8 @@ module _ {D : Type 0} {domain : Ghosts D} (ns : ZonedNamespace) (slots : List (O
     pub each : (k : ℕ) → k < n → running (get_or runs k None) ≡ place_told (get_or kept k None)
     pub first : (k : ℕ) (a : ActiveRun) → get_or runs k None ≡ Some a → k < n
     pub going : (k : ℕ) (a : ActiveRun) → get_or runs k None ≡ Some a → IsAgain ns slots (active_of a) a
-    pub apart : (j k : ℕ) (a b : ActiveRun) → get_or runs j None ≡ Some a → get_or runs k None ≡ Some b → a.destination ≡ b.destination → j ≡ k
+    pub apart : (j k : ℕ) (a b : ActiveRun) → get_or runs j None ≡ Some a → get_or runs k None ≡ Some b → a.destination ≡ b.destination
+        → j ≡ k
 
   -- they can't all go on
   abbrev pub AreStuck : List (Option KeptRun) → Type 0

@@ -69,12 +69,14 @@ pub record FitsOn (ns : ZonedNamespace) (program : List (Option Instruction)) (l
 -- a turn after which the run goes on
 pub record TurnGoesOn (old new : ZonedNamespace) (program : List (Option Instruction)) (limit : ℕ) (a b : ActiveRun) : Type 0 where
   pub blocks : List (List ℕ)
-  pub turns : turns_of old program limit (active_of a) ≡ record { blocks = blocks; ending = None } ∷ turns_of new program limit (active_of b)
+  pub turns : turns_of old program limit (active_of a) ≡ record { blocks = blocks; ending = None }
+      ∷ turns_of new program limit (active_of b)
   pub namespace : new ≡ added old a.destination blocks
   pub left : HasRoomLeft new limit b
 
 -- a turn that ends the run
-pub record HasEnded (old new : ZonedNamespace) (program : List (Option Instruction)) (limit : ℕ) (a b : ActiveRun) (answer : Answer) : Type 0 where
+pub record HasEnded (old new : ZonedNamespace) (program : List (Option Instruction)) (limit : ℕ) (a b : ActiveRun)
+    (answer : Answer) : Type 0 where
   pub blocks : List (List ℕ)
   pub turns : turns_of old program limit (active_of a)
       ≡ record { blocks = blocks; ending = Some (record { status = answer.status; dw0 = answer.dw0; dw1 = answer.dw1; result = Some b.scratch }) } ∷ []
@@ -115,11 +117,14 @@ module _ {D : Type 0} {domain : Ghosts D} where
 
   -- a turn of a run, by the program of a slot, which has the scratch bytes as its result once the run has ended; of that program
   -- nothing else changes but the count of its steps
-  abbrev pub SlotTurned : ZonedNamespace → ZonedNamespace → Option (LoadedProgram D domain) → Option (LoadedProgram D domain) → ActiveRun → ActiveRun → Option Answer → Type 0
+  abbrev pub SlotTurned : ZonedNamespace → ZonedNamespace → Option (LoadedProgram D domain) → Option (LoadedProgram D domain) → ActiveRun
+      → ActiveRun → Option Answer → Type 0
   SlotTurned old new (Some p) (Some q) a b None =
-      (q ≡ record p { count = q.count }) × TurnGoesOn old new (program_of p.prepared) (sizes_of p.prepared).limit a b × Keeps a b × FitsNamespace new b
+      (q ≡ record p { count = q.count }) × TurnGoesOn old new (program_of p.prepared) (sizes_of p.prepared).limit a b × Keeps a b
+      × FitsNamespace new b
   SlotTurned old new (Some p) (Some q) a b (Some answer) =
-      (q ≡ record p { count = q.count; result = b.scratch }) × HasEnded old new (program_of p.prepared) (sizes_of p.prepared).limit a b answer × Keeps a b
+      (q ≡ record p { count = q.count; result = b.scratch })
+      × HasEnded old new (program_of p.prepared) (sizes_of p.prepared).limit a b answer × Keeps a b
   SlotTurned old new _ _ a b answer = ⊥
 
   -- a place at which no run is, or one that fits
@@ -127,13 +132,15 @@ module _ {D : Type 0} {domain : Ghosts D} where
   FitsAt ns slots place = IfSome place (λ a. FitsIn ns (get_or slots a.command.slot None) a)
 
   -- what a turn in a state comes to
-  pub record IsTurned (s : State) (run : ℕ) (ns : ZonedNamespace) (slots : List (Option (LoadedProgram D domain))) (runs : List (Option ActiveRun)) (given : Reply) : Type 0 where
+  pub record IsTurned (s : State) (run : ℕ) (ns : ZonedNamespace) (slots : List (Option (LoadedProgram D domain)))
+      (runs : List (Option ActiveRun)) (given : Reply) : Type 0 where
     pub reply : given ≡ (turned s run).reply.reply
     pub state : device_state ns slots runs ≡ (turned s run).state
     pub ready : IsReady ns slots runs
 
   -- a turn at a place, whatever the other places hold
-  abbrev pub PlaceTurned : ZonedNamespace → ZonedNamespace → List (Option (LoadedProgram D domain)) → List (Option (LoadedProgram D domain)) → ℕ → Option ActiveRun → Option ActiveRun → Reply → Type 0
+  abbrev pub PlaceTurned : ZonedNamespace → ZonedNamespace → List (Option (LoadedProgram D domain))
+      → List (Option (LoadedProgram D domain)) → ℕ → Option ActiveRun → Option ActiveRun → Reply → Type 0
   PlaceTurned old new slots slots' run place place' given =
       (runs : List (Option ActiveRun)) → get_or runs run None ≡ place → IsReady old slots runs
       → IsTurned (device_state old slots runs) run new slots' (set runs run place') given
