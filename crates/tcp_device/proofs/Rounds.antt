@@ -13,7 +13,7 @@ use Rattle.tcp_target.specs.Ready.{is_ready}
 use Rattle.tcp_device.specs.Answering.{HasPlaces, IsMet, IsNext, closes, serves}
 use Rattle.tcp_device.specs.Deeds.{AreDone, Closed, Deed, Does, Opened, Received, Resumed, Sent, Served, Ticked, Turned}
 use Rattle.tcp_device.specs.Order.{Departure, departure, place_of, went_by, went_on}
-use Rattle.tcp_device.specs.Rounds.{AreRounds, IsFit, ReadyIsAnswered, RoundsGoOn, StaysFit, brings, is_round, progress_in, progress_on, taken_by}
+use Rattle.tcp_device.specs.Rounds.{AreRounds, IsFit, IsServedFit, NextIsAnswered, RoundsGoOn, StaysFit, brings, is_round, progress_in, progress_on, taken_by}
 use Rattle.tcp_device.specs.State.{ServedState, begun_on}
 use Rattle.tcp_device.proofs.Answering.{all_stay, is_service, stays}
 use Rattle.tcp_device.proofs.Completing.{answers}
@@ -23,10 +23,6 @@ use Rattle.tcp_device.proofs.Standing.{Stands}
 use Rattle.tcp_device.proofs.Taking.{AllStand, all_stand_first, counts, one_of, stay}
 
 -- ---- the last of the deeds, and those before it
-
-fit_last : (number : ℕ) (deeds : List Deed) (old new : ServedState) (done : AreDone deeds old new) → StaysFit number deeds old new done → IsFit number new
-fit_last number [] old new done fit = fit
-fit_last number (deed ∷ deeds) old new done fit = fit.1
 
 all_stand : (deeds : List Deed) (old new : ServedState) → AreDone deeds old new → AllStand old.target.queues → AllStand new.target.queues
 all_stand deeds old new done all = reached (λ t. AllStand t.queues) stay deeds old new done all
@@ -141,15 +137,14 @@ module _ (law : ConnectionsStay) (number : ℕ) where
   once_brought [] old new done all not_closed fit some = absurd cc
   once_brought (deed ∷ deeds) old new done all not_closed fit some =
       let opens = or_parts (closes number deed) (list_any (closes number) deeds) not_closed in
-      let fit_before = fit_last number deeds old done.between done.first fit.0 in
       elim (cases_Bool (list_any (brings number) deeds)) [
         | inl before ↦
             elim (once_brought deeds old done.between done.first all opens.1 fit.0 before) [
               | inl more ↦ inl (before_counts deed deeds old new done more)
-              | inr next ↦ next_on deed deeds old new done (serves number deed) refl opens.0 next.0 fit_before next.1
+              | inr next ↦ next_on deed deeds old new done (serves number deed) refl opens.0 next.0 fit.1 next.1
             ]
         | inr none ↦
-            brought deed deeds old new done deed refl (first_of (brings number deed) (list_any (brings number) deeds) some none) fit_before
+            brought deed deeds old new done deed refl (first_of (brings number deed) (list_any (brings number) deeds) some none) fit.1
             (all_stand deeds old done.between done.first all number) opens.0
       ]
 
@@ -159,7 +154,6 @@ module _ (law : ConnectionsStay) (number : ℕ) where
   round_goes [] old new done all not_closed fit is = absurd cc
   round_goes (deed ∷ deeds) old new done all not_closed fit is =
       let opens = or_parts (closes number deed) (list_any (closes number) deeds) not_closed in
-      let fit_before = fit_last number deeds old done.between done.first fit.0 in
       elim (cases_Bool (is_round number deeds)) [
         | inl before ↦ before_counts deed deeds old new done (round_goes deeds old done.between done.first all opens.1 fit.0 before)
         | inr none ↦
@@ -167,7 +161,7 @@ module _ (law : ConnectionsStay) (number : ℕ) where
             (first_of (serves number deed && list_any (brings number) deeds) (is_round number deeds) is none) in
             elim (once_brought deeds old done.between done.first all opens.1 fit.0 last.1) [
               | inl more ↦ before_counts deed deeds old new done more
-              | inr next ↦ next_goes deed deeds old new done last.0 next.0 fit_before next.1
+              | inr next ↦ next_goes deed deeds old new done last.0 next.0 fit.1 next.1
             ])
       ]
 
@@ -192,7 +186,7 @@ rounds_go_on law device subsystem format before old new first number rounds done
     rounds_go law number rounds old new done
     (all_stand before (begun_on device subsystem format) old first all_stand_first)
 
--- ---- a command that is ready is answered
+-- ---- a command that is next is answered
 
 all_places : (deeds : List Deed) (old new : ServedState) → AreDone deeds old new → HasPlaces old → HasPlaces new
 all_places [] old new done has = subst (λ (s : ServedState). HasPlaces s) (sym done) has
@@ -204,15 +198,22 @@ module _ (law : ConnectionsStay) (number : ℕ) (execution : Execution) where
     pub met : IsMet number execution deeds old new
     pub fit : IsFit number met.before
 
-  meets_fit : (deeds : List Deed) (old new : ServedState) (done : AreDone deeds old new) → StaysFit number deeds old new done
-      → list_any (serves number) deeds ≡ true → list_any (closes number) deeds ≡ false → IsNext execution (place_of number old)
-      → IsMetFit deeds old new
-  meets_fit [] old new done fit some not_closed next = absurd cc
-  meets_fit (deed ∷ deeds) old new done fit some not_closed next =
-      let closed_parts = or_parts (closes number deed) (list_any (closes number) deeds) not_closed in
+  -- what isn't served isn't closed
+  none_closes : (deeds : List Deed) (old new : ServedState) (done : AreDone deeds old new) → IsServedFit number deeds old new done
+      → list_any (serves number) deeds ≡ false → list_any (closes number) deeds ≡ false
+  none_closes [] old new done fit none = refl
+  none_closes (deed ∷ deeds) old new done fit none =
+      let earlier = (or_parts (serves number deed) (list_any (serves number) deeds) none).1 in
+      ap (λ (b : Bool). b || list_any (closes number) deeds) (fit.1 earlier).not_closed
+      ∙ none_closes deeds old done.between done.first fit.0 earlier
+
+  meets_fit : (deeds : List Deed) (old new : ServedState) (done : AreDone deeds old new) → IsServedFit number deeds old new done
+      → list_any (serves number) deeds ≡ true → IsNext execution (place_of number old) → IsMetFit deeds old new
+  meets_fit [] old new done fit some next = absurd cc
+  meets_fit (deed ∷ deeds) old new done fit some next =
       elim (cases_Bool (list_any (serves number) deeds)) [
         | inl before ↦
-            (let all = meets_fit deeds old done.between done.first fit.0 before closed_parts.1 next in
+            (let all = meets_fit deeds old done.between done.first fit.0 before next in
             let m = all.met in
             record {
               met = record {
@@ -230,8 +231,8 @@ module _ (law : ConnectionsStay) (number : ℕ) (execution : Execution) where
               fit = all.fit;
             })
         | inr none ↦
-            (let is : deed ≡ Served number =
-            is_service law number execution deed (first_of (serves number deed) (list_any (serves number) deeds) some none) in
+            (let does : serves number deed ≡ true = first_of (serves number deed) (list_any (serves number) deeds) some none in
+            let is : deed ≡ Served number = is_service law number execution deed does in
             record {
               met = record {
                 earlier = deeds;
@@ -241,11 +242,13 @@ module _ (law : ConnectionsStay) (number : ℕ) (execution : Execution) where
                 parts = ap (λ (last : Deed). last ∷ deeds) is;
                 first = none;
                 led = done.first;
-                next = all_stay law number execution deeds old done.between done.first none closed_parts.1 next;
+                next =
+                    all_stay law number execution deeds old done.between done.first none
+                    (none_closes deeds old done.between done.first fit.0 none) next;
                 served = subst (λ (last : Deed). Does last done.between new) is done.last;
                 leads = refl;
               };
-              fit = fit_last number deeds old done.between done.first fit.0;
+              fit = (fit.1 none).fit does;
             })
       ]
 
@@ -255,18 +258,12 @@ ready_where number execution s fit next =
     ap (λ (o : Option Execution). is_some o && not (is_cut_off number s.target.queues)) (ready_here number execution s fit next)
     ∙ ap (λ (b : Bool). not b) fit.there
 
-pub ready_is_answered : ConnectionsStay → ReadyIsAnswered
-ready_is_answered law device subsystem format before old new places first number deeds done fit some not_closed is =
-    let all : AllStand old.target.queues = all_stand before (begun_on device subsystem format) old first all_stand_first in
-    let n =
-    one_of (place_of number old) (all number) (ready_at (place_of number old)) refl
-    (and_parts (is_some (ready_at (place_of number old))) (not (is_cut_off number old.target.queues)) is).0 in
-    let m = meets_fit law number n.0 deeds old new done fit some not_closed n.1 in
+pub next_is_answered : ConnectionsStay → NextIsAnswered
+next_is_answered law number execution deeds old new places done fit some next =
+    let m = meets_fit law number execution deeds old new done fit some next in
     record {
-      execution = n.0;
       met = m.met;
       answer =
-          answers number n.0 m.met.before m.met.after m.met.next
-          (all_places m.met.earlier old m.met.before m.met.led (all_places before (begun_on device subsystem format) old first places))
-          (ready_where number n.0 m.met.before m.fit m.met.next) m.met.served;
+          answers number execution m.met.before m.met.after m.met.next (all_places m.met.earlier old m.met.before m.met.led places)
+          (ready_where number execution m.met.before m.fit m.met.next) m.met.served;
     }

@@ -14,7 +14,7 @@ use Rattle.tcp_queues.specs.Commands.{given_to_device}
 use Rattle.tcp_device.specs.Deeds.{AreDone, Closed, Deed, Does, Opened, Received, Resumed, Sent, Served, Ticked, Turned}
 use Rattle.tcp_device.specs.Served.{ResumesGiven, ServesGiven, TurnsGiven, behind, can_go, freed_by, kept_by, next_run, or_else, run_from}
 use Rattle.tcp_device.specs.State.{CommandOfRun, ServedState}
-use Rattle.tcp_device.specs.Turning.{HasRuns, MayGo, MayGoAt, RunsTakeTurns, may_go, turn_in, turns_by, turns_given, turns_in, turns_of}
+use Rattle.tcp_device.specs.Turning.{AtTurns, HasRuns, MayGo, RunsTakeTurns, may_go, turn_in, turns_by, turns_given, turns_in, turns_of}
 
 -- ---- the first that may go
 
@@ -305,15 +305,15 @@ module _ (run : ℕ) (low : run < 8) where
         few = omega (arith, few, none, none_of);
       }
 
-  passes_by : (deed : Deed) (given turns : ℕ) (s s' : ServedState) → Does deed s s' → MayGoAt run deed s → Passes given turns s
-      → Passes (given + turn_in deed) (turns + turns_by run deed s) s'
-  passes_by Opened given turns s s' done may p = other_deed Opened given turns s s' refl refl done p
-  passes_by (Received number piece) given turns s s' done may p = other_deed (Received number piece) given turns s s' refl refl done p
-  passes_by (Sent number count) given turns s s' done may p = other_deed (Sent number count) given turns s s' refl refl done p
-  passes_by (Closed number) given turns s s' done may p = other_deed (Closed number) given turns s s' refl refl done p
-  passes_by (Ticked milliseconds) given turns s s' done may p = other_deed (Ticked milliseconds) given turns s s' refl refl done p
-  passes_by (Served number) given turns s s' done may p = other_deed (Served number) given turns s s' refl refl done p
-  passes_by Turned given turns s s' done may p =
+  passes_by : (earlier : List Deed) (deed : Deed) (given turns : ℕ) (s s' : ServedState) → Does deed s s'
+      → AtTurns (λ t. may_go run t ≡ true) earlier deed s → Passes given turns s → Passes (given + turn_in deed) (turns + turns_by run deed s) s'
+  passes_by earlier Opened given turns s s' done may p = other_deed Opened given turns s s' refl refl done p
+  passes_by earlier (Received number piece) given turns s s' done may p = other_deed (Received number piece) given turns s s' refl refl done p
+  passes_by earlier (Sent number count) given turns s s' done may p = other_deed (Sent number count) given turns s s' refl refl done p
+  passes_by earlier (Closed number) given turns s s' done may p = other_deed (Closed number) given turns s s' refl refl done p
+  passes_by earlier (Ticked milliseconds) given turns s s' done may p = other_deed (Ticked milliseconds) given turns s s' refl refl done p
+  passes_by earlier (Served number) given turns s s' done may p = other_deed (Served number) given turns s s' refl refl done p
+  passes_by earlier Turned given turns s s' done may p =
       let n = turn_nears s s' p.has may done p.ahead p.is in let nearer = n.nearer in let few = p.few in
       record {
         has = stays Turned s s' done p.has;
@@ -321,7 +321,7 @@ module _ (run : ℕ) (low : run < 8) where
         is = n.is;
         few = omega (arith, nearer, few);
       }
-  passes_by (Resumed other) given turns s s' done may p = other_deed (Resumed other) given turns s s' refl refl done p
+  passes_by earlier (Resumed other) given turns s s' done may p = other_deed (Resumed other) given turns s s' refl refl done p
 
   ahead_of : (next : ℕ) → next < 8 → (ahead : ℕ) × IsAhead run next ahead
   ahead_of next next_is_low = ⊎_elim
@@ -335,7 +335,7 @@ module _ (run : ℕ) (low : run < 8) where
       let first = ahead_of old.next h.next in let few = first.1.few in
       subst (λ (s : ServedState). Passes 0 0 s) (sym done) (record { has = h; ahead = first.0; is = first.1; few = omega (arith, few) })
   all_passed (deed ∷ deeds) old new done h may =
-      passes_by deed _ _ done.between new done.last may.1 (all_passed deeds old done.between done.first h may.0)
+      passes_by deeds deed _ _ done.between new done.last may.1 (all_passed deeds old done.between done.first h may.0)
 
 pub runs_take_turns : RunsTakeTurns
 runs_take_turns = record {

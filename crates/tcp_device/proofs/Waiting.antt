@@ -31,8 +31,8 @@ use Rattle.tcp_device.specs.Deeds.{AreDone, Closed, Deed, Does, Opened, Received
 use Rattle.tcp_device.specs.Outcome.{outcome_in}
 use Rattle.tcp_device.specs.Served.{ResumesGiven, ServesGiven, TurnsGiven, can_go, completed_by, ended_by, next_run}
 use Rattle.tcp_device.specs.State.{CommandOfRun, ServedState, begun_on}
-use Rattle.tcp_device.specs.Turning.{HasRuns, MayGo, MayGoAt, may_go}
-use Rattle.tcp_device.specs.Waiting.{IsPending, IsPendingAt, IsReached, RunsGoOn, is_pending}
+use Rattle.tcp_device.specs.Turning.{AtTurns, HasRuns, MayGo, may_go}
+use Rattle.tcp_device.specs.Waiting.{IsPending, IsReached, RunsGoOn, is_pending}
 use Rattle.tcp_device.proofs.AdminData.{admin_few}
 use Rattle.tcp_device.proofs.Counting.{heard_at_queues, runs_are_counted, some_of}
 use Rattle.tcp_device.proofs.Keeping.{AllKeepRoom, GoesOn, WasHandedOver, all_keep_room_first, answers, closes, connects, ends, executes, goes_as_handed, goes_where, hands_over, keeps, keeps_handed, opens, receives, result_few, room_put, room_there, sends}
@@ -237,22 +237,23 @@ module _ (law : ConnectionsStay) (aligned : DataBeginsAligned) (whole : Structur
         done = record { between = done.between; first = b.done; last = done.last };
       }
 
-  may_by : (run : ℕ) (deed : Deed) (s : ServedState) → IsReached s → IsPendingAt run deed s → MayGoAt run deed s
-  may_by run Opened s r is = tt
-  may_by run (Received number piece) s r is = tt
-  may_by run (Sent number count) s r is = tt
-  may_by run (Closed number) s r is = tt
-  may_by run (Ticked milliseconds) s r is = tt
-  may_by run (Served number) s r is = tt
-  may_by run Turned s r is = go run s r is
-  may_by run (Resumed other) s r is = tt
+  may_by : (run : ℕ) (earlier : List Deed) (deed : Deed) (s : ServedState) → IsReached s → AtTurns (λ t. is_pending run t ≡ true) earlier deed s
+      → AtTurns (λ t. may_go run t ≡ true) earlier deed s
+  may_by run earlier Opened s r is = tt
+  may_by run earlier (Received number piece) s r is = tt
+  may_by run earlier (Sent number count) s r is = tt
+  may_by run earlier (Closed number) s r is = tt
+  may_by run earlier (Ticked milliseconds) s r is = tt
+  may_by run earlier (Served number) s r is = tt
+  may_by run earlier Turned s r is = go run s r is
+  may_by run earlier (Resumed other) s r is = tt
 
   may : (run : ℕ) (deeds : List Deed) (old new : ServedState) (done : AreDone deeds old new) → IsReached old → IsPending run deeds old new done
       → MayGo run deeds old new done
   may run [] old new done r is = tt
   may run (deed ∷ deeds) old new done r is = (
     may run deeds old done.between done.first r is.0,
-    may_by run deed done.between (joined deeds old done.between done.first r) is.1,
+    may_by run deeds deed done.between (joined deeds old done.between done.first r) is.1,
   )
 
   has_runs : (deeds : List Deed) (old new : ServedState) → AreDone deeds old new → HasRuns old → HasRuns new

@@ -90,7 +90,8 @@ IsAnswered reply.FaultRefused bytes number execution old new = ⊥
 -- the target completes it, or keeps it, on an admin queue: an Asynchronous Event Request, as no event is reported
 pub data IsExecuted (number : ℕ) (execution : Execution) (old new : ServedState) : Type 0 where
   is_completed : (outcome : Outcome) (bytes : List ℕ)
-      → IsCompleted (identifier_of execution.entry) outcome bytes (place_of number old) (place_of number new) → IsExecuted number execution old new
+      → IsCompleted (identifier_of execution.entry) outcome bytes (place_of number old) (place_of number new)
+      → IsExecuted number execution old new
   is_kept : (id : ℕ) → role_at number old.target.queues.associations ≡ Admin id
       → (response execution.entry old.target.subsystem old.target.format (controller_at id old.target)).answer ≡ Kept
       → IsExecuted number execution old new

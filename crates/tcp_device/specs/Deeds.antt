@@ -110,6 +110,12 @@ abbrev pub AreDone : List Deed → ServedState → ServedState → Type 0
 AreDone [] old new = new ≡ old
 AreDone (deed ∷ deeds) old new = Follows (AreDone deeds old) deed new
 
+-- this holds of each of some deeds: of those before it, of it, and of the state that it is done in
+abbrev pub Throughout : (List Deed → Deed → ServedState → Type 0) → (deeds : List Deed) (old new : ServedState)
+    → AreDone deeds old new → Type 0
+Throughout holds [] old new done = Unit {0}
+Throughout holds (deed ∷ deeds) old new done = Throughout holds deeds old done.between done.first × holds deeds deed done.between
+
 -- the device's events, in the order in which they happened
 abbrev pub events_of : (deeds : List Deed) (old new : ServedState) → AreDone deeds old new → List Event
 events_of [] old new done = []

@@ -46,5 +46,6 @@ pub record RunsHaveTheirCommands : Type 0 where
   pub begin : (device : State) (subsystem : Subsystem) (format : NamespaceFormat) → HaveTheirRuns (begun_on device subsystem format)
   pub stay : (deed : Deed) (old new : ServedState) → Does deed old new → HaveTheirRuns old → HaveTheirRuns new
   -- no other run is active where none was kept
-  pub begin_all : (namespace : ZonedNamespace) (subsystem : Subsystem) (format : NamespaceFormat) → Agrees (begun namespace subsystem format)
+  pub begin_all : (namespace : ZonedNamespace) (subsystem : Subsystem) (format : NamespaceFormat)
+      → Agrees (begun namespace subsystem format)
   pub stay_all : (deed : Deed) (old new : ServedState) → Does deed old new → Agrees old → Agrees new

@@ -44,4 +44,5 @@ pub record PiecesJoin : Type 0 where
   pub leads : (old new : ServedState) (deeds others : List Deed) → DifferInCuts old deeds others
       → AreDone deeds old new → AreDone others old new
   pub takes : (number : ℕ) (first second : List ℕ) (s : ServedState)
-      → JoinsAt (end_in number first s) (taken_both_in number first second s) (taken_in number first s) (taken_in number (first ++ second) s)
+      → JoinsAt (end_in number first s) (taken_both_in number first second s) (taken_in number first s)
+      (taken_in number (first ++ second) s)

@@ -10,9 +10,8 @@ use Rattle.tcp_queues.specs.Places.{goes_on}
 use Rattle.tcp_target.specs.Events.{count_of}
 use Rattle.tcp_connection.specs.Executing.{Execution}
 use Rattle.tcp_queues.specs.Commands.{given_to_device}
-use Rattle.tcp_target.specs.Ready.{is_ready}
-use Rattle.tcp_device.specs.Answering.{IsDone, IsMet, closes, serves}
-use Rattle.tcp_device.specs.Deeds.{AreDone, Deed, Received}
+use Rattle.tcp_device.specs.Answering.{HasPlaces, IsDone, IsMet, IsNext, closes, serves}
+use Rattle.tcp_device.specs.Deeds.{AreDone, Deed, Received, Throughout}
 use Rattle.tcp_device.specs.Order.{place_of, went_on}
 use Rattle.tcp_device.specs.State.{ServedState, begun_on}
 
@@ -50,9 +49,9 @@ pub record IsFit (number : ℕ) (s : ServedState) : Type 0 where
   pub on : is_ended (place_of number s).connection.phase ≡ false
   pub there : is_cut_off number s.target.queues ≡ false
 
+-- it is fit before each of some deeds
 abbrev pub StaysFit : (number : ℕ) (deeds : List Deed) (old new : ServedState) → AreDone deeds old new → Type 0
-StaysFit number [] old new done = IsFit number new
-StaysFit number (deed ∷ deeds) old new done = StaysFit number deeds old done.between done.first × IsFit number new
+StaysFit number deeds old new done = Throughout (λ earlier deed s. IsFit number s) deeds old new done
 
 -- a round is done after others, of which this holds
 pub record GoesRound (number : ℕ) (round : List Deed) (before : ServedState → Type 0) (new : ServedState) : Type 0 where
@@ -77,21 +76,30 @@ abbrev pub RoundsGoOn : Type 0
 RoundsGoOn =
     (device : State) (subsystem : Subsystem) (format : NamespaceFormat) (before : List Deed) (old new : ServedState)
     → AreDone before (begun_on device subsystem format) old
-    → (number : ℕ) (rounds : List (List Deed)) (done : AreRounds number rounds old new) → length rounds ≤ progress_in number rounds old new done
+    → (number : ℕ) (rounds : List (List Deed)) (done : AreRounds number rounds old new)
+    → length rounds ≤ progress_in number rounds old new done
 
 -- ---- answers
 
--- the first deed that serves a connection meets the command that was ready there, and answers it
-pub record IsAnsweredIn (number : ℕ) (deeds : List Deed) (old new : ServedState) : Type 0 where
-  pub execution : Execution
+-- a deed doesn't close a connection, and serves it only where it is fit
+pub record ServesFit (number : ℕ) (deed : Deed) (s : ServedState) : Type 0 where
+  pub not_closed : closes number deed ≡ false
+  pub fit : serves number deed ≡ true → IsFit number s
+
+-- so it is with each deed up to the first that serves the connection
+abbrev pub IsServedFit : (number : ℕ) (deeds : List Deed) (old new : ServedState) → AreDone deeds old new → Type 0
+IsServedFit number deeds old new done =
+    Throughout (λ earlier deed s. list_any (serves number) earlier ≡ false → ServesFit number deed s) deeds old new done
+
+-- the first deed that serves a connection meets this command, and answers it
+pub record IsAnsweredIn (number : ℕ) (execution : Execution) (deeds : List Deed) (old new : ServedState) : Type 0 where
   pub met : IsMet number execution deeds old new
   pub answer : IsDone (given_to_device number met.before.target.queues) number execution met.before met.after met.served
 
--- so a command that is ready is answered in the next round, whatever is done for others; a device has 8 places for runs
-abbrev pub ReadyIsAnswered : Type 0
-ReadyIsAnswered =
-    (device : State) (subsystem : Subsystem) (format : NamespaceFormat) (before : List Deed) (old new : ServedState) → length device.places ≡ 8
-    → AreDone before (begun_on device subsystem format) old
-    → (number : ℕ) (deeds : List Deed) (done : AreDone deeds old new) → StaysFit number deeds old new done
-    → list_any (serves number) deeds ≡ true → list_any (closes number) deeds ≡ false
-    → is_ready number old.target ≡ true → IsAnsweredIn number deeds old new
+-- so it is with the command that is next on a connection, whatever is done for others. One that is ready is next (`BytesAreTaken`)
+abbrev pub NextIsAnswered : Type 0
+NextIsAnswered =
+    (number : ℕ) (execution : Execution) (deeds : List Deed) (old new : ServedState) → HasPlaces old
+    → (done : AreDone deeds old new) → IsServedFit number deeds old new done
+    → list_any (serves number) deeds ≡ true → IsNext execution (place_of number old)
+    → IsAnsweredIn number execution deeds old new

@@ -1,6 +1,6 @@
 -- Each run that may go on has its turns, however many others do.
 use Rattle.std.specs.Prelude.{ℕ, ◌≡◌, ◌≤◌, ◌<◌, ◌+◌, ◌*◌, ◌==◌, Bool, true, List, [], ◌∷◌, Option, None, Some, if◌then◌else◌, length, slice_index_or}
-use Rattle.tcp_device.specs.Deeds.{AreDone, Deed, Does, Turned}
+use Rattle.tcp_device.specs.Deeds.{AreDone, Deed, Does, Throughout, Turned}
 use Rattle.tcp_device.specs.Served.{can_go, next_run}
 use Rattle.tcp_device.specs.State.{ServedState, begun_on}
 use Rattle.device_meaning.specs.State.{State}
@@ -34,14 +34,14 @@ turns_in (deed ∷ deeds) = turns_in deeds + turn_in deed
 abbrev pub may_go : ℕ → ServedState → Bool
 may_go run s = can_go s.target (slice_index_or s.pending run None)
 
-abbrev pub MayGoAt : ℕ → Deed → ServedState → Type 0
-MayGoAt run Turned s = may_go run s ≡ true
-MayGoAt run _ s = Unit {0}
+-- this holds of each state in which a turn is given
+abbrev pub AtTurns : (ServedState → Type 0) → List Deed → Deed → ServedState → Type 0
+AtTurns holds earlier Turned s = holds s
+AtTurns holds earlier _ s = Unit {0}
 
 -- it may each time that a turn is given
 abbrev pub MayGo : ℕ → (deeds : List Deed) (old new : ServedState) → AreDone deeds old new → Type 0
-MayGo run [] old new done = Unit {0}
-MayGo run (deed ∷ deeds) old new done = MayGo run deeds old done.between done.first × MayGoAt run deed done.between
+MayGo run deeds old new done = Throughout (AtTurns (λ s. may_go run s ≡ true)) deeds old new done
 
 -- a target has places for 8 runs, and looks at one of them next
 pub record HasRuns (s : ServedState) : Type 0 where

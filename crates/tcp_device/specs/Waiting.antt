@@ -1,12 +1,12 @@
 -- No run waits for a host to read.
-use Rattle.std.specs.Prelude.{ℕ, ◌≡◌, ◌≤◌, ◌<◌, ◌+◌, ◌*◌, Bool, true, List, [], ◌∷◌, length, None, is_some, slice_index_or}
+use Rattle.std.specs.Prelude.{ℕ, ◌≡◌, ◌≤◌, ◌<◌, ◌+◌, ◌*◌, Bool, true, List, length, None, is_some, slice_index_or}
 use Rattle.device_meaning.specs.State.{State}
 use Rattle.tcp_admin.specs.Laws.{IsSubsystem}
 use Rattle.tcp_admin.specs.declared.subsystem.NamespaceFormat.{NamespaceFormat}
 use Rattle.tcp_admin.specs.declared.subsystem.Subsystem.{Subsystem}
-use Rattle.tcp_device.specs.Deeds.{AreDone, Deed, Turned}
+use Rattle.tcp_device.specs.Deeds.{AreDone, Deed, Throughout}
 use Rattle.tcp_device.specs.State.{ServedState, begun_on}
-use Rattle.tcp_device.specs.Turning.{may_go, turns_in, turns_of}
+use Rattle.tcp_device.specs.Turning.{AtTurns, may_go, turns_in, turns_of}
 
 -- deeds led to this state from the beginning of a target. Its device has 8 places for runs, and the names that it gives itself are as
 -- long as their fields
@@ -23,14 +23,9 @@ pub record IsReached (s : ServedState) : Type 0 where
 abbrev pub is_pending : ℕ → ServedState → Bool
 is_pending run s = is_some (slice_index_or s.pending run None)
 
-abbrev pub IsPendingAt : ℕ → Deed → ServedState → Type 0
-IsPendingAt run Turned s = is_pending run s ≡ true
-IsPendingAt run _ s = Unit {0}
-
 -- it does each time that a turn is given
 abbrev pub IsPending : ℕ → (deeds : List Deed) (old new : ServedState) → AreDone deeds old new → Type 0
-IsPending run [] old new done = Unit {0}
-IsPending run (deed ∷ deeds) old new done = IsPending run deeds old done.between done.first × IsPendingAt run deed done.between
+IsPending run deeds old new done = Throughout (AtTurns (λ s. is_pending run s ≡ true)) deeds old new done
 
 pub record RunsGoOn : Type 0 where
   -- such a run may have the next turn: there is room for its completion, however much its host leaves unread

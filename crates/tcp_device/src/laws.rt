@@ -5,7 +5,7 @@ ghost use Rattle.tcp_device.specs.Counting.{RunsAreAlwaysCounted};
 ghost use Rattle.tcp_device.specs.Laws.{DeedsAreEvents, QueuesAreApart, RunsHaveTheirCommands};
 ghost use Rattle.tcp_device.specs.Order.{CommandsAreInOrder};
 ghost use Rattle.tcp_device.specs.Outcome.{OutcomesAreTold};
-ghost use Rattle.tcp_device.specs.Rounds.{ReadyIsAnswered, RoundsGoOn};
+ghost use Rattle.tcp_device.specs.Rounds.{NextIsAnswered, RoundsGoOn};
 ghost use Rattle.tcp_device.specs.Taking.{BytesAreAlwaysTaken};
 ghost use Rattle.tcp_device.specs.Turning.{RunsTakeTurns};
 ghost use Rattle.tcp_device.specs.Waiting.{RunsGoOn};
@@ -91,9 +91,10 @@ pub fn runs_go_on()
     structures_are_whole();
 }
 
-/// A command that is ready is answered in the next round in which its connection is served, whatever is done for others.
-pub fn ready_is_answered()
-    ensures { ReadyIsAnswered }
+/// The first deed that serves a connection answers the command that was next there, whatever is done for others, unless the connection is
+/// closed or cut off by then, or its host has left more than 256 KiB unread.
+pub fn next_is_answered()
+    ensures { NextIsAnswered }
 {
     connections_stay();
 }

@@ -1,9 +1,10 @@
 -- Each round of a loop meets the commands that are next, and gives a turn.
-use Rattle.std.proofs.Common.{◌≡◌, ◌≢◌, ◌≤◌, ◌<◌, ◌+◌, ◌*◌, ◌==◌, ◌||◌, ◌⊎◌, inl, inr, ℕ, suc, Bool, true, false, List, [], ◌∷◌, ◌++◌, length, refl, sym, ap, subst, ◌∙◌, ⊎_elim, arith}
+use Rattle.std.proofs.Common.{◌≡◌, ◌≢◌, ◌≤◌, ◌<◌, ◌==◌, ◌||◌, ◌⊎◌, inl, inr, ℕ, suc, Bool, true, false, List, [], ◌∷◌, ◌++◌, length, refl, sym, ap, subst, ◌∙◌, ⊎_elim, arith}
 use Rattle.std.specs.List.{AllByRecursion, list_any}
 use Rattle.std.proofs.Math.Bool.{or-true}
 use Rattle.std.proofs.lemmas.Bool.Decides.{eqb_tells}
 use Rattle.tcp_device.specs.Answering.{CommandsAreAnswered, serves}
+use Rattle.tcp_device.specs.Rounds.{NextIsAnswered}
 use Rattle.tcp_device.specs.Turning.{turn_in, turns_in}
 use Rattle.tcp_device.specs.Waiting.{RunsGoOn}
 use Rattle.tcp_loop.specs.Attended.{AreRounds, EndsRound, IsAttendedTo, IsHandedOn, IsRound, deeds_in, ended_before, has_turn, is_turn}
@@ -11,7 +12,7 @@ use Rattle.tcp_loop.specs.Deeds.{Closed, Deed, Opened, Received, Resumed, Sent, 
 use Rattle.tcp_loop.specs.Trace.{Trace}
 use Rattle.tcp_loop.specs.declared.operation.Operation.{Operation}
 use Rattle.tcp_loop.specs.declared.operation.Operation.TheVariants as operation
-use Rattle.tcp_served.specs.Answered.{MeetsNext, RoundsAnswer}
+use Rattle.tcp_served.specs.Answered.{AnswersNext, MeetsNext, RoundsAnswer}
 use Rattle.tcp_served.specs.Meaning.{deed_of, deeds_of}
 
 same_is : (n : ℕ) → (n == n) ≡ true
@@ -120,7 +121,7 @@ others_of (round ∷ first) others have = others_of first others have.1
 
 -- ---- the law
 
-module _ (answers : CommandsAreAnswered) (go_on : RunsGoOn) where
+module _ (answers : CommandsAreAnswered) (next_answered : NextIsAnswered) (go_on : RunsGoOn) where
   each_meets : (rounds : List (List Deed)) → AllByRecursion Has rounds → AllByRecursion MeetsNext rounds
   each_meets [] have = tt
   each_meets (round ∷ rounds) have = (
@@ -128,9 +129,18 @@ module _ (answers : CommandsAreAnswered) (go_on : RunsGoOn) where
     each_meets rounds have.1,
   )
 
+  each_answers : (rounds : List (List Deed)) → AllByRecursion Has rounds → AllByRecursion AnswersNext rounds
+  each_answers [] have = tt
+  each_answers (round ∷ rounds) have = (
+    λ number execution old new low places done fit next.
+        next_answered number execution (deeds_of round) old new places done fit (have.0.serves_each number low) next,
+    each_answers rounds have.1,
+  )
+
   pub rounds_answer : (trace : Trace) (rounds : List (List Deed)) → AreRounds trace rounds → RoundsAnswer rounds
   rounds_answer trace rounds are = record {
     commands = each_meets rounds (all_have trace rounds are);
+    answers = each_answers rounds (all_have trace rounds are);
     runs = λ later some earlier parts run old new low done reached pending.
         let here : AllByRecursion Has some = first_of some earlier (others_of later (some ++ earlier)
         (subst (λ (l : List (List Deed)). AllByRecursion Has l) parts (all_have trace rounds are))) in

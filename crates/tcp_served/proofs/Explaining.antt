@@ -5,6 +5,7 @@ use Rattle.tcp_device.specs.Answering.{CommandsAreAnswered}
 use Rattle.tcp_device.specs.Deeds.{AreDone}
 use Rattle.tcp_device.specs.Laws.{DeedsAreEvents}
 use Rattle.tcp_device.specs.Order.{CommandsAreInOrder}
+use Rattle.tcp_device.specs.Rounds.{NextIsAnswered}
 use Rattle.tcp_device.specs.State.{ServedState}
 use Rattle.tcp_device.specs.Waiting.{RunsGoOn}
 use Rattle.tcp_loop.specs.Deeds.{Closed, Deed, Opened, Received, Resumed, Sent, Served, Ticked, Turned}
@@ -34,7 +35,7 @@ silent (Served number) none = refl
 silent Turned none = refl
 silent (Resumed run) none = refl
 
-module _ (events : DeedsAreEvents) (answers : CommandsAreAnswered) (go_on : RunsGoOn) where
+module _ (events : DeedsAreEvents) (answers : CommandsAreAnswered) (next_answered : NextIsAnswered) (go_on : RunsGoOn) where
   -- a file that stands for the state before the last so many deeds
   has_all : (c : List ℕ) (missing : ℕ) (deeds : List Deed) (old new : ServedState) (done : loop.AreDone kept_in_file deeds old new)
       → AreUnanswered missing deeds → StandsFor c (state_before kept_in_file missing deeds old new done).device → HasAllAnswered c (deeds_of deeds) old new
@@ -80,7 +81,7 @@ module _ (events : DeedsAreEvents) (answers : CommandsAreAnswered) (go_on : Runs
     done = are_done is.deeds _ is.new is.done;
     did = events (deeds_of is.deeds) _ is.new (are_done is.deeds _ is.new is.done);
     in_order = λ later earlier between parts first done number id queue has. in_order device subsystem format earlier later between is.new first done number id queue has;
-    answered = rounds_answer answers go_on trace is.attended.rounds is.attended.each;
+    answered = rounds_answer answers next_answered go_on trace is.attended.rounds is.attended.each;
     left = λ c now. (let answered = is.left c now in has_all c answered.missing is.deeds _ is.new is.done answered.unanswered answered.stands);
   }
 
@@ -90,5 +91,5 @@ module _ (events : DeedsAreEvents) (answers : CommandsAreAnswered) (go_on : Runs
     done = are_done_in_memory is.deeds _ is.new is.done;
     did = events (deeds_of is.deeds) _ is.new (are_done_in_memory is.deeds _ is.new is.done);
     in_order = λ later earlier between parts first done number id queue has. in_order device subsystem format earlier later between is.new first done number id queue has;
-    answered = rounds_answer answers go_on trace is.attended.rounds is.attended.each;
+    answered = rounds_answer answers next_answered go_on trace is.attended.rounds is.attended.each;
   }

@@ -1,6 +1,6 @@
 -- What a target before a device says of connections, so that its loop is fair to hosts.
-use Rattle.std.proofs.Common.{◌≡◌, ◌≢◌, ◌≤◌, ◌<◌, ℕ, zero, suc, ◌==◌, ◌⊎◌, ⊎_elim, Bool, true, false, not, ◌&&◌, ◌||◌, cond, List, [], ◌∷◌, ◌++◌, length, set, Option, None, Some, Result, Ok, Err, refl, sym, ap, subst, ◌∙◌, append_assoc, arith}
-use Rattle.std.specs.Prelude.{nat_le, position, slice_index, slice_index_or}
+use Rattle.std.proofs.Common.{◌≡◌, ◌≢◌, ◌≤◌, ◌<◌, ℕ, zero, suc, ◌==◌, ⊎_elim, Bool, true, false, not, ◌&&◌, ◌||◌, cond, List, [], ◌∷◌, ◌++◌, length, set, Option, None, Some, Result, Ok, Err, refl, sym, ap, subst, ◌∙◌, append_assoc, arith}
+use Rattle.std.specs.Prelude.{nat_le, slice_index, slice_index_or}
 use Rattle.std.specs.List.{position_or_len}
 use Rattle.std.proofs.lemmas.Bool.{cases_lt, le-leb, ltb-false}
 use Rattle.std.proofs.lemmas.Bool.Decides.{eqb_tells}
@@ -29,10 +29,9 @@ use Rattle.tcp_queues.specs.Commands.{connect_answer_at, connect_place, connecte
 use Rattle.tcp_queues.specs.Events as change
 use Rattle.tcp_queues.specs.Places.{PlaceState, goes_on, is_free, ready_at, vacant}
 use Rattle.tcp_queues.specs.Queues.{QueuesState, free_number, opened_at, place_at, received_at, sent_at, with_place}
-use Rattle.tcp_target.specs.Commands.{answered_with, completed_by, is_connect, served_admin, served_as, served_by, served_command, served_fabrics, served_io, served_unconnected, set_outcome, with_made, with_set}
-use Rattle.tcp_target.specs.Events.{count_of, executed, handed_over, heard_at, heard_on, opened, run_ended}
+use Rattle.tcp_target.specs.Commands.{answered_with, completed_by, is_connect, served_as, served_by, served_command, served_fabrics, served_unconnected, set_outcome, with_made, with_set}
+use Rattle.tcp_target.specs.Events.{count_of, executed, handed_over, heard_at, heard_on}
 use Rattle.tcp_target.specs.Target.{TargetState, controller_at, with_queues}
-use Rattle.tcp_target.specs.Time.{ticked}
 use Rattle.tcp_target.proofs.Ticking.{opened_queues, taken_queues, ticked_queues}
 use Rattle.tcp_device.specs.Outcome.{outcome_in}
 use Rattle.tcp_device.specs.Served as device

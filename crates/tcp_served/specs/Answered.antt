@@ -2,9 +2,10 @@
 use Rattle.std.specs.Prelude.{ℕ, ◌≡◌, ◌≤◌, ◌<◌, ◌+◌, ◌*◌, false, List, ◌++◌, length}
 use Rattle.std.specs.List.{AllByRecursion, list_any}
 use Rattle.tcp_connection.specs.Executing.{Execution}
-use Rattle.tcp_device.specs.Answering.{IsMet, IsNext, closes}
+use Rattle.tcp_device.specs.Answering.{HasPlaces, IsMet, IsNext, closes}
 use Rattle.tcp_device.specs.Deeds.{AreDone}
 use Rattle.tcp_device.specs.Order.{place_of}
+use Rattle.tcp_device.specs.Rounds.{IsAnsweredIn, IsServedFit}
 use Rattle.tcp_device.specs.State.{ServedState}
 use Rattle.tcp_device.specs.Turning.{turns_of}
 use Rattle.tcp_device.specs.Waiting.{IsPending, IsReached}
@@ -19,6 +20,13 @@ MeetsNext round =
     → list_any (closes number) (deeds_of round) ≡ false → IsNext execution (place_of number old)
     → IsMet number execution (deeds_of round) old new
 
+-- and is answered by the deed that meets it, unless the connection is closed or cut off by then, or more than 256 KiB are unread there
+abbrev pub AnswersNext : List Deed → Type 0
+AnswersNext round =
+    (number : ℕ) (execution : Execution) (old new : ServedState) → number < 40 → HasPlaces old
+    → (done : AreDone (deeds_of round) old new) → IsServedFit number (deeds_of round) old new done
+    → IsNext execution (place_of number old) → IsAnsweredIn number execution (deeds_of round) old new
+
 -- a run that a host waits for has a turn in any eight rounds, whoever reads
 abbrev pub GivesTurns : List (List Deed) → Type 0
 GivesTurns rounds =
@@ -29,4 +37,5 @@ GivesTurns rounds =
 -- so it is in each of some rounds, and of any that come one after another
 pub record RoundsAnswer (rounds : List (List Deed)) : Type 0 where
   pub commands : AllByRecursion MeetsNext rounds
+  pub answers : AllByRecursion AnswersNext rounds
   pub runs : (later some earlier : List (List Deed)) → rounds ≡ later ++ (some ++ earlier) → GivesTurns some

@@ -36,5 +36,6 @@ pub record Commits (old new : Keeper (InFile HandedFile)) (device : State) : Typ
 -- are made, this device
 pub record Folds (old new : Keeper (InFile HandedFile)) (device : State) : Type 0 where
   pub made : made_calls (file_of new) ≡ made_calls (file_of old)
-  pub covers : (before : State) → LeavesInTurn (IsEither before device) (λ c. StandsFor c device) (waits (file_of old)) (made_calls (file_of old))
+  pub covers : (before : State)
+      → LeavesInTurn (IsEither before device) (λ c. StandsFor c device) (waits (file_of old)) (made_calls (file_of old))
       → LeavesInTurn (IsEither before device) (λ c. StandsFor c device) (waits (file_of new)) (made_calls (file_of new))

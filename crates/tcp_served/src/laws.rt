@@ -5,13 +5,13 @@ ghost use Rattle.tcp_served.specs.Orderly.{TargetsAreOrderly};
 ghost use Rattle.tcp_served.specs.Waiting.{HostsAreWaitedFor};
 
 use tcp_device::laws::{
-    commands_are_answered, commands_are_in_order, deeds_are_events, runs_go_on,
+    commands_are_answered, commands_are_in_order, deeds_are_events, next_is_answered, runs_go_on,
 };
 use tcp_target::time_is_counted;
 
 /// What explains the operations of a loop before a device that is kept in a file says that the device did just the events that the
-/// deeds are, in order, that whatever a crash leaves stands for the device that has all that was answered, and that each round meets the
-/// commands that were next as it began and gives a turn.
+/// deeds are, in order, that whatever a crash leaves stands for the device that has all that was answered, and that each round answers
+/// the commands that were next as it began and gives a turn.
 pub fn devices_are_explained()
     ensures in_file { DevicesAreExplained }
     ensures in_memory { MemoriesAreExplained }
@@ -19,6 +19,7 @@ pub fn devices_are_explained()
     deeds_are_events();
     commands_are_in_order();
     commands_are_answered();
+    next_is_answered();
     runs_go_on();
 }
 
