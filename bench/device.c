@@ -1,7 +1,7 @@
-/* Times a device of the library for C: a turn of a run beside a Read of one block, Appends beside copies of the same bytes, and runs
-   that are admitted and refused.
+/* Times a device of the library for C: turns of a run, by a call for each and by one for all, beside Reads of one block, Appends beside
+   copies of the same bytes, and runs that are admitted and refused.
 
-   device FILTER          runs the filter over the source blocks, and prints what its completion says
+   device FILTER          runs the filter over the source blocks in both ways, and prints what its completion says
    device FILTER ROUNDS   prints the least times of so many rounds; of Appends their rate beside that of copies */
 #define _POSIX_C_SOURCE 199309L
 #include "../hosts/c/pifnjarl_device.h"
@@ -81,11 +81,15 @@ static struct entry append_entry(unsigned zone, unsigned blocks)
     return entry_of(APPEND, (uint32_t[6]){zone, 0, blocks - 1});
 }
 
-/* Is the event done, and not refused? */
+/* By what it came to: is an event done, and not refused? */
+static bool is_done(enum pifnjarl_result result)
+{
+    return result == PIFNJARL_PENDING || (result == PIFNJARL_COMPLETION && reply.completion[14] == 0 && reply.completion[15] == 0);
+}
+
 static bool happens(struct device *device, const struct pifnjarl_event *event)
 {
-    enum pifnjarl_result result = pifnjarl_do(device->library, event, &reply, output, sizeof output);
-    return result == PIFNJARL_PENDING || (result == PIFNJARL_COMPLETION && reply.completion[14] == 0 && reply.completion[15] == 0);
+    return is_done(pifnjarl_do(device->library, event, &reply, output, sizeof output));
 }
 
 static bool submits(struct device *device, const struct entry *entry, const void *data, size_t data_bytes)
@@ -154,18 +158,32 @@ struct run {
     uint64_t turns; /* all of them */
 };
 
-/* A whole run over so many blocks to zone 1, which is emptied. */
-static struct run whole_run(struct device *device, unsigned blocks)
+/* Turns of run 0, as many as it has blocks, by a call for each: is all done? */
+static bool turned_singly(struct device *device, unsigned blocks)
 {
     struct pifnjarl_event turn = {.kind = PIFNJARL_TURN};
+    bool done = true;
+    for (unsigned i = 0; i < blocks; i++)
+        done &= happens(device, &turn);
+    return done;
+}
+
+/* By one call. */
+static bool turned_at_once(struct device *device, unsigned blocks)
+{
+    return is_done(pifnjarl_turns(device->library, 0, blocks, &reply));
+}
+
+/* A whole run over so many blocks to zone 1, which is emptied. */
+static struct run whole_run(struct device *device, unsigned blocks, bool (*turned)(struct device *, unsigned))
+{
     send_to(device, device->zone_size, RESET);
     send_to(device, device->zone_size, OPEN);
     struct entry entry = run_entry(0, blocks, device->zone_size);
     uint64_t begin = now();
     bool done = submits(device, &entry, NULL, 0);
     uint64_t admitted = now();
-    for (unsigned i = 0; i < blocks; i++)
-        done &= happens(device, &turn);
+    done &= turned(device, blocks);
     uint64_t end = now();
     if (!done || reply.number != 1)
         fail("the run did not end with its last block");
@@ -173,11 +191,11 @@ static struct run whole_run(struct device *device, unsigned blocks)
 }
 
 /* The turns of a run over few blocks: the least of as many runs as go over all. */
-static uint64_t cached_turns(struct device *device)
+static uint64_t cached_turns(struct device *device, bool (*turned)(struct device *, unsigned))
 {
     uint64_t turns = UINT64_MAX;
     for (int i = 0; i < SOURCE / CACHED; i++)
-        turns = least(turns, whole_run(device, CACHED).turns);
+        turns = least(turns, whole_run(device, CACHED, turned).turns);
     return turns;
 }
 
@@ -185,7 +203,7 @@ static uint64_t admission(struct device *device, unsigned blocks)
 {
     uint64_t spent = UINT64_MAX;
     for (int i = 0; i < ADMISSIONS; i++)
-        spent = least(spent, whole_run(device, blocks).admission);
+        spent = least(spent, whole_run(device, blocks, turned_at_once).admission);
     return spent;
 }
 
@@ -254,15 +272,19 @@ static uint64_t copies(unsigned char *target, unsigned blocks)
 
 static void compare_turns(struct device *large, int rounds)
 {
-    uint64_t turns = UINT64_MAX, read = UINT64_MAX, cached = UINT64_MAX;
+    uint64_t singly = UINT64_MAX, at_once = UINT64_MAX, read = UINT64_MAX, cached_singly = UINT64_MAX, cached_at_once = UINT64_MAX;
     for (int round = 0; round < rounds; round++) {
-        turns = least(turns, whole_run(large, SOURCE).turns);
+        singly = least(singly, whole_run(large, SOURCE, turned_singly).turns);
+        at_once = least(at_once, whole_run(large, SOURCE, turned_at_once).turns);
         read = least(read, reads(large));
-        cached = least(cached, cached_turns(large));
+        cached_singly = least(cached_singly, cached_turns(large, turned_singly));
+        cached_at_once = least(cached_at_once, cached_turns(large, turned_at_once));
     }
-    printf("%llu ns a turn\n", (unsigned long long)turns / SOURCE);
+    printf("%llu ns a turn by pifnjarl_do\n", (unsigned long long)singly / SOURCE);
+    printf("%llu ns a turn by pifnjarl_turns\n", (unsigned long long)at_once / SOURCE);
     printf("%llu ns a Read of one block\n", (unsigned long long)read / SOURCE);
-    printf("%llu ns a turn over %d blocks\n", (unsigned long long)cached / CACHED, CACHED);
+    printf("%llu ns a turn over %d blocks by pifnjarl_do\n", (unsigned long long)cached_singly / CACHED, CACHED);
+    printf("%llu ns a turn over %d blocks by pifnjarl_turns\n", (unsigned long long)cached_at_once / CACHED, CACHED);
 }
 
 static void compare_appends(struct device *large, unsigned blocks, int rounds)
@@ -313,7 +335,12 @@ int main(int count, char **words)
     size_t filter_bytes = read_filter(words[1], filter, sizeof filter);
     struct device large = open_device(SOURCE, filter, filter_bytes);
     if (count == 2) {
-        whole_run(&large, SOURCE);
+        unsigned char singly[PIFNJARL_COMPLETION_BYTES];
+        whole_run(&large, SOURCE, turned_singly);
+        memcpy(singly, reply.completion, sizeof singly);
+        whole_run(&large, SOURCE, turned_at_once);
+        if (memcmp(singly, reply.completion, sizeof singly) != 0)
+            fail("the run came to something else in one call");
         const unsigned char *dword = reply.completion;
         printf("%u records in %u blocks\n", dword[0] | dword[1] << 8 | dword[2] << 16 | (unsigned)dword[3] << 24,
                dword[4] | dword[5] << 8 | dword[6] << 16 | (unsigned)dword[7] << 24);

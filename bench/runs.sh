@@ -1,8 +1,8 @@
 #!/bin/sh
 # Times a turn of a run, through the device, of a filter that takes 11 steps where a block doesn't match, over
-# blocks of 4096 bytes: beside a Read of such a block through the device, and beside DPDK's interpreter (Debian's
-# libdpdk-dev) on the same filter and blocks alone, over 4096 blocks, which come from memory, and over
-# 64, which stay in a cache. Then the rate of Appends beside plain copies of the same bytes, the
+# blocks of 4096 bytes, by a call of pifnjarl_do for each and by one of pifnjarl_turns for all: beside a Read of such a
+# block through the device, and beside DPDK's interpreter (Debian's libdpdk-dev) on the same filter and blocks alone,
+# over 4096 blocks, which come from memory, and over 64, which stay in a cache. Then the rate of Appends beside plain copies of the same bytes, the
 # time to admit and to refuse runs of one and of 4096 blocks on a large image, and of one on a small one, and `exec` of a
 # command file of 64 MiB beside `xxd`, which turns its data to bytes, and as many bytes to text. Each
 # is the least of several rounds.
@@ -19,17 +19,21 @@ if [ "$(sed 's/ .*//' "$work/completion")" != "${matches% *}" ]; then
     echo "what is printed differs" >&2
     exit 1
 fi
-turn=$(least 1 "$bench" "$work/filter.bin" 10)
-read=$(least 2 "$bench" "$work/filter.bin" 10)
-cached=$(least 3 "$bench" "$work/filter.bin" 10)
+read=$(least 3 "$bench" "$work/filter.bin" 10)
 theirs=$(least 2 "$work/dpdk" time 4096 10 4)
 theirs_cached=$(least 2 "$work/dpdk" time 64 100 64)
-awk "BEGIN {
-    printf \"a turn over 4096 blocks: %d ns; a Read: %d ns, ratio %.2f; DPDK's bare run: %d ns, ratio %.2f\n\", $turn, $read, $turn / $read, $theirs, $turn / $theirs
-    printf \"a turn over 64 blocks: %d ns; DPDK's bare run: %d ns, ratio %.2f\n\", $cached, $theirs_cached, $cached / $theirs_cached
-}"
+line=1
+for call in pifnjarl_do pifnjarl_turns; do
+    turn=$(least $line "$bench" "$work/filter.bin" 10)
+    cached=$(least $((line + 3)) "$bench" "$work/filter.bin" 10)
+    awk "BEGIN {
+        printf \"a turn over 4096 blocks by $call: %d ns; a Read: %d ns, ratio %.2f; DPDK's bare run: %d ns, ratio %.2f\n\", $turn, $read, $turn / $read, $theirs, $turn / $theirs
+        printf \"a turn over 64 blocks by $call: %d ns; DPDK's bare run: %d ns, ratio %.2f\n\", $cached, $theirs_cached, $cached / $theirs_cached
+    }"
+    line=$((line + 1))
+done
 "$bench" "$work/filter.bin" 20 > "$work/rates"
-sed -n '4,$p' "$work/rates"
+sed -n '6,$p' "$work/rates"
 
 # 256 Appends of 128 KiB to four zones, and as many Reads
 rounds=${ROUNDS:-5}

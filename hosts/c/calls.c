@@ -1,4 +1,4 @@
-/* Calls that are refused, faults, want of memory, and what saving replaces: calls IMAGE. IMAGE.saved and IMAGE.saved.unfinished are
+/* Calls that are refused, faults, turns at once, want of memory, and what saving replaces: calls IMAGE. IMAGE.saved and IMAGE.saved.unfinished are
    written. Prints what fails, and how many checks there were. */
 #define _GNU_SOURCE
 #include "pifnjarl_device.h"
@@ -116,6 +116,84 @@ static void geometries(void)
     CHECK(pifnjarl_do(device, &event, &reply, output, sizeof output) == PIFNJARL_NULL_POINTER);
 }
 
+/* A device on an image, of which run 0 goes over eight blocks, and emits each without its last two bytes: so each turn but the first
+   writes a block. */
+static struct pifnjarl_device *with_run(const char *image)
+{
+    static const unsigned char emits[5][8] = {{0xbf, 0x21}, {0xb7, 2, 0, 0, 0xfe, 1}, {0x85, 0, 0, 0, 1}, {0xb7, 0}, {0x95}};
+    static unsigned char blocks[8][512];
+    struct pifnjarl_device *other = NULL;
+    struct pifnjarl_event event = {.kind = PIFNJARL_SUBMIT, .number = 1, .entry = entry};
+    CHECK(pifnjarl_open_path(image, &other) == PIFNJARL_DONE);
+    for (int i = 0; i < 8; i++)
+        blocks[i][0] = (unsigned char)i;
+    event.data = blocks;
+    event.data_bytes = sizeof blocks;
+    pifnjarl_append(entry, 1, 0, 8);
+    CHECK(pifnjarl_do(other, &event, &reply, output, sizeof output) == PIFNJARL_COMPLETION);
+    event.data = emits;
+    event.data_bytes = sizeof emits;
+    pifnjarl_load(entry, 2, 0, 512, sizeof emits);
+    CHECK(pifnjarl_do(other, &event, &reply, output, sizeof output) == PIFNJARL_COMPLETION);
+    event.data_bytes = 0;
+    pifnjarl_zone_send(entry, 3, 64, PIFNJARL_OPEN_ZONE);
+    CHECK(pifnjarl_do(other, &event, &reply, output, sizeof output) == PIFNJARL_COMPLETION);
+    pifnjarl_run(entry, 4, 0, 0, 8, 0, 64);
+    CHECK(pifnjarl_do(other, &event, &reply, output, sizeof output) == PIFNJARL_PENDING && reply.number == 0);
+    return other;
+}
+
+static int have_same_image(struct pifnjarl_device *one, struct pifnjarl_device *other)
+{
+    static unsigned char image[1 << 20], again[1 << 20];
+    size_t count = 0, second = 0;
+    return pifnjarl_save(one, image, sizeof image, &count) == PIFNJARL_DONE
+        && pifnjarl_save(other, again, sizeof again, &second) == PIFNJARL_DONE && count == second && memcmp(image, again, count) == 0;
+}
+
+/* Turns at once, of which so many are given, come to what they come to on a device like it one by one. */
+static enum pifnjarl_result come_to(struct pifnjarl_device *at_once, struct pifnjarl_device *one_by_one, uint32_t most, unsigned given)
+{
+    struct pifnjarl_event turn = {.kind = PIFNJARL_TURN};
+    struct pifnjarl_reply last;
+    enum pifnjarl_result result = pifnjarl_turns(at_once, 0, most, &reply), one = PIFNJARL_DONE;
+    for (unsigned i = 0; i < given; i++)
+        one = pifnjarl_do(one_by_one, &turn, &last, output, sizeof output);
+    CHECK(result == one && reply.data_bytes == last.data_bytes && reply.number == last.number);
+    CHECK(memcmp(reply.completion, last.completion, sizeof last.completion) == 0);
+    CHECK(have_same_image(at_once, one_by_one));
+    return result;
+}
+
+static void turns(const char *image)
+{
+    struct pifnjarl_device *at_once = with_run(image), *one_by_one = with_run(image);
+    struct pifnjarl_reply kept;
+    memset(&reply, 0xa5, sizeof reply);
+    memcpy(&kept, &reply, sizeof reply);
+    CHECK(pifnjarl_turns(NULL, 0, 1, &reply) == PIFNJARL_NO_DEVICE);
+    CHECK(pifnjarl_turns(at_once, 0, 1, NULL) == PIFNJARL_NULL_POINTER);
+    CHECK(pifnjarl_turns(at_once, 256, 1, &reply) == PIFNJARL_NUMBER_TOO_LARGE);
+    CHECK(memcmp(&kept, &reply, sizeof reply) == 0);
+    CHECK(pifnjarl_turns(at_once, 1, 8, &reply) == PIFNJARL_IDLE && reply.number == 0);
+    CHECK(pifnjarl_turns(at_once, 255, 0, &reply) == PIFNJARL_IDLE);
+    CHECK(have_same_image(at_once, one_by_one));
+    CHECK(come_to(at_once, one_by_one, 0, 1) == PIFNJARL_PENDING);
+    CHECK(come_to(at_once, one_by_one, 1, 1) == PIFNJARL_PENDING);
+    CHECK(come_to(at_once, one_by_one, 3, 3) == PIFNJARL_PENDING && reply.number == 0);
+    CHECK(come_to(at_once, one_by_one, 3, 3) == PIFNJARL_COMPLETION && reply.number == 1);
+    struct pifnjarl_completion completion = pifnjarl_completion(reply.completion);
+    CHECK(completion.cid == 4 && completion.status == 0 && completion.dword0 == 8 && completion.dword1 == 8);
+    CHECK(come_to(at_once, one_by_one, 3, 1) == PIFNJARL_IDLE && pifnjarl_lowest_run(at_once) == PIFNJARL_NO_RUN);
+    pifnjarl_close(at_once);
+    pifnjarl_close(one_by_one);
+    at_once = with_run(image);
+    one_by_one = with_run(image);
+    CHECK(come_to(at_once, one_by_one, UINT32_MAX, 8) == PIFNJARL_COMPLETION);
+    pifnjarl_close(at_once);
+    pifnjarl_close(one_by_one);
+}
+
 /* An image that is saved opens again, and is saved as the same; each request for memory is refused in turn. */
 static void images(void)
 {
@@ -198,6 +276,7 @@ int main(int count, char **words)
     refusals();
     events();
     geometries();
+    turns(words[1]);
     images();
     saving(words[1]);
     pifnjarl_close(device);

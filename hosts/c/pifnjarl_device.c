@@ -131,6 +131,17 @@ enum pifnjarl_result pifnjarl_do(struct pifnjarl_device *device, const struct pi
     return (enum pifnjarl_result)told;
 }
 
+enum pifnjarl_result pifnjarl_turns(struct pifnjarl_device *device, uint32_t run, uint32_t most, struct pifnjarl_reply *reply)
+{
+    if (device == NULL)
+        return PIFNJARL_NO_DEVICE;
+    if (reply == NULL)
+        return PIFNJARL_NULL_POINTER;
+    size_t told =
+        pifnjarl_handle_call(handle_of(device), PIFNJARL_ASK_TURNS, run, most, nowhere, 0, nowhere, 0, reply, nowhere, 0);
+    return (enum pifnjarl_result)told;
+}
+
 uint32_t pifnjarl_lowest_run(struct pifnjarl_device *device)
 {
     return device == NULL ? PIFNJARL_NO_RUN : (uint32_t)pifnjarl_ask(handle_of(device), PIFNJARL_ASK_LOWEST_RUN, 0, 0);

@@ -91,6 +91,11 @@ enum pifnjarl_result pifnjarl_geometry(const struct pifnjarl_device *device, str
 enum pifnjarl_result pifnjarl_do(struct pifnjarl_device *device, const struct pifnjarl_event *event, struct pifnjarl_reply *reply,
                                  void *output, size_t output_bytes);
 
+/* Gives a run a turn, and further ones as long as it has turns left, at most `most` in all, of which 0 counts as 1. The result and the
+   reply are those of the last turn: PIFNJARL_PENDING where turns are left, PIFNJARL_COMPLETION where the run has ended, PIFNJARL_IDLE where
+   no run has this number. Replies to turns have no data. */
+enum pifnjarl_result pifnjarl_turns(struct pifnjarl_device *device, uint32_t run, uint32_t most, struct pifnjarl_reply *reply);
+
 /* The number of the lowest run that is active, or PIFNJARL_NO_RUN. */
 uint32_t pifnjarl_lowest_run(struct pifnjarl_device *device);
 

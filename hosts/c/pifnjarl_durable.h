@@ -1,7 +1,7 @@
 /* A device that is kept in a file: what was acknowledged is there after a crash at any moment. docs/durability.md says what that means,
    docs/embedding.md has an introduction, and docs/device.md#frames the frames.
 
-   The caller owes what pifnjarl_device.h says of a device. */
+   The caller owes what pifnjarl_device.h says of a device, and a stack with room for 2 MiB where one is opened. */
 #ifndef PIFNJARL_DURABLE_H
 #define PIFNJARL_DURABLE_H
 

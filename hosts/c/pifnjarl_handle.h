@@ -5,7 +5,7 @@
    - The memory of a handle has as many bytes as are told, is aligned to 16, and is used by one call at a time. Each handle is opened once,
      and ended once, whatever opening came to.
    - A pointer that comes with a number of bytes isn't null, and what a call writes to overlaps nothing else that it is given.
-   - The stack has room for 1 MiB, and where a target is opened or a loop begins for 4 MiB.
+   - The stack has room for 1 MiB, for 2 MiB where a device in a file is opened, and for 4 MiB where a target is opened or a loop begins.
    - Of a file: the bytes that a handle is opened on are all bytes of its file, all on the disk. The calls that are told are made in order,
      each whole, and told as done only where they are; none is made behind one that failed.
    - Of a loop: each operation is made as hosts/nvme_tcp/pifnjarl_loop.h says, with the bytes that it carries, and what came of it is told. */
@@ -56,6 +56,9 @@ enum pifnjarl_asked {
     PIFNJARL_ASK_LOWEST_RUN = 2, /* the lowest active run, or PIFNJARL_NO_RUN */
     PIFNJARL_ASK_SAVE = 3,       /* how many bytes the image has, which are put in front where there is room for all; 0 where memory is
                                     wanting */
+    PIFNJARL_ASK_TURNS = 22,     /* gives a run turns as long as it has some left: the run as number, the most turns as count, of which 0
+                                    counts as 1; gives an enum pifnjarl_result of the last turn, PIFNJARL_NO_DEVICE where there is no such
+                                    device */
     /* a device in a file */
     PIFNJARL_ASK_SERVE = 4,   /* does what the frames in the piece ask for, of enum pifnjarl_served */
     PIFNJARL_ASK_REPLIES = 5, /* puts the frames of the replies from byte `count` on, as many as there is room for, and how many: none

@@ -16,10 +16,9 @@ static unsigned char output[PIFNJARL_TRANSFER_BYTES], entry[PIFNJARL_ENTRY_BYTES
 static struct pifnjarl_device *device;
 static struct pifnjarl_reply reply;
 
-/* Does an event, and says what is replied. */
-static void tell(const char *what, const struct pifnjarl_event *event)
+/* Says what is replied. */
+static void tell(const char *what, enum pifnjarl_result result)
 {
-    enum pifnjarl_result result = pifnjarl_do(device, event, &reply, output, sizeof output);
     struct pifnjarl_completion completion = pifnjarl_completion(reply.completion);
     printf("%s: %s", what, pifnjarl_words(result));
     if (result == PIFNJARL_COMPLETION)
@@ -32,7 +31,7 @@ static void submit(const char *what, uint16_t queue, const void *made, const voi
 {
     struct pifnjarl_event event = {
         .kind = PIFNJARL_SUBMIT, .number = queue, .entry = made, .data = data, .data_bytes = data_bytes};
-    tell(what, &event);
+    tell(what, pifnjarl_do(device, &event, &reply, output, sizeof output));
 }
 
 /* Prints the records of a block: each has its length in front, the lowest byte first. */
@@ -47,15 +46,13 @@ static void print_records(const unsigned char *block)
     }
 }
 
-/* The run's turns, with an append from another queue after every third. */
+/* The run's turns, three at a time, with an append from another queue before each three. */
 static void turns(uint64_t appended_to, const void *block)
 {
     uint16_t cid = 0;
-    for (unsigned turns = 0; pifnjarl_lowest_run(device) != PIFNJARL_NO_RUN; turns++) {
-        struct pifnjarl_event turn = {.kind = PIFNJARL_TURN, .number = pifnjarl_lowest_run(device)};
-        if (turns % 3 == 1)
-            submit("append to zone 2", 2, pifnjarl_append(entry, ++cid, appended_to, 1), block, BLOCK_BYTES);
-        tell("turn", &turn);
+    while (pifnjarl_lowest_run(device) != PIFNJARL_NO_RUN) {
+        submit("append to zone 2", 2, pifnjarl_append(entry, ++cid, appended_to, 1), block, BLOCK_BYTES);
+        tell("at most three turns", pifnjarl_turns(device, pifnjarl_lowest_run(device), 3, &reply));
     }
 }
 

@@ -59,7 +59,7 @@ make_library() {
     else
         echo 'the library for C is a stub, as its crate is not built'
         library=stub
-        stub pifnjarl_open_path pifnjarl_do pifnjarl_lowest_run pifnjarl_save_path pifnjarl_close pifnjarl_durable_open pifnjarl_durable_close &&
+        stub pifnjarl_open_path pifnjarl_do pifnjarl_turns pifnjarl_lowest_run pifnjarl_save_path pifnjarl_close pifnjarl_durable_open pifnjarl_durable_close &&
             ar rcs "$work/made/libpifnjarl.a" "$work/stub.o"
     fi
 }

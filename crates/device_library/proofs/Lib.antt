@@ -4,3 +4,5 @@ mod Refusing
 mod ServedRounds
 mod Knowing
 mod Beginning
+mod Turning
+mod OneByOne

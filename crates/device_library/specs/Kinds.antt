@@ -27,6 +27,7 @@ memory_kind number =
     if number == 1 then Some memory.Event
     else if number == 2 then Some memory.LowestRun
     else if number == 3 then Some memory.Save
+    else if number == 22 then Some memory.Turns
     else None
 
 -- of a device in a file
@@ -67,7 +68,11 @@ loop_kind number =
     else if number == 21 then Some looped.Step
     else None
 
--- what is answered where nothing is done, since a handle has nothing that knows a kind: to an event that there is no device, and for the
--- lowest run that there is none
+-- what is answered where nothing is done, since a handle has nothing that knows a kind: to an event and to turns that there is no device,
+-- and for the lowest run that there is none
 abbrev pub nothing_of : ℕ → ℕ
-nothing_of number = if number == 1 then 32 else if number == 2 then 256 else 0
+nothing_of number =
+    if number == 1 then 32
+    else if number == 22 then 32
+    else if number == 2 then 256
+    else 0

@@ -6,6 +6,7 @@ pub mod Files
 pub mod Devices
 pub mod Serving
 pub mod Events
+pub mod Turns
 pub mod Memory
 pub mod Kept
 pub mod Target

@@ -7,6 +7,7 @@ use Rattle.device_library.specs.Asked.{Asked}
 use Rattle.device_library.specs.Bytes.{SavesText}
 use Rattle.device_library.specs.Events.{DoesEvent, IsTold, MemoryLent, event_of}
 use Rattle.device_library.specs.Kinds.{memory_kind, nothing_of}
+use Rattle.device_library.specs.Turns.{DoesTurns, turns_of}
 use Rattle.device_library.specs.declared.kind.MemoryKind.{MemoryKind}
 use Rattle.device_library.specs.declared.kind.MemoryKind.TheVariants as kind
 use Rattle.device_library.specs.declared.numbers.TheConstants.{NO_RUN}
@@ -30,6 +31,7 @@ abbrev pub Answers : MemoryKind → Asked → MemoryLent → MemoryLent → ℕ 
 Answers kind.Event asked old new answer = DoesEvent (event_of asked) old new answer
 Answers kind.LowestRun asked old new answer = IsTold (lowest_number old.device) old new answer
 Answers kind.Save asked old new answer = Saves old new answer
+Answers kind.Turns asked old new answer = DoesTurns (turns_of asked) old new answer
 
 -- where it is known
 abbrev pub AnswersIfKnown : Option MemoryKind → ℕ → Asked → MemoryLent → MemoryLent → ℕ → Type 0

@@ -15,6 +15,7 @@ use std::alloc::Global;
 use std::mem;
 
 /// Does what is asked for, and gives the answer. Where there is nothing that knows the kind, nothing is done.
+#[inline(always)]
 pub fn call(
     handle: &mut Handle,
     kind: u32,
@@ -40,6 +41,7 @@ pub fn call(
 }
 
 /// Does what is asked for, with all that goes with it.
+#[inline(always)]
 fn do_asked(
     handle: &mut Handle,
     kind: u32,
@@ -65,7 +67,9 @@ fn do_asked(
     }
 }
 
-/// Does what a session is asked for, and gives the answer.
+/// Does what a session is asked for, and gives the answer. On the way to a device in memory functions are inlined, and what is asked for
+/// stays in registers, so that a turn takes little time: a function that isn't inlined is lent a copy.
+#[inline(always)]
 fn answer(
     session: &mut Session,
     alloc: Global,
@@ -85,8 +89,14 @@ fn answer(
         Session::Kept(kept) => {
             kept_answers::answer_to(kept, alloc, kind, asked.count, asked.piece, out)
         }
-        Session::Target(target) => target_answers::answer_to(target, alloc, kind, asked, out),
-        Session::Loop(serving) => looping::answer_to(serving, kind, asked, reply, out),
+        Session::Target(target) => {
+            let lent = *asked;
+            target_answers::answer_to(target, alloc, kind, &lent, out)
+        }
+        Session::Loop(serving) => {
+            let lent = *asked;
+            looping::answer_to(serving, kind, &lent, reply, out)
+        }
     }
 }
 

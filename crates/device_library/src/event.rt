@@ -1,10 +1,11 @@
-//! An event that C asks for.
+//! What C asks a device in memory to do: an event, or turns of a run.
 
 ghost use Rattle.std.specs.Prelude.{ℕ, ◌≡◌, ◌≤◌, ◌≢◌, List, length, IfSome, None};
 ghost use Rattle.nvme_entry.specs.declared.command.TheConstants.{MOST_TRANSFER};
 ghost use Rattle.device_library.specs.Asked.{told_by};
 ghost use Rattle.device_library.specs.Events.{DoesEvent, EventAsked, Happens, IsAsked, MemoryLent, event_of, head_of, most_number, refusal, reply_number};
-ghost use Rattle.device_library.specs.declared.numbers.TheConstants.{SUBMIT};
+ghost use Rattle.device_library.specs.Turns.{DoesTurns, turns_of, why_no_turn};
+ghost use Rattle.device_library.specs.declared.numbers.TheConstants.{SUBMIT, TURN};
 
 use crate::asked::AskedBy;
 use crate::numbers::{
@@ -31,6 +32,7 @@ pub struct ReplyHead {
 }
 
 /// Does the event that is asked for, of the kind that is told as the count, and gives the number of what became of it.
+#[inline(always)]
 pub fn event(
     device: &mut Device,
     asked: &AskedBy<'_>,
@@ -55,7 +57,36 @@ pub fn event(
     reply_number(&told)
 }
 
+/// Gives the run with the number a turn, and further ones as long as it has turns left, at most as many in all as the count; and gives the
+/// number of the reply to the last.
+#[inline(always)]
+pub fn turns(device: &mut Device, asked: &AskedBy<'_>, reply: &mut ReplyHead) -> usize
+    ensures { (out : List ℕ) → DoesTurns (turns_of (told_by asked.now))
+        (record { device = device.old; reply = reply.old; out = out })
+        (record { device = device.new; reply = reply.new; out = out }) result }
+{
+    if let Some(why) = why_no_turn(asked.number) {
+        return why;
+    }
+    let told = device.turns(asked.number as u8, asked.count.saturating_sub(1));
+    *reply = head_of(&told);
+    reply_number(&told)
+}
+
+/// Why a run is given no turn.
+#[inline(always)]
+fn why_no_turn(run: usize) -> Option<usize>
+    ensures { result ≡ why_no_turn run }
+{
+    if run > 255 {
+        Some(NUMBER_TOO_LARGE)
+    } else {
+        None
+    }
+}
+
 /// Why nothing can happen that is asked for.
+#[inline(always)]
 fn refusal(kind: usize, number: usize, entry: &[u8], output: &[u8]) -> Option<usize>
     ensures { result ≡ refusal kind number (length entry.now) (length output.now) }
 {
@@ -75,6 +106,7 @@ fn refusal(kind: usize, number: usize, entry: &[u8], output: &[u8]) -> Option<us
 }
 
 /// The largest number that goes with a kind: of a queue, a run or a zone.
+#[inline(always)]
 fn most_number(kind: usize) -> Option<usize>
     ensures { result ≡ most_number kind }
 {
@@ -90,6 +122,7 @@ fn most_number(kind: usize) -> Option<usize>
 }
 
 /// Does an event that nothing refuses.
+#[inline(always)]
 fn happen(
     device: &mut Device,
     kind: usize,
@@ -103,24 +136,36 @@ fn happen(
         device.old device.new result output.old output.new }
 {
     if kind == SUBMIT {
-        let mut bytes = [0; ENTRY_BYTES];
-        bytes.copy_from_slice(entry);
-        device.submit(number as u16, &bytes, input, output)
-    } else {
-        device.apply(&turn_or_fault(kind, number), output)
+        return submit(device, number as u16, entry, input, output);
     }
+    if kind == TURN {
+        return device.turns(number as u8, 0);
+    }
+    device.apply(&fault(kind, number), output)
 }
 
-/// The turn or fault of a kind.
-fn turn_or_fault(kind: usize, number: usize) -> Event
-    requires kind { kind ≢ SUBMIT }
+/// Submits an entry. Not inlined, so that a turn doesn't pay for its room on the stack.
+#[inline(never)]
+fn submit(device: &mut Device, queue: u16, entry: &[u8], input: &[u8], output: &mut [u8]) -> Reply
+    requires entry { length entry.now ≡ 64 }
+    requires room { MOST_TRANSFER ≤ length output.old }
+    ensures { Happens (record { kind = SUBMIT; number = queue; entry = entry.now; input = input.now })
+        device.old device.new result output.old output.new }
+{
+    let mut bytes = [0; ENTRY_BYTES];
+    bytes.copy_from_slice(entry);
+    device.submit(queue, &bytes, input, output)
+}
+
+/// The fault of a kind.
+fn fault(kind: usize, number: usize) -> Event
+    requires other { kind ≢ SUBMIT }
+    requires kind { kind ≢ TURN }
     requires number { IfSome (most_number kind) (λ most. number ≤ most) }
     requires known { most_number kind ≢ None }
     ensures { (entry input : List ℕ) → IsAsked (record { kind = kind; number = number; entry = entry; input = input }) result }
 {
-    if kind == TURN {
-        Event::Turn { run: number as u8 }
-    } else if kind == FAULT_READ_ONLY {
+    if kind == FAULT_READ_ONLY {
         Event::Fault {
             zone: number as u32,
             state: FaultState::ReadOnly,
@@ -134,6 +179,7 @@ fn turn_or_fault(kind: usize, number: usize) -> Event
 }
 
 /// What is told of a reply beside its data.
+#[inline(always)]
 fn head_of(reply: &Reply) -> ReplyHead
     ensures { result ≡ head_of reply.now }
 {
@@ -161,6 +207,7 @@ fn head_of(reply: &Reply) -> ReplyHead
 }
 
 /// The number of a reply.
+#[inline(always)]
 fn reply_number(reply: &Reply) -> usize
     ensures { result ≡ reply_number reply.now }
 {

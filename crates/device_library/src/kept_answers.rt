@@ -14,7 +14,9 @@ use durable_device::Folding;
 use event_frames::StreamFault;
 use std::alloc::Global;
 
-/// Does what a device is asked for by a number, and gives the answer.
+/// Does what a device is asked for by a number, and gives the answer. Not inlined, so that a device in memory doesn't pay for its room on
+/// the stack.
+#[inline(never)]
 pub fn answer_to(
     session: &mut Kept,
     alloc: Global,

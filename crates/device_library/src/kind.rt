@@ -17,6 +17,9 @@ const EVENT: u32 = 1;
 /// The number that asks it for its lowest run.
 const LOWEST_RUN: u32 = 2;
 
+/// The number that asks it to give a run turns.
+const TURNS: u32 = 22;
+
 /// By which door a handle is opened.
 #[derive(Clone, Copy)]
 pub enum Door {
@@ -67,10 +70,13 @@ pub enum MemoryKind {
     LowestRun,
     /// For the image as it is now.
     Save,
+    /// To give a run turns.
+    Turns,
 }
 
 impl MemoryKind {
     /// The kind with a number.
+    #[inline(always)]
     pub fn from_number(number: u32) -> Option<MemoryKind>
         ensures { result ≡ memory_kind number }
     {
@@ -78,6 +84,7 @@ impl MemoryKind {
             1 => Some(MemoryKind::Event),
             2 => Some(MemoryKind::LowestRun),
             3 => Some(MemoryKind::Save),
+            22 => Some(MemoryKind::Turns),
             _ => None,
         }
     }
@@ -192,7 +199,7 @@ impl LoopKind {
 pub fn nothing(number: u32) -> usize
     ensures { result ≡ nothing_of number }
 {
-    if number == EVENT {
+    if number == EVENT || number == TURNS {
         NO_DEVICE
     } else if number == LOWEST_RUN {
         NO_RUN

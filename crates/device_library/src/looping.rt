@@ -103,7 +103,9 @@ fn level_of(level: usize) -> Level
     }
 }
 
-/// Does what a loop is asked for by a number, and gives the answer.
+/// Does what a loop is asked for by a number, and gives the answer. Not inlined, so that a device in memory doesn't pay for its room on the
+/// stack.
+#[inline(never)]
 pub fn answer_to(
     serving: &mut Serving,
     kind: u32,

@@ -7,7 +7,7 @@ ghost use Rattle.device_library.specs.Memory.{Answers, AnswersTo, lowest_number}
 ghost use Rattle.device_library.specs.Opening.{IsImageOf, IsRefusedImage};
 
 use crate::asked::AskedBy;
-use crate::event::{ReplyHead, event};
+use crate::event::{ReplyHead, event, turns};
 use crate::kind::{MemoryKind, nothing};
 use crate::numbers::NO_RUN;
 use crate::opening::image_of;
@@ -28,6 +28,7 @@ pub fn open(alloc: Global, bytes: &[u8]) -> Result<Device, u32>
 }
 
 /// Does what a device is asked for by a number, and gives the answer.
+#[inline(always)]
 pub fn answer_to(
     device: &mut Device,
     alloc: Global,
@@ -47,6 +48,7 @@ pub fn answer_to(
 }
 
 /// Does what a device is asked for, and gives the answer.
+#[inline(always)]
 fn answer(
     device: &mut Device,
     alloc: Global,
@@ -63,6 +65,7 @@ fn answer(
         MemoryKind::Event => event(device, asked, reply, out),
         MemoryKind::LowestRun => lowest_run(device),
         MemoryKind::Save => save(alloc, device.image(), out),
+        MemoryKind::Turns => turns(device, asked, reply),
     }
 }
 

@@ -25,7 +25,8 @@ pub fn behind(bytes: &[u8], count: usize) -> &[u8]
 }
 
 /// Gives how many bytes the text of an image has, and puts it in front of `out` where there is room for all of them; 0 where memory is
-/// wanting.
+/// wanting. Not inlined, so that a turn doesn't pay for its room on the stack.
+#[inline(never)]
 pub fn save(alloc: Global, image: &Image, out: &mut [u8]) -> usize
     ensures { SavesText (text image.now) out.old out.new result }
 {

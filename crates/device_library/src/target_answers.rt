@@ -12,7 +12,9 @@ use crate::put::put;
 use crate::target::Target;
 use std::alloc::Global;
 
-/// Does what a target is asked for by a number, and gives the answer.
+/// Does what a target is asked for by a number, and gives the answer. Not inlined, so that a device in memory doesn't pay for its room on
+/// the stack.
+#[inline(never)]
 pub fn answer_to(
     session: &mut Target,
     alloc: Global,
