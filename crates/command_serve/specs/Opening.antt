@@ -41,7 +41,8 @@ pub data Leaves {S : Type 0} (told : S → FileState) (contents : Option (List �
   OnlyRead : (file left : S) (found : IsFound (told file) contents) (moments : LeavesFound (told file) (told left) (λ c. c ≡ (told file).seen))
       → Leaves told contents
   -- of a journal, a file that stands for what the old one does
-  OfJournal : (file left : S) (found : IsFound (told file) contents) (moments : KeepsRestarted (told file) (told left)) → Leaves told contents
+  OfJournal : (file left : S) (found : IsFound (told file) contents) (moments : KeepsRestarted (told file) (told left))
+      → Leaves told contents
   -- what it had, or a file that stands for its device
   OfDevice : (file left : S) (found : IsFound (told file) contents) (s : State) (means : Means (told file).seen s)
       (moments : LeavesFound (told file) (told left) (λ c. (c ≡ (told file).seen) ⊎ StandsFor c s)) → Leaves told contents

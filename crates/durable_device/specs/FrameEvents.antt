@@ -39,7 +39,8 @@ header_in bytes = record {
 -- those of a submission, and behind them an entry and as much data as they tell
 abbrev pub submission_in : Header → List ℕ → Option ToldEvent
 submission_in h behind =
-    if nat_le 64 (length behind) && (h.part == 0 && h.number == 0 && h.zeros == 0 && h.size == length (drop 64 behind) && nat_le h.size MOST_TRANSFER)
+    if nat_le 64 (length behind)
+    && (h.part == 0 && h.number == 0 && h.zeros == 0 && h.size == length (drop 64 behind) && nat_le h.size MOST_TRANSFER)
     then Some (told.Submitted h.queue (take 64 behind) (drop 64 behind)) else None
 
 -- those of a turn, and nothing behind them

@@ -33,7 +33,8 @@ NeverOwes (m ∷ trace) = OwesNothingAt m.asked trace × NeverOwes trace
 
 module _ {State : Type 0} (m : Meaning State) where
   -- what holds of a loop after one trace, of which this is known, holds after another
-  abbrev pub HoldsOn : Trace → Phase → KeptState State → List (List ℕ) → Clock → Trace → Phase → KeptState State → List (List ℕ) → Clock → Type 0
+  abbrev pub HoldsOn : Trace → Phase → KeptState State → List (List ℕ) → Clock → Trace → Phase → KeptState State → List (List ℕ) → Clock
+      → Type 0
   HoldsOn trace phase now waiting clock trace' phase' now' waiting' clock' =
       (opened : List Call) (begun : State) → Holds m opened begun trace phase now waiting clock
       → Holds m opened begun trace' phase' now' waiting' clock'
@@ -44,6 +45,7 @@ module _ {State : Type 0} (m : Meaning State) (free : State → Option ℕ) wher
     pub fair : IsFair m free o p trace h waiting s
     pub never : NeverOwes trace
 
-  abbrev pub FairOn : Trace → Point → Hosts → List (List ℕ) → KeptState State → Trace → Point → Hosts → List (List ℕ) → KeptState State → Type 0
+  abbrev pub FairOn : Trace → Point → Hosts → List (List ℕ) → KeptState State → Trace → Point → Hosts → List (List ℕ) → KeptState State
+      → Type 0
   FairOn trace p h waiting now trace' p' h' waiting' now' =
       (o : IsOrderly m free) → NeverOwesMore o p trace h waiting now.state → NeverOwesMore o p' trace' h' waiting' now'.state
