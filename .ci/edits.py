@@ -2,7 +2,7 @@
 """Looks whether must-fail edits, and those of failing/edits, can still be applied: the text of each `old:` stands exactly once in its
 file.
 
-    .ci/edits.py CRATE..    the edits of these crates; prints one line for each that can't be applied, and then ends with 1
+    .ci/edits.py [CRATE..]  the edits of these crates, or of all; prints one line for each that can't be applied, and then ends with 1
 """
 
 import sys
@@ -34,9 +34,10 @@ def fault(crate: Path, edit: Path) -> Optional[str]:
 
 
 def main() -> int:
-    """Looks at the edits of the crates that are named."""
+    """Looks at the edits of the crates that are named, or of all."""
     status = 0
-    for crate in sys.argv[1:]:
+    every = sorted(folder.name for folder in (TOP / "crates").iterdir() if folder.is_dir())
+    for crate in sys.argv[1:] or every:
         edits = [*(TOP / "crates" / crate / "must-fail").glob("*.edit"), *(TOP / "failing" / "edits" / crate).glob("*.edit")]
         for edit in sorted(edits):
             why = fault(TOP / "crates" / crate, edit)

@@ -10,6 +10,6 @@ newer() {
         \( -name '*.rt' -o -name '*.antt' -o -name crates.txt \) -newer "$built" -print
 }
 if [ ! -e "$built" ] || [ -n "$(newer)" ]; then
-    (cd "$crate" && rt lib >&2)
+    "$top/.ci/proving.py" "$1"
 fi
 echo "$built"
