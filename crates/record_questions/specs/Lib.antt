@@ -1,0 +1,5 @@
+pub mod Question
+pub mod Asked
+pub mod Tallies
+pub mod Code
+pub mod Laws

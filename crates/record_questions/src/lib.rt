@@ -2,8 +2,18 @@
 //! tallied of them. Each is answered by a program.
 #![tactic(auto)]
 
+mod check;
+mod code;
+mod emitting;
+mod fault;
+mod loads;
 mod question;
+mod tallying;
+mod testing;
 
+pub use check::is_question;
+pub use code::instructions;
+pub use fault::CodeFault;
 pub use question::{
     ByteOrder, ByteRange, Comparison, Field, Operand, Predicate, Question, Sign, Tally,
 };

@@ -1,0 +1,66 @@
+-- Which questions can be asked.
+use Rattle.std.specs.Prelude.{ℕ, ℤ, pos, neg_ℤ, ◌≡◌, ◌≤◌, ◌≤ℤ◌, ◌<ℤ◌, ◌+◌, ◌*◌, ◌^◌, List, [], ◌∷◌, length, Option, Some, None, ⊤, ⊥}
+use Rattle.program_interface.specs.declared.area.TheConstants.{SCRATCH_BYTES}
+use Rattle.instruction_set.specs.Instruction.{size_of}
+use Rattle.record_questions.specs.declared.question.Sign.{Sign}
+use Rattle.record_questions.specs.declared.question.Sign.TheVariants.{Unsigned, Signed}
+use Rattle.record_questions.specs.declared.question.Field.{Field}
+use Rattle.record_questions.specs.declared.question.Operand.{Operand}
+use Rattle.record_questions.specs.declared.question.Operand.TheVariants as operands
+use Rattle.record_questions.specs.declared.question.Predicate.{Predicate}
+use Rattle.record_questions.specs.declared.question.Predicate.TheVariants.{Compare, Bytes, And', Or', Not'}
+use Rattle.record_questions.specs.declared.question.ByteRange.{ByteRange}
+use Rattle.record_questions.specs.declared.question.Tally.{Tally}
+use Rattle.record_questions.specs.declared.question.Tally.TheVariants.{Count, Sum, Least, Greatest}
+use Rattle.record_questions.specs.declared.question.Question.{Question}
+
+-- a field lies in a record of so many bytes
+abbrev pub IsField : ℕ → Field → Type 0
+IsField bytes f = f.offset + size_of f.size ≤ bytes
+
+-- a number that 64 bits hold
+abbrev pub IsNumber : Sign → ℤ → Type 0
+IsNumber Unsigned z = (pos 0 ≤ℤ z) × (z <ℤ pos (2 ^ 64))
+IsNumber Signed z = (neg_ℤ (pos (2 ^ 63)) ≤ℤ z) × (z <ℤ pos (2 ^ 63))
+
+-- what a field of this sign can be compared with: of fields one of the same sign
+abbrev pub IsOperand : ℕ → Sign → Operand → Type 0
+IsOperand bytes sign (operands.Number z) = IsNumber sign z
+IsOperand bytes sign operands.Argument = ⊤
+IsOperand bytes sign (operands.Field f) = IsField bytes f × (f.sign ≡ sign)
+
+-- what a predicate looks at lies in a record of so many bytes, and its numbers have 64 bits
+abbrev pub IsPredicate : ℕ → Predicate → Type 0
+IsPredicate bytes (Compare f comparison operand) = IsField bytes f × IsOperand bytes f.sign operand
+IsPredicate bytes (Bytes offset these) = ⊥
+IsPredicate bytes (And' x p y q) = IsPredicate bytes p × IsPredicate bytes q
+IsPredicate bytes (Or' x p y q) = IsPredicate bytes p × IsPredicate bytes q
+IsPredicate bytes (Not' x p) = IsPredicate bytes p
+
+-- some bytes of a record of so many
+abbrev pub IsRange : ℕ → Option ByteRange → Type 0
+IsRange bytes None = ⊤
+IsRange bytes (Some range) = (1 ≤ range.size) × (range.offset + range.size ≤ bytes)
+
+-- a field that can be tallied has no sign
+abbrev pub IsTallied : ℕ → Field → Type 0
+IsTallied bytes f = IsField bytes f × (f.sign ≡ Unsigned)
+
+abbrev pub IsTally : ℕ → Tally → Type 0
+IsTally bytes Count = ⊤
+IsTally bytes (Sum f) = IsTallied bytes f
+IsTally bytes (Least f) = IsTallied bytes f
+IsTally bytes (Greatest f) = IsTallied bytes f
+
+abbrev pub AreTallies : ℕ → List Tally → Type 0
+AreTallies bytes [] = ⊤
+AreTallies bytes (t ∷ ts) = IsTally bytes t × AreTallies bytes ts
+
+-- a question that can be asked of blocks of so many bytes: its records lie in a block, what it looks at lies in a record, and each
+-- tally has a word of scratch
+pub record IsQuestion (block : ℕ) (q : Question) : Type 0 where
+  pub inside : q.first + q.count * q.size ≤ block
+  pub wanted : IsPredicate q.size q.wanted
+  pub emitted : IsRange q.size q.emitted
+  pub tallies : AreTallies q.size q.tallies.items
+  pub few_tallies : 8 * length q.tallies.items ≤ SCRATCH_BYTES

@@ -1,0 +1,239 @@
+-- The program of a question.
+use Rattle.std.specs.Prelude.{ℕ, ℤ, zero, suc, pos, neg_ℤ, Bool, true, false, not, ◌&&◌, ◌+◌, ◌^◌, int_lt, int_le, if◌then◌else◌, List, [], ◌∷◌, ◌++◌, Option, Some, None}
+use Rattle.std.specs.Int.{w64, cast_unsigned}
+use Rattle.instruction_set.specs.Program.{slots_of, slots_taken}
+use Rattle.instruction_set.specs.declared.instruction.Instruction.{Instruction}
+use Rattle.instruction_set.specs.declared.instruction.Instruction.TheVariants.{Load, LoadImmediate, Arithmetic, Branch, Call, Exit, MoveSigned, Negate, StoreRegister, SwapBytes}
+use Rattle.instruction_set.specs.declared.instruction.Source.{Source}
+use Rattle.instruction_set.specs.declared.instruction.Source.TheVariants.{Immediate, Register}
+use Rattle.instruction_set.specs.declared.operation.Operation.TheVariants.{Add, Move}
+use Rattle.instruction_set.specs.declared.operation.Relation.{Relation}
+use Rattle.instruction_set.specs.declared.operation.Relation.TheVariants as jumps
+use Rattle.instruction_set.specs.declared.operation.SignExtension.{SignExtension}
+use Rattle.instruction_set.specs.declared.operation.SignExtension.TheVariants.{Bits8To64, Bits16To64, Bits32To64}
+use Rattle.instruction_set.specs.declared.operation.Size.{Size}
+use Rattle.instruction_set.specs.declared.operation.Size.TheVariants.{Byte, HalfWord, Word, DoubleWord}
+use Rattle.instruction_set.specs.declared.operation.Swap.TheVariants.{ToBig}
+use Rattle.instruction_set.specs.declared.operation.SwapSize.{SwapSize}
+use Rattle.instruction_set.specs.declared.operation.SwapSize.TheVariants as kept
+use Rattle.instruction_set.specs.declared.operation.Width.TheVariants.{Bits64}
+use Rattle.program_interface.specs.declared.frame.TheConstants.{EMIT}
+use Rattle.record_questions.specs.declared.question.Sign.{Sign}
+use Rattle.record_questions.specs.declared.question.Sign.TheVariants.{Unsigned, Signed}
+use Rattle.record_questions.specs.declared.question.ByteOrder.{ByteOrder}
+use Rattle.record_questions.specs.declared.question.ByteOrder.TheVariants.{Little, Big}
+use Rattle.record_questions.specs.declared.question.Field.{Field}
+use Rattle.record_questions.specs.declared.question.Comparison.{Comparison}
+use Rattle.record_questions.specs.declared.question.Comparison.TheVariants.{Equal, NotEqual, Less, LessOrEqual, Greater, GreaterOrEqual}
+use Rattle.record_questions.specs.declared.question.Operand.{Operand}
+use Rattle.record_questions.specs.declared.question.Operand.TheVariants as operands
+use Rattle.record_questions.specs.declared.question.Predicate.{Predicate}
+use Rattle.record_questions.specs.declared.question.Predicate.TheVariants.{Compare, Bytes, And', Or', Not'}
+use Rattle.record_questions.specs.declared.question.ByteRange.{ByteRange}
+use Rattle.record_questions.specs.declared.question.Tally.{Tally}
+use Rattle.record_questions.specs.declared.question.Tally.TheVariants.{Count, Sum, Least, Greatest}
+use Rattle.record_questions.specs.declared.question.Question.{Question}
+
+-- how many slots instructions take
+abbrev pub slot_count : List Instruction → ℕ
+slot_count [] = 0
+slot_count (i ∷ is) = slots_taken i + slot_count is
+
+-- ---- loads: R6 has the block's address
+
+-- which bytes of a loaded number are to be put in the other order
+abbrev pub swap_of : ByteOrder → Size → Option SwapSize
+swap_of Little size = None
+swap_of Big Byte = None
+swap_of Big HalfWord = Some kept.Bits16
+swap_of Big Word = Some kept.Bits32
+swap_of Big DoubleWord = Some kept.Bits64
+
+-- how a loaded number is to be extended to 64 bits
+abbrev pub extension_of : Sign → Size → Option SignExtension
+extension_of Unsigned size = None
+extension_of Signed Byte = Some Bits8To64
+extension_of Signed HalfWord = Some Bits16To64
+extension_of Signed Word = Some Bits32To64
+extension_of Signed DoubleWord = None
+
+abbrev pub swap_code : ℕ → Option SwapSize → List Instruction
+swap_code register None = []
+swap_code register (Some size) = SwapBytes ToBig size register ∷ []
+
+abbrev pub extension_code : ℕ → Option SignExtension → List Instruction
+extension_code register None = []
+extension_code register (Some extension) = MoveSigned extension register register ∷ []
+
+-- loads a field of the record at a byte of the block into a register
+abbrev pub field_code : (register byte : ℕ) → Field → List Instruction
+field_code register byte f =
+    Load f.size register 6 (pos (byte + f.offset))
+    ∷ (swap_code register (swap_of f.order f.size) ++ extension_code register (extension_of f.sign f.size))
+
+abbrev pub some_slots : {X : Type 0} → Option X → ℕ
+some_slots None = 0
+some_slots (Some x) = 1
+
+-- how many slots that takes
+abbrev pub field_slots : Field → ℕ
+field_slots f = 1 + (some_slots (swap_of f.order f.size) + some_slots (extension_of f.sign f.size))
+
+-- ---- operands: R8 has the argument, and R5 takes another field, or a number that no immediate holds
+
+abbrev pub is_immediate : ℤ → Bool
+is_immediate z = int_le (neg_ℤ (pos (2 ^ 31))) z && int_lt z (pos (2 ^ 31))
+
+abbrev pub source_of : Operand → Source
+source_of (operands.Number z) = if is_immediate z then Immediate z else Register 5
+source_of operands.Argument = Register 8
+source_of (operands.Field f) = Register 5
+
+abbrev pub operand_code : (byte : ℕ) → Operand → List Instruction
+operand_code byte (operands.Number z) = if is_immediate z then [] else LoadImmediate 5 (cast_unsigned w64 z) ∷ []
+operand_code byte operands.Argument = []
+operand_code byte (operands.Field f) = field_code 5 byte f
+
+abbrev pub operand_slots : Operand → ℕ
+operand_slots (operands.Number z) = if is_immediate z then 0 else 2
+operand_slots operands.Argument = 0
+operand_slots (operands.Field f) = field_slots f
+
+-- ---- predicates
+
+-- the comparison that holds where this one doesn't
+abbrev pub opposite : Comparison → Comparison
+opposite Equal = NotEqual
+opposite NotEqual = Equal
+opposite Less = GreaterOrEqual
+opposite LessOrEqual = Greater
+opposite Greater = LessOrEqual
+opposite GreaterOrEqual = Less
+
+-- the jump that is taken where a comparison holds
+abbrev pub jump_where : Sign → Comparison → Relation
+jump_where sign Equal = jumps.Equal
+jump_where sign NotEqual = jumps.NotEqual
+jump_where Unsigned Less = jumps.Less
+jump_where Unsigned LessOrEqual = jumps.LessOrEqual
+jump_where Unsigned Greater = jumps.Greater
+jump_where Unsigned GreaterOrEqual = jumps.GreaterOrEqual
+jump_where Signed Less = jumps.SignedLess
+jump_where Signed LessOrEqual = jumps.SignedLessOrEqual
+jump_where Signed Greater = jumps.SignedGreater
+jump_where Signed GreaterOrEqual = jumps.SignedGreaterOrEqual
+
+-- the jump of a comparison, after which the program goes on where it holds (`true`), or where it doesn't
+abbrev pub jump_of : Sign → Bool → Comparison → Relation
+jump_of sign true comparison = jump_where sign (opposite comparison)
+jump_of sign false comparison = jump_where sign comparison
+
+-- how many slots a test takes
+abbrev pub test_slots : Predicate → ℕ
+test_slots (Compare f comparison operand) = field_slots f + (operand_slots operand + 1)
+test_slots (Bytes offset bytes) = 0
+test_slots (And' x p y q) = test_slots p + test_slots q
+test_slots (Or' x p y q) = test_slots p + test_slots q
+test_slots (Not' x p) = test_slots p
+
+-- how far the first of two tests jumps: over the second, and on where the second would jump
+abbrev pub over : Bool → ℕ → ℕ → ℕ
+over true slots skip = slots + skip
+over false slots skip = slots
+
+-- Of the record at a byte of the block: after it the program goes on where the predicate is met (`true`), or where it isn't
+-- (`false`); else it jumps so many slots further. R4 takes a field.
+abbrev pub test_code : (byte : ℕ) → Bool → Predicate → (skip : ℕ) → List Instruction
+test_code byte goes_on (Compare f comparison operand) skip =
+    field_code 4 byte f
+    ++ (operand_code byte operand ++ Branch Bits64 (jump_of f.sign goes_on comparison) 4 (source_of operand) (pos skip) ∷ [])
+test_code byte goes_on (Bytes offset bytes) skip = []
+test_code byte goes_on (And' x p y q) skip = test_code byte true p (over goes_on (test_slots q) skip) ++ test_code byte goes_on q skip
+test_code byte goes_on (Or' x p y q) skip = test_code byte false p (over (not goes_on) (test_slots q) skip) ++ test_code byte goes_on q skip
+test_code byte goes_on (Not' x p) skip = test_code byte (not goes_on) p skip
+
+-- ---- what is done of a record that matches: R7 has the address of scratch
+
+-- the number that a tally takes of a record, in R5; the least is the greatest of what is left to 2^64 - 1
+abbrev pub taken_code : (byte : ℕ) → Tally → List Instruction
+taken_code byte Count = []
+taken_code byte (Sum f) = field_code 5 byte f
+taken_code byte (Least f) = field_code 5 byte f ++ Negate Bits64 5 ∷ Arithmetic Bits64 Add 5 (Immediate (neg_ℤ (pos 1))) ∷ []
+taken_code byte (Greatest f) = field_code 5 byte f
+
+-- changes the word in R4
+abbrev pub change_code : Tally → List Instruction
+change_code Count = Arithmetic Bits64 Add 4 (Immediate (pos 1)) ∷ []
+change_code (Sum f) = Arithmetic Bits64 Add 4 (Register 5) ∷ []
+change_code (Least f) = Branch Bits64 jumps.GreaterOrEqual 4 (Register 5) (pos 1) ∷ Arithmetic Bits64 Move 4 (Register 5) ∷ []
+change_code (Greatest f) = Branch Bits64 jumps.GreaterOrEqual 4 (Register 5) (pos 1) ∷ Arithmetic Bits64 Move 4 (Register 5) ∷ []
+
+-- tallies the record at a byte of the block in the word at an offset of scratch
+abbrev pub tally_code : (byte at : ℕ) → Tally → List Instruction
+tally_code byte at t =
+    taken_code byte t ++ Load DoubleWord 4 7 (pos at) ∷ (change_code t ++ StoreRegister DoubleWord 7 4 (pos at) ∷ [])
+
+abbrev pub tallies_code : (byte at : ℕ) → List Tally → List Instruction
+tallies_code byte at [] = []
+tallies_code byte at (t ∷ ts) = tally_code byte at t ++ tallies_code byte (at + 8) ts
+
+abbrev pub taken_slots : Tally → ℕ
+taken_slots Count = 0
+taken_slots (Sum f) = field_slots f
+taken_slots (Least f) = field_slots f + 2
+taken_slots (Greatest f) = field_slots f
+
+abbrev pub change_slots : Tally → ℕ
+change_slots Count = 1
+change_slots (Sum f) = 1
+change_slots (Least f) = 2
+change_slots (Greatest f) = 2
+
+abbrev pub tallies_slots : List Tally → ℕ
+tallies_slots [] = 0
+tallies_slots (t ∷ ts) = taken_slots t + (change_slots t + 2) + tallies_slots ts
+
+-- emits so many bytes from one of the block on
+abbrev pub emit_code : ℕ → ℕ → List Instruction
+emit_code at size =
+    Arithmetic Bits64 Move 1 (Register 6) ∷ Arithmetic Bits64 Add 1 (Immediate (pos at))
+    ∷ Arithmetic Bits64 Move 2 (Immediate (pos size)) ∷ Call EMIT ∷ []
+
+-- emits the range of the record at a byte of the block, if there is one
+abbrev pub range_code : (byte : ℕ) → Option ByteRange → List Instruction
+range_code byte None = []
+range_code byte (Some range) = emit_code (byte + range.offset) range.size
+
+abbrev pub range_slots : Option ByteRange → ℕ
+range_slots None = 0
+range_slots (Some range) = 4
+
+abbrev pub match_code : Question → (byte : ℕ) → List Instruction
+match_code q byte = tallies_code byte 0 q.tallies.items ++ range_code byte q.emitted
+
+abbrev pub match_slots : Question → ℕ
+match_slots q = tallies_slots q.tallies.items + range_slots q.emitted
+
+-- ---- records
+
+-- the code of the record at a byte of the block
+abbrev pub record_code : Question → (byte : ℕ) → List Instruction
+record_code q byte = test_code byte true q.wanted (match_slots q) ++ match_code q byte
+
+-- the code of so many records from a byte of the block on
+abbrev pub records_code : Question → ℕ → (byte : ℕ) → List Instruction
+records_code q zero byte = []
+records_code q (suc n) byte = record_code q byte ++ records_code q n (byte + q.size)
+
+-- keeps the addresses of block and scratch, which an emit clears in R2 and R3, and loads the argument
+abbrev pub start_code : List Instruction
+start_code =
+    Load Word 8 1 (pos 20) ∷ Arithmetic Bits64 Move 6 (Register 2) ∷ Arithmetic Bits64 Move 7 (Register 3) ∷ []
+
+-- the instructions of a question
+abbrev pub question_code : Question → List Instruction
+question_code q = start_code ++ (records_code q q.count q.first ++ Exit ∷ [])
+
+-- its program
+abbrev pub question_program : Question → List (Option Instruction)
+question_program q = slots_of (question_code q)

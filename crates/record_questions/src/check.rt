@@ -1,0 +1,117 @@
+//! Whether a question can be asked.
+
+ghost use Rattle.std.specs.Prelude.{◌≡◌, ◌≤◌, ◌+◌, IsTrue, ◌↔◌};
+ghost use Rattle.instruction_set.specs.Instruction.{size_of};
+ghost use Rattle.record_questions.specs.Asked.{AreTallies, IsField, IsNumber, IsOperand, IsPredicate, IsQuestion, IsRange, IsTallied, IsTally};
+
+use crate::question::{ByteRange, Field, Operand, Predicate, Question, Sign, Tally};
+use instruction_set::Size;
+use program_interface::SCRATCH_BYTES;
+
+/// The number of bytes.
+fn bytes_of(size: Size) -> u32
+    ensures value { result ≡ size_of size }
+    ensures few { result ≤ 8 }
+{
+    match size {
+        Size::Byte => 1,
+        Size::HalfWord => 2,
+        Size::Word => 4,
+        Size::DoubleWord => 8,
+    }
+}
+
+/// Does a field lie in a record of so many bytes?
+fn is_field(bytes: u16, field: Field) -> bool
+    ensures { IsTrue result ↔ IsField bytes field }
+{
+    u32::from(field.offset) + bytes_of(field.size) <= u32::from(bytes)
+}
+
+/// Do 64 bits hold a number?
+fn is_number(sign: Sign, number: i128) -> bool
+    ensures { IsTrue result ↔ IsNumber sign number }
+{
+    match sign {
+        Sign::Unsigned => 0 <= number && number < 0x1_0000_0000_0000_0000,
+        Sign::Signed => { -0x8000_0000_0000_0000 <= number && number < 0x8000_0000_0000_0000 }
+    }
+}
+
+/// Can a field of this sign be compared with an operand?
+fn is_operand(bytes: u16, sign: Sign, operand: Operand) -> bool
+    ensures { IsTrue result ↔ IsOperand bytes sign operand }
+{
+    match operand {
+        Operand::Number(number) => is_number(sign, number),
+        Operand::Argument => true,
+        Operand::Field(field) => is_field(bytes, field) && field.sign == sign,
+    }
+}
+
+/// Does what a predicate looks at lie in a record of so many bytes?
+fn is_predicate(bytes: u16, predicate: &Predicate) -> bool
+    ensures { IsTrue result ↔ IsPredicate bytes predicate.now }
+{
+    match predicate {
+        Predicate::Compare {
+            field,
+            comparison: _,
+            operand,
+        } => is_field(bytes, *field) && is_operand(bytes, field.sign, *operand),
+        Predicate::Bytes { .. } => false,
+        Predicate::And(first, second) => is_predicate(bytes, first) && is_predicate(bytes, second),
+        Predicate::Or(first, second) => is_predicate(bytes, first) && is_predicate(bytes, second),
+        Predicate::Not(other) => is_predicate(bytes, other),
+    }
+}
+
+/// Does a range lie in a record of so many bytes?
+fn is_range(bytes: u16, range: Option<ByteRange>) -> bool
+    ensures { IsTrue result ↔ IsRange bytes range }
+{
+    match range {
+        None => true,
+        Some(range) => {
+            1 <= range.size && u32::from(range.offset) + u32::from(range.size) <= u32::from(bytes)
+        }
+    }
+}
+
+/// Can a field be tallied?
+fn is_tallied(bytes: u16, field: Field) -> bool
+    ensures { IsTrue result ↔ IsTallied bytes field }
+{
+    is_field(bytes, field) && field.sign == Sign::Unsigned
+}
+
+fn is_tally(bytes: u16, tally: Tally) -> bool
+    ensures { IsTrue result ↔ IsTally bytes tally }
+{
+    match tally {
+        Tally::Count => true,
+        Tally::Sum(field) | Tally::Least(field) | Tally::Greatest(field) => is_tallied(
+            bytes, field,
+        ),
+    }
+}
+
+fn are_tallies(bytes: u16, tallies: &[Tally]) -> bool
+    ensures { IsTrue result ↔ AreTallies bytes tallies.now }
+{
+    match tallies {
+        [] => true,
+        [first, rest @ ..] => is_tally(bytes, *first) && are_tallies(bytes, rest),
+    }
+}
+
+/// Can a question be asked of blocks of so many bytes?
+pub fn is_question(block: u32, question: &Question) -> bool
+    ensures { IsTrue result ↔ IsQuestion block question.now }
+{
+    u32::from(question.first) + u32::from(question.count) * u32::from(question.size) <= block
+        && is_predicate(question.size, &question.wanted)
+        && is_range(question.size, question.emitted)
+        && are_tallies(question.size, &question.tallies)
+        && question.tallies.len() <= SCRATCH_BYTES / 8
+}

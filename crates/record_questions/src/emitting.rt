@@ -1,0 +1,81 @@
+//! Single instructions, and the numbers in them.
+
+ghost use Rattle.std.specs.Prelude.{◌≡◌, ◌<◌, ◌∷◌, ◌++◌, [], pos, ◌+◌, IfOk, OnOk};
+
+use crate::fault::CodeFault;
+use instruction_set::{Instruction, Operation, Register, Size, Source, Width};
+
+/// One instruction more.
+pub(crate) fn push(code: &mut Vec<Instruction>, instruction: Instruction) -> Result<(), CodeFault>
+    ensures { OnOk result (code.new.items ≡ code.old.items ++ (instruction ∷ [])) }
+{
+    code.push(instruction)?;
+    Ok(())
+}
+
+/// A number as an offset or a distance.
+pub(crate) fn short(number: u64) -> Result<i16, CodeFault>
+    ensures { IfOk result (λ z. z ≡ pos number) }
+{
+    if number < 0x8000 {
+        Ok(number as i16)
+    } else {
+        Err(CodeFault::Number)
+    }
+}
+
+/// A number as an immediate.
+pub(crate) fn long(number: u64) -> Result<i32, CodeFault>
+    ensures { IfOk result (λ z. z ≡ pos number) }
+{
+    if number < 0x8000_0000 {
+        Ok(number as i32)
+    } else {
+        Err(CodeFault::Number)
+    }
+}
+
+/// The sum of two numbers of slots.
+pub(crate) fn sum(first: u64, second: u64) -> Result<u64, CodeFault>
+    ensures { IfOk result (λ n. n ≡ first + second) }
+{
+    match first.checked_add(second) {
+        Some(n) => Ok(n),
+        None => Err(CodeFault::Number),
+    }
+}
+
+/// A 64-bit operation.
+pub(crate) fn arithmetic(operation: Operation, dst: u8, source: Source) -> Instruction
+    requires { dst < 11 }
+    ensures { result ≡ Instruction.Arithmetic Width.Bits64 operation dst source }
+{
+    Instruction::Arithmetic {
+        width: Width::Bits64,
+        operation,
+        dst: Register::from_number(dst),
+        source,
+    }
+}
+
+/// A register as a source.
+pub(crate) fn from_register(number: u8) -> Source
+    requires { number < 11 }
+    ensures { result ≡ Source.Register number }
+{
+    Source::Register(Register::from_number(number))
+}
+
+/// A load by an address in a register and an offset.
+pub(crate) fn load(size: Size, dst: u8, src: u8, offset: u64) -> Result<Instruction, CodeFault>
+    requires dst { dst < 11 }
+    requires src { src < 11 }
+    ensures { IfOk result (λ i. i ≡ Instruction.Load size dst src (pos offset)) }
+{
+    Ok(Instruction::Load {
+        size,
+        dst: Register::from_number(dst),
+        src: Register::from_number(src),
+        offset: short(offset)?,
+    })
+}

@@ -1,0 +1,126 @@
+//! The code that tallies a record that matches.
+
+ghost use Rattle.std.specs.Prelude.{◌≡◌, ◌≤◌, ◌<◌, ◌∷◌, ◌++◌, [], pos, ◌+◌, IfOk, OnOk};
+ghost use Rattle.record_questions.specs.Code.{change_code, change_slots, tallies_code, tallies_slots, tally_code, taken_code, taken_slots};
+
+use crate::emitting::{arithmetic, from_register, load, push, short, sum};
+use crate::fault::CodeFault;
+use crate::loads::{field_slots, push_field};
+use crate::question::Tally;
+use instruction_set::{Instruction, Operation, Register, Relation, Size, Source, Width};
+
+fn taken_slots(tally: Tally) -> u64
+    ensures value { result ≡ taken_slots tally }
+    ensures few { result ≤ 5 }
+{
+    match tally {
+        Tally::Count => 0,
+        Tally::Sum(field) => field_slots(field),
+        Tally::Least(field) => field_slots(field) + 2,
+        Tally::Greatest(field) => field_slots(field),
+    }
+}
+
+fn change_slots(tally: Tally) -> u64
+    ensures value { result ≡ change_slots tally }
+    ensures few { result ≤ 2 }
+{
+    match tally {
+        Tally::Count | Tally::Sum(_) => 1,
+        Tally::Least(_) | Tally::Greatest(_) => 2,
+    }
+}
+
+/// How many slots the tallies of a record take.
+pub(crate) fn tallies_slots(tallies: &[Tally]) -> Result<u64, CodeFault>
+    ensures { IfOk result (λ n. n ≡ tallies_slots tallies.now) }
+{
+    let mut slots = 0;
+    for tally in tallies {
+        slots = sum(slots, taken_slots(*tally) + (change_slots(*tally) + 2))?;
+    }
+    Ok(slots)
+}
+
+/// The number that a tally takes of the record at a byte of the block, in R5.
+fn push_taken(code: &mut Vec<Instruction>, byte: u32, tally: Tally) -> Result<(), CodeFault>
+    ensures { OnOk result (code.new.items ≡ code.old.items ++ taken_code byte tally) }
+{
+    match tally {
+        Tally::Count => Ok(()),
+        Tally::Sum(field) | Tally::Greatest(field) => push_field(code, 5, byte, field),
+        Tally::Least(field) => {
+            push_field(code, 5, byte, field)?;
+            push(
+                code,
+                Instruction::Negate {
+                    width: Width::Bits64,
+                    dst: Register::from_number(5),
+                },
+            )?;
+            push(code, arithmetic(Operation::Add, 5, Source::Immediate(-1)))
+        }
+    }
+}
+
+/// Changes the word in R4.
+fn push_change(code: &mut Vec<Instruction>, tally: Tally) -> Result<(), CodeFault>
+    ensures { OnOk result (code.new.items ≡ code.old.items ++ change_code tally) }
+{
+    match tally {
+        Tally::Count => push(code, arithmetic(Operation::Add, 4, Source::Immediate(1))),
+        Tally::Sum(_) => push(code, arithmetic(Operation::Add, 4, from_register(5))),
+        Tally::Least(_) | Tally::Greatest(_) => {
+            push(
+                code,
+                Instruction::Branch {
+                    width: Width::Bits64,
+                    relation: Relation::GreaterOrEqual,
+                    dst: Register::from_number(4),
+                    source: from_register(5),
+                    distance: 1,
+                },
+            )?;
+            push(code, arithmetic(Operation::Move, 4, from_register(5)))
+        }
+    }
+}
+
+/// Tallies the record at a byte of the block in the word at an offset of scratch.
+fn push_tally(
+    code: &mut Vec<Instruction>,
+    byte: u32,
+    at: u64,
+    tally: Tally,
+) -> Result<(), CodeFault>
+    ensures { OnOk result (code.new.items ≡ code.old.items ++ tally_code byte at tally) }
+{
+    push_taken(code, byte, tally)?;
+    push(code, load(Size::DoubleWord, 4, 7, at)?)?;
+    push_change(code, tally)?;
+    push(
+        code,
+        Instruction::StoreRegister {
+            size: Size::DoubleWord,
+            dst: Register::from_number(7),
+            src: Register::from_number(4),
+            offset: short(at)?,
+        },
+    )
+}
+
+/// Tallies the record at a byte of the block, each tally in a word of its own.
+pub(crate) fn push_tallies(
+    code: &mut Vec<Instruction>,
+    byte: u32,
+    tallies: &[Tally],
+) -> Result<(), CodeFault>
+    ensures { OnOk result (code.new.items ≡ code.old.items ++ tallies_code byte 0 tallies.now) }
+{
+    let mut at = 0;
+    for tally in tallies {
+        push_tally(code, byte, at, *tally)?;
+        at = sum(at, 8)?;
+    }
+    Ok(())
+}
