@@ -1,0 +1,6 @@
+mod Loops
+mod Reaching
+mod Standing
+mod Accesses
+mod Numbers
+mod Comparisons

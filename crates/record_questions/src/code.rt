@@ -10,7 +10,7 @@ use crate::tallying::{push_tallies, tallies_slots};
 use crate::testing::push_test;
 use instruction_set::{Instruction, Operation, Size, Source};
 use program_interface::EMIT;
-use std::alloc::Global;
+use std::alloc::{AllocError, Global};
 
 /// Emits so many bytes from one of the block on.
 fn push_emit(code: &mut Vec<Instruction>, at: u64, size: u16) -> Result<(), CodeFault>
@@ -21,7 +21,8 @@ fn push_emit(code: &mut Vec<Instruction>, at: u64, size: u16) -> Result<(), Code
     push(code, arithmetic(Operation::Move, 1, from_register(6)))?;
     push(code, arithmetic(Operation::Add, 1, at))?;
     push(code, arithmetic(Operation::Move, 2, size))?;
-    push(code, Instruction::Call { helper: EMIT })
+    push(code, Instruction::Call { helper: EMIT })?;
+    Ok(())
 }
 
 /// Emits the range of the record at a byte of the block, if there is one.
@@ -59,6 +60,7 @@ fn push_record(code: &mut Vec<Instruction>, question: &Question, byte: u32) -> R
 }
 
 /// The code of all records.
+#[tactic(auto, using(crate::proofs::Loops::next_record))]
 fn push_records(code: &mut Vec<Instruction>, question: &Question) -> Result<(), CodeFault>
     ensures { OnOk result (code.new.items ≡ code.old.items ++ records_code question.now question.now.count question.now.first) }
 {
@@ -70,10 +72,10 @@ fn push_records(code: &mut Vec<Instruction>, question: &Question) -> Result<(), 
 }
 
 /// Keeps the addresses of block and scratch, and loads the argument.
-fn push_start(code: &mut Vec<Instruction>) -> Result<(), CodeFault>
+fn push_start(code: &mut Vec<Instruction>) -> Result<(), AllocError>
     ensures { OnOk result (code.new.items ≡ code.old.items ++ start_code) }
 {
-    push(code, load(Size::Word, 8, 1, 20)?)?;
+    push(code, load(Size::Word, 8, 1, 20))?;
     push(code, arithmetic(Operation::Move, 6, from_register(2)))?;
     push(code, arithmetic(Operation::Move, 7, from_register(3)))
 }

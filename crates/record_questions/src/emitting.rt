@@ -4,13 +4,13 @@ ghost use Rattle.std.specs.Prelude.{◌≡◌, ◌<◌, ◌∷◌, ◌++◌, [],
 
 use crate::fault::CodeFault;
 use instruction_set::{Instruction, Operation, Register, Size, Source, Width};
+use std::alloc::AllocError;
 
 /// One instruction more.
-pub(crate) fn push(code: &mut Vec<Instruction>, instruction: Instruction) -> Result<(), CodeFault>
+pub(crate) fn push(code: &mut Vec<Instruction>, instruction: Instruction) -> Result<(), AllocError>
     ensures { OnOk result (code.new.items ≡ code.old.items ++ (instruction ∷ [])) }
 {
-    code.push(instruction)?;
-    Ok(())
+    code.extend_from_slice(&[instruction])
 }
 
 /// A number as an offset or a distance.
@@ -67,15 +67,15 @@ pub(crate) fn from_register(number: u8) -> Source
 }
 
 /// A load by an address in a register and an offset.
-pub(crate) fn load(size: Size, dst: u8, src: u8, offset: u64) -> Result<Instruction, CodeFault>
+pub(crate) fn load(size: Size, dst: u8, src: u8, offset: i16) -> Instruction
     requires dst { dst < 11 }
     requires src { src < 11 }
-    ensures { IfOk result (λ i. i ≡ Instruction.Load size dst src (pos offset)) }
+    ensures { result ≡ Instruction.Load size dst src offset }
 {
-    Ok(Instruction::Load {
+    Instruction::Load {
         size,
         dst: Register::from_number(dst),
         src: Register::from_number(src),
-        offset: short(offset)?,
-    })
+        offset,
+    }
 }

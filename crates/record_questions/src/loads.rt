@@ -4,7 +4,7 @@ ghost use Rattle.std.specs.Prelude.{◌≡◌, ◌<◌, ◌≤◌, ◌∷◌, �
 ghost use Rattle.std.specs.Int.{w64, cast_unsigned};
 ghost use Rattle.record_questions.specs.Code.{extension_of, field_code, field_slots, is_immediate, operand_code, operand_slots, source_of, swap_of};
 
-use crate::emitting::{from_register, load, push};
+use crate::emitting::{from_register, load, push, short};
 use crate::fault::CodeFault;
 use crate::question::{ByteOrder, Field, Operand, Sign};
 use instruction_set::{Instruction, Register, SignExtension, Size, Source, Swap, SwapSize};
@@ -60,15 +60,8 @@ pub(crate) fn push_field(
     requires { register < 11 }
     ensures { OnOk result (code.new.items ≡ code.old.items ++ field_code register byte field) }
 {
-    push(
-        code,
-        load(
-            field.size,
-            register,
-            6,
-            u64::from(byte) + u64::from(field.offset),
-        )?,
-    )?;
+    let offset = short(u64::from(byte) + u64::from(field.offset))?;
+    push(code, load(field.size, register, 6, offset))?;
     let register = Register::from_number(register);
     if let Some(size) = swap_of(field.order, field.size) {
         push(
@@ -155,13 +148,15 @@ pub(crate) fn push_operand(
             if is_immediate(number) {
                 Ok(())
             } else {
+                let value = word(number)?;
                 push(
                     code,
                     Instruction::LoadImmediate {
                         dst: Register::from_number(5),
-                        value: word(number)?,
+                        value,
                     },
-                )
+                )?;
+                Ok(())
             }
         }
         Operand::Argument => Ok(()),

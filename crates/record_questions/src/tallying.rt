@@ -8,6 +8,7 @@ use crate::fault::CodeFault;
 use crate::loads::{field_slots, push_field};
 use crate::question::Tally;
 use instruction_set::{Instruction, Operation, Register, Relation, Size, Source, Width};
+use std::alloc::AllocError;
 
 fn taken_slots(tally: Tally) -> u64
     ensures value { result ≡ taken_slots tally }
@@ -58,13 +59,14 @@ fn push_taken(code: &mut Vec<Instruction>, byte: u32, tally: Tally) -> Result<()
                     dst: Register::from_number(5),
                 },
             )?;
-            push(code, arithmetic(Operation::Add, 5, Source::Immediate(-1)))
+            push(code, arithmetic(Operation::Add, 5, Source::Immediate(-1)))?;
+            Ok(())
         }
     }
 }
 
 /// Changes the word in R4.
-fn push_change(code: &mut Vec<Instruction>, tally: Tally) -> Result<(), CodeFault>
+fn push_change(code: &mut Vec<Instruction>, tally: Tally) -> Result<(), AllocError>
     ensures { OnOk result (code.new.items ≡ code.old.items ++ change_code tally) }
 {
     match tally {
@@ -96,7 +98,8 @@ fn push_tally(
     ensures { OnOk result (code.new.items ≡ code.old.items ++ tally_code byte at tally) }
 {
     push_taken(code, byte, tally)?;
-    push(code, load(Size::DoubleWord, 4, 7, at)?)?;
+    let offset = short(at)?;
+    push(code, load(Size::DoubleWord, 4, 7, offset))?;
     push_change(code, tally)?;
     push(
         code,
@@ -104,9 +107,10 @@ fn push_tally(
             size: Size::DoubleWord,
             dst: Register::from_number(7),
             src: Register::from_number(4),
-            offset: short(at)?,
+            offset,
         },
-    )
+    )?;
+    Ok(())
 }
 
 /// Tallies the record at a byte of the block, each tally in a word of its own.

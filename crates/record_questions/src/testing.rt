@@ -91,6 +91,7 @@ fn push_comparison(
 {
     push_field(code, 4, byte, field)?;
     push_operand(code, byte, operand)?;
+    let distance = short(skip)?;
     push(
         code,
         Instruction::Branch {
@@ -98,9 +99,10 @@ fn push_comparison(
             relation: jump_of(field.sign, goes_on, comparison),
             dst: Register::from_number(4),
             source: source_of(operand),
-            distance: short(skip)?,
+            distance,
         },
-    )
+    )?;
+    Ok(())
 }
 
 /// Of the record at a byte of the block: after this code the program goes on where the predicate is met (`goes_on`), or where it isn't;

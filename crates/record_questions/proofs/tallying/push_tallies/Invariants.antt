@@ -1,0 +1,8 @@
+use Rattle.std.proofs.Common.{◌≡◌, ◌++◌, drop}
+use Rattle.record_questions.specs.Code.{tallies_code}
+use Rattle.record_questions.proofs.tallying.push_tallies.Given as goal
+
+-- what is pushed, and what is left to push
+abbrev pub invariant-loop-tally : goal.invariant-loop-tally
+invariant-loop-tally l =
+    l.code.items ++ tallies_code l.byte l.at (drop l.tally-index l.tallies) ≡ l.initial.code.items ++ tallies_code l.byte 0 l.tallies
