@@ -26,7 +26,7 @@ abbrev pub skipped : Bool → ℕ → ℕ
 skipped true skip = skip
 skipped false skip = 0
 
-twice : (b : Bool) → b ≡ not (not b)
+pub twice : (b : Bool) → b ≡ not (not b)
 twice true = refl
 twice false = refl
 

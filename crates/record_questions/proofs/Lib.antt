@@ -4,3 +4,6 @@ mod Standing
 mod Accesses
 mod Numbers
 mod Comparisons
+mod Course
+mod Tests
+mod Matches

@@ -1,5 +1,5 @@
 -- The words that fields are loaded as.
-use Rattle.std.proofs.Common.{ℕ, ℤ, pos, negsuc, ◌+◌, ◌<◌, ◌^◌, ◌%◌, ◌≡◌, Bool, true, false, List, drop, Option, Some, None, refl, sym, ap, ◌∙◌, arith}
+use Rattle.std.proofs.Common.{ℕ, ℤ, pos, negsuc, ◌+◌, ◌<◌, ◌^◌, ◌%◌, ◌≡◌, Bool, true, false, List, take, drop, Option, Some, None, refl, sym, ap, ◌∙◌, subst, arith, take-append-drop}
 use Rattle.std.proofs.Common.{SFits}
 use Rattle.std.proofs.Math.Nat.{mod-eq_of_lt}
 use Rattle.std.proofs.lemmas.Bool.Decides.{nat_tests}
@@ -7,7 +7,7 @@ use Rattle.std.proofs.lemmas.Int.{ints, to_z-of_z}
 use Rattle.std.specs.Int.{w8, w16, w32, w64, cast_signed, cast_unsigned}
 use Rattle.byteorder.specs.Endian.{little_number, twos_complement}
 use Rattle.byteorder.specs.Numbers.{big_from-lt, little_from-lt}
-use Rattle.common_definitions.proofs.Proved.{bytes_from}
+use Rattle.common_definitions.proofs.Proved.{bytes_from, front_fit}
 use Rattle.common_definitions.specs.Bytes.{AreBytes}
 use Rattle.instruction_set.specs.Instruction.{size_of}
 use Rattle.instruction_set.specs.declared.operation.SignExtension.{SignExtension}
@@ -99,6 +99,32 @@ pub value_is_number : (f : Field) (r : List ℕ) → AreBytes r → IsNumber f.s
 value_is_number f r are =
     signed_is_number f.sign f.size (number_in f r) (number_fits f.order (size_of f.size) (drop f.offset r) (bytes_from f.offset r are))
 
+pub argument_is_number : (sign : Sign) (n : ℕ) → n < 2 ^ 32 → IsNumber sign (pos n)
+argument_is_number Unsigned n small = (omega (arith, ints), omega (arith, ints))
+argument_is_number Signed n small = (omega (arith, ints), omega (arith, ints))
+
 pub fits_signed : (z : ℤ) → IsNumber Signed z → SFits w64 z
 fits_signed (pos n) is = let a = is.1 in record { sfits = omega (arith, ints, a) }
 fits_signed (negsuc n) is = let a = is.0 in record { sfits = omega (arith, ints, a) }
+
+pub word_fits : (sign : Sign) (z : ℤ) → IsNumber sign z → cast_unsigned w64 z < 2 ^ 64
+word_fits Unsigned (pos n) is = let a = is.1 in omega (arith, ints, a)
+word_fits Unsigned (negsuc n) is = let a = is.0 in absurd (omega (arith, ints, a))
+word_fits Signed (pos n) is = let a = is.1 in omega (arith, ints, a)
+word_fits Signed (negsuc n) is = let a = is.0 in omega (arith, ints, a)
+
+-- ---- bytes of records
+
+sized : (size : Size) (x : ℕ) → x < 256 ^ size_of size → x < 2 ^ 64
+sized Byte x small = omega arith
+sized HalfWord x small = omega arith
+sized Word x small = omega arith
+sized DoubleWord x small = omega arith
+
+pub number_in_fits : (f : Field) (r : List ℕ) → AreBytes r → number_in f r < 2 ^ 64
+number_in_fits f r are = sized f.size (number_in f r) (number_fits f.order (size_of f.size) (drop f.offset r) (bytes_from f.offset r are))
+
+pub record_bytes : (size byte : ℕ) (bytes : List ℕ) → AreBytes bytes → AreBytes (take size (drop byte bytes))
+record_bytes size byte bytes are =
+    front_fit (take size (drop byte bytes)) (drop size (drop byte bytes))
+    (subst AreBytes (sym (take-append-drop size (drop byte bytes))) (bytes_from byte bytes are))

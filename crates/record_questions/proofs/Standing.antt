@@ -14,7 +14,7 @@ Stands program slot [] = Unit {0}
 Stands program slot (i ∷ is) = (instruction_at program slot ≡ Some i) × Stands program (slot + slots_taken i) is
 
 pub slot_count-append : (a b : List Instruction) → slot_count (a ++ b) ≡ slot_count a + slot_count b
-slot_count-append [] b = refl
+slot_count-append [] b = omega arith
 slot_count-append (i ∷ a) b =
     let rest = slot_count-append a b in
     omega (arith, rest)
