@@ -1,12 +1,12 @@
 -- A block run that ends by EXIT, as it goes through the pieces of a question's program: loads of fields and of operands.
-use Rattle.std.proofs.Common.{ℕ, ℤ, pos, ◌+◌, ◌<◌, ◌≤◌, ◌^◌, ◌%◌, ◌≡◌, Bool, true, false, List, [], ◌∷◌, ◌++◌, length, take, drop, Option, Some, None, refl, sym, ap, ◌∙◌, subst, arith}
+use Rattle.std.proofs.Common.{ℕ, ℤ, pos, ◌+◌, ◌<◌, ◌≤◌, ◌^◌, ◌%◌, ◌≡◌, Bool, true, false, List, [], ◌∷◌, ◌++◌, length, take, drop, Option, Some, None, refl, subst, arith}
 use Rattle.std.proofs.Math.Nat.{mod-eq_of_lt}
 use Rattle.std.specs.Int.{w64, cast_unsigned}
 use Rattle.std.specs.Prelude.{if◌then◌else◌}
 use Rattle.byteorder.specs.Endian.{little_number}
 use Rattle.common_definitions.proofs.Proved.{bytes_from}
 use Rattle.common_definitions.specs.Bytes.{AreBytes}
-use Rattle.instruction_set.specs.Instruction.{immediate_word, size_of}
+use Rattle.instruction_set.specs.Instruction.{size_of}
 use Rattle.instruction_set.specs.Program.{instruction_at}
 use Rattle.instruction_set.specs.declared.instruction.Instruction.{Instruction}
 use Rattle.instruction_set.specs.declared.instruction.Instruction.TheVariants.{Load, LoadImmediate, MoveSigned, SwapBytes}
@@ -33,7 +33,7 @@ use Rattle.record_questions.specs.declared.question.Operand.{Operand}
 use Rattle.record_questions.specs.declared.question.Operand.TheVariants as operands
 use Rattle.record_questions.specs.Asked.{IsField, IsOperand}
 use Rattle.record_questions.specs.Code.{extension_code, extension_of, field_code, is_immediate, operand_code, slot_count, source_of, swap_code, swap_of}
-use Rattle.record_questions.specs.Question.{number_in, operand_value, value_of}
+use Rattle.record_questions.specs.Question.{operand_value, value_of}
 
 -- a block run that ends by EXIT, and what doesn't change in it
 pub record Course : Type 0 where

@@ -7,3 +7,5 @@ mod Comparisons
 mod Course
 mod Tests
 mod Matches
+mod Records
+mod Words

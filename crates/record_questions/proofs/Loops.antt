@@ -1,5 +1,5 @@
 -- What the loops of the code generator push.
-use Rattle.std.proofs.Common.{ℕ, suc, ◌+◌, ◌-◌, ◌*◌, ◌<◌, ◌≡◌, ◌++◌, List, refl, ap, ◌∙◌, arith, append_assoc}
+use Rattle.std.proofs.Common.{ℕ, suc, ◌+◌, ◌-◌, ◌*◌, ◌<◌, ◌≡◌, ◌++◌, List, arith, append_assoc}
 use Rattle.instruction_set.specs.declared.instruction.Instruction.{Instruction}
 use Rattle.record_questions.specs.Code.{record_code, records_code}
 use Rattle.record_questions.specs.declared.question.Question.{Question}

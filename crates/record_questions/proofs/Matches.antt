@@ -1,15 +1,13 @@
 -- What a block run does of a record that matches: its tallies and its frame.
-use Rattle.std.proofs.Common.{ℕ, ℤ, pos, ◌+◌, ◌-◌, ◌*◌, ◌<◌, ◌≤◌, ◌^◌, ◌%◌, ◌≡◌, Bool, true, false, not, cond, List, [], ◌∷◌, ◌++◌, length, take, drop, Option, Some, None, refl, sym, ap, ◌∙◌, subst, arith}
+use Rattle.std.proofs.Common.{ℕ, pos, ◌+◌, ◌-◌, ◌*◌, ◌<◌, ◌≤◌, ◌^◌, ◌%◌, ◌≡◌, Bool, true, false, cond, List, [], ◌∷◌, ◌++◌, length, take, drop, Some, refl, ap, ◌∙◌, subst, arith}
 use Rattle.std.proofs.Math.Nat.{mod-eq_of_lt}
 use Rattle.std.proofs.lemmas.Bool.{leb-true}
 use Rattle.std.proofs.lemmas.Bool.Decides.{nat_tests}
 use Rattle.std.specs.Prelude.{max, nat_le, neg_ℤ}
-use Rattle.byteorder.specs.Endian.{little_bytes, little_number}
-use Rattle.common_definitions.proofs.Proved.{bytes_from}
+use Rattle.byteorder.specs.Endian.{little_bytes}
 use Rattle.common_definitions.specs.Bytes.{field, spliced}
-use Rattle.instruction_set.specs.Instruction.{immediate_word, size_of, target}
+use Rattle.instruction_set.specs.Instruction.{immediate_word, target}
 use Rattle.instruction_set.specs.Program.{instruction_at}
-use Rattle.instruction_set.specs.declared.instruction.Instruction.{Instruction}
 use Rattle.instruction_set.specs.declared.instruction.Instruction.TheVariants.{Load, Arithmetic, Branch, Call, Negate, StoreRegister}
 use Rattle.instruction_set.specs.declared.instruction.Source.TheVariants.{Immediate, Register}
 use Rattle.instruction_set.specs.declared.operation.Operation.TheVariants.{Add, Move}
@@ -18,26 +16,25 @@ use Rattle.instruction_set.specs.declared.operation.Relation.TheVariants as jump
 use Rattle.instruction_set.specs.declared.operation.Width.TheVariants.{Bits64}
 use Rattle.program_interface.specs.Area.{address_of}
 use Rattle.program_interface.specs.Frame.{frame}
-use Rattle.program_interface.specs.declared.area.Area.TheVariants.{Block, Scratch}
+use Rattle.program_interface.specs.declared.area.Area.TheVariants.{Block}
 use Rattle.program_interface.specs.declared.area.TheConstants.{SCRATCH_BYTES}
 use Rattle.program_interface.specs.declared.frame.TheConstants.{EMIT}
 use Rattle.program_meaning.specs.Effect.{bytes_at}
-use Rattle.program_meaning.specs.Memory.{Memory, loaded}
+use Rattle.program_meaning.specs.Memory.{Memory}
 use Rattle.program_meaning.specs.Step.{slot_number}
-use Rattle.record_questions.proofs.Accesses.{address_is, cut_is, emitted_is, scratch_loaded_is, scratch_stored_is}
+use Rattle.record_questions.proofs.Accesses.{address_is, emitted_is, scratch_loaded_is, scratch_stored_is}
 use Rattle.record_questions.proofs.Course.{At, ComesTo, Course, Fifth, Temporaries, between, field_comes, moved, word_in}
 use Rattle.record_questions.proofs.Numbers.{number_in_fits, record_bytes}
 use Rattle.record_questions.proofs.Reaching.{goes}
 use Rattle.record_questions.proofs.Standing.{Stands, back_stands, front_stands, slot_count-append}
 use Rattle.record_questions.proofs.Tests.{Comes, at_slot, field_slots_are}
-use Rattle.record_questions.specs.declared.question.Sign.{Sign}
 use Rattle.record_questions.specs.declared.question.Sign.TheVariants.{Unsigned}
 use Rattle.record_questions.specs.declared.question.Field.{Field}
 use Rattle.record_questions.specs.declared.question.Tally.{Tally}
 use Rattle.record_questions.specs.declared.question.Tally.TheVariants.{Count, Sum, Least, Greatest}
 use Rattle.record_questions.specs.Asked.{AreTallies, IsTallied, IsTally}
 use Rattle.record_questions.specs.Code.{change_code, change_slots, emit_code, field_code, slot_count, taken_code, taken_slots, tallies_code, tallies_slots, tally_code}
-use Rattle.record_questions.specs.Question.{number_in, signed_by}
+use Rattle.record_questions.specs.Question.{number_in}
 use Rattle.record_questions.specs.Tallies.{tallied_from, tally_step}
 
 -- ---- how many slots tallies take
@@ -62,8 +59,13 @@ tally_slots_are byte at y =
     let a = taken_slots_are byte y in
     let b = change_slots_are y in
     let store = StoreRegister DoubleWord 7 4 (pos at) ∷ [] in
-    omega (arith, a, b, slot_count-append (taken_code byte y) (Load DoubleWord 4 7 (pos at) ∷ (change_code y ++ store)),
-    slot_count-append (change_code y) store)
+    omega (
+      arith,
+      a,
+      b,
+      slot_count-append (taken_code byte y) (Load DoubleWord 4 7 (pos at) ∷ (change_code y ++ store)),
+      slot_count-append (change_code y) store,
+    )
 
 pub tallies_slots_are : (byte at : ℕ) (ys : List Tally) → slot_count (tallies_code byte at ys) ≡ tallies_slots ys
 tallies_slots_are byte at [] = refl

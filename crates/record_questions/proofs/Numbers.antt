@@ -1,14 +1,14 @@
 -- The words that fields are loaded as.
-use Rattle.std.proofs.Common.{ℕ, ℤ, pos, negsuc, ◌+◌, ◌<◌, ◌^◌, ◌%◌, ◌≡◌, Bool, true, false, List, take, drop, Option, Some, None, refl, sym, ap, ◌∙◌, subst, arith, take-append-drop}
+use Rattle.std.proofs.Common.{ℕ, ℤ, pos, negsuc, ◌<◌, ◌^◌, ◌%◌, ◌≡◌, List, take, drop, Option, Some, None, refl, sym, ap, subst, arith, take-append-drop}
 use Rattle.std.proofs.Common.{SFits}
 use Rattle.std.proofs.Math.Nat.{mod-eq_of_lt}
 use Rattle.std.proofs.lemmas.Bool.Decides.{nat_tests}
-use Rattle.std.proofs.lemmas.Int.{ints, to_z-of_z}
+use Rattle.std.proofs.lemmas.Int.{ints}
 use Rattle.std.specs.Int.{w8, w16, w32, w64, cast_signed, cast_unsigned}
 use Rattle.byteorder.specs.Endian.{little_number, twos_complement}
 use Rattle.byteorder.specs.Numbers.{big_from-lt, little_from-lt}
 use Rattle.common_definitions.proofs.Proved.{bytes_from, front_fit}
-use Rattle.common_definitions.specs.Bytes.{AreBytes}
+use Rattle.common_definitions.specs.Bytes.{AreBytes, field}
 use Rattle.instruction_set.specs.Instruction.{size_of}
 use Rattle.instruction_set.specs.declared.operation.SignExtension.{SignExtension}
 use Rattle.instruction_set.specs.declared.operation.Size.{Size}
@@ -128,3 +128,9 @@ pub record_bytes : (size byte : ℕ) (bytes : List ℕ) → AreBytes bytes → A
 record_bytes size byte bytes are =
     front_fit (take size (drop byte bytes)) (drop size (drop byte bytes))
     (subst AreBytes (sym (take-append-drop size (drop byte bytes))) (bytes_from byte bytes are))
+
+-- a field of four bytes of the context
+pub word_field_fits : (bytes : List ℕ) (at : ℕ) → AreBytes bytes → field bytes at 4 < 2 ^ 32
+word_field_fits bytes at are =
+    let h = little_from-lt 0 4 (drop at bytes) (bytes_from at bytes are) in
+    omega (arith, h)

@@ -1,10 +1,9 @@
 -- Where a block run goes after the test of a record.
-use Rattle.std.proofs.Common.{ℕ, ℤ, pos, ◌+◌, ◌<◌, ◌≤◌, ◌^◌, ◌≡◌, Bool, true, false, not, ◌&&◌, ◌||◌, cond, List, [], ◌∷◌, ◌++◌, length, take, drop, Option, Some, None, refl, sym, ap, ◌∙◌, subst, arith}
+use Rattle.std.proofs.Common.{ℕ, ℤ, pos, ◌+◌, ◌≤◌, ◌≡◌, Bool, true, false, not, ◌&&◌, ◌||◌, cond, List, [], ◌∷◌, ◌++◌, length, take, drop, Option, Some, None, refl, sym, ap, ◌∙◌, subst, arith}
 use Rattle.std.specs.Int.{w64, cast_unsigned}
 use Rattle.common_definitions.specs.Bytes.{AreBytes}
-use Rattle.instruction_set.specs.Instruction.{size_of, target}
+use Rattle.instruction_set.specs.Instruction.{target}
 use Rattle.instruction_set.specs.Program.{instruction_at}
-use Rattle.instruction_set.specs.declared.instruction.Instruction.{Instruction}
 use Rattle.instruction_set.specs.declared.instruction.Instruction.TheVariants.{Branch, LoadImmediate}
 use Rattle.instruction_set.specs.declared.instruction.Source.{Source}
 use Rattle.instruction_set.specs.declared.operation.Relation.{Relation}
@@ -13,11 +12,10 @@ use Rattle.program_meaning.specs.Effect.{operand}
 use Rattle.program_meaning.specs.Step.{slot_number}
 use Rattle.program_meaning.specs.Word.{is_taken}
 use Rattle.record_questions.proofs.Comparisons.{skipped, skips, taken_is, twice}
-use Rattle.record_questions.proofs.Course.{At, Course, Fourth, Operands, Temporaries, between, field_comes, moved, operand_comes, registers_of, word_in}
+use Rattle.record_questions.proofs.Course.{At, Course, Fourth, Temporaries, between, field_comes, operand_comes, registers_of}
 use Rattle.record_questions.proofs.Numbers.{argument_is_number, record_bytes, value_is_number}
 use Rattle.record_questions.proofs.Reaching.{goes}
 use Rattle.record_questions.proofs.Standing.{Stands, back_stands, front_stands, slot_count-append}
-use Rattle.record_questions.specs.declared.question.Sign.{Sign}
 use Rattle.record_questions.specs.declared.question.Field.{Field}
 use Rattle.record_questions.specs.declared.question.Comparison.{Comparison}
 use Rattle.record_questions.specs.declared.question.Operand.{Operand}

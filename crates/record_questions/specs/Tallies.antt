@@ -1,5 +1,5 @@
 -- What is tallied of records, and what it comes to.
-use Rattle.std.specs.Prelude.{ℕ, ◌≡◌, ◌+◌, ◌-◌, ◌*◌, ◌<◌, ◌≤◌, ◌%◌, ◌^◌, ◌⊎◌, max, List, [], ◌∷◌, length, get_or, map}
+use Rattle.std.specs.Prelude.{ℕ, ◌≡◌, ◌+◌, ◌-◌, ◌*◌, ◌<◌, ◌≤◌, ◌%◌, ◌^◌, max, List, [], ◌∷◌, length, get_or, map}
 use Rattle.std.specs.List.{AllByRecursion, Contains, sum_by}
 use Rattle.byteorder.specs.Endian.{little_bytes}
 use Rattle.common_definitions.specs.Bytes.{AreBytes, field, spliced}

@@ -6,6 +6,7 @@ mod check;
 mod code;
 mod emitting;
 mod fault;
+pub mod laws;
 mod loads;
 mod question;
 mod tallying;
