@@ -1,0 +1,44 @@
+-- Why a question has no accepted program.
+use Rattle.std.specs.Prelude.{ℕ, Option, None, ◌≡◌, ◌<◌, ◌+◌, ◌*◌, length, Some}
+use Rattle.program_interface.specs.RunSizes.{Sizes}
+use Rattle.program_interface.specs.declared.TheConstants.{MOST_SLOTS}
+use Rattle.program_interface.specs.declared.area.TheConstants.{SCRATCH_BYTES}
+use Rattle.program_interface.specs.declared.frame.TheConstants.{FRAME_LENGTH_BYTES}
+use Rattle.accepted_programs.specs.Accepted.{refusal}
+use Rattle.interval_domain.specs.Intervals.{intervals}
+use Rattle.question_compiler.specs.declared.fault.QuestionFault.{QuestionFault}
+use Rattle.question_compiler.specs.declared.fault.QuestionFault.TheVariants as fault
+use Rattle.record_questions.specs.Code.{question_program}
+use Rattle.record_questions.specs.Asked.{IsQuestion}
+use Rattle.record_questions.specs.declared.question.ByteRange.{ByteRange}
+use Rattle.record_questions.specs.declared.question.Question.{Question}
+
+-- the byte of a block at which a question's records end
+abbrev pub records_end : Question → ℕ
+records_end q = q.first + q.count * q.size
+
+-- the bytes of the frame that a match takes, if something of it is emitted
+abbrev pub frame_bytes : Option ByteRange → ℕ
+frame_bytes None = 0
+frame_bytes (Some range) = FRAME_LENGTH_BYTES + range.size
+
+-- the bytes that are emitted for a block whose records all match
+abbrev pub most_emitted : Question → ℕ
+most_emitted q = q.count * frame_bytes q.emitted
+
+-- bytes of a record end so far into it
+abbrev pub EndsAt : Option ByteRange → ℕ → Type 0
+EndsAt None end = ⊥
+EndsAt (Some range) end = end ≡ range.offset + range.size
+
+-- what each fault says of the question and the sizes that were asked for
+abbrev pub IsFaultOf : Question → Sizes → QuestionFault → Type 0
+IsFaultOf q sizes (fault.RecordsPassBlock end block) = (end ≡ records_end q) × (block ≡ sizes.block) × (block < end)
+IsFaultOf q sizes (fault.EmittedPassRecord end size) = EndsAt q.emitted end × (size ≡ q.size) × (size < end)
+IsFaultOf q sizes (fault.TooManyTallies count) = (count ≡ length q.tallies.items) × (SCRATCH_BYTES < 8 * count)
+IsFaultOf q sizes fault.NoQuestion = ¬ IsQuestion sizes.block q
+IsFaultOf q sizes (fault.OverLimit needed limit) = (needed ≡ most_emitted q) × (limit ≡ sizes.limit) × (limit < needed)
+IsFaultOf q sizes fault.TooFar = Unit {0}
+IsFaultOf q sizes (fault.TooLong count) = (count ≡ length (question_program q)) × (MOST_SLOTS < count)
+IsFaultOf q sizes (fault.Refused why) = refusal intervals (question_program q) sizes ≡ Some why
+IsFaultOf q sizes fault.Memory = Unit {0}

@@ -1,0 +1,76 @@
+//! Why a question has no accepted program.
+
+use accepted_programs::Refusal;
+use program_interface::{MOST_SLOTS, SCRATCH_BYTES};
+use std::alloc::{AllocError, AllocFailed};
+use thiserror::Error;
+
+/// Why a question has no accepted program.
+#[derive(Clone, Copy, Debug, PartialEq, Eq, Error)]
+pub enum QuestionFault {
+    /// The records end after the block.
+    #[error("the records end at byte {end} of a block of {block}")]
+    RecordsPassBlock {
+        /// The byte of a block at which they end.
+        end: u32,
+        /// How many bytes a block has.
+        block: u32,
+    },
+    /// The emitted bytes end after the record.
+    #[error("the emitted bytes end at byte {end} of a record of {size}")]
+    EmittedPassRecord {
+        /// The byte of a record at which they end.
+        end: u32,
+        /// How many bytes a record has.
+        size: u16,
+    },
+    /// There are more tallies than scratch has words.
+    #[error("{0} tallies, and scratch has {most} words", most = SCRATCH_BYTES / 8)]
+    TooManyTallies(usize),
+    /// Something else of it can't be asked: a field ends after its record, a number has more than 64 bits, fields of different signs
+    /// are compared, a signed field is tallied, or no byte of a match is emitted.
+    #[error("a field passes its record, or can't be compared, tallied or emitted so")]
+    NoQuestion,
+    /// A block whose records all match takes more bytes than the limit.
+    #[error("a block whose records all match takes {needed} bytes, and the limit is {limit}")]
+    OverLimit {
+        /// How many bytes it takes, frame lengths counted.
+        needed: u32,
+        /// The limit that was asked for.
+        limit: u32,
+    },
+    /// A jump or a number of the code is more than an instruction holds.
+    #[error("a jump or a number of the code doesn't fit an instruction")]
+    TooFar,
+    /// The code has more slots than a program can have.
+    #[error("{0} slots, and a program has {MOST_SLOTS} at most")]
+    TooLong(usize),
+    /// The verifier refuses the program, for the first refusal.
+    #[error("slot {}: {}", .0.slot, .0.reason)]
+    Refused(Refusal),
+    /// There was no memory. It says nothing of the question.
+    #[error("no memory")]
+    Memory,
+}
+
+impl From<AllocError> for QuestionFault {
+    ghost use Rattle.std.specs.Prelude.{◌≡◌};
+    ghost use Rattle.question_compiler.specs.declared.fault.QuestionFault.TheVariants.{Memory};
+
+    ghost from_gives = { λ error result. result ≡ Memory };
+
+    fn from(_error: AllocError) -> QuestionFault {
+        QuestionFault::Memory
+    }
+}
+
+impl<T: Drop> From<AllocFailed<T>> for QuestionFault {
+    ghost use Rattle.std.specs.Prelude.{◌≡◌};
+    ghost use Rattle.question_compiler.specs.declared.fault.QuestionFault.TheVariants.{Memory};
+
+    ghost from_gives = { λ error result. result ≡ Memory };
+
+    fn from(_error: AllocFailed<T>) -> QuestionFault {
+        QuestionFault::Memory
+    }
+}

@@ -1,0 +1,9 @@
+//! Programs of questions that the verifier accepts.
+#![tactic(auto)]
+
+mod compiling;
+mod fault;
+mod fits;
+
+pub use compiling::compile;
+pub use fault::QuestionFault;
