@@ -1,0 +1,5 @@
+mod Loads
+mod Loading
+mod Runs
+mod Answering
+mod Witness
