@@ -2,3 +2,4 @@ mod Passed
 mod Tables
 mod Functions
 mod Apart
+mod Steps
