@@ -75,7 +75,6 @@ fn forget<D: Domain>(cells: &mut [Option<D>; CELLS], first: i128, last: i128)
 }
 
 /// Forgets all cells.
-#[tactic(auto, using(crate::proofs::Fills::filled_more))]
 fn forget_all<D: Domain>(cells: &mut [Option<D>; CELLS])
     ensures { cells.new ≡ no_cells }
 {
@@ -159,7 +158,6 @@ fn join_cell<D: Domain>(one: Option<D>, other: Option<D>) -> Option<D>
 }
 
 /// Joins what other cells are known to have into these.
-#[tactic(auto, using(crate::proofs::Joins::joined_more, crate::proofs::Joins::joined_rows))]
 pub(crate) fn join<D: Domain>(cells: &mut [Option<D>; CELLS], others: &[Option<D>; CELLS])
     ensures { cells.new ≡ joined_each (cell_join D.operations.join) cells.old others.now }
 {

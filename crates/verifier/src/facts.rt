@@ -37,7 +37,6 @@ pub(crate) fn at_start<D: Domain>() -> Facts<D>
 }
 
 /// Joins what is known of other registers into these.
-#[tactic(auto, using(crate::proofs::Joins::joined_more, crate::proofs::Joins::joined_rows))]
 fn join_registers<D: Domain>(registers: &mut [D; REGISTERS], others: &[D; REGISTERS])
     ensures { registers.new ≡ joined_each D.operations.join registers.old others.now }
 {

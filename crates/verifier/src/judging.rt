@@ -41,7 +41,6 @@ fn group<D: Domain>(row: &Row<D>) -> usize
 }
 
 /// So many slots, of which nothing is known.
-#[tactic(auto, using(crate::proofs::Gifts::empty_more))]
 fn empty_rows<D: Domain>(alloc: Global, slots: usize) -> Result<Vec<Row<D>>, AllocError>
     ensures len { IfOk result (λ rows. length rows.items ≡ slots) }
     ensures rows { IfOk result (λ rows. (s : ℕ) → get_or rows.items s None ≡ None) }
