@@ -12,7 +12,7 @@ use instruction_set::Instruction;
 use text_lines::{cut, is_all_ascii, trim, without_comment};
 
 /// What a line has.
-#[derive(Clone, Copy, Debug, PartialEq, Eq)]
+#[derive(Clone, Copy)]
 pub struct Line<'a> {
     /// The label that it begins with.
     pub label: Option<&'a [u8]>,

@@ -9,7 +9,7 @@ use instruction_set::{
 };
 
 /// What the first word of a statement says: an instruction but for its operands. Variants are named as those of `Instruction`.
-#[derive(Clone, Copy, Debug, PartialEq, Eq)]
+#[derive(Clone, Copy)]
 pub enum Mnemonic {
     LoadImmediate,
     Load(Size),

@@ -16,7 +16,7 @@ use instruction_set::{
 use text_lines::{cut, trim, word};
 
 /// An instruction. Where it jumps to a label, its distance is 0 and the label stands beside it.
-#[derive(Clone, Copy, Debug, PartialEq, Eq)]
+#[derive(Clone, Copy)]
 pub struct Statement<'a> {
     /// The instruction.
     pub instruction: Instruction,
