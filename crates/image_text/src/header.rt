@@ -16,7 +16,7 @@ use image_store::{Geometry, Limits};
 pub const HEADER_BYTES: usize = 64;
 
 /// What a header tells.
-#[derive(Clone, Copy, Debug, PartialEq, Eq)]
+#[derive(Clone, Copy)]
 pub struct Header {
     /// The shape of the namespace.
     pub geometry: Geometry,

@@ -13,7 +13,7 @@ use image_store::{Image, Zone};
 const PIECE_BYTES: usize = 65536;
 
 /// Why what comes from a source isn't known to be a text.
-#[derive(Clone, Copy, Debug, PartialEq, Eq)]
+#[derive(Clone, Copy)]
 pub enum Difference {
     /// It is another one, or ends before the text does.
     Other,
