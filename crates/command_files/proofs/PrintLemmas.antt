@@ -1,23 +1,22 @@
 -- What a stream grows by, where the words of a fault stand in the text.
-use Rattle.std.proofs.Common.{◌≡◌, ◌<◌, ◌+◌, ◌∙◌, ℕ, List, [], ◌∷◌, ◌++◌, length, get_or, take, Option, Some, Result, Ok, Err, OnOk, ap, subst, sym, unwrap_or}
+use Rattle.std.proofs.Common.{◌≡◌, ◌<◌, ◌+◌, ◌∙◌, ℕ, List, [], ◌∷◌, ◌++◌, length, get_or, take, Option, Result, Ok, Err, OnOk, ap, refl, subst, sym}
 use Rattle.std.specs.Io.KnownBytes.{Appends}
 use Rattle.std.proofs.KnownBytes.{Appends-trans}
 use Rattle.std.proofs.lemmas.List.{flat_map_more, take_more}
-use Rattle.command_files.specs.Lines.{Around, IsTold, failure_text}
+use Rattle.command_files.specs.Lines.{Text, Said, Around, Elsewhere, Silence, IsPrinted}
 use Rattle.command_files.specs.Pieces.{piece_text, pieces_text, text_with}
-use Rattle.command_files.specs.declared.failure.Failure.{Failure}
 use Rattle.command_files.specs.declared.pieces.Piece.{Piece}
 use Rattle.command_files.specs.declared.pieces.Piece.TheVariants.{Nothing}
 
--- what the user is told of a failure whose text is known but for the words of the fault
-pub told_around : {T E : Type 0} (result : Result T E) (failure : Failure) (front words behind told : List ℕ) (old new : Option (List ℕ))
-    → failure_text failure ≡ Around front behind → Some told ≡ text_with words (Around front behind)
-    → OnOk result (Appends old new told) → OnOk result (IsTold failure old new)
-told_around (Err error) failure front words behind told old new text is grows = tt
-told_around (Ok done) failure front words behind told old new text is grows = rw text record {
-  words = words;
-  grows = subst (λ (t : List ℕ). Appends old new t) (ap (λ (known : Option (List ℕ)). unwrap_or known []) is) grows;
-}
+-- a text that is made here is printed by its pieces, with some words in the place of those that another crate has
+pub printed_with : {T E : Type 0} (result : Result T E) (text : Text) (words told : List ℕ) (old new : Option (List ℕ))
+    → told ≡ text_with words text → (text ≡ Silence → ⊥) → OnOk result (Appends old new told) → OnOk result (IsPrinted text old new)
+printed_with (Err error) text words told old new is made grows = tt
+printed_with (Ok done) (Said text) words told old new is made grows = subst (λ (t : List ℕ). Appends old new t) is grows
+printed_with (Ok done) (Around front behind) words told old new is made grows =
+    record { words = words; grows = subst (λ (t : List ℕ). Appends old new t) is grows }
+printed_with (Ok done) Elsewhere words told old new is made grows = tt
+printed_with (Ok done) Silence words told old new is made grows = absurd (made refl)
 
 -- one piece more
 pub printed_more : (old between new : Option (List ℕ)) (pieces : List Piece) (index : ℕ) (text : List ℕ) → index < length pieces

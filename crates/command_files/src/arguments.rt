@@ -109,8 +109,10 @@ pub fn number_or_hexadecimal<'a>(
     ensures value { IfOk result (λ number. number_or_hexadecimal_of matches.now option.now ≡ Some number) }
     ensures unspelled { IfErr result (SpellsNoneOrHexadecimal matches.now option.entry 0 4294967295) }
 {
-    let most = u64::from(u32::MAX);
-    Ok(number_or_hexadecimal_in_range(matches, option, 0, most)? as u32)
+    match number_or_hexadecimal_in_range(matches, option, 0, u64::from(u32::MAX)) {
+        Ok(number) => Ok(number as u32),
+        Err(failure) => Err(failure),
+    }
 }
 
 /// The same, from `least` to `most`.
@@ -129,10 +131,9 @@ pub fn number_or_hexadecimal_in_range<'a>(
     ensures high { IfOk result (λ number. number ≤ most) }
     ensures unspelled { IfErr result (SpellsNoneOrHexadecimal matches.now option.entry least most) }
 {
-    let failure = not_in_range(matches, option, least, most);
     match decimal_or_hexadecimal(required(matches, option)) {
         Some(number) if least <= number && number <= most => Ok(number),
-        _ => Err(failure),
+        _ => Err(not_in_range(matches, option, least, most)),
     }
 }
 

@@ -7,7 +7,7 @@ use nvme_entry::MOST_TRANSFER;
 use thiserror::Error;
 
 /// Why a file of so many bytes can't be moved by a command of the device.
-#[derive(Clone, Copy, Debug, PartialEq, Eq, Error)]
+#[derive(Clone, Copy, Debug, Error)]
 pub enum DataFault {
     /// There are none.
     #[error("0 bytes; from 1 to {most} are expected", most = MOST_TRANSFER)]

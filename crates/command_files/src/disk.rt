@@ -1,9 +1,9 @@
 //! The files of the system.
 
-ghost use Rattle.std.specs.Prelude.{◌≡◌, ℕ, List, [], ◌∷◌, ◌++◌, IfErr, IsSome, None, Some, OnErr, OnOk, option_map, string_bytes};
+ghost use Rattle.std.specs.Prelude.{◌≡◌, ◌≤◌, ◌*◌, ◌^◌, ℕ, List, [], ◌∷◌, ◌++◌, IfErr, IfOk, IsSome, None, Some, length, OnErr, OnOk, option_map, string_bytes};
 ghost use Rattle.command_files.specs.Crash.{LeavesOldOrNew};
 ghost use Rattle.command_files.specs.Made.{told_made};
-ghost use Rattle.command_files.specs.UserTold.{IsNotPast};
+ghost use Rattle.command_files.specs.UserTold.{IsNotPast, IsPast};
 
 use crate::file_cause::FileCause;
 use crate::file_reader::FileReader;
@@ -11,6 +11,7 @@ use crate::files::{FileFault, Files, MEBIBYTE};
 use crate::unfinished::{FileWriter, HeldName, begin_beside, hold_finished, settle_name};
 use crate::writing::{put_under, write_beside, write_there};
 use placed_file::Attempts;
+use std::alloc::Global;
 use std::fs::File;
 use std::io::Read;
 use std::{fs, mem, rt};
@@ -117,13 +118,13 @@ impl<R: rt::Files<File = File> + AllocGlobal> Disk<'_, R> {
         ensures tried { self.new.tried ≡ self.old.tried }
     {
         if path != STANDARD_INPUT {
-            return Ok(fs::open(self.rt, path)?);
+            return opened_at(self.rt, path);
         }
         if self.input_read {
             return Err(FileFault::Failed(FileCause::ReadBefore));
         }
         self.input_read = true;
-        Ok(fs::open(self.rt, "/dev/stdin")?)
+        opened_at(self.rt, "/dev/stdin")
     }
 
     /// Gives a file that is written the name that is held, and holds it then. Where that fails, it is forgotten, and no name is held.
@@ -186,15 +187,10 @@ impl<R: rt::Files<File = File> + AllocGlobal> Files for Disk<'_, R> {
     ghost held = { λ disk. option_map (λ held. string_bytes held.name) disk.held };
 
     fn read(&mut self, path: &str, mebibytes: u32) -> Result<Vec<u8>, FileFault> {
-        let most = mebibytes as usize * MEBIBYTE;
-        let mut bytes = Vec::new(self.rt.alloc());
-        self.opened(path)?
-            .take(most as u64 + 1)
-            .read_to_end(&mut bytes)?;
-        if bytes.len() > most {
-            return Err(FileFault::Failed(FileCause::LargerThan(mebibytes)));
+        match self.opened(path) {
+            Ok(file) => read_whole(self.rt.alloc(), file, mebibytes),
+            Err(fault) => Err(fault),
         }
-        Ok(bytes)
     }
 
     fn write(&mut self, path: &str, bytes: &[u8]) -> Result<(), FileFault> {
@@ -248,4 +244,25 @@ impl<R: rt::Files<File = File> + AllocGlobal> Files for Disk<'_, R> {
         let _ = fs::remove_file(self.rt, file.name.as_str());
         file.cause
     }
+}
+
+/// The file with this name, from its first byte on.
+fn opened_at<R: rt::Files<File = File>>(rt: &R, path: &str) -> Result<File, FileFault>
+    ensures { IfErr result IsNotPast }
+{
+    Ok(fs::open(rt, path)?)
+}
+
+/// All bytes of a file, of which it has at most so many times 2^20.
+fn read_whole(alloc: Global, file: File, mebibytes: u32) -> Result<Vec<u8>, FileFault>
+    ensures within { IfOk result (λ file. length file.items ≤ mebibytes * 2 ^ 20) }
+    ensures larger { IfErr result (IsPast None mebibytes) }
+{
+    let most = mebibytes as usize * MEBIBYTE;
+    let mut bytes = Vec::new(alloc);
+    file.take(most as u64 + 1).read_to_end(&mut bytes)?;
+    if bytes.len() > most {
+        return Err(FileFault::Failed(FileCause::LargerThan(mebibytes)));
+    }
+    Ok(bytes)
 }

@@ -4,7 +4,7 @@ ghost use Rattle.std.specs.Prelude.{◌≡◌};
 ghost use Rattle.command_files.specs.FileCause.{cause_words};
 
 /// Why a file can't be read or written, as far as the system tells.
-#[derive(Clone, Copy, Debug, PartialEq, Eq)]
+#[derive(Clone, Copy, Debug)]
 pub enum FileCause {
     /// No file or folder has the name.
     NotFound,

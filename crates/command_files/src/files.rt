@@ -15,7 +15,7 @@ use std::io::{self, ErrorKind};
 use thiserror::Error;
 
 /// Why a file wasn't read or written.
-#[derive(Clone, Copy, Debug, PartialEq, Eq, Error)]
+#[derive(Clone, Copy, Debug, Error)]
 pub enum FileFault {
     /// A call of the system for it failed.
     #[error("the file fails")]

@@ -180,17 +180,30 @@ impl Attempt {
 
     /// Holds an open file, if the name still leads to it.
     fn on<R: rt::Files<File = File>>(rt: &R, name: &str, file: File) -> Result<Attempt, FileFault> {
-        match file.try_lock() {
-            Ok(()) => {}
-            Err(TryLockError::WouldBlock) => return Err(FileFault::Failed(FileCause::InUse)),
-            Err(TryLockError::Error(error)) => return Err(error.into()),
+        match locked(rt, name, &file) {
+            Ok(Some(metadata)) => Ok(Attempt::Held(HeldFile { file, metadata })),
+            Ok(None) => Ok(Attempt::Moved),
+            Err(fault) => Err(fault),
         }
-        let metadata = file.metadata()?;
-        if leads_to(rt, name, &metadata)? {
-            Ok(Attempt::Held(HeldFile { file, metadata }))
-        } else {
-            Ok(Attempt::Moved)
-        }
+    }
+}
+
+/// Locks an open file, and says what it is, if the name still leads to it.
+fn locked<R: rt::Files<File = File>>(
+    rt: &R,
+    name: &str,
+    file: &File,
+) -> Result<Option<Metadata>, FileFault> {
+    match file.try_lock() {
+        Ok(()) => {}
+        Err(TryLockError::WouldBlock) => return Err(FileFault::Failed(FileCause::InUse)),
+        Err(TryLockError::Error(error)) => return Err(error.into()),
+    }
+    let metadata = file.metadata()?;
+    if leads_to(rt, name, &metadata)? {
+        Ok(Some(metadata))
+    } else {
+        Ok(None)
     }
 }
 

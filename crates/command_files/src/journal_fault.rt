@@ -1,7 +1,7 @@
 //! What is wrong with a journal.
 
 /// What is wrong at a byte of a journal.
-#[derive(Clone, Copy, Debug, PartialEq, Eq)]
+#[derive(Clone, Copy)]
 pub enum JournalFault {
     /// It doesn't begin with a whole base of a device.
     NoBase,

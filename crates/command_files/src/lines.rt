@@ -1,17 +1,18 @@
 //! What a failure is printed as.
 
-ghost use Rattle.std.specs.Prelude.{◌≡◌, ◌++◌, [], codes, Some, OnOk};
+ghost use Rattle.std.specs.Prelude.{◌≡◌, ◌++◌, [], codes, OnOk};
 ghost use Rattle.std.specs.Fmt.{decimal};
-ghost use Rattle.command_files.specs.Lines.{IsTold, at_byte, at_line, commands_text, sentence};
+ghost use Rattle.command_files.specs.Lines.{IsTold, at_line, commands_text, cut_off_text, failure_text, sentence, stream_text};
 ghost use Rattle.command_files.specs.Pieces.{piece_text, pieces_text, text_with};
 ghost use Rattle.command_files.specs.Shown.{shown};
 
 use crate::failure::Failure;
-use crate::file_lines::{of_device, of_no_block, of_no_image, print_file, print_journal};
+use crate::file_lines::{of_cause, of_device, of_journal, of_no_block, of_no_image};
 use crate::object_file::ProgramWords;
-use crate::option_lines::{of_emit, print_range};
+use crate::option_lines::{of_emit, of_word};
 use crate::pieces::Piece::{self, Named, Nothing, Number, Plain};
-use crate::pieces::print_pieces;
+use crate::pieces::{Pieces, print_pieces};
+use event_frames::Field;
 use std::fmt::InlineText;
 use std::io::{self, Write};
 
@@ -27,113 +28,11 @@ impl Failure<'_> {
     pub(crate) fn print<W: Write>(&self, out: &mut W) -> io::Result<()>
         ensures { OnOk result (IsTold self.now (W.contents out.old) (W.contents out.new)) }
     {
-        let words = self.words();
         match self {
             // This text has a line end of its own.
             Failure::CommandLine(error) => write!(out, "{error}"),
-            Failure::NotText => print_pieces(
-                out,
-                &alone("error: a word of the command line is not text\n"),
-            ),
-            Failure::NotInRange {
-                option,
-                word,
-                least,
-                most,
-            } => print_range(out, option, word, *least, *most),
-            Failure::CannotRead(path, cause) => print_file(out, path, *cause, "cannot read "),
-            Failure::CannotWrite(path, cause) => print_file(out, path, *cause, "cannot write "),
-            Failure::NotAnImage(path) => print_pieces(out, &of_no_image(path)),
-            Failure::CannotPrint => print_pieces(out, &alone("cannot write -\n")),
-            Failure::NoMemory => print_pieces(out, &alone("no memory\n")),
-            Failure::LineRefused { path, line, .. } => print_pieces(
-                out,
-                &of_line(path, *line, words.as_str()),
-            ),
-            Failure::ReplyRefused { path, line } => {
-                print_pieces(out, &of_line(path, *line, "not one that `exec` prints"))
-            }
-            Failure::WordsRefused {
-                path,
-                line,
-                told,
-                ..
-            } => print_pieces(out, &of_line(path, *line, told.as_str())),
-            Failure::CommandsRefused {
-                path,
-                line,
-                commands,
-            } => print_pieces(out, &of_commands(path, *line, *commands)),
-            Failure::GeometryRefused(refusal) => {
-                let number = refusal.number() as u64;
-                print_pieces(
-                    out,
-                    &of_refusal(Nothing, "", words.as_str(), "geometry refused ", number),
-                )
-            }
-            Failure::NotABlock { path, bytes } => print_pieces(out, &of_no_block(path, *bytes)),
-            Failure::EmitExceedsBlock { emit, block } => print_pieces(out, &of_emit(*emit, *block)),
-            Failure::ImageRefused { path, fault } => {
-                let number = fault.number() as u64;
-                print_pieces(
-                    out,
-                    &of_refusal(Named(path), ": ", words.as_str(), "image refused ", number),
-                )
-            }
-            Failure::JournalRefused { path, place, fault } => {
-                print_journal(out, path, *place, *fault)
-            }
-            Failure::DeviceRefused { path } => print_pieces(out, &of_device(path)),
-            Failure::AssemblyRefused { path, refusal } => {
-                let fault = refusal.fault;
-                print_pieces(
-                    out,
-                    &of_place(
-                        path,
-                        words.as_str(),
-                        "assembly refused ",
-                        fault.line,
-                        fault.kind.number(),
-                    ),
-                )
-            }
-            Failure::ProgramRefused { path, refusal } => {
-                let fault = refusal.fault;
-                print_pieces(
-                    out,
-                    &of_place(
-                        path,
-                        words.as_str(),
-                        "program refused ",
-                        fault.slot,
-                        fault.kind.number(),
-                    ),
-                )
-            }
-            Failure::FrameRefused { path, refusal } => {
-                let byte = refusal.refused_byte() as u64;
-                print_pieces(
-                    out,
-                    &of_refusal(Named(path), ", ", words.as_str(), "frame refused ", byte),
-                )
-            }
-            Failure::DataRefused { path, fault } => {
-                let number = fault.number() as u64;
-                print_pieces(
-                    out,
-                    &of_refusal(Named(path), ": ", words.as_str(), "data refused ", number),
-                )
-            }
-            Failure::StreamRefused { place, field } => {
-                print_pieces(out, &of_byte(*place, field.expected(), field.number()))
-            }
-            Failure::StreamCutOff { place } => {
-                print_pieces(
-                    out,
-                    &of_byte(*place, "the end of the input; the rest of a frame", 7),
-                )
-            }
             Failure::NotAccepted => Ok(()),
+            _ => print_pieces(out, &pieces_of(self, self.words().as_str())),
         }
     }
 
@@ -152,41 +51,119 @@ impl Failure<'_> {
     }
 }
 
+/// The pieces of what the user is told, with these words of the fault; none of a text that isn't made here.
+fn pieces_of<'p>(failure: &'p Failure<'p>, words: &'p str) -> Pieces<'p>
+    ensures { pieces_text result ≡ text_with words.now (failure_text failure.now) }
+{
+    match failure {
+        Failure::CommandLine(_) | Failure::NotAccepted => alone(""),
+        Failure::NotText => alone("error: a word of the command line is not text\n"),
+        Failure::NotInRange {
+            option,
+            word,
+            least,
+            most,
+        } => of_word(option, word, *least, *most),
+        Failure::CannotRead(path, cause) => of_cause(path, *cause, "cannot read "),
+        Failure::CannotWrite(path, cause) => of_cause(path, *cause, "cannot write "),
+        Failure::NotAnImage(path) => of_no_image(path),
+        Failure::CannotPrint => alone("cannot write -\n"),
+        Failure::NoMemory => alone("no memory\n"),
+        Failure::LineRefused { path, line, .. } => of_line(path, *line, words),
+        Failure::ReplyRefused { path, line } => {
+            of_line(path, *line, "not one that `exec` prints")
+        }
+        Failure::WordsRefused {
+            path,
+            line,
+            told,
+            ..
+        } => of_line(path, *line, told.as_str()),
+        Failure::CommandsRefused {
+            path,
+            line,
+            commands,
+        } => of_commands(path, *line, *commands),
+        Failure::GeometryRefused(refusal) => {
+            let number = refusal.number() as u64;
+            of_refusal(Nothing, "", words, "geometry refused ", number)
+        }
+        Failure::NotABlock { path, bytes } => of_no_block(path, *bytes),
+        Failure::EmitExceedsBlock { emit, block } => of_emit(*emit, *block),
+        Failure::ImageRefused { path, fault } => {
+            let number = fault.number() as u64;
+            of_refusal(Named(path), ": ", words, "image refused ", number)
+        }
+        Failure::JournalRefused { path, place, fault } => { of_journal(path, *place, *fault) }
+        Failure::DeviceRefused { path } => of_device(path),
+        Failure::AssemblyRefused { path, refusal } => {
+            let fault = refusal.fault;
+            let number = fault.kind.number();
+            of_place(path, words, "assembly refused ", fault.line, number)
+        }
+        Failure::ProgramRefused { path, refusal } => {
+            let fault = refusal.fault;
+            let number = fault.kind.number();
+            of_place(path, words, "program refused ", fault.slot, number)
+        }
+        Failure::FrameRefused { path, refusal } => {
+            let byte = refusal.refused_byte() as u64;
+            of_refusal(Named(path), ", ", words, "frame refused ", byte)
+        }
+        Failure::DataRefused { path, fault } => {
+            let number = fault.number() as u64;
+            of_refusal(Named(path), ": ", words, "data refused ", number)
+        }
+        Failure::StreamRefused { place, field } => { of_field(*place, *field) }
+        Failure::StreamCutOff { place } => { of_cut_off(*place) }
+    }
+}
+
 /// A text that is known.
-fn alone(text: &str) -> [Piece<'_>; 1]
+fn alone(text: &str) -> Pieces<'_>
     ensures { pieces_text result ≡ text.now }
 {
-    [Plain(text)]
+    [
+        Plain(text),
+        Nothing,
+        Nothing,
+        Nothing,
+        Nothing,
+        Nothing,
+        Nothing,
+    ]
 }
 
 /// A line of a file, why it is refused, and the line for scripts.
-fn of_line<'p>(path: &'p str, number: usize, words: &'p str) -> [Piece<'p>; 8]
+fn of_line<'p>(path: &'p str, number: usize, words: &'p str) -> Pieces<'p>
     ensures { pieces_text result ≡ at_line (shown path.now) number words.now }
 {
-    let number = Number(number as u64);
     [
         Named(path),
-        Plain(", line "),
-        number,
+        Number(", line ", number as u64),
         Plain(": "),
         Plain(words),
-        Plain("\nline "),
-        number,
+        Number("\nline ", number as u64),
         Plain(" refused\n"),
+        Nothing,
     ]
 }
 
 /// Commands that were refused: the line of the first, and how many they are.
-fn of_commands(path: &str, line: usize, commands: u64) -> [Piece<'_>; 6]
-    ensures { Some (pieces_text result) ≡ text_with [] (commands_text (shown path.now) line commands) }
+fn of_commands(path: &str, line: usize, commands: u64) -> Pieces<'_>
+    ensures { pieces_text result ≡ text_with [] (commands_text (shown path.now) line commands) }
 {
     [
         Named(path),
-        Plain(", line "),
-        Number(line as u64),
-        Plain(": the first command that was refused\ncommands refused "),
-        Number(commands),
+        Number(", line ", line as u64),
+        Number(
+            ": the first command that was refused\ncommands refused ",
+            commands,
+        ),
         Plain("\n"),
+        Nothing,
+        Nothing,
+        Nothing,
     ]
 }
 
@@ -197,8 +174,8 @@ fn of_refusal<'p>(
     words: &'p str,
     script: &'p str,
     number: u64,
-) -> [Piece<'p>; 7]
-    ensures { Some (pieces_text result)
+) -> Pieces<'p>
+    ensures { pieces_text result
         ≡ text_with words.now (sentence (piece_text name.entry ++ mark.now) (script.now ++ decimal number)) }
 {
     [
@@ -206,9 +183,9 @@ fn of_refusal<'p>(
         Plain(mark),
         Plain(words),
         Plain("\n"),
-        Plain(script),
-        Number(number),
+        Number(script, number),
         Plain("\n"),
+        Nothing,
     ]
 }
 
@@ -219,8 +196,8 @@ fn of_place<'p>(
     script: &'p str,
     place: usize,
     number: u8,
-) -> [Piece<'p>; 9]
-    ensures { Some (pieces_text result)
+) -> Pieces<'p>
+    ensures { pieces_text result
         ≡ text_with words.now (sentence (shown path.now ++ codes ", ") (script.now ++ decimal place ++ codes " " ++ decimal number)) }
 {
     [
@@ -228,27 +205,42 @@ fn of_place<'p>(
         Plain(", "),
         Plain(words),
         Plain("\n"),
-        Plain(script),
-        Number(place as u64),
-        Plain(" "),
-        Number(number as u64),
+        Number(script, place as u64),
+        Number(" ", number as u64),
         Plain("\n"),
     ]
 }
 
-/// A byte of standard input, what is expected there, and the line for scripts.
-fn of_byte(place: u64, expected: &str, number: u8) -> [Piece<'_>; 9]
-    ensures { Some (pieces_text result) ≡ text_with [] (at_byte place expected.now number) }
+/// A byte of standard input that no frame has there, in this field: what is expected, and the line for scripts.
+fn of_field<'p>(place: u64, field: Field) -> Pieces<'p>
+    ensures { pieces_text result ≡ text_with [] (stream_text place field) }
 {
+    let expected = field.expected();
     [
-        Plain("standard input, byte "),
-        Number(place),
+        Number("standard input, byte ", place),
         Plain(": "),
         Plain(expected),
-        Plain(" is expected\nstream refused "),
-        Number(place),
-        Plain(" "),
-        Number(number as u64),
+        Number(" is expected\nstream refused ", place),
+        Number(" ", field.number() as u64),
         Plain("\n"),
+        Nothing,
+    ]
+}
+
+/// The end of standard input within a frame.
+fn of_cut_off<'p>(place: u64) -> Pieces<'p>
+    ensures { pieces_text result ≡ text_with [] (cut_off_text place) }
+{
+    [
+        Number("standard input, byte ", place),
+        Number(
+            ": the end of the input; the rest of a frame is expected\nstream refused ",
+            place,
+        ),
+        Number(" ", 7),
+        Plain("\n"),
+        Nothing,
+        Nothing,
+        Nothing,
     ]
 }

@@ -15,11 +15,14 @@ pub(crate) enum Piece<'a> {
     Plain(&'a str),
     /// A name or a word, as a terminal shows it.
     Named(&'a str),
-    /// A number, in decimal digits.
-    Number(u64),
+    /// A text, and behind it a number in decimal digits.
+    Number(&'a str, u64),
     /// Nothing.
     Nothing,
 }
+
+/// The pieces of a text, of which none has more.
+pub(crate) type Pieces<'a> = [Piece<'a>; 7];
 
 impl fmt::Display for Piece<'_> {
     ghost output = { λ piece. Some (piece_text piece) };
@@ -28,7 +31,7 @@ impl fmt::Display for Piece<'_> {
         match *self {
             Piece::Plain(text) => f.write_str(text),
             Piece::Named(text) => write_text(f, text),
-            Piece::Number(number) => write!(f, "{number}"),
+            Piece::Number(text, number) => write!(f, "{text}{number}"),
             Piece::Nothing => Ok(()),
         }
     }

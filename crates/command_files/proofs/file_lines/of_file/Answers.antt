@@ -2,4 +2,4 @@ use Rattle.std.proofs.Common.{append_assoc, refl}
 use Rattle.command_files.proofs.file_lines.of_file.Goals as goal
 
 pub returns : goal.returns
-returns c = simp append_assoc refl
+returns c = rw c.words-words.ensures (simp append_assoc refl)
