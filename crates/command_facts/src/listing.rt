@@ -36,17 +36,43 @@ pub fn fact_lines<D: Domain>(
         program,
         facts: &facts,
     };
-    let refused = refusal.map(|refusal| refusal.slot);
+    let refused = match refusal {
+        Some(refusal) => Some(refusal.slot),
+        None => None,
+    };
+    lines(alloc, &known, &wanted, refused)
+}
+
+/// The lines of all slots, of which one may be refused.
+fn lines<D: Domain>(
+    alloc: Global,
+    known: &Known<'_, D>,
+    wanted: &[RegisterSet],
+    refused: Option<usize>,
+) -> Result<String, AllocError> {
     let mut text = String::new(alloc);
-    for slot in 0..facts.len() {
-        if let Some(instruction) = program.at(slot) {
-            let mark = if refused == Some(slot) { "> " } else { "  " };
-            push_instruction(alloc, slot, mark, instruction, &mut text)?;
-            let wanted = wanted.get(slot).copied().unwrap_or(RegisterSet::NONE);
-            push_known(&known, slot, instruction, wanted, &mut text)?;
-        }
+    for slot in 0..known.facts.len() {
+        let mark = if refused == Some(slot) { "> " } else { "  " };
+        let wanted = wanted.get(slot).copied().unwrap_or(RegisterSet::NONE);
+        push_slot(alloc, known, slot, mark, wanted, &mut text)?;
     }
     Ok(text)
+}
+
+/// The lines of a slot, if an instruction is there.
+fn push_slot<D: Domain>(
+    alloc: Global,
+    known: &Known<'_, D>,
+    slot: usize,
+    mark: &str,
+    wanted: RegisterSet,
+    text: &mut String,
+) -> Result<(), AllocError> {
+    let Some(instruction) = known.program.at(slot) else {
+        return Ok(());
+    };
+    push_instruction(alloc, slot, mark, instruction, text)?;
+    push_known(known, slot, instruction, wanted, text)
 }
 
 /// An instruction behind its slot and a mark.
@@ -74,13 +100,31 @@ fn push_known<D: Domain>(
     let Some(facts) = known.at(slot) else {
         return text.push_str("  no slot leads here\n");
     };
+    push_read(instruction, facts, text)?;
+    push_meetings(known, slot, facts, wanted, text)?;
+    push_lost(instruction, facts, text)
+}
+
+/// What is known of what an instruction reads, and the end of its line.
+fn push_read<D: Domain>(
+    instruction: &Instruction,
+    facts: &Facts<D>,
+    text: &mut String,
+) -> Result<(), AllocError> {
     push_registers(read_registers(instruction, facts), text)?;
     if instruction.is_emit() {
         let emitted = facts.emitted;
         write!(text, ", emitted at most {emitted}")?;
     }
-    text.push_str("\n")?;
-    push_meetings(known, slot, facts, wanted, text)?;
+    text.push_str("\n")
+}
+
+/// What an instruction forgets, or loads without knowing it.
+fn push_lost<D: Domain>(
+    instruction: &Instruction,
+    facts: &Facts<D>,
+    text: &mut String,
+) -> Result<(), AllocError> {
     push_forgotten(forgotten_by(instruction, facts), text)?;
     push_unknown(unknown_word(instruction, facts), text)
 }
