@@ -1,4 +1,6 @@
 mod Loops
+mod ChunkSizes
+mod Spelled
 mod Reaching
 mod Standing
 mod Accesses

@@ -85,7 +85,7 @@ pub number_fits : (order : ByteOrder) (n : ℕ) (xs : List ℕ) → AreBytes xs 
 number_fits Little n xs are = little_from-lt 0 n xs are
 number_fits Big n xs are = big_from-lt 0 n xs are
 
-signed_is_number : (sign : Sign) (size : Size) (x : ℕ) → x < 256 ^ size_of size → IsNumber sign (signed_by sign (size_of size) x)
+pub signed_is_number : (sign : Sign) (size : Size) (x : ℕ) → x < 256 ^ size_of size → IsNumber sign (signed_by sign (size_of size) x)
 signed_is_number Unsigned Byte x small = (omega (arith, ints), omega (arith, ints))
 signed_is_number Unsigned HalfWord x small = (omega (arith, ints), omega (arith, ints))
 signed_is_number Unsigned Word x small = (omega (arith, ints), omega (arith, ints))

@@ -1,10 +1,12 @@
 -- Where a block run goes after the test of a record.
-use Rattle.std.proofs.Common.{ℕ, ℤ, pos, ◌+◌, ◌≤◌, ◌≡◌, Bool, true, false, not, ◌&&◌, ◌||◌, cond, List, [], ◌∷◌, ◌++◌, length, take, drop, Option, Some, None, refl, sym, ap, ◌∙◌, subst, arith}
+use Rattle.std.proofs.Common.{ℕ, ℤ, pos, ◌+◌, ◌≤◌, ◌≡◌, Bool, true, false, not, ◌&&◌, ◌||◌, cond, List, [], ◌∷◌, ◌++◌, length, take, drop, Option, Some, None, refl, sym, ap, ◌∙◌, subst, arith, length-drop, length-take}
 use Rattle.std.specs.Int.{w64, cast_unsigned}
+use Rattle.std.proofs.lemmas.List.{drop-drop}
+use Rattle.byteorder.specs.Endian.{little_number}
+use Rattle.common_definitions.proofs.Proved.{bytes_from}
 use Rattle.common_definitions.specs.Bytes.{AreBytes}
-use Rattle.instruction_set.specs.Instruction.{target}
 use Rattle.instruction_set.specs.Program.{instruction_at}
-use Rattle.instruction_set.specs.declared.instruction.Instruction.TheVariants.{Branch, LoadImmediate}
+use Rattle.instruction_set.specs.declared.instruction.Instruction.TheVariants.{Branch, Jump, LoadImmediate}
 use Rattle.instruction_set.specs.declared.instruction.Source.{Source}
 use Rattle.instruction_set.specs.declared.operation.Relation.{Relation}
 use Rattle.instruction_set.specs.declared.operation.Width.TheVariants.{Bits64}
@@ -12,10 +14,17 @@ use Rattle.program_meaning.specs.Effect.{operand}
 use Rattle.program_meaning.specs.Step.{slot_number}
 use Rattle.program_meaning.specs.Word.{is_taken}
 use Rattle.record_questions.proofs.Comparisons.{skipped, skips, taken_is, twice}
-use Rattle.record_questions.proofs.Course.{At, Course, Fourth, Temporaries, between, field_comes, operand_comes, registers_of}
-use Rattle.record_questions.proofs.Numbers.{argument_is_number, record_bytes, value_is_number}
+use Rattle.record_questions.proofs.Course.{At, Course, Fourth, Temporaries, between, field_comes, moved, operand_comes, registers_of}
+use Rattle.record_questions.proofs.Numbers.{argument_is_number, number_fits, record_bytes, signed_is_number, value_is_number}
 use Rattle.record_questions.proofs.Reaching.{goes}
 use Rattle.record_questions.proofs.Standing.{Stands, back_stands, front_stands, slot_count-append}
+use Rattle.instruction_set.specs.Instruction.{size_of, target}
+use Rattle.instruction_set.specs.declared.operation.Size.{Size}
+use Rattle.record_questions.proofs.ChunkSizes.{total, total_is}
+use Rattle.record_questions.proofs.Spelled.{all_chunks, chunks_are}
+use Rattle.record_questions.specs.declared.question.Sign.TheVariants.{Unsigned}
+use Rattle.record_questions.specs.declared.question.ByteOrder.TheVariants.{Little}
+use Rattle.record_questions.specs.declared.question.Comparison.TheVariants.{Equal}
 use Rattle.record_questions.specs.declared.question.Field.{Field}
 use Rattle.record_questions.specs.declared.question.Comparison.{Comparison}
 use Rattle.record_questions.specs.declared.question.Operand.{Operand}
@@ -23,7 +32,7 @@ use Rattle.record_questions.specs.declared.question.Operand.TheVariants as opera
 use Rattle.record_questions.specs.declared.question.Predicate.{Predicate}
 use Rattle.record_questions.specs.declared.question.Predicate.TheVariants.{Compare, Bytes, And', Or', Not'}
 use Rattle.record_questions.specs.Asked.{IsNumber, IsOperand, IsPredicate}
-use Rattle.record_questions.specs.Code.{extension_of, field_code, field_slots, is_immediate, jump_of, operand_code, operand_slots, over, slot_count, source_of, some_slots, swap_code, extension_code, swap_of, test_code, test_slots}
+use Rattle.record_questions.specs.Code.{bytes_code, bytes_slots, chunk_field, chunk_operand, chunk_sizes, chunks_code, chunks_slots, comparison_code, comparison_slots, extension_of, field_code, field_slots, is_immediate, jump_of, operand_code, operand_slots, over, slot_count, source_of, some_slots, swap_code, extension_code, swap_of, test_code, test_slots}
 use Rattle.record_questions.specs.Question.{compares, matches, operand_value, value_of}
 use Rattle.instruction_set.specs.declared.operation.SignExtension.{SignExtension}
 use Rattle.instruction_set.specs.declared.operation.SwapSize.{SwapSize}
@@ -56,26 +65,48 @@ operand_slots_are byte (operands.Number z) = number_slots (is_immediate z) z
 operand_slots_are byte operands.Argument = refl
 operand_slots_are byte (operands.Field f) = field_slots_are 5 byte f
 
-pub test_slots_are : (p : Predicate) (size byte : ℕ) (on : Bool) (skip : ℕ) → IsPredicate size p → slot_count (test_code byte on p skip) ≡ test_slots p
-test_slots_are (Compare f c o) size byte on skip is =
+comparison_slots_are : (byte : ℕ) (on : Bool) (f : Field) (c : Comparison) (o : Operand) (skip : ℕ)
+    → slot_count (comparison_code byte on f c o skip) ≡ comparison_slots f o
+comparison_slots_are byte on f c o skip =
     let a = field_slots_are 4 byte f in
     let b = operand_slots_are byte o in
     let jump = Branch Bits64 (jump_of f.sign on c) 4 (source_of o) (pos skip) in
     omega (arith, a, b, slot_count-append (field_code 4 byte f) (operand_code byte o ++ jump ∷ []), slot_count-append (operand_code byte o) (jump ∷ []))
-test_slots_are (Bytes offset bytes) size byte on skip is = elim is [ ]
-test_slots_are (And' x p y q) size byte on skip is =
-    let a = test_code byte true p (over on (test_slots q) skip) in
+
+chunks_slots_are : (ss : List Size) (byte offset : ℕ) (these : List ℕ) (skip : ℕ)
+    → slot_count (chunks_code byte offset ss these skip) ≡ chunks_slots ss these
+chunks_slots_are [] byte offset these skip = refl
+chunks_slots_are (s ∷ ss) byte offset these skip =
+    let rest = drop (size_of s) these in
+    let f = chunk_field s offset in
+    let o = chunk_operand s these in
+    let further = chunks_slots ss rest + skip in
+    slot_count-append (comparison_code byte true f Equal o further) (chunks_code byte (offset + size_of s) ss rest skip)
+    ∙ (ap (λ n. n + slot_count (chunks_code byte (offset + size_of s) ss rest skip)) (comparison_slots_are byte true f Equal o further)
+    ∙ ap (λ n. comparison_slots f o + n) (chunks_slots_are ss byte (offset + size_of s) rest skip))
+
+bytes_slots_are : (on : Bool) (byte offset : ℕ) (these : List ℕ) (skip : ℕ) → slot_count (bytes_code byte on offset these skip) ≡ bytes_slots on these
+bytes_slots_are true byte offset these skip = chunks_slots_are (chunk_sizes (length these)) byte offset these skip
+bytes_slots_are false byte offset these skip =
+    let a = chunks_slots_are (chunk_sizes (length these)) byte offset these 1 in
+    slot_count-append (chunks_code byte offset (chunk_sizes (length these)) these 1) (Jump (pos skip) ∷ []) ∙ ap (λ n. n + 1) a
+
+pub test_slots_are : (p : Predicate) (byte : ℕ) (on : Bool) (skip : ℕ) → slot_count (test_code byte on p skip) ≡ test_slots on p
+test_slots_are (Compare f c o) byte on skip = comparison_slots_are byte on f c o skip
+test_slots_are (Bytes offset these) byte on skip = bytes_slots_are on byte offset these.items skip
+test_slots_are (And' x p y q) byte on skip =
+    let a = test_code byte true p (over on (test_slots on q) skip) in
     let b = test_code byte on q skip in
-    let e = test_slots_are p size byte true (over on (test_slots q) skip) is.0 in
-    let f = test_slots_are q size byte on skip is.1 in
+    let e = test_slots_are p byte true (over on (test_slots on q) skip) in
+    let f = test_slots_are q byte on skip in
     omega (arith, e, f, slot_count-append a b)
-test_slots_are (Or' x p y q) size byte on skip is =
-    let a = test_code byte false p (over (not on) (test_slots q) skip) in
+test_slots_are (Or' x p y q) byte on skip =
+    let a = test_code byte false p (over (not on) (test_slots on q) skip) in
     let b = test_code byte on q skip in
-    let e = test_slots_are p size byte false (over (not on) (test_slots q) skip) is.0 in
-    let f = test_slots_are q size byte on skip is.1 in
+    let e = test_slots_are p byte false (over (not on) (test_slots on q) skip) in
+    let f = test_slots_are q byte on skip in
     omega (arith, e, f, slot_count-append a b)
-test_slots_are (Not' x p) size byte on skip is = test_slots_are p size byte (not on) skip is
+test_slots_are (Not' x p) byte on skip = test_slots_are p byte (not on) skip
 
 -- ---- which way two codes go, one after the other
 
@@ -172,14 +203,82 @@ module _ (w : Course) (scratch group : List ℕ) (frames : ℕ) where
   joined slot a b n skip other true skip_b skip_both long same leads first next =
       at_slot _ _ (omega (arith, long, leads refl)) first
 
+  -- the code of chunks is skipped just where one of them differs
+  chunks_come : (ss : List Size) (slot byte size offset : ℕ) (these : List ℕ) (skip : ℕ) → offset + total ss ≤ size → AreBytes these
+      → byte + size ≤ length w.memory.block
+      → Stands w.program slot (chunks_code byte offset ss these skip) → Comes slot
+      → Comes (slot + slot_count (chunks_code byte offset ss these skip)
+      + skipped (skips true (all_chunks ss these (drop offset (take size (drop byte w.memory.block))))) skip)
+  chunks_come [] slot byte size offset these skip inside are fits stands come =
+      let e : slot ≡ slot + 0 + 0 = omega arith in
+      at_slot _ _ e come
+  chunks_come (s ∷ ss) slot byte size offset these skip inside are fits stands come =
+      let r = take size (drop byte w.memory.block) in
+      let n = size_of s in
+      let rest = drop n these in
+      let f = chunk_field s offset in
+      let o = chunk_operand s these in
+      let other = chunks_slots ss rest + skip in
+      let a = comparison_code byte true f Equal o other in
+      let b = chunks_code byte (offset + n) ss rest skip in
+      let this = compares Equal (value_of f r) (operand_value w.argument o r) in
+      let that = all_chunks ss rest (drop (offset + n) r) in
+      let number = signed_is_number Unsigned s (little_number n these) (number_fits Little n these are) in
+      let first = comparison_comes f Equal o true slot byte size other (omega (arith, inside), number) fits (front_stands w.program slot a b stands) come in
+      let both = joined slot (slot_count a) (slot_count b) (slot_count (a ++ b)) skip other (skips true this) (skips true that) (skips true (this && that))
+      (slot_count-append a b) (and_same true this that)
+      (λ e. and_leads true this that (chunks_slots ss rest) skip e
+      ∙ ap (λ k. k + skipped (skips true (this && that)) skip) (sym (chunks_slots_are ss byte (offset + n) rest skip)))
+      first
+      (λ there. chunks_come ss (slot + slot_count a) byte size (offset + n) rest skip (omega (arith, inside)) (bytes_from n these are) fits
+      (back_stands w.program slot a b stands) there) in
+      subst (λ xs. Comes (slot + slot_count (a ++ b) + skipped (skips true (this && all_chunks ss rest xs)) skip)) (sym (drop-drop n offset r)) both
+
+  -- a jump that is jumped over where the bytes differ
+  jump_comes : (same : Bool) (slot n skip : ℕ) → instruction_at w.program (slot + n) ≡ Some (Jump (pos skip))
+      → Comes (slot + n + skipped (skips true same) 1) → Comes (slot + (n + 1) + skipped (skips false same) skip)
+  jump_comes true slot n skip stands come =
+      let e : slot + n + 0 ≡ slot + n = omega arith in
+      let there = at_slot _ _ e come in
+      let raw = goes w.program w.limit w.fuel w.start w.exits (between w (slot + n) there.t scratch group frames) (Jump (pos skip)) stands refl there.reached in
+      let f : slot + n + 1 + skip ≡ slot + (n + 1) + skip = omega arith in
+      record { t = there.t; reached = moved w scratch group frames _ _ there.t f raw }
+  jump_comes false slot n skip stands come = at_slot _ _ (omega arith) come
+
+  bytes_come : (on : Bool) (slot byte size offset : ℕ) (these : List ℕ) (skip : ℕ) → offset + length these ≤ size → AreBytes these
+      → byte + size ≤ length w.memory.block
+      → Stands w.program slot (bytes_code byte on offset these skip) → Comes slot
+      → Comes (slot + slot_count (bytes_code byte on offset these skip)
+      + skipped (skips on (all_chunks (chunk_sizes (length these)) these (drop offset (take size (drop byte w.memory.block))))) skip)
+  bytes_come true slot byte size offset these skip inside are fits stands come =
+      let all = total_is (length these) in
+      chunks_come (chunk_sizes (length these)) slot byte size offset these skip (omega (arith, inside, all)) are fits stands come
+  bytes_come false slot byte size offset these skip inside are fits stands come =
+      let all = total_is (length these) in
+      let ss = chunk_sizes (length these) in
+      let a = chunks_code byte offset ss these 1 in
+      let b = Jump (pos skip) ∷ [] in
+      let first = chunks_come ss slot byte size offset these 1 (omega (arith, inside, all)) are fits (front_stands w.program slot a b stands) come in
+      rw (slot_count-append a b)
+      (jump_comes (all_chunks ss these (drop offset (take size (drop byte w.memory.block)))) slot (slot_count a) skip
+      (back_stands w.program slot a b stands).0 first)
+
   pub test_comes : (p : Predicate) (on : Bool) (slot byte size skip : ℕ) → IsPredicate size p → byte + size ≤ length w.memory.block
       → Stands w.program slot (test_code byte on p skip) → Comes slot
       → Comes (slot + slot_count (test_code byte on p skip)
       + skipped (skips on (matches w.argument p (take size (drop byte w.memory.block)))) skip)
   test_comes (Compare f c o) on slot byte size skip is fits stands come = comparison_comes f c o on slot byte size skip is fits stands come
-  test_comes (Bytes offset bytes) on slot byte size skip is fits stands come = elim is [ ]
+  test_comes (Bytes offset bytes) on slot byte size skip is fits stands come =
+      let r = take size (drop byte w.memory.block) in
+      let dropped = length-drop byte w.memory.block in
+      let taken = length-take size (drop byte w.memory.block) in
+      let left = length-drop offset r in
+      let whole = chunks_are bytes.items (drop offset r) (omega (arith, is.0, fits, dropped, taken, left)) is.1
+      (bytes_from offset r (record_bytes size byte w.memory.block w.bytes)) in
+      subst (λ b. Comes (slot + slot_count (bytes_code byte on offset bytes.items skip) + skipped (skips on b) skip)) whole
+      (bytes_come on slot byte size offset bytes.items skip is.0 is.1 fits stands come)
   test_comes (And' x p y q) on slot byte size skip is fits stands come =
-      let other = over on (test_slots q) skip in
+      let other = over on (test_slots on q) skip in
       let a = test_code byte true p other in
       let b = test_code byte on q skip in
       let r = take size (drop byte w.memory.block) in
@@ -187,11 +286,11 @@ module _ (w : Course) (scratch group : List ℕ) (frames : ℕ) where
       let that = matches w.argument q r in
       joined slot (slot_count a) (slot_count b) (slot_count (a ++ b)) skip other (skips true this) (skips on that) (skips on (this && that))
       (slot_count-append a b) (and_same on this that)
-      (λ e. and_leads on this that (test_slots q) skip e ∙ ap (λ n. n + skipped (skips on (this && that)) skip) (sym (test_slots_are q size byte on skip is.1)))
+      (λ e. and_leads on this that (test_slots on q) skip e ∙ ap (λ n. n + skipped (skips on (this && that)) skip) (sym (test_slots_are q byte on skip)))
       (test_comes p true slot byte size other is.0 fits (front_stands w.program slot a b stands) come)
       (λ there. test_comes q on (slot + slot_count a) byte size skip is.1 fits (back_stands w.program slot a b stands) there)
   test_comes (Or' x p y q) on slot byte size skip is fits stands come =
-      let other = over (not on) (test_slots q) skip in
+      let other = over (not on) (test_slots on q) skip in
       let a = test_code byte false p other in
       let b = test_code byte on q skip in
       let r = take size (drop byte w.memory.block) in
@@ -199,7 +298,7 @@ module _ (w : Course) (scratch group : List ℕ) (frames : ℕ) where
       let that = matches w.argument q r in
       joined slot (slot_count a) (slot_count b) (slot_count (a ++ b)) skip other (skips false this) (skips on that) (skips on (this || that))
       (slot_count-append a b) (or_same on this that)
-      (λ e. or_leads on this that (test_slots q) skip e ∙ ap (λ n. n + skipped (skips on (this || that)) skip) (sym (test_slots_are q size byte on skip is.1)))
+      (λ e. or_leads on this that (test_slots on q) skip e ∙ ap (λ n. n + skipped (skips on (this || that)) skip) (sym (test_slots_are q byte on skip)))
       (test_comes p false slot byte size other is.0 fits (front_stands w.program slot a b stands) come)
       (λ there. test_comes q on (slot + slot_count a) byte size skip is.1 fits (back_stands w.program slot a b stands) there)
   test_comes (Not' x p) on slot byte size skip is fits stands come =

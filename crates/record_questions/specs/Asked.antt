@@ -1,5 +1,6 @@
 -- Which questions can be asked.
 use Rattle.std.specs.Prelude.{ℕ, ℤ, pos, neg_ℤ, ◌≡◌, ◌≤◌, ◌≤ℤ◌, ◌<ℤ◌, ◌+◌, ◌*◌, ◌^◌, List, [], ◌∷◌, length, Option, Some, None, ⊤}
+use Rattle.common_definitions.specs.Bytes.{AreBytes}
 use Rattle.program_interface.specs.declared.area.TheConstants.{SCRATCH_BYTES}
 use Rattle.instruction_set.specs.Instruction.{size_of}
 use Rattle.record_questions.specs.declared.question.Sign.{Sign}
@@ -32,7 +33,7 @@ IsOperand bytes sign (operands.Field f) = IsField bytes f × (f.sign ≡ sign)
 -- what a predicate looks at lies in a record of so many bytes, and its numbers have 64 bits
 abbrev pub IsPredicate : ℕ → Predicate → Type 0
 IsPredicate bytes (Compare f comparison operand) = IsField bytes f × IsOperand bytes f.sign operand
-IsPredicate bytes (Bytes offset these) = ⊥
+IsPredicate bytes (Bytes offset these) = (offset + length these.items ≤ bytes) × AreBytes these.items
 IsPredicate bytes (And' x p y q) = IsPredicate bytes p × IsPredicate bytes q
 IsPredicate bytes (Or' x p y q) = IsPredicate bytes p × IsPredicate bytes q
 IsPredicate bytes (Not' x p) = IsPredicate bytes p

@@ -1,9 +1,11 @@
 -- The program of a question.
-use Rattle.std.specs.Prelude.{ℕ, ℤ, zero, suc, pos, neg_ℤ, Bool, true, false, not, ◌&&◌, ◌+◌, ◌^◌, int_lt, int_le, if◌then◌else◌, List, [], ◌∷◌, ◌++◌, Option, Some, None}
+use Rattle.std.specs.Prelude.{ℕ, ℤ, zero, suc, pos, neg_ℤ, Bool, true, false, not, ◌&&◌, ◌+◌, ◌/◌, ◌%◌, ◌^◌, nat_le, replicate, drop, length, int_lt, int_le, if◌then◌else◌, List, [], ◌∷◌, ◌++◌, Option, Some, None}
 use Rattle.std.specs.Int.{w64, cast_unsigned}
+use Rattle.byteorder.specs.Endian.{little_number}
+use Rattle.instruction_set.specs.Instruction.{size_of}
 use Rattle.instruction_set.specs.Program.{slots_of, slots_taken}
 use Rattle.instruction_set.specs.declared.instruction.Instruction.{Instruction}
-use Rattle.instruction_set.specs.declared.instruction.Instruction.TheVariants.{Load, LoadImmediate, Arithmetic, Branch, Call, Exit, MoveSigned, Negate, StoreRegister, SwapBytes}
+use Rattle.instruction_set.specs.declared.instruction.Instruction.TheVariants.{Load, LoadImmediate, Arithmetic, Branch, Call, Exit, Jump, MoveSigned, Negate, StoreRegister, SwapBytes}
 use Rattle.instruction_set.specs.declared.instruction.Source.{Source}
 use Rattle.instruction_set.specs.declared.instruction.Source.TheVariants.{Immediate, Register}
 use Rattle.instruction_set.specs.declared.operation.Operation.TheVariants.{Add, Move}
@@ -99,7 +101,7 @@ operand_slots (operands.Number z) = if is_immediate z then 0 else 2
 operand_slots operands.Argument = 0
 operand_slots (operands.Field f) = field_slots f
 
--- ---- predicates
+-- ---- comparisons
 
 -- the comparison that holds where this one doesn't
 abbrev pub opposite : Comparison → Comparison
@@ -128,13 +130,65 @@ abbrev pub jump_of : Sign → Bool → Comparison → Relation
 jump_of sign true comparison = jump_where sign (opposite comparison)
 jump_of sign false comparison = jump_where sign comparison
 
--- how many slots a test takes
-abbrev pub test_slots : Predicate → ℕ
-test_slots (Compare f comparison operand) = field_slots f + (operand_slots operand + 1)
-test_slots (Bytes offset bytes) = 0
-test_slots (And' x p y q) = test_slots p + test_slots q
-test_slots (Or' x p y q) = test_slots p + test_slots q
-test_slots (Not' x p) = test_slots p
+-- Of the record at a byte of the block: after it the program goes on where a comparison holds (`true`), or where it doesn't (`false`);
+-- else it jumps so many slots further. R4 takes the field.
+abbrev pub comparison_code : (byte : ℕ) → Bool → Field → Comparison → Operand → (skip : ℕ) → List Instruction
+comparison_code byte goes_on f comparison operand skip =
+    field_code 4 byte f
+    ++ (operand_code byte operand ++ Branch Bits64 (jump_of f.sign goes_on comparison) 4 (source_of operand) (pos skip) ∷ [])
+
+abbrev pub comparison_slots : Field → Operand → ℕ
+comparison_slots f operand = field_slots f + (operand_slots operand + 1)
+
+-- ---- bytes are compared in chunks of 8, the last ones in chunks of 4, 2 and 1
+
+-- the widest chunk of so many bytes
+abbrev pub chunk_size : ℕ → Size
+chunk_size n = if nat_le 8 n then DoubleWord else (if nat_le 4 n then Word else (if nat_le 2 n then HalfWord else Byte))
+
+-- the chunks of so many bytes
+abbrev pub chunk_sizes : ℕ → List Size
+chunk_sizes n =
+    replicate (n / 8) DoubleWord
+    ++ ((if nat_le 4 (n % 8) then Word ∷ [] else [])
+    ++ ((if nat_le 2 (n % 4) then HalfWord ∷ [] else []) ++ (if nat_le 1 (n % 2) then Byte ∷ [] else [])))
+
+abbrev pub chunk_field : Size → ℕ → Field
+chunk_field size offset = record { size = size; offset = offset; sign = Unsigned; order = Little }
+
+-- the number that a chunk is compared with
+abbrev pub chunk_operand : Size → List ℕ → Operand
+chunk_operand size bytes = operands.Number (pos (little_number (size_of size) bytes))
+
+abbrev pub chunks_slots : List Size → List ℕ → ℕ
+chunks_slots [] bytes = 0
+chunks_slots (s ∷ ss) bytes = comparison_slots (chunk_field s 0) (chunk_operand s bytes) + chunks_slots ss (drop (size_of s) bytes)
+
+-- the program goes on after it where the record at a byte of the block has these bytes from an offset on, else it jumps
+abbrev pub chunks_code : (byte offset : ℕ) → List Size → List ℕ → (skip : ℕ) → List Instruction
+chunks_code byte offset [] bytes skip = []
+chunks_code byte offset (s ∷ ss) bytes skip =
+    comparison_code byte true (chunk_field s offset) Equal (chunk_operand s bytes) (chunks_slots ss (drop (size_of s) bytes) + skip)
+    ++ chunks_code byte (offset + size_of s) ss (drop (size_of s) bytes) skip
+
+-- where the program is to go on if the bytes differ, it jumps over a jump
+abbrev pub bytes_code : (byte : ℕ) → Bool → (offset : ℕ) → List ℕ → (skip : ℕ) → List Instruction
+bytes_code byte true offset bytes skip = chunks_code byte offset (chunk_sizes (length bytes)) bytes skip
+bytes_code byte false offset bytes skip = chunks_code byte offset (chunk_sizes (length bytes)) bytes 1 ++ Jump (pos skip) ∷ []
+
+abbrev pub bytes_slots : Bool → List ℕ → ℕ
+bytes_slots true bytes = chunks_slots (chunk_sizes (length bytes)) bytes
+bytes_slots false bytes = chunks_slots (chunk_sizes (length bytes)) bytes + 1
+
+-- ---- predicates in general
+
+-- how many slots a test takes, after which the program goes on where the predicate is met, or where it isn't
+abbrev pub test_slots : Bool → Predicate → ℕ
+test_slots goes_on (Compare f comparison operand) = comparison_slots f operand
+test_slots goes_on (Bytes offset bytes) = bytes_slots goes_on bytes.items
+test_slots goes_on (And' x p y q) = test_slots true p + test_slots goes_on q
+test_slots goes_on (Or' x p y q) = test_slots false p + test_slots goes_on q
+test_slots goes_on (Not' x p) = test_slots (not goes_on) p
 
 -- how far the first of two tests jumps: over the second, and on where the second would jump
 abbrev pub over : Bool → ℕ → ℕ → ℕ
@@ -142,14 +196,14 @@ over true slots skip = slots + skip
 over false slots skip = slots
 
 -- Of the record at a byte of the block: after it the program goes on where the predicate is met (`true`), or where it isn't
--- (`false`); else it jumps so many slots further. R4 takes a field.
+-- (`false`); else it jumps so many slots further.
 abbrev pub test_code : (byte : ℕ) → Bool → Predicate → (skip : ℕ) → List Instruction
-test_code byte goes_on (Compare f comparison operand) skip =
-    field_code 4 byte f
-    ++ (operand_code byte operand ++ Branch Bits64 (jump_of f.sign goes_on comparison) 4 (source_of operand) (pos skip) ∷ [])
-test_code byte goes_on (Bytes offset bytes) skip = []
-test_code byte goes_on (And' x p y q) skip = test_code byte true p (over goes_on (test_slots q) skip) ++ test_code byte goes_on q skip
-test_code byte goes_on (Or' x p y q) skip = test_code byte false p (over (not goes_on) (test_slots q) skip) ++ test_code byte goes_on q skip
+test_code byte goes_on (Compare f comparison operand) skip = comparison_code byte goes_on f comparison operand skip
+test_code byte goes_on (Bytes offset bytes) skip = bytes_code byte goes_on offset bytes.items skip
+test_code byte goes_on (And' x p y q) skip =
+    test_code byte true p (over goes_on (test_slots goes_on q) skip) ++ test_code byte goes_on q skip
+test_code byte goes_on (Or' x p y q) skip =
+    test_code byte false p (over (not goes_on) (test_slots goes_on q) skip) ++ test_code byte goes_on q skip
 test_code byte goes_on (Not' x p) skip = test_code byte (not goes_on) p skip
 
 -- ---- what is done of a record that matches: R7 has the address of scratch

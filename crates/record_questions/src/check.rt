@@ -1,6 +1,7 @@
 //! Whether a question can be asked.
 
-ghost use Rattle.std.specs.Prelude.{◌≡◌, ◌≤◌, ◌+◌, IsTrue, ◌↔◌};
+ghost use Rattle.std.specs.Prelude.{◌≡◌, ◌≤◌, ◌+◌, IsTrue, ◌↔◌, length};
+ghost use Rattle.common_definitions.specs.Bytes.{AreBytes};
 ghost use Rattle.instruction_set.specs.Instruction.{size_of};
 ghost use Rattle.record_questions.specs.Asked.{AreTallies, IsField, IsNumber, IsOperand, IsPredicate, IsQuestion, IsRange, IsTallied, IsTally};
 
@@ -9,7 +10,7 @@ use instruction_set::Size;
 use program_interface::SCRATCH_BYTES;
 
 /// The number of bytes.
-fn bytes_of(size: Size) -> u32
+pub(crate) fn bytes_of(size: Size) -> u16
     ensures value { result ≡ size_of size }
     ensures few { result ≤ 8 }
 {
@@ -25,7 +26,7 @@ fn bytes_of(size: Size) -> u32
 fn is_field(bytes: u16, field: Field) -> bool
     ensures { IsTrue result ↔ IsField bytes field }
 {
-    u32::from(field.offset) + bytes_of(field.size) <= u32::from(bytes)
+    u32::from(field.offset) + u32::from(bytes_of(field.size)) <= u32::from(bytes)
 }
 
 /// Do 64 bits hold a number?
@@ -49,6 +50,13 @@ fn is_operand(bytes: u16, sign: Sign, operand: Operand) -> bool
     }
 }
 
+/// Do these bytes have room in a record of so many, from an offset on?
+fn have_room(bytes: u16, offset: u16, these: &[u8]) -> bool
+    ensures { IsTrue result ↔ ((offset + length these.now ≤ bytes) × AreBytes these.now) }
+{
+    offset <= bytes && these.len() <= usize::from(bytes - offset)
+}
+
 /// Does what a predicate looks at lie in a record of so many bytes?
 fn is_predicate(bytes: u16, predicate: &Predicate) -> bool
     ensures { IsTrue result ↔ IsPredicate bytes predicate.now }
@@ -59,7 +67,10 @@ fn is_predicate(bytes: u16, predicate: &Predicate) -> bool
             comparison: _,
             operand,
         } => is_field(bytes, *field) && is_operand(bytes, field.sign, *operand),
-        Predicate::Bytes { .. } => false,
+        Predicate::Bytes {
+            offset,
+            bytes: these,
+        } => have_room(bytes, *offset, these),
         Predicate::And(first, second) => is_predicate(bytes, first) && is_predicate(bytes, second),
         Predicate::Or(first, second) => is_predicate(bytes, first) && is_predicate(bytes, second),
         Predicate::Not(other) => is_predicate(bytes, other),

@@ -3,7 +3,9 @@
 #![tactic(auto)]
 
 mod check;
+mod chunks;
 mod code;
+mod comparing;
 mod emitting;
 mod fault;
 pub mod laws;
