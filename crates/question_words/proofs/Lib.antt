@@ -1,0 +1,7 @@
+mod Numbers
+mod FirstWords
+mod Nearest
+mod Named
+mod Steps
+mod WordsAgain
+mod ReadBack

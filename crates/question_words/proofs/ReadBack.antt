@@ -1,0 +1,258 @@
+-- A condition that is printed is read again.
+use Rattle.std.proofs.Common.{◌≡◌, ℕ, ◌<◌, ◌^◌, Bool, true, false, cond, eqb, List, [], ◌∷◌, ◌++◌, length, get_or, Some, Result, Ok, refl, sym, ap, ◌∙◌, codes, append_assoc, arith}
+use Rattle.std.specs.Fmt.{decimal}
+use Rattle.std.proofs.lemmas.Bool.{le-ltb}
+use Rattle.std.proofs.lemmas.List.{append-nil}
+use Rattle.hex.specs.Hex.{IsBytes, encode_lower}
+use Rattle.hex.proofs.HexLemmas.{decode_of-encode_lower}
+use Rattle.record_questions.specs.declared.question.Field.{Field}
+use Rattle.record_questions.specs.declared.question.Sign.{Sign}
+use Rattle.record_questions.specs.declared.question.Sign.TheVariants.{Unsigned, Signed}
+use Rattle.record_questions.specs.declared.question.Comparison.{Comparison}
+use Rattle.record_questions.specs.declared.question.Comparison.TheVariants.{Equal, NotEqual, Less, LessOrEqual, Greater, GreaterOrEqual}
+use Rattle.record_questions.specs.declared.question.Operand.{Operand}
+use Rattle.common_definitions.specs.Readings.{◌>>=◌}
+use Rattle.question_words.specs.declared.fault.FaultKind.{FaultKind}
+use Rattle.question_words.specs.declared.fault.FaultKind.TheVariants as kinds
+use Rattle.question_words.specs.declared.fault.WordFault.{WordFault}
+use Rattle.question_words.specs.declared.reading.TheConstants.{MOST_BYTES}
+use Rattle.question_words.specs.Condition.{Condition, Compare, Bytes, And, Or, Not}
+use Rattle.question_words.specs.Cutting.{Cut, cuts, is_word_byte, width}
+use Rattle.question_words.specs.Fault.{at, refused}
+use Rattle.question_words.specs.Field.{field_of, field_text, shape_text, sign_letter}
+use Rattle.question_words.specs.Laws.{IsCondition, IsField, IsOperand, WordsReadBack}
+use Rattle.question_words.specs.Operand.{comparison_text, operand_word}
+use Rattle.question_words.specs.Printing.{condition_text, part_text}
+use Rattle.question_words.specs.Reading.{Against, AgainstBytes, BytesCompared, Both, Compared, Either, Open, Opposite, Parenthesis, Stage, State, Wanted, Whole, at_start, condition_of, decoded, joined, next, read_words, settled, step, subject_in, subject_of, wanted}
+use Rattle.question_words.proofs.FirstWords.{cuts_none, cuts_word, word_width}
+use Rattle.question_words.proofs.WordsAgain.{IsWord, cut_field, cut_there, field_again, field_is_word, no_blank, no_symbol, offset_again, operand_again, operand_is_word, word_decimal, word_hex}
+
+module _ (layout : List (List ℕ × Field)) (bytes : ℕ) where
+  -- what a text makes of what is read so far
+  reading : List ℕ → State → Result Condition WordFault
+  reading text s = read_words layout bytes (cuts text) s
+
+  -- one word
+  goes_on : (w r : List ℕ) (s after : State) → 0 < length w → width (w ++ r) ≡ length w → ((column : ℕ) → step layout column w s ≡ Ok after) → reading (w ++ r) s ≡ reading r after
+  unfolding reading
+  goes_on w r s after some wide h =
+      ap (λ (cs : List Cut). read_words layout bytes cs s) (cuts_word w r some wide)
+      ∙ ap (λ (x : Result State WordFault). x >>= λ next. read_words layout bytes (cuts r) next) (h _)
+
+  -- a space
+  blank : (r : List ℕ) (s : State) → reading (32 ∷ r) s ≡ reading r s
+  blank r s = goes_on (32 ∷ []) r s s (omega arith) refl (λ column. refl)
+
+  -- the text ends behind a condition
+  ends : (p : Condition) → reading [] (record { stage = Whole p; before = [] }) ≡ Ok p
+  unfolding reading
+  ends p = ap (λ (cs : List Cut). read_words layout bytes cs (record { stage = Whole p; before = [] })) cuts_none
+
+  ends_or : (p q : Condition) → reading [] (record { stage = Whole q; before = Either p ∷ [] }) ≡ Ok (Or p q)
+  unfolding reading
+  ends_or p q = ap (λ (cs : List Cut). read_words layout bytes cs (record { stage = Whole q; before = Either p ∷ [] })) cuts_none
+
+  -- ---- comparisons of fields
+
+  not_blank : (column : ℕ) (w : List ℕ) (s : State) → IsWord w → step layout column w s ≡ next layout column w s.stage s.before
+  not_blank column w s word = ap (λ (b : Bool). cond b (Ok s) (next layout column w s.stage s.before)) (no_blank w word.all word.some)
+
+  word_wanted : (column : ℕ) (w : List ℕ) (before : List Open) → IsWord w
+      → wanted layout column w before ≡ (at column (subject_of layout w) >>= λ stage. Ok (record { stage = stage; before = before }))
+  unfolding wanted
+  word_wanted column w before word = rw (no_symbol 33 w refl word.all, no_symbol 40 w refl word.all) refl
+
+  subject_field : (word : List ℕ) (sign : Sign) (rest at : List ℕ) → subject_in layout word (Some (sign_letter sign ∷ rest, at)) ≡ (field_of layout word >>= λ field. Ok (Compared field))
+  subject_field word Unsigned rest at = refl
+  subject_field word Signed rest at = refl
+
+  first_letter : (sign : Sign) (stage other : Result Stage FaultKind) → cond (is_word_byte (sign_letter sign)) stage other ≡ stage
+  first_letter Unsigned stage other = refl
+  first_letter Signed stage other = refl
+
+  subject_again : (field : Field) → IsField field → subject_of layout (field_text field) ≡ Ok (Compared field)
+  subject_again field small =
+      first_letter field.sign _ _
+      ∙ ap (subject_in layout (field_text field)) (cut_field field)
+      ∙ subject_field (field_text field) field.sign (shape_text field.size field.order) (decimal field.offset)
+      ∙ ap (λ (r : Result Field FaultKind). r >>= λ other. Ok (Compared other)) (field_again layout field small)
+
+  field_step : (field : Field) (before : List Open) → IsField field → (column : ℕ)
+      → step layout column (field_text field) (record { stage = Wanted; before = before }) ≡ Ok (record { stage = Compared field; before = before })
+  field_step field before small column =
+      not_blank column (field_text field) (record { stage = Wanted; before = before }) (field_is_word field small)
+      ∙ word_wanted column (field_text field) before (field_is_word field small)
+      ∙ ap (λ (r : Result Stage FaultKind). at column r >>= λ stage. Ok (record { stage = stage; before = before })) (subject_again field small)
+
+  comparison_step : (field : Field) (comparison : Comparison) (before : List Open) (column : ℕ)
+      → step layout column (comparison_text comparison) (record { stage = Compared field; before = before }) ≡ Ok (record { stage = Against field comparison; before = before })
+  comparison_step field Equal before column = refl
+  comparison_step field NotEqual before column = refl
+  comparison_step field Less before column = refl
+  comparison_step field LessOrEqual before column = refl
+  comparison_step field Greater before column = refl
+  comparison_step field GreaterOrEqual before column = refl
+
+  comparison_width : (comparison : Comparison) (r : List ℕ) → width (comparison_text comparison ++ 32 ∷ r) ≡ length (comparison_text comparison)
+  comparison_width Equal r = refl
+  comparison_width NotEqual r = refl
+  comparison_width Less r = refl
+  comparison_width LessOrEqual r = refl
+  comparison_width Greater r = refl
+  comparison_width GreaterOrEqual r = refl
+
+  comparison_some : (comparison : Comparison) → 0 < length (comparison_text comparison)
+  comparison_some Equal = omega arith
+  comparison_some NotEqual = omega arith
+  comparison_some Less = omega arith
+  comparison_some LessOrEqual = omega arith
+  comparison_some Greater = omega arith
+  comparison_some GreaterOrEqual = omega arith
+
+  operand_step : (field : Field) (comparison : Comparison) (operand : Operand) (before : List Open) → IsOperand field operand → (column : ℕ)
+      → step layout column (operand_word operand) (record { stage = Against field comparison; before = before }) ≡ Ok (settled before (Compare field comparison operand))
+  operand_step field comparison operand before fits column =
+      not_blank column (operand_word operand) (record { stage = Against field comparison; before = before }) (operand_is_word field operand fits)
+      ∙ ap (λ (r : Result Operand FaultKind). at column r >>= λ o. Ok (settled before (Compare field comparison o))) (operand_again layout field operand fits)
+
+  compare_goes : (field : Field) (comparison : Comparison) (operand : Operand) → IsField field → IsOperand field operand → (r : List ℕ) → is_word_byte (get_or r 0 0) ≡ false → (before : List Open)
+      → reading (field_text field ++ (32 ∷ (comparison_text comparison ++ (32 ∷ (operand_word operand ++ r))))) (record { stage = Wanted; before = before }) ≡ reading r (settled before (Compare field comparison operand))
+  compare_goes field comparison operand small fits r end before =
+      let word = field_is_word field small in
+      let last = operand_is_word field operand fits in
+      goes_on (field_text field) (32 ∷ (comparison_text comparison ++ (32 ∷ (operand_word operand ++ r)))) _ _ word.some (word_width (field_text field) _ word.all word.some refl) (field_step field before small)
+      ∙ blank _ _
+      ∙ goes_on (comparison_text comparison) (32 ∷ (operand_word operand ++ r)) _ _ (comparison_some comparison) (comparison_width comparison _) (comparison_step field comparison before)
+      ∙ blank _ _
+      ∙ goes_on (operand_word operand) r _ _ last.some (word_width (operand_word operand) r last.all last.some end) (operand_step field comparison operand before fits)
+
+  -- ---- bytes
+
+  bytes_word : (offset : ℕ) → offset < 2 ^ 16 → IsWord (codes "bytes@" ++ decimal offset)
+  bytes_word offset small = record { all = word_decimal offset (omega arith); some = omega arith }
+
+  bytes_subject : (offset : ℕ) → offset < 2 ^ 16 → subject_of layout (codes "bytes@" ++ decimal offset) ≡ Ok (BytesCompared offset)
+  bytes_subject offset small =
+      ap (subject_in layout (codes "bytes@" ++ decimal offset)) (cut_there (codes "bytes") 64 (decimal offset) refl refl)
+      ∙ ap (λ (r : Result ℕ FaultKind). r >>= λ o. Ok (BytesCompared o)) (offset_again offset small)
+
+  bytes_step : (offset : ℕ) (before : List Open) → offset < 2 ^ 16 → (column : ℕ)
+      → step layout column (codes "bytes@" ++ decimal offset) (record { stage = Wanted; before = before }) ≡ Ok (record { stage = BytesCompared offset; before = before })
+  bytes_step offset before small column =
+      not_blank column (codes "bytes@" ++ decimal offset) (record { stage = Wanted; before = before }) (bytes_word offset small)
+      ∙ word_wanted column (codes "bytes@" ++ decimal offset) before (bytes_word offset small)
+      ∙ ap (λ (r : Result Stage FaultKind). at column r >>= λ stage. Ok (record { stage = stage; before = before })) (bytes_subject offset small)
+
+  digits_step : (offset : ℕ) (bs : List ℕ) (before : List Open) → IsBytes bs → (column : ℕ)
+      → step layout column (codes "0x" ++ encode_lower bs) (record { stage = AgainstBytes offset true; before = before }) ≡ Ok (settled before (Bytes offset bs))
+  digits_step offset bs before small column = ap (λ r. at column (decoded r) >>= λ found. Ok (settled before (Bytes offset found))) (decode_of-encode_lower bs small)
+
+  bytes_goes : (offset : ℕ) (bs : List ℕ) → offset < 2 ^ 16 → IsBytes bs → (r : List ℕ) → is_word_byte (get_or r 0 0) ≡ false → (before : List Open)
+      → reading ((codes "bytes@" ++ decimal offset) ++ (codes " == " ++ ((codes "0x" ++ encode_lower bs) ++ r))) (record { stage = Wanted; before = before }) ≡ reading r (settled before (Bytes offset bs))
+  bytes_goes offset bs small each r end before =
+      let word = bytes_word offset small in
+      goes_on (codes "bytes@" ++ decimal offset) (codes " == " ++ ((codes "0x" ++ encode_lower bs) ++ r)) _ _ word.some (word_width (codes "bytes@" ++ decimal offset) _ word.all word.some refl) (bytes_step offset before small)
+      ∙ blank _ _
+      ∙ goes_on (codes "==") (32 ∷ ((codes "0x" ++ encode_lower bs) ++ r)) _ _ (omega arith) refl (λ column. refl)
+      ∙ blank _ _
+      ∙ goes_on (codes "0x" ++ encode_lower bs) r _ _ (omega arith) (word_width (codes "0x" ++ encode_lower bs) r (word_hex bs each) (omega arith) end) (digits_step offset bs before each)
+
+  -- ---- conditions
+
+  -- a condition inside another, and the text behind it
+  shown : Condition → List ℕ → List ℕ
+  shown (Compare field comparison operand) r = field_text field ++ (32 ∷ (comparison_text comparison ++ (32 ∷ (operand_word operand ++ r))))
+  shown (Bytes offset bs) r = (codes "bytes@" ++ decimal offset) ++ (codes " == " ++ ((codes "0x" ++ encode_lower bs) ++ r))
+  shown (And p q) r = 40 ∷ shown p (codes " && " ++ shown q (41 ∷ r))
+  shown (Or p q) r = 40 ∷ shown p (codes " || " ++ shown q (41 ∷ r))
+  shown (Not p) r = 33 ∷ shown p r
+
+  no_equals : (sign : Sign) → eqb (sign_letter sign) 61 ≡ false
+  no_equals Unsigned = refl
+  no_equals Signed = refl
+
+  -- behind a `!` no `=` is first
+  first_shown : (p : Condition) (r : List ℕ) → eqb (get_or (shown p r) 0 0) 61 ≡ false
+  unfolding shown
+  first_shown (Compare field comparison operand) r = no_equals field.sign
+  first_shown (Bytes offset bs) r = refl
+  first_shown (And p q) r = refl
+  first_shown (Or p q) r = refl
+  first_shown (Not p) r = refl
+
+  shown_goes : (p : Condition) → IsCondition p → (r : List ℕ) → is_word_byte (get_or r 0 0) ≡ false → (before : List Open)
+      → reading (shown p r) (record { stage = Wanted; before = before }) ≡ reading r (settled before p)
+  unfolding shown wanted joined
+  shown_goes (Compare field comparison operand) fits r end before = compare_goes field comparison operand fits.0 fits.1 r end before
+  shown_goes (Bytes offset bs) fits r end before = bytes_goes offset bs fits.0 fits.1 r end before
+  shown_goes (And p q) fits r end before =
+      goes_on (40 ∷ []) (shown p (codes " && " ++ shown q (41 ∷ r))) _ _ (omega arith) refl (λ column. refl)
+      ∙ shown_goes p fits.0 (codes " && " ++ shown q (41 ∷ r)) refl (Parenthesis ∷ before)
+      ∙ blank _ _
+      ∙ goes_on (codes "&&") (32 ∷ shown q (41 ∷ r)) _ _ (omega arith) refl (λ column. refl)
+      ∙ blank _ _
+      ∙ shown_goes q fits.1 (41 ∷ r) refl (Both p ∷ Parenthesis ∷ before)
+      ∙ goes_on (41 ∷ []) r _ _ (omega arith) refl (λ column. refl)
+  shown_goes (Or p q) fits r end before =
+      goes_on (40 ∷ []) (shown p (codes " || " ++ shown q (41 ∷ r))) _ _ (omega arith) refl (λ column. refl)
+      ∙ shown_goes p fits.0 (codes " || " ++ shown q (41 ∷ r)) refl (Parenthesis ∷ before)
+      ∙ blank _ _
+      ∙ goes_on (codes "||") (32 ∷ shown q (41 ∷ r)) _ _ (omega arith) refl (λ column. refl)
+      ∙ blank _ _
+      ∙ shown_goes q fits.1 (41 ∷ r) refl (Either p ∷ Parenthesis ∷ before)
+      ∙ goes_on (41 ∷ []) r _ _ (omega arith) refl (λ column. refl)
+  shown_goes (Not p) fits r end before =
+      goes_on (33 ∷ []) (shown p r) _ _ (omega arith) (ap (λ (b : Bool). cond b 2 1) (first_shown p r)) (λ column. refl)
+      ∙ shown_goes p fits r end (Opposite ∷ before)
+
+  -- ---- the text
+
+  part_shown : (p : Condition) (r : List ℕ) → part_text p ++ r ≡ shown p r
+  unfolding shown
+  part_shown (Compare field comparison operand) r = simp append_assoc
+  part_shown (Bytes offset bs) r = simp append_assoc
+  part_shown (And p q) r =
+      ap (λ (t : List ℕ). 40 ∷ t)
+      (append_assoc (part_text p) (codes " && " ++ (part_text q ++ codes ")")) r
+      ∙ part_shown p (codes " && " ++ ((part_text q ++ codes ")") ++ r))
+      ∙ ap (λ (t : List ℕ). shown p (codes " && " ++ t)) (append_assoc (part_text q) (codes ")") r ∙ part_shown q (41 ∷ r)))
+  part_shown (Or p q) r =
+      ap (λ (t : List ℕ). 40 ∷ t)
+      (append_assoc (part_text p) (codes " || " ++ (part_text q ++ codes ")")) r
+      ∙ part_shown p (codes " || " ++ ((part_text q ++ codes ")") ++ r))
+      ∙ ap (λ (t : List ℕ). shown p (codes " || " ++ t)) (append_assoc (part_text q) (codes ")") r ∙ part_shown q (41 ∷ r)))
+  part_shown (Not p) r = ap (λ (t : List ℕ). 33 ∷ t) (part_shown p r)
+
+  -- a condition that nothing is around
+  part_again : (p : Condition) → IsCondition p → settled [] p ≡ record { stage = Whole p; before = [] } → reading (part_text p) at_start ≡ Ok p
+  part_again p fits whole =
+      ap (λ (t : List ℕ). reading t at_start) (sym (append-nil (part_text p)) ∙ part_shown p [])
+      ∙ shown_goes p fits [] refl [] ∙ ends p
+
+  text_again : (p : Condition) → IsCondition p → reading (condition_text p) at_start ≡ Ok p
+  unfolding shown wanted joined
+  text_again (Compare field comparison operand) fits = part_again (Compare field comparison operand) fits refl
+  text_again (Bytes offset bs) fits = part_again (Bytes offset bs) fits refl
+  text_again (Not p) fits = part_again (Not p) fits refl
+  text_again (And p q) fits =
+      ap (λ (t : List ℕ). reading t at_start) (part_shown p (codes " && " ++ part_text q) ∙ ap (λ (t : List ℕ). shown p (codes " && " ++ t)) (sym (append-nil (part_text q)) ∙ part_shown q []))
+      ∙ shown_goes p fits.0 (codes " && " ++ shown q []) refl []
+      ∙ blank _ _
+      ∙ goes_on (codes "&&") (32 ∷ shown q []) _ _ (omega arith) refl (λ column. refl)
+      ∙ blank _ _
+      ∙ shown_goes q fits.1 [] refl (Both p ∷ [])
+      ∙ ends (And p q)
+  text_again (Or p q) fits =
+      ap (λ (t : List ℕ). reading t at_start) (part_shown p (codes " || " ++ part_text q) ∙ ap (λ (t : List ℕ). shown p (codes " || " ++ t)) (sym (append-nil (part_text q)) ∙ part_shown q []))
+      ∙ shown_goes p fits.0 (codes " || " ++ shown q []) refl []
+      ∙ blank _ _
+      ∙ goes_on (codes "||") (32 ∷ shown q []) _ _ (omega arith) refl (λ column. refl)
+      ∙ blank _ _
+      ∙ shown_goes q fits.1 [] refl (Either p ∷ [])
+      ∙ ends_or p q
+
+pub words_again : WordsReadBack
+unfolding condition_of reading
+words_again layout p fits few =
+    ap (λ (b : Bool). cond b (refused 1 kinds.TooLong) (read_words layout (length (condition_text p)) (cuts (condition_text p)) at_start)) (le-ltb MOST_BYTES (length (condition_text p)) few)
+    ∙ text_again layout (length (condition_text p)) p fits

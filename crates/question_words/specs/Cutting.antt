@@ -1,0 +1,35 @@
+-- How the text of a question is cut into words.
+use Rattle.std.specs.Prelude.{ℕ, zero, suc, ◌-◌, ◌==◌, Bool, not, ◌&&◌, ◌||◌, if◌then◌else◌, List, [], ◌∷◌, length, take, slice_index}
+use Rattle.std.specs.List.{position_or_len}
+use Rattle.std.specs.Char.{is_ascii_alphanumeric}
+
+-- a letter, a digit, `_`, `@` or `-`: what names, numbers and fields are made of
+abbrev pub is_word_byte : ℕ → Bool
+is_word_byte byte = is_ascii_alphanumeric byte || (byte == 95 || (byte == 64 || byte == 45))
+
+-- two bytes that are one word: `&&`, `||`, `==`, `!=`, `<=` and `>=`
+abbrev pub is_pair : ℕ → ℕ → Bool
+is_pair a b =
+    (a == 38 && b == 38) || ((a == 124 && b == 124) || ((a == 61 || (a == 33 || (a == 60 || a == 62))) && b == 61))
+
+-- how many bytes the first word of a text has: all that names are made of, one of the pairs, or one byte alone, as a blank
+abbrev pub width : List ℕ → ℕ
+width text =
+    if is_word_byte (slice_index text 0) then position_or_len (λ byte. not (is_word_byte byte)) text
+    else (if is_pair (slice_index text 0) (slice_index text 1) then 2 else 1)
+
+-- a word, and how many bytes the text has from its first on
+pub record Cut : Type 0 where
+  pub left : ℕ
+  pub word : List ℕ
+
+-- the words of a text behind so many bytes
+abbrev pub cuts_behind : ℕ → List ℕ → List Cut
+cuts_behind skip [] = []
+cuts_behind zero (byte ∷ rest) =
+    record { left = length (byte ∷ rest); word = take (width (byte ∷ rest)) (byte ∷ rest) } ∷ cuts_behind (width (byte ∷ rest) - 1) rest
+cuts_behind (suc skip) (byte ∷ rest) = cuts_behind skip rest
+
+-- the words of a text, of which a blank is one
+unfoldable pub cuts : List ℕ → List Cut
+cuts text = cuts_behind 0 text

@@ -1,0 +1,12 @@
+pub mod Fault
+pub mod Layout
+pub mod Cutting
+pub mod Number
+pub mod Field
+pub mod Operand
+pub mod Condition
+pub mod Reading
+pub mod LayoutText
+pub mod Printing
+pub mod Laws
+pub mod steps

@@ -1,0 +1,155 @@
+-- Reading: a word after another changes what is read so far, until one can't, or the text ends.
+use Rattle.std.specs.Prelude.{ℕ, ◌+◌, ◌-◌, ◌==◌, nat_lt, Bool, true, false, ◌||◌, ◌&&◌, if◌then◌else◌, List, [], ◌∷◌, length, drop, slice_index, Option, Some, None, Result, Ok, Err, codes}
+use Rattle.std.specs.Str.{bytes_eq}
+use Rattle.hex.specs.Hex.{decode_of}
+use Rattle.record_questions.specs.declared.question.Field.{Field}
+use Rattle.record_questions.specs.declared.question.Comparison.{Comparison}
+use Rattle.common_definitions.specs.Readings.{◌>>=◌}
+use Rattle.text_lines.specs.Cut.{cut_at}
+use Rattle.question_words.specs.declared.fault.FaultKind.{FaultKind}
+use Rattle.question_words.specs.declared.fault.FaultKind.TheVariants as kinds
+use Rattle.question_words.specs.declared.fault.WordFault.{WordFault}
+use Rattle.question_words.specs.declared.reading.TheConstants.{MOST_BYTES}
+use Rattle.question_words.specs.Condition.{Condition, Compare, Bytes, And, Or, Not}
+use Rattle.question_words.specs.Cutting.{Cut, cuts, is_word_byte}
+use Rattle.question_words.specs.Fault.{at, refused}
+use Rattle.question_words.specs.Field.{field_of, offset_of}
+use Rattle.question_words.specs.Operand.{comparison_of, operand_of}
+
+-- what is open before the place that is read, the nearest first: a `!`, a parenthesis, or the first of two conditions
+pub data Open : Type 0 where
+  Opposite : Open
+  Parenthesis : Open
+  Both : (first : Condition) → Open
+  Either : (first : Condition) → Open
+
+-- what the place begins with: a condition is wanted; behind a field a comparison; behind that an operand; the same of bytes, which are
+-- to be there or not; or a condition is whole, but for what is open
+pub data Stage : Type 0 where
+  Wanted : Stage
+  Compared : (field : Field) → Stage
+  Against : (field : Field) (comparison : Comparison) → Stage
+  BytesCompared : (offset : ℕ) → Stage
+  AgainstBytes : (offset : ℕ) (there : Bool) → Stage
+  Whole : (condition : Condition) → Stage
+
+-- what is read so far
+pub record State : Type 0 where
+  pub stage : Stage
+  pub before : List Open
+
+-- a condition is whole: a `!` and an `&&` before it take it
+abbrev pub settled : List Open → Condition → State
+settled [] p = record { stage = Whole p; before = [] }
+settled (Opposite ∷ before) p = settled before (Not p)
+settled (Both first ∷ before) p = settled before (And first p)
+settled (Parenthesis ∷ before) p = record { stage = Whole p; before = Parenthesis ∷ before }
+settled (Either first ∷ before) p = record { stage = Whole p; before = Either first ∷ before }
+
+-- an `||` before a condition takes it too
+abbrev pub with_either : List Open → Condition → Condition × List Open
+with_either (Either first ∷ before) p = (Or first p, before)
+with_either (Opposite ∷ before) p = (p, Opposite ∷ before)
+with_either (Parenthesis ∷ before) p = (p, Parenthesis ∷ before)
+with_either (Both first ∷ before) p = (p, Both first ∷ before)
+with_either [] p = (p, [])
+
+-- a `)` closes the parenthesis that is open
+abbrev pub closed : ℕ → Condition × List Open → Result State WordFault
+closed column (p, Parenthesis ∷ before) = Ok (settled before p)
+closed column (p, _) = refused column kinds.NotOpened
+
+-- a condition is all where nothing is open
+abbrev pub all_of : ℕ → Condition × List Open → Result Condition WordFault
+all_of column (p, []) = Ok p
+all_of column (p, _) = refused column kinds.NotClosed
+
+-- a name or an offset of bytes, as what is compared
+abbrev pub subject_in : List (List ℕ × Field) → List ℕ → Option (List ℕ × List ℕ) → Result Stage FaultKind
+subject_in layout word None = field_of layout word >>= λ field. Ok (Compared field)
+subject_in layout word (Some parts) =
+    if bytes_eq parts.0 (codes "bytes") then (offset_of parts.1 >>= λ offset. Ok (BytesCompared offset))
+    else (field_of layout word >>= λ field. Ok (Compared field))
+
+abbrev pub subject_of : List (List ℕ × Field) → List ℕ → Result Stage FaultKind
+subject_of layout word =
+    if is_word_byte (slice_index word 0) then subject_in layout word (cut_at 64 word) else Err kinds.Condition
+
+-- a condition is wanted: a `!`, a `(`, or what is compared
+unfoldable pub wanted : List (List ℕ × Field) → ℕ → List ℕ → List Open → Result State WordFault
+wanted layout column word before =
+    if bytes_eq word (codes "!") then Ok (record { stage = Wanted; before = Opposite ∷ before })
+    else (if bytes_eq word (codes "(") then Ok (record { stage = Wanted; before = Parenthesis ∷ before })
+    else (at column (subject_of layout word) >>= λ stage. Ok (record { stage = stage; before = before })))
+
+-- bytes are to be there, or not
+abbrev pub is_there : List ℕ → Result Bool FaultKind
+is_there word =
+    if bytes_eq word (codes "==") then Ok true else (if bytes_eq word (codes "!=") then Ok false else Err kinds.BytesComparison)
+
+-- bytes, where digits write some
+abbrev pub decoded : {E : Type 0} → Result (List ℕ) E → Result (List ℕ) FaultKind
+decoded (Ok bytes) = Ok bytes
+decoded (Err fault) = Err kinds.Bytes
+
+-- the bytes that a word is
+abbrev pub bytes_of : List ℕ → Result (List ℕ) FaultKind
+bytes_of word = if slice_index word 0 == 48 && slice_index word 1 == 120 then decoded (decode_of (drop 2 word)) else Err kinds.Bytes
+
+-- a record has these bytes, or hasn't
+abbrev pub bytes_condition : ℕ → Bool → List ℕ → Condition
+bytes_condition offset there bytes = if there then Bytes offset bytes else Not (Bytes offset bytes)
+
+-- a condition is whole: an `&&`, an `||` or a `)`
+unfoldable pub joined : ℕ → List ℕ → Condition → List Open → Result State WordFault
+joined column word p before =
+    if bytes_eq word (codes "&&") then Ok (record { stage = Wanted; before = Both p ∷ before })
+    else (if bytes_eq word (codes "||")
+    then (let whole = with_either before p in Ok (record { stage = Wanted; before = Either whole.0 ∷ whole.1 }))
+    else (if bytes_eq word (codes ")") then closed column (with_either before p) else refused column kinds.Joint))
+
+-- what a word that is no blank makes of what is read so far
+abbrev pub next : List (List ℕ × Field) → ℕ → List ℕ → Stage → List Open → Result State WordFault
+next layout column word Wanted before = wanted layout column word before
+next layout column word (Compared field) before =
+    at column (comparison_of word) >>= λ comparison. Ok (record { stage = Against field comparison; before = before })
+next layout column word (Against field comparison) before =
+    at column (operand_of layout field word) >>= λ operand. Ok (settled before (Compare field comparison operand))
+next layout column word (BytesCompared offset) before =
+    at column (is_there word) >>= λ there. Ok (record { stage = AgainstBytes offset there; before = before })
+next layout column word (AgainstBytes offset there) before =
+    at column (bytes_of word) >>= λ bytes. Ok (settled before (bytes_condition offset there bytes))
+next layout column word (Whole p) before = joined column word p before
+
+-- a space, a tab, a line's end
+abbrev pub is_blank : List ℕ → Bool
+is_blank word =
+    bytes_eq word (codes " ") || (bytes_eq word (9 ∷ []) || (bytes_eq word (10 ∷ []) || bytes_eq word (13 ∷ [])))
+
+-- what a word makes of what is read so far: a blank nothing
+abbrev pub step : List (List ℕ × Field) → ℕ → List ℕ → State → Result State WordFault
+step layout column word state = if is_blank word then Ok state else next layout column word state.stage state.before
+
+-- the text ends
+abbrev pub finished : ℕ → Stage → List Open → Result Condition WordFault
+finished column Wanted before = refused column kinds.Condition
+finished column (Compared field) before = refused column kinds.Comparison
+finished column (Against field comparison) before = refused column kinds.Operand
+finished column (BytesCompared offset) before = refused column kinds.BytesComparison
+finished column (AgainstBytes offset there) before = refused column kinds.Bytes
+finished column (Whole p) before = all_of column (with_either before p)
+
+-- what these words of a text of so many bytes make of what is read so far
+abbrev pub read_words : List (List ℕ × Field) → ℕ → List Cut → State → Result Condition WordFault
+read_words layout bytes [] state = finished (bytes + 1) state.stage state.before
+read_words layout bytes (cut ∷ cuts) state =
+    step layout (bytes - cut.left + 1) cut.word state >>= λ after. read_words layout bytes cuts after
+
+-- nothing is read yet
+abbrev pub at_start : State
+at_start = record { stage = Wanted; before = [] }
+
+-- the condition that a text is, or its first fault
+unfoldable pub condition_of : List (List ℕ × Field) → List ℕ → Result Condition WordFault
+condition_of layout text =
+    if nat_lt MOST_BYTES (length text) then refused 1 kinds.TooLong else read_words layout (length text) (cuts text) at_start

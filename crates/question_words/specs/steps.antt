@@ -1,0 +1,2 @@
+-- What private functions hand on to each other; no public contract speaks of it.
+pub mod Views

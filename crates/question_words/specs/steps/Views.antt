@@ -1,0 +1,33 @@
+-- What is read so far, as the definitions see it.
+use Rattle.std.specs.Prelude.{List, map, reverse}
+use Rattle.question_words.specs.declared.stack.Open.{Open}
+use Rattle.question_words.specs.declared.stack.Open.TheVariants as parts
+use Rattle.question_words.specs.declared.stage.Stage.{Stage}
+use Rattle.question_words.specs.declared.stage.Stage.TheVariants as stages
+use Rattle.question_words.specs.declared.stage.Reading.{Reading}
+use Rattle.question_words.specs.Condition.{said}
+use Rattle.question_words.specs.Reading as readings
+
+-- what is open
+abbrev pub open_view : Open → readings.Open
+open_view parts.Opposite = readings.Opposite
+open_view parts.Parenthesis = readings.Parenthesis
+open_view (parts.Both first) = readings.Both (said first)
+open_view (parts.Either first) = readings.Either (said first)
+
+-- all that is open: the code has the nearest last
+unfoldable pub opens : List Open → List readings.Open
+opens items = reverse (map open_view items)
+
+-- what the place begins with
+abbrev pub stage_view : Stage → readings.Stage
+stage_view stages.Wanted = readings.Wanted
+stage_view (stages.Compared field) = readings.Compared field
+stage_view (stages.Against field comparison) = readings.Against field comparison
+stage_view (stages.BytesCompared offset) = readings.BytesCompared offset
+stage_view (stages.AgainstBytes offset there) = readings.AgainstBytes offset there
+stage_view (stages.Whole condition) = readings.Whole (said condition)
+
+-- what is read so far
+abbrev pub reading_view : Reading → readings.State
+reading_view reading = record { stage = stage_view reading.stage; before = opens reading.before.items }

@@ -1,0 +1,112 @@
+//! Why a question isn't read.
+
+ghost use Rattle.std.specs.Prelude.{◌≡◌};
+ghost use Rattle.question_words.specs.Fault.{located as located_at};
+ghost use Rattle.question_words.specs.declared.fault.ReadFault.TheVariants.{Memory};
+
+use std::alloc::{AllocError, AllocFailed};
+use thiserror::Error;
+
+/// What is wrong at a place, and what is possible there.
+#[derive(Clone, Copy, Debug, PartialEq, Eq, Error)]
+pub enum FaultKind {
+    /// No condition begins so.
+    #[error("a field, `bytes@` and an offset, `!` or `(` is expected")]
+    Condition,
+    /// The layout lacks the name.
+    #[error("the layout has no field of this name; without a name a field is written as u32@8")]
+    Name,
+    /// What is before the `@` is no type.
+    #[error("before the @ a type is expected: u8, u16, u32, u64, i8, i16, i32 or i64, or with be behind it as in u32be")]
+    Type,
+    /// What is behind the `@` is no offset.
+    #[error("behind the @ an offset is expected: a decimal number from 0 to 65535")]
+    Offset,
+    /// Behind a field there is no comparison.
+    #[error("a comparison is expected: ==, !=, <, <=, > or >=")]
+    Comparison,
+    /// Behind `bytes@` and an offset there is neither `==` nor `!=`.
+    #[error("bytes are compared by == or !=")]
+    BytesComparison,
+    /// No operand begins so.
+    #[error("a number, `arg` or a field is expected")]
+    Operand,
+    /// A word that begins as a number isn't one.
+    #[error("a number is decimal, or hexadecimal behind 0x")]
+    Number,
+    /// No number of the field's type is compared.
+    #[error("the number is beyond those of the field's type")]
+    Range,
+    /// One of two fields is signed.
+    #[error("a field is compared with one that is signed as it is, or unsigned as it is")]
+    Sign,
+    /// Bytes aren't written so.
+    #[error("bytes are expected: two hexadecimal digits for each, behind 0x")]
+    Bytes,
+    /// Behind a condition there is something else.
+    #[error("`&&`, `||`, `)` or the end is expected")]
+    Joint,
+    /// No parenthesis is open.
+    #[error("no ( is open that this ) could close")]
+    NotOpened,
+    /// A parenthesis is open at the end.
+    #[error("a ) is missing")]
+    NotClosed,
+    /// The text is too long.
+    #[error("a question has at most 4096 bytes")]
+    TooLong,
+}
+
+/// What is wrong with a question, and where: at the first word that can't go on as the text before it began.
+#[derive(Clone, Copy, Debug, PartialEq, Eq, Error)]
+#[error("column {column}: {kind}")]
+pub struct WordFault {
+    /// The column of the word's first byte, counted in bytes from 1; behind the last byte where a word is missing.
+    pub column: usize,
+    /// What is wrong there.
+    pub kind: FaultKind,
+}
+
+/// Why a question isn't read.
+#[derive(Clone, Copy, Debug, PartialEq, Eq, Error)]
+pub enum ReadFault {
+    /// Memory ran out.
+    #[error("no memory")]
+    Memory,
+    /// It isn't a question.
+    #[error(transparent)]
+    Word(WordFault),
+}
+
+impl From<AllocError> for ReadFault {
+    ghost from_gives = { λ _ e. e ≡ Memory };
+
+    fn from(_error: AllocError) -> ReadFault {
+        ReadFault::Memory
+    }
+}
+
+impl<T: Drop> From<AllocFailed<T>> for ReadFault {
+    ghost from_gives = { λ _ e. e ≡ Memory };
+
+    fn from(_error: AllocFailed<T>) -> ReadFault {
+        ReadFault::Memory
+    }
+}
+
+/// The fault of this kind at a column.
+pub(crate) fn fault(column: usize, kind: FaultKind) -> ReadFault
+    ensures { result ≡ ReadFault.Word (record { column = column; kind = kind }) }
+{
+    ReadFault::Word(WordFault { column, kind })
+}
+
+/// What was read at a column, or its fault there.
+pub(crate) fn located<T: Drop>(column: usize, reading: Result<T, FaultKind>) -> Result<T, ReadFault>
+    ensures { result ≡ located_at column reading }
+{
+    match reading {
+        Ok(value) => Ok(value),
+        Err(kind) => Err(fault(column, kind)),
+    }
+}

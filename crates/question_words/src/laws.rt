@@ -1,0 +1,8 @@
+//! The law of questions in words. The function does nothing: what it ensures is the law.
+
+ghost use Rattle.question_words.specs.Laws.{WordsReadBack};
+
+/// What is printed of a condition is read as the same, whatever the layout.
+pub fn words_read_back()
+    ensures { WordsReadBack }
+{}

@@ -1,0 +1,37 @@
+//! Questions in words: the condition that a person writes, and the text of one that is understood.
+//!
+//! ```text
+//! u32@8 == 3 && !(i16@2 < 0) || price >= arg
+//! ```
+//!
+//! - A field is a type and the offset of its first byte, as `u32@8`, or a name of the layout. The types are `u8`, `u16`, `u32`, `u64`,
+//!   `i8`, `i16`, `i32` and `i64`; with `be` behind it the highest byte comes first, as in `u32be@0`.
+//! - A layout has a name and a field on each line, as `price i32@12`; what is behind a `;` is a comment.
+//! - A field is compared by `==`, `!=`, `<`, `<=`, `>` or `>=` with a number of its type, with
+//!   `arg`, the argument of the run, or with a field that is signed as it is.
+//! - `bytes@8 == 0x6162` asks for the bytes 61h and 62h from offset 8 on; by `!=` it asks for others.
+//! - `!` takes what is next to it, `&&` is before `||`, and parentheses are before both.
+//! - Numbers are decimal, with a `-` in front where they are below zero, or hexadecimal behind `0x`.
+#![tactic(auto)]
+
+mod cutting;
+mod fault;
+mod field;
+pub mod laws;
+mod layout;
+mod layout_text;
+mod number;
+mod operand;
+mod printing;
+mod reading;
+mod stack;
+mod stage;
+
+pub use fault::{FaultKind, ReadFault, WordFault};
+pub use layout::{Layout, NamedField};
+pub use layout_text::{LayoutFault, LineKind, read_layout};
+pub use printing::text_of;
+pub use reading::read;
+
+#[cfg(test)]
+mod tests;
