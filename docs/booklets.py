@@ -35,12 +35,18 @@ ROOTS: List[Key] = [
     ("ebpf_decode/specs/Laws.antt", "FaultIsFirst"),
     ("accepted_programs/specs/Laws.antt", "AcceptedNeverTraps"),
     ("accepted_programs/specs/Laws.antt", "RefusalIsFirst"),
+    ("question_runs/specs/Answered.antt", "QuestionsAreAnswered"),
+    ("question_runs/specs/Answered.antt", "RunsAnswer"),
+    ("question_runs/specs/Loaded.antt", "CompiledQuestionsLoad"),
+    ("record_questions/specs/Tallies.antt", "WordsAreTallied"),
+    ("record_questions/specs/Tallies.antt", "TalliesAreTold"),
 ]
 
 # what is named there and stands in no booklet, each with the reason
 CUT: Dict[Key, str] = {
     ("accepted_programs/specs/Facts.antt", "facts_at"): "what the verifier knows at a slot; None: no way leads there",
     ("interval_domain/specs/Intervals.antt", "intervals"): "the operations on facts that are intervals, by which the device judges",
+    ("record_questions/specs/Code.antt", "question_program"): "the program that `compile` makes of a question",
 }
 
 # what some names are, where their own comment needs the one above it
@@ -229,10 +235,24 @@ ACCEPTANCE = Booklet(
     ],
 )
 
+QUESTIONS = Booklet(
+    "questions",
+    "Questions",
+    [
+        Section("What a question is", r"record_questions/src/question\."),
+        Section("Which records match, and what the answer is", r"record_questions/specs/Question\."),
+        Section("Tallies", r"record_questions/specs/Tallies\."),
+        Section("Which questions can be asked", r"record_questions/specs/Asked\."),
+        Section("How records are read back", r"emit_append/specs/Unpacking\.|pushdown/specs/ReadBack\."),
+        Section("Programs of questions", r"question_compiler/|question_runs/specs/Loaded\."),
+        Section("What a device answers", r"question_runs/specs/Answered\."),
+    ],
+)
+
 # in the order in which the pages name them
-BOOKLETS = [COMMANDS, RFC_9669, RUNS, DEVICE, ACCEPTANCE]
+BOOKLETS = [COMMANDS, RFC_9669, RUNS, DEVICE, ACCEPTANCE, QUESTIONS]
 # where several have a file, the first of these that takes it
-BY_FILES = [RUNS, DEVICE, ACCEPTANCE, RFC_9669, COMMANDS]
+BY_FILES = [QUESTIONS, RUNS, DEVICE, ACCEPTANCE, RFC_9669, COMMANDS]
 
 # a place: the number of a booklet, and that of a section in it
 At = Tuple[int, int]

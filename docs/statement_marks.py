@@ -219,6 +219,28 @@ MARKS: Dict[str, str] = {
     "word_domain/src/bounds.rt": "-: Bounds",
     "word_domain/src/offsets.rt": "-: Offsets",
     "common_definitions/specs/Failures.antt": "-: CountsFailure",
+    "emit_append/specs/Unpacking.antt": (
+        "P: Reading zeros_at frame_length frame_record after_frame frames_at output_block_at output_blocks_at unpacked"
+    ),
+    "record_questions/src/question.rt": "P: Sign ByteOrder Field Comparison Operand Predicate ByteRange Tally Question",
+    "record_questions/specs/Question.antt": (
+        "P: number_of number_in signed_by value_of operand_value compares matches records_in matching cut cuts answer"
+    ),
+    "record_questions/specs/Tallies.antt": (
+        "P: tally_step tallied_from tallied_of tally_from; -: IsLeast IsGreatest WordsAreTallied TalliesAreTold"
+    ),
+    "record_questions/specs/Asked.antt": (
+        "P: IsField IsNumber IsOperand IsPredicate IsRange IsTallied IsTally AreTallies IsQuestion"
+    ),
+    "question_runs/specs/Loaded.antt": "-: IsProgramOf HasQuestion NoEventLoads load_by QuestionWasLoaded CompiledQuestionsLoad",
+    "question_compiler/specs/Compiled.antt": "-: IsCompiled",
+    "pushdown/specs/ReadBack.antt": (
+        "-: Submits IsCompleted LoadSucceeds NoRunEnds ReadsGive NoEventClears ResultGives NoEventReplaces"
+    ),
+    "question_runs/specs/Answered.antt": (
+        "-: answer_of tallies_of AreRead StayRead StaysResult source destination records last IsAnswered AnswersIn "
+        "RunsAnswer QuestionsAreAnswered"
+    ),
 }
 
 # the sections of a standard that comments don't name, by their files and names
