@@ -179,7 +179,7 @@ def noting(made: Any) -> Any:
 
     def ci(crate: Any, flags: List[str], tests: bool) -> int:
         status: int = built(crate, flags) if crate.is_static and not tests else made(crate, flags, tests)
-        if not status and not tests and crate.makes_rlib():
+        if not status and not tests:
             note(crate.name, sum(it.seconds for it in used() if it[:2] == (crate.name, "proof")))
         return status
 
@@ -265,7 +265,7 @@ def by_kit() -> int:
     status = subprocess.call(["rt", "ci"])
     for line in (proving.TOP / "crates.txt").read_text().splitlines() if not status else []:
         for name in proving.Crates(line.partition(":")[0].split()[0]).names if ":" in line.partition("#")[0] else []:
-            if proving.rlib(name).is_dir() and not proving.Stamps.kept(name):
+            if proving.rlib(name).is_dir() and not proving.Stamps(proving.Crates(name), proving.Kit()).kept(name):
                 note(name, 0)
     return status
 

@@ -174,6 +174,12 @@ def rlib(name: str) -> Path:
     return TOP / "crates" / name / "out" / "rlib" / f"{name}.rlib"
 
 
+def made(crates: Crates, name: str) -> Path:
+    """What is made of a crate: its library, a program, or a static library for C."""
+    out = TOP / "crates" / name / "out"
+    return out / f"lib{name}.a" if name in crates.statics else out / name if is_program(name) else rlib(name)
+
+
 class Stamps:
     """Which libraries are proved: beside each is a sum of what it was made of, and a number of its own, which those above it count in."""
 
@@ -193,20 +199,22 @@ class Stamps:
             of.update(self.kept(it).encode())
         return of.hexdigest()
 
-    @staticmethod
-    def kept(name: str) -> str:
-        """What is written beside a proved library."""
-        path = rlib(name).parent / "proved"
-        return path.read_text() if path.is_file() and rlib(name).is_dir() else ""
+    def place(self, name: str) -> Path:
+        """The file that says of which sources was made what is made of a crate."""
+        return made(self.crates, name).parent / "proved"
+
+    def kept(self, name: str) -> str:
+        """What that file says, where what it speaks of is there."""
+        path = self.place(name)
+        return path.read_text() if path.is_file() and made(self.crates, name).exists() else ""
 
     def is_proved(self, name: str) -> bool:
-        """Is the library proved of the sources that are there?"""
+        """Was it made of the sources that are there?"""
         return self.kept(name).partition(" ")[0] == self.sources(name)
 
-    @staticmethod
-    def note(name: str, sources: str, seconds: float) -> None:
-        """Notes that the library was proved of these sources, and in how many seconds of one core."""
-        (rlib(name).parent / "proved").write_text(f"{sources} {secrets.token_hex(8)} {seconds:.0f}")
+    def note(self, name: str, sources: str, seconds: float) -> None:
+        """Notes that it was made of these sources, and in how many seconds of one core."""
+        self.place(name).write_text(f"{sources} {secrets.token_hex(8)} {seconds:.0f}")
 
 
 class Proving:
@@ -246,39 +254,44 @@ class Proving:
         return used.ru_utime + used.ru_stime if status == 0 else None
 
     def prove(self, name: str, jobs: int) -> bool:
-        """Proves a library with so many processes, unless that was done of the same sources, or the last crate and then builds it."""
-        if name == self.crates.top and (is_program(name) or name in self.crates.statics):
-            return self.build(name, jobs)
+        """Proves a crate with so many processes and makes what is made of it, unless that was done of the same sources."""
         sources = self.stamps.sources(name)
         if self.stamps.is_proved(name):
             return True
-        shutil.rmtree(rlib(name).parent, ignore_errors=True)
-        rlib(name).parent.mkdir(parents=True)
-        words = self.kit.words(self.crates, name) + self.kit.jobs(jobs)
-        seconds = self.call(name, [str(self.kit.rattle), "build", *words, "--statements", "-o", str(rlib(name))])
+        is_library = made(self.crates, name) == rlib(name)
+        seconds = self.library(name, jobs) if is_library else self.build(name, jobs)
         if seconds is None:
             return False
         self.stamps.note(name, sources, seconds)
         return True
 
-    def build(self, name: str, jobs: int) -> bool:
+    def library(self, name: str, jobs: int) -> Optional[float]:
+        """Proves a library, and gives what that took, or None where it failed."""
+        shutil.rmtree(rlib(name).parent, ignore_errors=True)
+        rlib(name).parent.mkdir(parents=True)
+        words = self.kit.words(self.crates, name) + self.kit.jobs(jobs)
+        return self.call(name, [str(self.kit.rattle), "build", *words, "--statements", "-o", str(rlib(name))])
+
+    def build(self, name: str, jobs: int) -> Optional[float]:
         """Proves a program or a static library once, and builds it of what was proved."""
-        kit, words = self.kit, self.kit.words(self.crates, name)
+        kit, words, to = self.kit, self.kit.words(self.crates, name), made(self.crates, name)
         is_static = name in self.crates.statics
         with tempfile.TemporaryDirectory(prefix="proved-") as room:
-            made = str(self.out / f"lib{name}.a") if is_static else f"{room}/{name}.o"
-            checked = ["--crate-checked", f"{room}/checked", "--toolchain", f"{kit.home}/toolchain", "-o", made]
-            linked = ["--target", "x86_64-unknown-linux-gnu", "--toolchain", f"{kit.home}/toolchain", "-o", str(self.out / name)]
-            for command in (
+            code = str(to) if is_static else f"{room}/{name}.o"
+            checked = ["--crate-checked", f"{room}/checked", "--toolchain", f"{kit.home}/toolchain", "-o", code]
+            linked = ["--target", "x86_64-unknown-linux-gnu", "--toolchain", f"{kit.home}/toolchain", "-o", str(to)]
+            commands = [
                 [str(kit.rattle), "check", *words, *kit.jobs(jobs), "-o", f"{room}/checked"],
                 [str(kit.rattle), "build", *words, *checked],
-                [f"{kit.rattle}-link", *linked, made, f"{kit.home}/c/libos_c.a", f"{kit.home}/c/liblibc_c.a"],
-            ):
-                if is_static and command[0].endswith("-link"):
-                    break
-                if self.call(name, command) is None:
-                    return False
-        return True
+                [f"{kit.rattle}-link", *linked, code, f"{kit.home}/c/libos_c.a", f"{kit.home}/c/liblibc_c.a"],
+            ]
+            seconds = 0.0
+            for command in commands[:2] if is_static else commands:
+                took = self.call(name, command)
+                if took is None:
+                    return None
+                seconds += took
+        return seconds
 
     def shown(self) -> str:
         """How far it is, in a line: what is left by the table, times what this machine has taken so far of what the table says."""
@@ -378,10 +391,10 @@ def prove(name: str) -> int:
 
 
 def print_times() -> None:
-    """Prints what each library took when it was proved last."""
+    """Prints what each crate took when it was proved last."""
     for line in (TOP / "crates.txt").read_text().splitlines():
         name = line.partition("#")[0].partition(":")[0].split()[:1]
-        words = Stamps.kept(name[0]).split() if name else []
+        words = Stamps(Crates(name[0]), Kit()).kept(name[0]).split() if name else []
         if words:
             print(name[0], words[2])
 

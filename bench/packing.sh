@@ -7,4 +7,5 @@
 # best of 20).
 set -eu
 cd "$(dirname "$0")/../crates/bench_packing"
-exec rt run -- time
+../../.ci/proving.py bench_packing
+exec out/bench_packing time
