@@ -5,7 +5,7 @@
     .ci/gate.py edits CRATE..  the edits of these crates alone, with those of failing/edits, over libraries that are proved first
 
 `rt ci` proves a crate once more for its edits. Here the edits of a crate are put into one copy of it, as far as they lie in
-different functions, and of that copy the modules that they change are checked alone, over the libraries that were just proved. Each
+different functions, and of that copy the functions that they change are checked alone, over the libraries that were just proved. Each
 edit is refused where the function that it changes isn't proved, and the crate without edits still is. An edit that isn't refused
 so is tried as `rt ci` does it: alone, over the whole crate, from nothing. So is each edit that changes more than functions.
 
@@ -124,8 +124,12 @@ def rounds_of(changes: Dict[str, Change]) -> List[List[str]]:
 
 
 def unproved(said: str) -> List[str]:
-    """The functions that a check says aren't proved."""
-    return re.findall(r"(?m)^fn (\S+): not proved", said)
+    """The functions of which a check says that they aren't proved, and not merely that one isn't that they call.
+
+    >>> unproved("fn a::b::f: not proved\\nfn a::b::g: no proof: it calls `a::b::f`, which is not proved\\nfn a::c::h: no proof: expected answers\\n")
+    ['a::b::f', 'a::c::h']
+    """
+    return re.findall(r"(?m)^fn (\S+): (?:not proved|no proof: (?!it calls))", said)
 
 
 def is_refused(change: Change, names: List[str]) -> bool:
@@ -133,32 +137,55 @@ def is_refused(change: Change, names: List[str]) -> bool:
     return any(f"::{module}::" in name and function in name.split("::") for module, function in change.functions for name in names)
 
 
-def only(changes: List[Change]) -> List[str]:
-    """The words of `rattle check` for the modules that are changed."""
-    return [word for name in sorted({module for it in changes for module, _ in it.functions}) for word in ("--only", name)]
+def only(changes: List[Change], by_module: bool) -> List[str]:
+    """The words of `rattle check` for what is changed: the functions, by names that may fit several, or the modules that they are in.
+
+    >>> only([Change({}, {("turn", "advance")})], False), only([Change({}, {("turn", "advance")})], True)
+    (['--only', 'advance'], ['--only', 'turn'])
+    """
+    names = {module if by_module else name for it in changes for module, name in it.functions}
+    return [word for name in sorted(names) for word in ("--only", name)]
+
+
+def checked(rt: ModuleType, crate: Any, texts: Dict[str, str], changes: List[Change], flags: List[str], kept: str) -> Any:
+    """Checks the functions that are changed, or their modules where a name fits several functions."""
+    ran = rt.checked(crate, texts, [*flags, *only(changes, False)], kept)
+    return ran if ran.returncode != 2 else rt.checked(crate, texts, [*flags, *only(changes, True)], kept)
+
+
+def refused_in(rt: ModuleType, crate: Any, changes: Dict[str, Change], flags: List[str], kept: str) -> List[str]:
+    """Which of these edits are refused in one check of the functions that they change."""
+    texts = apply_all(rt, crate, list(changes))
+    if not texts:
+        return []
+    ran = checked(rt, crate, texts, list(changes.values()), flags, kept)
+    lines = ran.stdout.rstrip("\n").split("\n")
+    if ran.returncode != 1 or not lines[-1].startswith("only=") or rt.rtlib.STALE.search(ran.stdout):
+        return []
+    if any(rt.unread(it, texts) for it in lines):
+        return []
+    names = unproved(ran.stdout)
+    return [edit for edit, change in changes.items() if is_refused(change, names)]
 
 
 def tried_together(rt: ModuleType, crate: Any, changes: Dict[str, Change], flags: List[str]) -> Dict[str, Verdict]:
-    """The edits that are refused in a check of the modules that they change, with what to say of each."""
+    """The edits that are refused in a check of the functions that they change, with what to say of each.
+
+    A function is passed over that calls one that isn't proved: so what a round leaves is tried once more, and then one by one.
+    """
     found: Dict[str, Verdict] = {}
+    rounds = rounds_of(changes)
     with tempfile.TemporaryDirectory(prefix="rt-edits-") as kept:
-        for edits in rounds_of(changes):
-            texts = apply_all(rt, crate, edits)
-            if not texts:
-                continue
-            ran = rt.checked(crate, texts, [*flags, *only([changes[it] for it in edits])], kept)
-            lines = ran.stdout.rstrip("\n").split("\n")
-            if ran.returncode != 1 or not lines[-1].startswith("only=") or rt.rtlib.STALE.search(ran.stdout):
-                continue
-            if any(rt.unread(it, texts) for it in lines):
-                continue
-            names = unproved(ran.stdout)
-            for edit in edits:
-                if is_refused(changes[edit], names):
-                    label = f"must-fail {crate.name}/{os.path.basename(edit)}"
-                    where = ", ".join(sorted({function for _, function in changes[edit].functions}))
-                    found[edit] = True, f"{label}: refused, as it must be: {where} isn't proved"
-        if found and rt.checked(crate, {}, [*flags, *only([changes[it] for it in found])], kept).returncode:
+        while rounds:
+            edits = rounds.pop(0)
+            refused = refused_in(rt, crate, {it: changes[it] for it in edits}, flags, kept)
+            for edit in refused:
+                where = ", ".join(sorted({function for _, function in changes[edit].functions}))
+                found[edit] = True, f"must-fail {crate.name}/{os.path.basename(edit)}: refused, as it must be: {where} isn't proved"
+            left = [it for it in edits if it not in refused]
+            if left and len(edits) > 1:
+                rounds += [left] if refused else [[it] for it in left]
+        if found and checked(rt, crate, {}, [changes[it] for it in found], flags, kept).returncode:
             return {}
     return found
 
