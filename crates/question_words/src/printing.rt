@@ -12,8 +12,8 @@ use crate::operand::comparison_word;
 use record_questions::{Field, Operand, Predicate};
 use std::alloc::{AllocError, Global};
 
-/// The text of a condition, which is read back as the same: fields by their types and offsets, numbers decimal, and parentheses around
-/// each `&&` and `||` inside another condition.
+/// The text of a condition: fields by their types and offsets, numbers decimal, and parentheses around each `&&` and `||` inside another
+/// condition. It is read back as the same if its numbers are of the types that they are compared with, and it has at most 4096 bytes.
 ///
 /// # Errors
 ///
