@@ -40,7 +40,8 @@ fn of_script<'p>(script: &'p str, path: &'p str) -> Pieces<'p>
 
 /// A file that fails, with these words of its cause.
 fn of_file<'p>(path: &'p str, cause: FileCause, script: &'p str) -> Pieces<'p>
-    ensures { pieces_text result ≡ (shown path.now ++ codes ": " ++ cause_words cause ++ 10 ∷ []) ++ (script.now ++ shown path.now ++ 10 ∷ []) }
+    ensures { pieces_text result
+        ≡ (shown path.now ++ codes ": " ++ cause_words cause ++ 10 ∷ []) ++ (script.now ++ shown path.now ++ 10 ∷ []) }
 {
     let words = cause.words();
     [
