@@ -1,10 +1,10 @@
 -- A condition that is printed is read again.
-use Rattle.std.proofs.Common.{◌≡◌, ℕ, ◌<◌, ◌^◌, Bool, true, false, cond, eqb, List, [], ◌∷◌, ◌++◌, length, get_or, Some, Result, Ok, refl, sym, ap, ◌∙◌, codes, append_assoc, arith}
+use Rattle.std.proofs.Common.{◌≡◌, ℕ, ◌<◌, ◌^◌, Bool, true, false, cond, eqb, List, [], ◌∷◌, ◌++◌, length, get_or, Some, Result, Ok, Err, refl, sym, ap, ◌∙◌, codes, append_assoc, arith}
 use Rattle.std.specs.Fmt.{decimal}
-use Rattle.std.proofs.lemmas.Bool.{le-ltb}
+use Rattle.std.proofs.lemmas.Bool.{le-ltb, ne_eqb}
 use Rattle.std.proofs.lemmas.List.{append-nil}
-use Rattle.hex.specs.Hex.{IsBytes, encode_lower}
-use Rattle.hex.proofs.HexLemmas.{decode_of-encode_lower}
+use Rattle.hex.specs.Hex.{IsBytes, decode_of, encode_lower, lower_digits}
+use Rattle.hex.proofs.HexLemmas.{decode_of-encode_lower, length-encode_with}
 use Rattle.record_questions.specs.declared.question.Field.{Field}
 use Rattle.record_questions.specs.declared.question.Sign.{Sign}
 use Rattle.record_questions.specs.declared.question.Sign.TheVariants.{Unsigned, Signed}
@@ -143,19 +143,24 @@ module _ (layout : List (List ℕ × Field)) (bytes : ℕ) where
       ∙ word_wanted column (codes "bytes@" ++ decimal offset) before (bytes_word offset small)
       ∙ ap (λ (r : Result Stage FaultKind). at column r >>= λ stage. Ok (record { stage = stage; before = before })) (bytes_subject offset small)
 
-  digits_step : (offset : ℕ) (bs : List ℕ) (before : List Open) → IsBytes bs → (column : ℕ)
-      → step layout column (codes "0x" ++ encode_lower bs) (record { stage = AgainstBytes offset true; before = before }) ≡ Ok (settled before (Bytes offset bs))
-  digits_step offset bs before small column = ap (λ r. at column (decoded r) >>= λ found. Ok (settled before (Bytes offset found))) (decode_of-encode_lower bs small)
+  some_digits : (bs : List ℕ) → 0 < length bs → eqb (length (encode_lower bs)) 0 ≡ false
+  some_digits bs some = let twice = length-encode_with lower_digits bs in ne_eqb (length (encode_lower bs)) 0 (omega (arith, twice, some))
 
-  bytes_goes : (offset : ℕ) (bs : List ℕ) → offset < 2 ^ 16 → IsBytes bs → (r : List ℕ) → is_word_byte (get_or r 0 0) ≡ false → (before : List Open)
+  digits_step : (offset : ℕ) (bs : List ℕ) (before : List Open) → IsBytes bs → 0 < length bs → (column : ℕ)
+      → step layout column (codes "0x" ++ encode_lower bs) (record { stage = AgainstBytes offset true; before = before }) ≡ Ok (settled before (Bytes offset bs))
+  digits_step offset bs before small some column =
+      ap (λ (b : Bool). at column (cond b (Err kinds.Bytes) (decoded (decode_of (encode_lower bs)))) >>= λ found. Ok (settled before (Bytes offset found))) (some_digits bs some)
+      ∙ ap (λ r. at column (decoded r) >>= λ found. Ok (settled before (Bytes offset found))) (decode_of-encode_lower bs small)
+
+  bytes_goes : (offset : ℕ) (bs : List ℕ) → offset < 2 ^ 16 → IsBytes bs → 0 < length bs → (r : List ℕ) → is_word_byte (get_or r 0 0) ≡ false → (before : List Open)
       → reading ((codes "bytes@" ++ decimal offset) ++ (codes " == " ++ ((codes "0x" ++ encode_lower bs) ++ r))) (record { stage = Wanted; before = before }) ≡ reading r (settled before (Bytes offset bs))
-  bytes_goes offset bs small each r end before =
+  bytes_goes offset bs small each some r end before =
       let word = bytes_word offset small in
       goes_on (codes "bytes@" ++ decimal offset) (codes " == " ++ ((codes "0x" ++ encode_lower bs) ++ r)) _ _ word.some (word_width (codes "bytes@" ++ decimal offset) _ word.all word.some refl) (bytes_step offset before small)
       ∙ blank _ _
       ∙ goes_on (codes "==") (32 ∷ ((codes "0x" ++ encode_lower bs) ++ r)) _ _ (omega arith) refl (λ column. refl)
       ∙ blank _ _
-      ∙ goes_on (codes "0x" ++ encode_lower bs) r _ _ (omega arith) (word_width (codes "0x" ++ encode_lower bs) r (word_hex bs each) (omega arith) end) (digits_step offset bs before each)
+      ∙ goes_on (codes "0x" ++ encode_lower bs) r _ _ (omega arith) (word_width (codes "0x" ++ encode_lower bs) r (word_hex bs each) (omega arith) end) (digits_step offset bs before each some)
 
   -- ---- conditions
 
@@ -184,7 +189,7 @@ module _ (layout : List (List ℕ × Field)) (bytes : ℕ) where
       → reading (shown p r) (record { stage = Wanted; before = before }) ≡ reading r (settled before p)
   unfolding shown wanted joined
   shown_goes (Compare field comparison operand) fits r end before = compare_goes field comparison operand fits.0 fits.1 r end before
-  shown_goes (Bytes offset bs) fits r end before = bytes_goes offset bs fits.0 fits.1 r end before
+  shown_goes (Bytes offset bs) fits r end before = bytes_goes offset bs fits.0 fits.1.0 fits.1.1 r end before
   shown_goes (And p q) fits r end before =
       goes_on (40 ∷ []) (shown p (codes " && " ++ shown q (41 ∷ r))) _ _ (omega arith) refl (λ column. refl)
       ∙ shown_goes p fits.0 (codes " && " ++ shown q (41 ∷ r)) refl (Parenthesis ∷ before)

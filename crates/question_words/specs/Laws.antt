@@ -20,10 +20,10 @@ IsOperand field (operands.Number number) = is_of_type field number ≡ true
 IsOperand field operands.Argument = Unit {0}
 IsOperand field (operands.Field other) = IsField other × (is_same_sign field.sign other.sign ≡ true)
 
--- a condition whose numbers fit their fields
+-- a condition whose numbers fit their fields, and whose bytes are one or more
 abbrev pub IsCondition : Condition → Type 0
 IsCondition (Compare field comparison operand) = IsField field × IsOperand field operand
-IsCondition (Bytes offset bytes) = (offset < 2 ^ 16) × IsBytes bytes
+IsCondition (Bytes offset bytes) = (offset < 2 ^ 16) × (IsBytes bytes × (0 < length bytes))
 IsCondition (And p q) = IsCondition p × IsCondition q
 IsCondition (Or p q) = IsCondition p × IsCondition q
 IsCondition (Not p) = IsCondition p

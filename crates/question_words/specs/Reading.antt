@@ -92,9 +92,13 @@ abbrev pub decoded : {E : Type 0} → Result (List ℕ) E → Result (List ℕ) 
 decoded (Ok bytes) = Ok bytes
 decoded (Err fault) = Err kinds.Bytes
 
+-- the bytes that digits write: one byte or more, since each record has no bytes everywhere
+abbrev pub bytes_written : List ℕ → Result (List ℕ) FaultKind
+bytes_written digits = if length digits == 0 then Err kinds.Bytes else decoded (decode_of digits)
+
 -- the bytes that a word is
 abbrev pub bytes_of : List ℕ → Result (List ℕ) FaultKind
-bytes_of word = if slice_index word 0 == 48 && slice_index word 1 == 120 then decoded (decode_of (drop 2 word)) else Err kinds.Bytes
+bytes_of word = if slice_index word 0 == 48 && slice_index word 1 == 120 then bytes_written (drop 2 word) else Err kinds.Bytes
 
 -- a record has these bytes, or hasn't
 abbrev pub bytes_condition : ℕ → Bool → List ℕ → Condition

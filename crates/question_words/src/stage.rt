@@ -6,7 +6,7 @@ ghost use Rattle.common_definitions.specs.Gives.{Gives};
 ghost use Rattle.question_words.specs.Condition.{said};
 ghost use Rattle.question_words.specs.Fault.{at, fault_of};
 ghost use Rattle.question_words.specs.Layout.{entries};
-ghost use Rattle.question_words.specs.Reading.{all_of, bytes_condition, bytes_of, closed as closed_at, finished, is_blank, is_there, joined as joined_at, next as next_of, settled, step as step_of, subject_of, wanted as wanted_at, with_either, Wanted as AtWanted};
+ghost use Rattle.question_words.specs.Reading.{all_of, bytes_condition, bytes_of, bytes_written, closed as closed_at, finished, is_blank, is_there, joined as joined_at, next as next_of, settled, step as step_of, subject_of, wanted as wanted_at, with_either, Wanted as AtWanted};
 ghost use Rattle.question_words.specs.steps.Views.{open_view, opens, reading_view, stage_view};
 
 use crate::fault::{FaultKind, ReadFault, fault, located};
@@ -169,9 +169,19 @@ fn there(word: &[u8]) -> Result<bool, FaultKind>
 fn bytes(alloc: Global, column: usize, word: &[u8]) -> Result<Vec<u8>, ReadFault>
     ensures { Gives fault_of (λ bytes. bytes.items) result (at column (bytes_of word.now)) }
 {
-    let [b'0', b'x', digits @ ..] = word else {
+    match word {
+        [b'0', b'x', digits @ ..] => written(alloc, column, digits),
+        _ => Err(fault(column, FaultKind::Bytes)),
+    }
+}
+
+/// The bytes that digits write, one or more.
+fn written(alloc: Global, column: usize, digits: &[u8]) -> Result<Vec<u8>, ReadFault>
+    ensures { Gives fault_of (λ bytes. bytes.items) result (at column (bytes_written digits.now)) }
+{
+    if digits.is_empty() {
         return Err(fault(column, FaultKind::Bytes));
-    };
+    }
     match hex::decode(alloc, digits) {
         Ok(bytes) => Ok(bytes),
         Err(FromHexError::OutOfMemory) => Err(ReadFault::Memory),

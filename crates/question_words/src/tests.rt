@@ -71,6 +71,7 @@ fn faults_have_columns(rt: HostRuntime) -> Result<(), Fail> {
     refuses(&rt, alloc, "u8@0 < 25 price", 11, FaultKind::Joint)?;
     refuses(&rt, alloc, "u8@0 & 25", 6, FaultKind::Comparison)?;
     refuses(&rt, alloc, "region < price", 10, FaultKind::Sign)?;
+    refuses(&rt, alloc, "bytes@8 == 0x", 12, FaultKind::Bytes)?;
     refuses(&rt, alloc, "u8@65536 < 25", 1, FaultKind::Offset)
 }
 
