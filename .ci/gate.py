@@ -51,11 +51,14 @@ def module_of(path: str) -> str:
 
 
 def function_at(text: str, at: int) -> Optional[str]:
-    """The function whose body is at a place of a file, or "" for an import, or None for anything else.
+    """The function whose body is at a place of a file, as `rattle check --only` names it, or "" for an import, or None for anything else.
 
     >>> text = "use a::b;\\nstruct S {\\n    n: u8,\\n}\\nfn f() -> u8\\n    ensures { result ≡ 1 }\\n{\\n    1\\n}\\n"
     >>> function_at(text, text.index("b;")), function_at(text, text.index("n: u8")), function_at(text, text.rindex("1"))
     ('', None, 'f')
+    >>> text = "impl<T: Drop> Store<T> for S<T> {\\n    fn f() {\\n        1\\n    }\\n}\\n"
+    >>> function_at(text, text.index("1")), function_at(text.replace("Store<T> for ", ""), text.index("1") - len("Store<T> for "))
+    ('SStore::f', 'S::f')
     """
     line = text[text.rfind("\n", 0, at) + 1 : (text + "\n").find("\n", at)]
     if line.startswith(("use ", "pub use ")):
@@ -69,7 +72,10 @@ def function_at(text: str, at: int) -> Optional[str]:
     ends = re.compile(rf"(?m)^{head[1]}\}}").search(text, head.start())
     if not begins or not ends:
         return None
-    return head[2] if begins.end() <= at < ends.start() else None
+    if not begins.end() <= at < ends.start():
+        return None
+    impls = re.findall(r"(?m)^impl(?:<.*?>)? (?:(\w+)(?:<.*>)? for )?(\w+)", text[: head.start()]) if head[1] else []
+    return "::".join([*(kind + trait for trait, kind in impls[-1:]), head[2]])
 
 
 def change_of(rt: ModuleType, crate: Any, edit: str) -> Optional[Change]:
@@ -134,21 +140,22 @@ def unproved(said: str) -> List[str]:
 
 def is_refused(change: Change, names: List[str]) -> bool:
     """Is a function that the edit changes, or a part of it, among those that aren't proved?"""
-    return any(f"::{module}::" in name and function in name.split("::") for module, function in change.functions for name in names)
+    changed = [(module, function.rpartition("::")[2]) for module, function in change.functions]
+    return any(f"::{module}::" in name and function in name.split("::") for module, function in changed for name in names)
 
 
 def only(changes: List[Change], by_module: bool) -> List[str]:
-    """The words of `rattle check` for what is changed: the functions, by names that may fit several, or the modules that they are in.
+    """The words of `rattle check` for what is changed: the functions, or the modules that they are in.
 
     >>> only([Change({}, {("turn", "advance")})], False), only([Change({}, {("turn", "advance")})], True)
-    (['--only', 'advance'], ['--only', 'turn'])
+    (['--only', 'turn::advance'], ['--only', 'turn'])
     """
-    names = {module if by_module else name for it in changes for module, name in it.functions}
+    names = {module if by_module else f"{module}::{name}" for it in changes for module, name in it.functions}
     return [word for name in sorted(names) for word in ("--only", name)]
 
 
 def checked(rt: ModuleType, crate: Any, texts: Dict[str, str], changes: List[Change], flags: List[str], kept: str) -> Any:
-    """Checks the functions that are changed, or their modules where a name fits several functions."""
+    """Checks the functions that are changed, or their modules where a function has another name there."""
     ran = rt.checked(crate, texts, [*flags, *only(changes, False)], kept)
     return ran if ran.returncode != 2 else rt.checked(crate, texts, [*flags, *only(changes, True)], kept)
 
