@@ -125,7 +125,7 @@ def not_below(crates: Path, excerpts: List[Tuple[List[str], List[str]]], below: 
             if is_ours and word not in below:
                 named[word] = module.replace("Rattle.", "", 1).replace(".", "/")
     words = ", ".join(f"`{name}` (`{file}.antt`)" for name, file in sorted(named.items()))
-    line = f"Of what these contracts name, no booklet has {words}: [definitions.md](../definitions.md) does."
+    line = f"Of what these contracts name, no booklet has {words}, in files below `crates/`."
     return textwrap.fill(line, 130, break_long_words=False, break_on_hyphens=False)
 
 

@@ -1,11 +1,12 @@
 #!/usr/bin/env python3
-"""Makes the two reference pages of docs/ from the sources, so that neither is kept by hand.
+"""Makes reference pages from the sources, so that none is kept by hand.
 
-docs/proved.md       the laws of each crate and its public contracts, each with the first paragraph of the comment above it
-docs/definitions.md  the public definitions of each crate, in the order of its specs/Lib.antt, with the comments above them
+    docs/make.py                writes docs/proved.md: the laws of each crate and its public contracts, each with the first paragraph of
+                                the comment above it
+    docs/make.py --check        compares it with what is there, and ends with status 1 where it differs
+    docs/make.py --definitions  prints the public definitions of each crate, in the order of its specs/Lib.antt, with the comments above them
 
-It writes them, or with --check compares them with what stands there, and ends with status 1 where one differs. It reads the
-layout that `rt fmt` gives: items begin at the left, what is inside them four blanks further on.
+It reads the layout that `rt fmt` gives: items begin at the left, what is inside them four blanks further on.
 """
 
 import re
@@ -25,8 +26,8 @@ has it, and *inside* a function that no other crate can call. That memory is wan
 """
 DEFINED = """# Definitions
 
-Made by `docs/make.sh`: the words of contracts and laws, in reading order. A folder `steps` has what private functions and proofs
-alone hand on.
+Made by `docs/make.py --definitions`: the words of contracts and laws, in reading order. A folder `steps` has what private functions
+and proofs alone hand on.
 
 """
 
@@ -144,7 +145,7 @@ def spec_files(index: Path, folder: Path) -> Iterator[Path]:
 
 
 def defined(crate: str) -> str:
-    """The part of docs/definitions.md on a crate."""
+    """The part of the page of definitions on a crate."""
     specs = CRATES / crate / "specs"
     text = ""
     for file in spec_files(specs / "Lib.antt", specs) if specs.is_dir() else ():
@@ -181,15 +182,16 @@ def page(text: str, part: Callable[[str], str]) -> str:
 
 
 def main() -> int:
-    """Writes the pages, or compares them."""
-    status = 0
-    for name, text in (("proved.md", page(PROVED, proved)), ("definitions.md", page(DEFINED, defined))):
-        file = ROOT / "docs" / name
-        if "--check" not in sys.argv[1:]:
-            file.write_text(text)
-        elif not file.exists() or file.read_text() != text:
-            print(f"docs/{name} isn't what docs/make.sh makes of the crates")
-            status = 1
+    """Writes docs/proved.md, or compares it; or prints the definitions."""
+    if "--definitions" in sys.argv[1:]:
+        print(page(DEFINED, defined), end="")
+        return 0
+    status, text, file = 0, page(PROVED, proved), ROOT / "docs" / "proved.md"
+    if "--check" not in sys.argv[1:]:
+        file.write_text(text)
+    elif not file.exists() or file.read_text() != text:
+        print("docs/proved.md isn't what docs/make.sh makes of the crates")
+        status = 1
     if INSIDE:
         print(f"docs/make.py: INSIDE names what isn't there: {', '.join(sorted(INSIDE))}")
     return 1 if INSIDE else status

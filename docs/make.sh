@@ -1,7 +1,7 @@
 #!/bin/sh
-# Makes docs/proved.md, docs/definitions.md and docs/statement/ of the sources of the crates, and of the help texts the manual page
-# docs/zscli.1 and the completions for shells, docs/zscli.bash, zscli.zsh and zscli.fish. With --check it compares them, and looks at the
-# links and quotes of the other pages; it prints what is wrong, and ends with status 1 then.
+# Makes docs/proved.md and docs/statement/ of the sources of the crates, and of the help texts the manual page docs/zscli.1 and the
+# completions for shells, docs/zscli.bash, zscli.zsh and zscli.fish. With --check it compares them, and looks at the links and quotes of
+# the other pages; it prints what is wrong, and ends with status 1 then.
 here=$(dirname "$0")
 python3 "$here/make.py" "$@" || status=1
 python3 "$here/help.py" "$@" || status=1

@@ -222,7 +222,7 @@ def interface(pages: Pages, booklet: int) -> str:
     text = "## What it takes from the other booklets\n\n"
     for number in sorted(taken):
         text += f"From {link(BOOKLETS[number])}:\n\n" + names_table(taken[number])
-    return text + ("In no booklet, but in [definitions.md](../definitions.md):\n\n" + names_table(cut) if cut else "")
+    return text + ("In no booklet, but in files below `crates/`:\n\n" + names_table(cut) if cut else "")
 
 
 def row(title: str, keys: List[Key], closure: Closure) -> str:
