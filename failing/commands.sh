@@ -10,7 +10,7 @@ cd "$(dirname "$0")/.."
 zscli=$PWD/crates/zscli/out/zscli
 work=$(mktemp -d)
 trap 'rm -r "$work"' EXIT
-cc -O2 -shared -fPIC -o "$work/failing.so" failing/failing.c
+cc -O2 -DREFUSES_MEMORY -shared -fPIC -o "$work/calls.so" failing/calls.c
 wrong=0
 
 # the files that commands are given
@@ -81,7 +81,7 @@ run() {
     status=0
     (
         cd "$work/run"
-        exec env FAILING="$failing" FAILING_TOLD="$work/told" LD_PRELOAD="$work/failing.so" \
+        exec env FAILING_CALL="$failing" FAILING_TOLD="$work/told" LD_PRELOAD="$work/calls.so" \
             "$zscli" "$@"
     ) > "$work/out" 2> "$work/err" || status=$?
 }

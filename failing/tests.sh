@@ -7,7 +7,7 @@ set -eu
 cd "$(dirname "$0")/.."
 work=$(mktemp -d)
 trap 'rm -r "$work"' EXIT
-cc -O2 -shared -fPIC -o "$work/failing.so" failing/failing.c
+cc -O2 -DREFUSES_MEMORY -shared -fPIC -o "$work/calls.so" failing/calls.c
 wrong=0
 
 # Runs one test with each of its requests refused in turn.
@@ -17,8 +17,8 @@ series() {
         number=$((number + 1))
         status=0
         rm -f "$work/told"
-        timeout 60 env FAILING="alloc $number" FAILING_TOLD="$work/told" \
-            LD_PRELOAD="$work/failing.so" "$1" "$2" > /dev/null 2>&1 || status=$?
+        timeout 60 env FAILING_CALL="alloc $number" FAILING_TOLD="$work/told" \
+            LD_PRELOAD="$work/calls.so" "$1" "$2" > /dev/null 2>&1 || status=$?
         if [ ! -e "$work/told" ]; then
             break
         fi

@@ -20,7 +20,7 @@ BLOCKS = 256
 
 
 class Room(Kept):
-    """Each test has a target with the library of no_room.c in front of the C library. The disk is full while `full` exists."""
+    """Each test has a target with the library of calls.c in front of the C library. The disk is full while `full` exists."""
 
     zone_size = 4096
     folder: ClassVar[Path]
@@ -30,8 +30,8 @@ class Room(Kept):
         folder = tempfile.TemporaryDirectory()
         cls.addClassCleanup(folder.cleanup)
         cls.folder = Path(folder.name)
-        source = Path(__file__).resolve().parent / "no_room.c"
-        words = [os.environ.get("CC", "gcc"), "-std=c11", "-O1", "-shared", "-fPIC", str(source), "-o", str(cls.folder / "no_room.so")]
+        source = Path(__file__).resolve().parents[2] / "failing/calls.c"
+        words = [os.environ.get("CC", "gcc"), "-std=c11", "-O1", "-shared", "-fPIC", str(source), "-o", str(cls.folder / "calls.so")]
         subprocess.run(words, check=True)
 
     def setUp(self) -> None:
@@ -41,7 +41,7 @@ class Room(Kept):
 
     def target(self) -> Target:
         """A target on the image, as it is, whose standard error goes to a file."""
-        variables = {"LD_PRELOAD": str(self.folder / "no_room.so"), "ASAN_OPTIONS": "verify_asan_link_order=0", "NO_ROOM": str(self.full)}
+        variables = {"LD_PRELOAD": str(self.folder / "calls.so"), "ASAN_OPTIONS": "verify_asan_link_order=0", "NO_ROOM": str(self.full)}
         return Target(self.image, is_durable=True, variables=variables, errors=self.errors)
 
     def write(self, queue: IoQueue, count: int) -> None:

@@ -19,7 +19,7 @@ OTHER_HOST = {"identifier": b"a second host...", "name": "nqn.2026-11.test:secon
 
 
 class OtherTime(unittest.TestCase):
-    """Each test has a target over a new image, with the library of other_time.c in front of the C library."""
+    """Each test has a target over a new image, with the library of calls.c in front of the C library."""
 
     is_durable: ClassVar[bool] = False
     goes: ClassVar[int] = 1
@@ -31,8 +31,8 @@ class OtherTime(unittest.TestCase):
         folder = tempfile.TemporaryDirectory()
         cls.addClassCleanup(folder.cleanup)
         cls.folder = Path(folder.name)
-        source = Path(__file__).resolve().parent / "other_time.c"
-        words = [os.environ.get("CC", "gcc"), "-std=c11", "-O1", "-shared", "-fPIC", str(source), "-o", str(cls.folder / "other_time.so")]
+        source = Path(__file__).resolve().parents[2] / "failing/calls.c"
+        words = [os.environ.get("CC", "gcc"), "-std=c11", "-O1", "-shared", "-fPIC", str(source), "-o", str(cls.folder / "calls.so")]
         subprocess.run(words, check=True)
 
     def setUp(self) -> None:
@@ -40,7 +40,7 @@ class OtherTime(unittest.TestCase):
         self.addCleanup(stack.close)
         image = Path(stack.enter_context(tempfile.TemporaryDirectory())) / "zoned.img"
         format_image(image, zone_size=256)
-        variables = {"LD_PRELOAD": str(self.folder / "other_time.so"), "ASAN_OPTIONS": "verify_asan_link_order=0"}
+        variables = {"LD_PRELOAD": str(self.folder / "calls.so"), "ASAN_OPTIONS": "verify_asan_link_order=0"}
         variables.update({"TIME_GOES": str(self.goes), "SYNC_TAKES": str(self.sync_takes)})
         self.target = stack.enter_context(Target(image, is_durable=self.is_durable, variables=variables))
         self.began = time.monotonic()

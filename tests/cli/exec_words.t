@@ -42,7 +42,7 @@ The image is the one that `exec` saves without it, and the words are those of `e
 A line is printed as soon as its event is done: where no more can be written, later events aren't done.
 
   $ cp empty image
-  $ FAILING_OUTPUT=1 LD_PRELOAD=$FAILING zscli exec image work.cmd --words
+  $ FAILING_OUTPUT=1 LD_PRELOAD=$CALLS zscli exec image work.cmd --words
   queue 1, command 1: append of 2 blocks to the zone of LBA 0: the first is at LBA 0
   cannot write -
   [1]

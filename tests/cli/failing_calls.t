@@ -4,7 +4,7 @@ standard output takes OUTPUT writes, no file grows over ROOM bytes, of a file RE
   $ failing() {
   >   bound=$1
   >   shift
-  >   env LD_PRELOAD="$FAILING" "FAILING_$bound" "$@"
+  >   env LD_PRELOAD="$CALLS" "FAILING_$bound" "$@"
   > }
   $ format() {
   >   zscli format "$@" --block 512 --zones 4 --size 8 --capacity 6 --open 2 --active 3

@@ -33,11 +33,11 @@ work=$(mktemp -d)
 trap 'rm -rf "$work"' EXIT
 trap 'exit 1' HUP INT TERM
 mkdir "$work/bin" "$work/pages"
-FAILING=$work/failing.so
-${CC:-cc} -std=c11 -Wall -Wextra -Werror -O1 -shared -fPIC -o "$FAILING" "$here/failing.c" || exit 1
+CALLS=$work/calls.so
+${CC:-cc} -std=c11 -Wall -Wextra -Werror -O1 -shared -fPIC -o "$CALLS" "$ROOT/failing/calls.c" || exit 1
 ln -s "$program" "$work/bin/zscli"
 PATH=$work/bin:$PATH
-export PATH ROOT FAILING
+export PATH ROOT CALLS
 # what could change what is printed, and where Python finds the program
 export LC_ALL=C COLUMNS=80 PIFNJARL_ZSCLI="$program" PYTHONDONTWRITEBYTECODE=1
 unset CRAM CRAMRC
