@@ -2,6 +2,8 @@
 """Proves every crate and its tests from nothing and tries the must-fail edits, by the gate of the kit, `rt ci`, at less cost.
 
     .ci/gate.py                every crate, from nothing
+    KEPT=1 .ci/gate.py         every crate, but takes a library that .ci/proving.py or an earlier run proved of the same sources: for
+                               who mends what a run refused. A verdict on all is that of a run from nothing
     .ci/gate.py edits CRATE..  the edits of these crates alone, with those of failing/edits, over libraries that are proved first
 
 `rt ci` proves a crate once more for its edits. Here the edits of a crate are put into one copy of it, as far as they lie in
@@ -208,10 +210,38 @@ def must_fail_all(rt: ModuleType, crate: Any, edits: List[str], flags: List[str]
     return verdicts
 
 
+def putting_aside(made: Any) -> Any:
+    """`ci_from_nothing`, which puts aside what it finds, and then says where that is."""
+
+    def ci_from_nothing(aside: str) -> int:
+        os.environ["GATE_ASIDE"] = aside
+        status: int = made(aside)
+        return status
+
+    return ci_from_nothing
+
+
+def taken(name: str) -> bool:
+    """Takes a library that was proved before of the same sources from where it was put aside, where that is asked for. Another one goes:
+    it would come back in place of the one that is proved now."""
+    before, after = Path(os.environ["GATE_ASIDE"], name, "rlib"), proving.rlib(name).parent
+    if not (before / "proved").is_file():
+        return False
+    shutil.rmtree(after, ignore_errors=True)
+    shutil.move(before, after)
+    if os.environ.get("KEPT") and proving.Stamps(proving.Crates(name), proving.Kit()).is_proved(name):
+        return True
+    shutil.rmtree(after)
+    return False
+
+
 def noting(made: Any) -> Any:
     """`ci` of a crate, which then notes of what its library was proved."""
 
     def ci(crate: Any, flags: List[str], tests: bool) -> int:
+        if not tests and taken(crate.name):
+            print("taken as it was proved before", file=crate.out)
+            return 0
         status: int = built(crate, flags) if crate.is_static and not tests else made(crate, flags, tests)
         if not status and not tests:
             note(crate.name, sum(it.seconds for it in used() if it[:2] == (crate.name, "proof")))
@@ -342,6 +372,7 @@ def main() -> int:
         return edits_of(rt, sys.argv[2:])
     rt.must_fail_all = lambda crate, edits, flags: must_fail_all(rt, crate, edits, flags)  # type: ignore[attr-defined]
     rt.Crate.ci = noting(rt.Crate.ci)  # type: ignore[attr-defined]
+    rt.ci_from_nothing = putting_aside(rt.ci_from_nothing)  # type: ignore[attr-defined]
     begun = time.monotonic()
     with tempfile.NamedTemporaryFile(prefix="gate-uses-") as uses:
         os.environ["GATE_USES"] = uses.name
