@@ -55,7 +55,7 @@ pub enum Comparison {
 pub enum Operand {
     /// A number of the question's own.
     Number(i128),
-    /// The argument of the run that asks.
+    /// The argument of the run that asks: a number from 0 to 2^32 - 1, also against a signed field.
     Argument,
     /// Another field of the same record.
     Field(Field),
@@ -104,9 +104,10 @@ pub enum Tally {
     Count,
     /// The sum of a field, modulo 2^64.
     Sum(Field),
-    /// The least value of a field. The word has it subtracted from 2^64 - 1, so that 0 stands for no record.
+    /// The least value of a field. The word has it subtracted from 2^64 - 1. It is 0 for no record, and where the least is 2^64 - 1:
+    /// the count says which.
     Least(Field),
-    /// The greatest value of a field, or 0 for no record.
+    /// The greatest value of a field. It is 0 for no record, and where the greatest is 0: the count says which.
     Greatest(Field),
 }
 
