@@ -9,7 +9,7 @@ use crate::question::{ByteRange, Field, Operand, Predicate, Question, Sign, Tall
 use instruction_set::Size;
 use program_interface::SCRATCH_BYTES;
 
-/// The number of bytes.
+/// `Size::bytes` as a `u16`, and that it is small, so that sums with it fit.
 pub(crate) fn bytes_of(size: Size) -> u16
     ensures value { result ≡ size_of size }
     ensures few { result ≤ 8 }
@@ -96,6 +96,7 @@ fn is_tallied(bytes: u16, field: Field) -> bool
     is_field(bytes, field) && field.sign == Sign::Unsigned
 }
 
+/// Can this be tallied of a record of so many bytes?
 fn is_tally(bytes: u16, tally: Tally) -> bool
     ensures { IsTrue result ↔ IsTally bytes tally }
 {
@@ -107,6 +108,7 @@ fn is_tally(bytes: u16, tally: Tally) -> bool
     }
 }
 
+/// Can each of these be tallied of a record of so many bytes?
 fn are_tallies(bytes: u16, tallies: &[Tally]) -> bool
     ensures { IsTrue result ↔ AreTallies bytes tallies.now }
 {
