@@ -39,7 +39,7 @@ ROOTS: List[Key] = [
     ("question_runs/specs/Answered.antt", "RunsAnswer"),
     ("question_runs/specs/Loaded.antt", "CompiledQuestionsLoad"),
     ("record_questions/specs/Tallies.antt", "WordsAreTallied"),
-    ("record_questions/specs/Tallies.antt", "TalliesAreTold"),
+    ("record_questions/specs/Tallies.antt", "TalliesAreTotals"),
 ]
 
 # what is named there and stands in no booklet, each with the reason

@@ -227,7 +227,7 @@ MARKS: Dict[str, str] = {
         "P: number_of number_in signed_by value_of operand_value compares matches records_in matching cut cuts answer"
     ),
     "record_questions/specs/Tallies.antt": (
-        "P: tally_step tallied_from tallied_of tally_from; -: IsLeast IsGreatest WordsAreTallied TalliesAreTold"
+        "P: tally_step tallied_from tallied_of tally_from; -: IsLeast IsGreatest WordsAreTallied TalliesAreTotals"
     ),
     "record_questions/specs/Asked.antt": (
         "P: IsField IsNumber IsOperand IsPredicate IsRange IsTallied IsTally AreTallies IsQuestion"

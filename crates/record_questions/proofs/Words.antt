@@ -17,7 +17,7 @@ use Rattle.record_questions.specs.declared.question.Tally.{Tally}
 use Rattle.record_questions.specs.declared.question.Tally.TheVariants.{Count, Sum, Least, Greatest}
 use Rattle.record_questions.proofs.Numbers.{number_in_fits}
 use Rattle.record_questions.specs.Question.{number_in}
-use Rattle.record_questions.specs.Tallies.{TalliesAreTold, WordsAreTallied, IsGreatest, IsLeast, tallied_from, tallied_of, tally_from, tally_step}
+use Rattle.record_questions.specs.Tallies.{TalliesAreTotals, WordsAreTallied, IsGreatest, IsLeast, tallied_from, tallied_of, tally_from, tally_step}
 
 -- a field is as small as its bytes allow
 field_fits : (bytes : List ℕ) (at n : ℕ) → AreBytes bytes → field bytes at n < 256 ^ n
@@ -224,8 +224,8 @@ greatest_told f rs some =
     let long : 1 ≤ length xs = omega (arith, some, length-map rs (number_in f)) in
     subst (IsGreatest xs) (sym (greatest_is_top f rs 0)) (among_contains xs (top_of xs 0) (top_among xs long), top_all xs 0)
 
-pub tallies_are_told : TalliesAreTold
-tallies_are_told = record {
+pub tallies_are_totals : TalliesAreTotals
+tallies_are_totals = record {
   count = λ rs are. let e : 0 + length rs ≡ length rs = omega arith in
       sym (mod-eq_of_lt (tally_fits Count rs 0 are (lit< tt))) ∙ (count_from rs 0 ∙ ap (λ (k : ℕ). k % 2 ^ 64) e);
   sum = λ f rs are. let e : 0 + sum_by (number_in f) rs ≡ sum_by (number_in f) rs = omega arith in

@@ -30,6 +30,7 @@ fn chunk_size(count: usize) -> Size
     }
 }
 
+/// A chunk as a field of a record: unsigned, and the lowest byte first.
 fn chunk_field(size: Size, offset: u16) -> Field
     ensures { result ≡ chunk_field size offset }
 {

@@ -15,12 +15,22 @@ pub enum CodeFault {
 }
 
 impl From<AllocError> for CodeFault {
+    ghost use Rattle.std.specs.Prelude.{◌≡◌};
+    ghost use Rattle.record_questions.specs.declared.fault.CodeFault.TheVariants.{Memory};
+
+    ghost from_gives = { λ error result. result ≡ Memory };
+
     fn from(_error: AllocError) -> CodeFault {
         CodeFault::Memory
     }
 }
 
 impl<T: Drop> From<AllocFailed<T>> for CodeFault {
+    ghost use Rattle.std.specs.Prelude.{◌≡◌};
+    ghost use Rattle.record_questions.specs.declared.fault.CodeFault.TheVariants.{Memory};
+
+    ghost from_gives = { λ error result. result ≡ Memory };
+
     fn from(_error: AllocFailed<T>) -> CodeFault {
         CodeFault::Memory
     }

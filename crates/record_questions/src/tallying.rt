@@ -10,6 +10,7 @@ use crate::question::Tally;
 use instruction_set::{Instruction, Operation, Register, Relation, Size, Source, Width};
 use std::alloc::AllocError;
 
+/// How many slots it takes to have the number that a tally takes of a record.
 fn taken_slots(tally: Tally) -> u64
     ensures value { result ≡ taken_slots tally }
     ensures few { result ≤ 5 }
@@ -22,6 +23,7 @@ fn taken_slots(tally: Tally) -> u64
     }
 }
 
+/// How many slots it takes to change a tally's word.
 fn change_slots(tally: Tally) -> u64
     ensures value { result ≡ change_slots tally }
     ensures few { result ≤ 2 }
