@@ -8,7 +8,7 @@ use Rattle.accepted_programs.specs.Accepted.{refusal}
 use Rattle.interval_domain.specs.Intervals.{intervals}
 use Rattle.question_compiler.specs.declared.fault.QuestionFault.{QuestionFault}
 use Rattle.question_compiler.specs.declared.fault.QuestionFault.TheVariants as fault
-use Rattle.record_questions.specs.Code.{question_program}
+use Rattle.record_questions.specs.Code.{counted, question_program}
 use Rattle.record_questions.specs.Asked.{IsQuestion}
 use Rattle.record_questions.specs.declared.question.ByteRange.{ByteRange}
 use Rattle.record_questions.specs.declared.question.Question.{Question}
@@ -38,7 +38,6 @@ IsFaultOf q sizes (fault.EmittedPassRecord end size) = EndsAt q.emitted end × (
 IsFaultOf q sizes (fault.TooManyTallies count) = (count ≡ length q.tallies.items) × (SCRATCH_BYTES < 8 * count)
 IsFaultOf q sizes fault.NoQuestion = ¬ IsQuestion sizes.block q
 IsFaultOf q sizes (fault.OverLimit needed limit) = (needed ≡ most_emitted q) × (limit ≡ sizes.limit) × (limit < needed)
-IsFaultOf q sizes fault.TooFar = Unit {0}
-IsFaultOf q sizes (fault.TooLong count) = (count ≡ length (question_program q)) × (MOST_SLOTS < count)
+IsFaultOf q sizes (fault.TooLong count) = (count ≡ counted (length (question_program q))) × (MOST_SLOTS < count)
 IsFaultOf q sizes (fault.Refused why) = refusal intervals (question_program q) sizes ≡ Some why
 IsFaultOf q sizes fault.Memory = Unit {0}

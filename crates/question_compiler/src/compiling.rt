@@ -1,10 +1,11 @@
 //! From a question to its program.
 
-ghost use Rattle.std.specs.Prelude.{◌≡◌, IfOk, IfErr};
+ghost use Rattle.std.specs.Prelude.{◌≡◌, ◌≤◌, IfOk, IfErr};
 ghost use Rattle.instruction_set.specs.Program.{slots_of};
 ghost use Rattle.question_compiler.specs.Compiled.{IsCompiled};
 ghost use Rattle.question_compiler.specs.Fault.{IsFaultOf, most_emitted};
 ghost use Rattle.program_interface.specs.RunSizes.{Sizes};
+ghost use Rattle.program_interface.specs.declared.block_size.TheConstants.{LARGEST_BLOCK};
 ghost use Rattle.record_questions.specs.Asked.{IsQuestion};
 ghost use Rattle.record_questions.specs.Code.{question_program};
 ghost use Rattle.verifier.specs.Verified.{program_of, sizes_of};
@@ -13,7 +14,7 @@ use crate::fault::QuestionFault;
 use crate::fits::all_fit;
 use instruction_set::{Instruction, Program};
 use interval_domain::Intervals;
-use program_interface::{FRAME_LENGTH_BYTES, MOST_SLOTS, RunSizes, SCRATCH_BYTES};
+use program_interface::{FRAME_LENGTH_BYTES, RunSizes, SCRATCH_BYTES};
 use record_questions::{CodeFault, Question, instructions, is_question};
 use std::alloc::Global;
 use verifier::{Verified, VerifyFault, verify};
@@ -35,8 +36,10 @@ fn slots(alloc: Global, code: &[Instruction]) -> Result<Vec<Option<Instruction>>
 }
 
 /// Whether a question can be asked of blocks of these sizes, within the limit.
+#[tactic(auto, using(crate::proofs::Slots::asked_of_largest))]
 fn fitted(question: &Question, sizes: RunSizes) -> Result<(), QuestionFault>
     ensures asked { IfOk result (λ done. IsQuestion sizes.block question.now) }
+    ensures largest { IfOk result (λ done. IsQuestion LARGEST_BLOCK question.now) }
     ensures failed { IfErr result (IsFaultOf question.now sizes) }
 {
     let block = sizes.block().bytes();
@@ -81,19 +84,16 @@ fn most_emitted(question: &Question) -> u32
 /// The program of a question.
 #[tactic(auto, using(crate::proofs::Slots::some_slots))]
 fn program(alloc: Global, question: &Question) -> Result<Program, QuestionFault>
+    requires { IsQuestion LARGEST_BLOCK question.now }
     ensures program { IfOk result (λ program. program ≡ question_program question.now) }
     ensures failed { IfErr result (λ fault. (sizes : Sizes) → IsFaultOf question.now sizes fault) }
 {
     let code = match instructions(alloc, question) {
         Ok(code) => code,
-        Err(CodeFault::Number) => return Err(QuestionFault::TooFar),
+        Err(CodeFault::TooLong(count)) => return Err(QuestionFault::TooLong(count)),
         Err(CodeFault::Memory) => return Err(QuestionFault::Memory),
     };
     let slots = slots(alloc, code.as_slice())?;
-    let count = slots.len();
-    if count > MOST_SLOTS {
-        return Err(QuestionFault::TooLong(count));
-    }
     all_fit(code.as_slice());
     Ok(Program::from_slots(slots))
 }

@@ -40,12 +40,9 @@ pub enum QuestionFault {
         /// The limit that was asked for.
         limit: u32,
     },
-    /// A jump or a number of the code is more than an instruction holds.
-    #[error("a jump or a number of the code doesn't fit an instruction")]
-    TooFar,
-    /// The code has more slots than a program can have.
+    /// The code has more slots than a program can have: so many, as far as 64 bits count.
     #[error("{0} slots, and a program has {MOST_SLOTS} at most")]
-    TooLong(usize),
+    TooLong(u64),
     /// The verifier refuses the program, for the first refusal.
     #[error("slot {}: {}", .0.slot, .0.reason)]
     Refused(Refusal),

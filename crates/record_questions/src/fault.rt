@@ -1,14 +1,15 @@
 //! Why a question has no code.
 
+use program_interface::MOST_SLOTS;
 use std::alloc::{AllocError, AllocFailed};
 use thiserror::Error;
 
 /// Why a question has no code.
 #[derive(Clone, Copy, Debug, PartialEq, Eq, Error)]
 pub enum CodeFault {
-    /// A number doesn't fit its field of an instruction, or 64 bits.
-    #[error("a number of the question doesn't fit an instruction")]
-    Number,
+    /// The code has more slots than a program can have: so many, as far as 64 bits count.
+    #[error("{0} slots, and a program has {MOST_SLOTS} at most")]
+    TooLong(u64),
     /// There was no memory.
     #[error("no memory")]
     Memory,
