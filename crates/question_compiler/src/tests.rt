@@ -1,0 +1,260 @@
+use crate::{QuestionFault, compile};
+use instruction_set::{Instruction, Operation, Register, Relation, Size, Source, Width};
+use program_interface::{BlockSize, EMIT, RunSizes};
+use record_questions::{
+    ByteOrder, ByteRange, Comparison, Field, Operand, Predicate, Question, Sign, Tally,
+};
+use std::alloc::Global;
+use std::process::Abort;
+use std::test::Fail;
+
+/// A word from byte 4 of a record on, unsigned, the lowest byte first.
+const WORD: Field = Field {
+    size: Size::Word,
+    offset: 4,
+    sign: Sign::Unsigned,
+    order: ByteOrder::Little,
+};
+
+/// A number of 64 bits from byte 8 of a record on, signed, the highest byte first.
+const WIDE: Field = Field {
+    size: Size::DoubleWord,
+    offset: 8,
+    sign: Sign::Signed,
+    order: ByteOrder::Big,
+};
+
+fn compare(field: Field, comparison: Comparison, operand: Operand) -> Predicate {
+    Predicate::Compare {
+        field,
+        comparison,
+        operand,
+    }
+}
+
+fn bytes(alloc: Global, offset: u16, text: &str) -> Result<Predicate, Fail> {
+    let mut bytes = Vec::new(alloc);
+    bytes.extend_from_slice(text.as_bytes())?;
+    Ok(Predicate::Bytes { offset, bytes })
+}
+
+/// Asked of blocks of 512 bytes full of records of 16: it emits each match whole but two bytes, so that a block of matches takes 512.
+fn of_full_blocks(alloc: Global, wanted: Predicate) -> Question {
+    Question {
+        first: 0,
+        size: 16,
+        count: 32,
+        wanted,
+        emitted: Some(ByteRange {
+            offset: 2,
+            size: 14,
+        }),
+        tallies: Vec::new(alloc),
+    }
+}
+
+/// The slots of a question's program, which is accepted for blocks of 512 bytes.
+fn slots_of(alloc: Global, question: &Question) -> Result<Vec<Option<Instruction>>, Fail> {
+    let block = BlockSize::new(512).ok_or("no size of a block")?;
+    let sizes = RunSizes::new(block, 512).ok_or("no sizes")?;
+    let compiled = compile(alloc, question, sizes)?;
+    let mut slots = Vec::new(alloc);
+    slots.extend_from_slice(compiled.program().as_slice())?;
+    Ok(slots)
+}
+
+fn is_asked(rt: &impl Abort, alloc: Global, wanted: Predicate, count: usize) -> Result<(), Fail> {
+    let slots = slots_of(alloc, &of_full_blocks(alloc, wanted))?;
+    assert_eq!(rt; slots.len(), count);
+    Ok(())
+}
+
+#[test]
+fn each_comparison_is_accepted(rt: HostRuntime) -> Result<(), Fail> {
+    let alloc = rt.alloc();
+    let signed = Field {
+        size: Size::HalfWord,
+        ..WIDE
+    };
+    let other = Field { offset: 0, ..WIDE };
+    // Three slots before the records, one after them, and of each record the four that emit it beside those that test it.
+    let least = Operand::Number(-0x8000_0000_0000_0000);
+    is_asked(
+        &rt,
+        alloc,
+        compare(WORD, Comparison::Less, Operand::Number(5)),
+        4 + 32 * (4 + 2),
+    )?;
+    is_asked(
+        &rt,
+        alloc,
+        compare(signed, Comparison::Less, Operand::Number(-5)),
+        4 + 32 * (4 + 4),
+    )?;
+    is_asked(
+        &rt,
+        alloc,
+        compare(WIDE, Comparison::Greater, least),
+        4 + 32 * (4 + 5),
+    )?;
+    is_asked(
+        &rt,
+        alloc,
+        compare(WORD, Comparison::Equal, Operand::Argument),
+        4 + 32 * (4 + 2),
+    )?;
+    is_asked(
+        &rt,
+        alloc,
+        compare(WIDE, Comparison::NotEqual, Operand::Field(other)),
+        4 + 32 * (4 + 5),
+    )
+}
+
+#[test]
+fn each_predicate_is_accepted(rt: HostRuntime) -> Result<(), Fail> {
+    let alloc = rt.alloc();
+    let first = bytes(alloc, 1, "of eleven !")?;
+    let second = compare(WORD, Comparison::LessOrEqual, Operand::Argument);
+    let either = Predicate::Or(Box::new(alloc, first)?, Box::new(alloc, second)?);
+    let third = compare(WIDE, Comparison::GreaterOrEqual, Operand::Number(0));
+    let other = Predicate::Not(Box::new(alloc, third)?);
+    let both = Predicate::And(Box::new(alloc, either)?, Box::new(alloc, other)?);
+    // The chunks of 8, 2 and 1 take 4, 2 and 2 slots, and the jump over the rest of the condition one.
+    is_asked(&rt, alloc, both, 4 + 32 * (4 + (4 + 2 + 2 + 1) + 2 + 3))
+}
+
+#[test]
+fn each_tally_is_accepted(rt: HostRuntime) -> Result<(), Fail> {
+    let alloc = rt.alloc();
+    let wanted = compare(WORD, Comparison::NotEqual, Operand::Number(0));
+    let mut question = of_full_blocks(alloc, wanted);
+    question.emitted = None;
+    question.tallies.extend_from_slice(&[
+        Tally::Count,
+        Tally::Sum(WORD),
+        Tally::Least(WORD),
+        Tally::Greatest(WORD),
+    ])?;
+    let slots = slots_of(alloc, &question)?;
+    assert_eq!(rt; slots.len(), 4 + 32 * (2 + 3 + 4 + 7 + 5));
+    Ok(())
+}
+
+fn push(code: &mut Vec<Option<Instruction>>, instruction: Instruction) -> Result<(), Fail> {
+    Ok(code.extend_from_slice(&[Some(instruction)])?)
+}
+
+fn arithmetic(operation: Operation, dst: u8, source: Source) -> Instruction
+    requires { dst < 11 }
+{
+    Instruction::Arithmetic {
+        width: Width::Bits64,
+        operation,
+        dst: Register::from_number(dst),
+        source,
+    }
+}
+
+/// Counts and emits two bytes of a record whose word is greater than 7.
+fn push_record(code: &mut Vec<Option<Instruction>>, byte: i16) -> Result<(), Fail>
+    requires { byte < 512 }
+{
+    let count = Register::from_number(4);
+    let scratch = Register::from_number(7);
+    let block = Source::Register(Register::from_number(6));
+    push(
+        code,
+        Instruction::Load {
+            size: Size::Word,
+            dst: count,
+            src: Register::from_number(6),
+            offset: byte + 4,
+        },
+    )?;
+    push(
+        code,
+        Instruction::Branch {
+            width: Width::Bits64,
+            relation: Relation::LessOrEqual,
+            dst: count,
+            source: Source::Immediate(7),
+            distance: 7,
+        },
+    )?;
+    push(
+        code,
+        Instruction::Load {
+            size: Size::DoubleWord,
+            dst: count,
+            src: scratch,
+            offset: 0,
+        },
+    )?;
+    push(code, arithmetic(Operation::Add, 4, Source::Immediate(1)))?;
+    push(
+        code,
+        Instruction::StoreRegister {
+            size: Size::DoubleWord,
+            dst: scratch,
+            src: count,
+            offset: 0,
+        },
+    )?;
+    push(code, arithmetic(Operation::Move, 1, block))?;
+    push(
+        code,
+        arithmetic(Operation::Add, 1, Source::Immediate(i32::from(byte))),
+    )?;
+    push(code, arithmetic(Operation::Move, 2, Source::Immediate(2)))?;
+    push(code, Instruction::Call { helper: EMIT })
+}
+
+#[test]
+fn a_program_is_as_worked_out_by_hand(rt: HostRuntime) -> Result<(), Fail> {
+    let alloc = rt.alloc();
+    let mut question = of_full_blocks(
+        alloc,
+        compare(WORD, Comparison::Greater, Operand::Number(7)),
+    );
+    question.first = 4;
+    question.size = 8;
+    question.count = 2;
+    question.emitted = Some(ByteRange { offset: 0, size: 2 });
+    question.tallies.extend_from_slice(&[Tally::Count])?;
+    let mut wanted = Vec::new(alloc);
+    push(
+        &mut wanted,
+        Instruction::Load {
+            size: Size::Word,
+            dst: Register::from_number(8),
+            src: Register::from_number(1),
+            offset: 20,
+        },
+    )?;
+    let block = Source::Register(Register::from_number(2));
+    let scratch = Source::Register(Register::from_number(3));
+    push(&mut wanted, arithmetic(Operation::Move, 6, block))?;
+    push(&mut wanted, arithmetic(Operation::Move, 7, scratch))?;
+    push_record(&mut wanted, 4)?;
+    push_record(&mut wanted, 12)?;
+    push(&mut wanted, Instruction::Exit)?;
+    let slots = slots_of(alloc, &question)?;
+    assert!(rt; slots == wanted);
+    Ok(())
+}
+
+#[test]
+fn no_bytes_and_no_records_are_no_question(rt: HostRuntime) -> Result<(), Fail> {
+    let alloc = rt.alloc();
+    let question = of_full_blocks(alloc, bytes(alloc, 0, "")?);
+    let block = BlockSize::new(512).ok_or("no size of a block")?;
+    let sizes = RunSizes::new(block, 512).ok_or("no sizes")?;
+    assert!(rt;
+        matches!(
+            compile(alloc, &question, sizes),
+            Err(QuestionFault::NoQuestion)
+        )
+    );
+    Ok(())
+}
