@@ -1,107 +1,57 @@
 //! The registers and numbers of instructions fit the fields that spell them.
 
 ghost use Rattle.instruction_set.specs.Spelling.{Fits};
+ghost use Rattle.program_interface.specs.declared.registers.TheConstants.{REGISTERS};
 ghost use Rattle.std.specs.List.{AllByRecursion};
+ghost use Rattle.std.specs.Prelude.{◌<◌};
 
-use instruction_set::{Instruction, Source};
+use instruction_set::{Instruction, Register, Source};
 
-/// The registers and numbers of an instruction fit their fields.
-fn fits(instruction: &Instruction)
-    ensures { Fits instruction.now }
+/// A register fits its field. It is one of eleven by the invariant of its type, which a proof has where the register is read.
+fn register_fits(register: Register)
+    ensures { register < REGISTERS }
 {
-    match *instruction {
-        Instruction::LoadImmediate { dst, value } => {
-            let _dst = dst.number();
-        }
-        Instruction::Load {
-            size,
-            dst,
-            src,
-            offset,
-        } => {
-            let _dst = dst.number();
-            let _src = src.number();
-        }
-        Instruction::LoadSigned {
-            size,
-            dst,
-            src,
-            offset,
-        } => {
-            let _dst = dst.number();
-            let _src = src.number();
-        }
-        Instruction::StoreImmediate {
-            size,
-            dst,
-            offset,
-            value,
-        } => {
-            let _dst = dst.number();
-        }
-        Instruction::StoreRegister {
-            size,
-            dst,
-            src,
-            offset,
-        } => {
-            let _dst = dst.number();
-            let _src = src.number();
-        }
-        Instruction::Arithmetic {
-            width,
-            operation,
-            dst,
-            source: Source::Immediate(value),
-        } => {
-            let _dst = dst.number();
-        }
-        Instruction::Arithmetic {
-            width,
-            operation,
+    let _number = register.number();
+}
+
+/// Two registers fit their fields.
+fn registers_fit(dst: Register, src: Register)
+    ensures dst { dst < REGISTERS }
+    ensures src { src < REGISTERS }
+{
+    register_fits(dst);
+    register_fits(src);
+}
+
+/// The registers of an instruction fit their fields, and its numbers do by their types.
+fn fits(instruction: Instruction)
+    ensures { Fits instruction }
+{
+    match instruction {
+        Instruction::Load { dst, src, .. }
+        | Instruction::LoadSigned { dst, src, .. }
+        | Instruction::StoreRegister { dst, src, .. }
+        | Instruction::MoveSigned { dst, src, .. }
+        | Instruction::Arithmetic {
             dst,
             source: Source::Register(src),
-        } => {
-            let _dst = dst.number();
-            let _src = src.number();
+            ..
         }
-        Instruction::Negate { width, dst } => {
-            let _dst = dst.number();
-        }
-        Instruction::MoveSigned {
-            extension,
-            dst,
-            src,
-        } => {
-            let _dst = dst.number();
-            let _src = src.number();
-        }
-        Instruction::SwapBytes { swap, size, dst } => {
-            let _dst = dst.number();
-        }
-        Instruction::Jump { distance } => {}
-        Instruction::JumpLong { distance } => {}
-        Instruction::Branch {
-            width,
-            relation,
-            dst,
-            source: Source::Immediate(value),
-            distance,
-        } => {
-            let _dst = dst.number();
-        }
-        Instruction::Branch {
-            width,
-            relation,
+        | Instruction::Branch {
             dst,
             source: Source::Register(src),
-            distance,
-        } => {
-            let _dst = dst.number();
-            let _src = src.number();
-        }
-        Instruction::Call { helper } => {}
-        Instruction::Exit => {}
+            ..
+        } => registers_fit(dst, src),
+        Instruction::LoadImmediate { dst, .. }
+        | Instruction::StoreImmediate { dst, .. }
+        | Instruction::Arithmetic { dst, .. }
+        | Instruction::Branch { dst, .. }
+        | Instruction::Negate { dst, .. }
+        | Instruction::SwapBytes { dst, .. } => register_fits(dst),
+        Instruction::Jump { .. }
+        | Instruction::JumpLong { .. }
+        | Instruction::Call { .. }
+        | Instruction::Exit => {}
     }
 }
 
@@ -110,6 +60,6 @@ pub(crate) fn all_fit(code: &[Instruction])
     ensures { AllByRecursion Fits code.now }
 {
     for instruction in code {
-        fits(instruction);
+        fits(*instruction);
     }
 }
