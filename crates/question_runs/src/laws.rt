@@ -9,8 +9,8 @@ use ebpf_decode::laws::spelled_is_decoded;
 use interval_domain::Intervals;
 use record_questions::laws::answers_blocks;
 
-/// A Load of the program that `compile` gives of a question, for the sizes that it was compiled for, is refused only for its data, its
-/// limit or its slot, or for want of memory.
+/// A Load that comes with the program that `compile` gives of a question, for the sizes that it was compiled for, is refused only for its
+/// data, its limit or its slot, or for want of memory.
 pub fn compiled_questions_load()
     ensures { CompiledQuestionsLoad }
 {
