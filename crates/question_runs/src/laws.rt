@@ -58,8 +58,8 @@ pub fn questions_are_answered()
     runs_answer();
 }
 
-/// There is a question of which that law speaks: in a state that events leave its program was loaded, a Run of two blocks is admitted, and
-/// of the records of these blocks one matches.
+/// There is a question of which that law speaks: in a state that events leave its program was loaded, and a Run of two blocks is admitted.
+/// Of the four records of these blocks two match by the run's argument, and the word of the count is 2.
 pub fn question_is_met()
     ensures { QuestionIsMet }
 {}
