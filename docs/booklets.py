@@ -38,6 +38,7 @@ ROOTS: List[Key] = [
     ("question_runs/specs/Answered.antt", "QuestionsAreAnswered"),
     ("question_runs/specs/Answered.antt", "RunsAnswer"),
     ("question_runs/specs/Loaded.antt", "CompiledQuestionsLoad"),
+    ("question_runs/specs/Words.antt", "ResultsHaveWords"),
     ("record_questions/specs/Tallies.antt", "WordsAreTallied"),
     ("record_questions/specs/Tallies.antt", "TalliesAreTotals"),
 ]
@@ -245,6 +246,7 @@ QUESTIONS = Booklet(
         Section("Which questions can be asked", r"record_questions/specs/Asked\."),
         Section("How records are read back", r"emit_append/specs/Unpacking\.|pushdown/specs/ReadBack\."),
         Section("Programs of questions", r"question_compiler/|question_runs/specs/Loaded\."),
+        Section("The words of a result", r"question_runs/specs/Words\."),
         Section("What a device answers", r"question_runs/specs/Answered\."),
     ],
 )

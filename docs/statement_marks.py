@@ -238,9 +238,10 @@ MARKS: Dict[str, str] = {
         "-: Submits IsCompleted LoadSucceeds NoRunEnds ReadsGive NoEventClears ResultGives NoEventReplaces"
     ),
     "question_runs/specs/Answered.antt": (
-        "-: answer_of tallies_of AreRead StayRead StaysResult source destination records last IsAnswered AnswersIn "
+        "-: answer_of AreRead StayRead StaysResult source destination records tallies last IsAnswered AnswersIn "
         "RunsAnswer QuestionsAreAnswered"
     ),
+    "question_runs/specs/Words.antt": "-: matches_of tallies_of ComesTo IsWordOf HasWords ResultsHaveWords",
 }
 
 # the sections of a standard that comments don't name, by their files and names
