@@ -6,15 +6,15 @@ use Rattle.interval_domain.specs.Intervals.{intervals}
 use Rattle.program_interface.specs.RunSizes.{Sizes}
 use Rattle.program_interface.specs.declared.TheConstants.{MOST_SLOTS}
 use Rattle.question_compiler.specs.Compiled.{IsCompiled}
-use Rattle.question_compiler.specs.Fault.{EndsAt, HasNoFault, most_emitted}
+use Rattle.question_compiler.specs.Fault.{HasNoFault, emitted_end, most_emitted}
 use Rattle.question_compiler.specs.declared.fault.QuestionFault.TheVariants as fault
 use Rattle.record_questions.specs.Asked.{IsRange}
 use Rattle.record_questions.specs.declared.question.ByteRange.{ByteRange}
 use Rattle.record_questions.specs.declared.question.Question.{Question}
 
-ends_inside : (range : Option ByteRange) (size end : ℕ) → IsRange size range → EndsAt range end → end ≤ size
-ends_inside None size end is ends = absurd ends
-ends_inside (Some range) size end is ends = let inside = is.1 in omega (arith, inside, ends)
+ends_inside : (range : Option ByteRange) (size : ℕ) → IsRange size range → emitted_end range ≤ size
+ends_inside None size is = omega arith
+ends_inside (Some range) size is = is.1
 
 pub no_fault : (q : Question) (sizes : Sizes) (program : List (Option Instruction))
     → IsCompiled q sizes program → most_emitted q ≤ sizes.limit → HasNoFault q sizes
@@ -23,14 +23,14 @@ no_fault q sizes program is within (fault.RecordsPassBlock end block) so =
     let a = so.0 in let b = so.1 in let c = so.2 in
     absurd (omega (arith, inside, a, b, c))
 no_fault q sizes program is within (fault.EmittedPassRecord end size) so =
-    let inside = ends_inside q.emitted q.size end is.asked.emitted so.0 in
-    let b = so.1 in let c = so.2 in
-    absurd (omega (arith, inside, b, c))
+    let inside = ends_inside q.emitted q.size is.asked.emitted in
+    let a = so.0 in let b = so.1 in let c = so.2 in
+    absurd (omega (arith, inside, a, b, c))
 no_fault q sizes program is within (fault.TooManyTallies count) so =
     let few = is.asked.few_tallies in
     let a = so.0 in let b = so.1 in
     absurd (omega (arith, few, a, b))
-no_fault q sizes program is within fault.NoQuestion so = absurd (so is.asked)
+no_fault q sizes program is within fault.NoQuestion so = absurd (so.3 is.asked)
 no_fault q sizes program is within (fault.OverLimit needed limit) so =
     let a = so.0 in let b = so.1 in let c = so.2 in
     absurd (omega (arith, within, a, b, c))

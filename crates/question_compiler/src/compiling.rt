@@ -3,7 +3,7 @@
 ghost use Rattle.std.specs.Prelude.{◌≡◌, ◌≤◌, IfOk, IfErr};
 ghost use Rattle.instruction_set.specs.Program.{slots_of};
 ghost use Rattle.question_compiler.specs.Compiled.{IsCompiled};
-ghost use Rattle.question_compiler.specs.Fault.{HasNoFault, IsFaultOf, most_emitted};
+ghost use Rattle.question_compiler.specs.Fault.{HasNoFault, IsFaultOf, emitted_end, most_emitted};
 ghost use Rattle.program_interface.specs.RunSizes.{Sizes};
 ghost use Rattle.program_interface.specs.declared.block_size.TheConstants.{LARGEST_BLOCK};
 ghost use Rattle.record_questions.specs.Asked.{IsQuestion};
@@ -15,7 +15,7 @@ use crate::fits::all_fit;
 use instruction_set::{Instruction, Program};
 use interval_domain::Intervals;
 use program_interface::{FRAME_LENGTH_BYTES, RunSizes, SCRATCH_BYTES};
-use record_questions::{CodeFault, Question, instructions, is_question};
+use record_questions::{ByteRange, CodeFault, Question, instructions, is_question};
 use std::alloc::Global;
 use verifier::{Verified, VerifyFault, verify};
 
@@ -48,14 +48,10 @@ fn fitted(question: &Question, sizes: RunSizes) -> Result<(), QuestionFault>
     if end > block {
         return Err(QuestionFault::RecordsPassBlock { end, block });
     }
-    if let Some(range) = question.emitted {
-        let end = range.offset as u32 + range.size as u32;
-        if end > question.size as u32 {
-            return Err(QuestionFault::EmittedPassRecord {
-                end,
-                size: question.size,
-            });
-        }
+    let end = emitted_end(question.emitted);
+    let size = question.size;
+    if end > size as u32 {
+        return Err(QuestionFault::EmittedPassRecord { end, size });
     }
     let count = question.tallies.len();
     if count > SCRATCH_BYTES / 8 {
@@ -70,6 +66,16 @@ fn fitted(question: &Question, sizes: RunSizes) -> Result<(), QuestionFault>
         return Err(QuestionFault::OverLimit { needed, limit });
     }
     Ok(())
+}
+
+/// The byte of a record at which what is emitted of it ends.
+fn emitted_end(range: Option<ByteRange>) -> u32
+    ensures { result ≡ emitted_end range }
+{
+    match range {
+        None => 0,
+        Some(range) => range.offset as u32 + range.size as u32,
+    }
 }
 
 /// The bytes that are emitted for a block whose records all match.
