@@ -234,7 +234,7 @@ MARKS: Dict[str, str] = {
     ),
     "question_runs/specs/Loaded.antt": "-: IsProgramOf HasQuestion NoEventLoads load_by QuestionWasLoaded CompiledQuestionsLoad",
     "question_compiler/specs/Compiled.antt": "-: IsCompiled",
-    "question_compiler/specs/Fault.antt": "P: records_end frame_bytes most_emitted EndsAt IsFaultOf; -: HasNoFault",
+    "question_compiler/specs/Fault.antt": "P: records_end emitted_end frame_bytes most_emitted IsFaultOf; -: HasNoFault",
     "question_compiler/src/fault.rt": "P: QuestionFault",
     "record_questions/specs/Code.antt": "P: counted",
     "pushdown/specs/ReadBack.antt": (
