@@ -44,6 +44,6 @@ IsFaultOf q sizes (fault.TooLong count) = (count ≡ counted (length (question_p
 IsFaultOf q sizes (fault.Refused why) = refusal intervals (question_program q) sizes ≡ Some why
 IsFaultOf q sizes fault.Memory = Unit {0}
 
--- none of them is so, but that memory may lack
+-- none of them is so, except Memory, which says nothing
 abbrev pub HasNoFault : Question → Sizes → Type 0
 HasNoFault q sizes = (why : QuestionFault) → IsFaultOf q sizes why → why ≡ fault.Memory
