@@ -81,21 +81,13 @@ fn numbers_fit(instruction: &Instruction)
             source: Source::Immediate(value),
             ..
         } => {}
-        Instruction::Arithmetic {
-            operation,
-            source: Source::Register(_),
-            ..
-        } => {}
+        Instruction::Arithmetic { operation, .. } => {}
         Instruction::Branch {
             source: Source::Immediate(value),
             distance,
             ..
         } => {}
-        Instruction::Branch {
-            source: Source::Register(_),
-            distance,
-            ..
-        } => {}
+        Instruction::Branch { distance, .. } => {}
         Instruction::MoveSigned { extension, .. } => {}
         Instruction::SwapBytes { swap, size, .. } => {}
         Instruction::Negate { .. } => {}

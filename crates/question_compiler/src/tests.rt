@@ -160,49 +160,36 @@ fn arithmetic(operation: Operation, dst: u8, source: Source) -> Instruction
     }
 }
 
-/// Counts and emits two bytes of a record whose word is greater than 7.
-fn push_record(code: &mut Vec<Option<Instruction>>, byte: u8) -> Result<(), Fail> {
-    let count = Register::from_number(4);
-    let scratch = Register::from_number(7);
-    let block = Source::Register(Register::from_number(6));
-    push(
-        code,
-        Instruction::Load {
-            size: Size::Word,
-            dst: count,
-            src: Register::from_number(6),
-            offset: i16::from(byte) + 4,
-        },
-    )?;
-    push(
-        code,
-        Instruction::Branch {
-            width: Width::Bits64,
-            relation: Relation::LessOrEqual,
-            dst: count,
-            source: Source::Immediate(7),
-            distance: 7,
-        },
-    )?;
-    push(
-        code,
-        Instruction::Load {
-            size: Size::DoubleWord,
-            dst: count,
-            src: scratch,
-            offset: 0,
-        },
-    )?;
+fn load(size: Size, dst: u8, src: u8, offset: i16) -> Instruction
+    requires dst { dst < 11 }
+    requires src { src < 11 }
+{
+    Instruction::Load {
+        size,
+        dst: Register::from_number(dst),
+        src: Register::from_number(src),
+        offset,
+    }
+}
+
+/// Adds one to the first word of scratch.
+fn push_count(code: &mut Vec<Option<Instruction>>) -> Result<(), Fail> {
+    push(code, load(Size::DoubleWord, 4, 7, 0))?;
     push(code, arithmetic(Operation::Add, 4, Source::Immediate(1)))?;
     push(
         code,
         Instruction::StoreRegister {
             size: Size::DoubleWord,
-            dst: scratch,
-            src: count,
+            dst: Register::from_number(7),
+            src: Register::from_number(4),
             offset: 0,
         },
-    )?;
+    )
+}
+
+/// Emits two bytes of a block.
+fn push_emit(code: &mut Vec<Option<Instruction>>, byte: u8) -> Result<(), Fail> {
+    let block = Source::Register(Register::from_number(6));
     push(code, arithmetic(Operation::Move, 1, block))?;
     push(
         code,
@@ -210,6 +197,23 @@ fn push_record(code: &mut Vec<Option<Instruction>>, byte: u8) -> Result<(), Fail
     )?;
     push(code, arithmetic(Operation::Move, 2, Source::Immediate(2)))?;
     push(code, Instruction::Call { helper: EMIT })
+}
+
+/// Counts and emits two bytes of a record whose word is greater than 7.
+fn push_record(code: &mut Vec<Option<Instruction>>, byte: u8) -> Result<(), Fail> {
+    push(code, load(Size::Word, 4, 6, i16::from(byte) + 4))?;
+    push(
+        code,
+        Instruction::Branch {
+            width: Width::Bits64,
+            relation: Relation::LessOrEqual,
+            dst: Register::from_number(4),
+            source: Source::Immediate(7),
+            distance: 7,
+        },
+    )?;
+    push_count(code)?;
+    push_emit(code, byte)
 }
 
 #[test]
@@ -225,15 +229,7 @@ fn a_program_is_as_worked_out_by_hand(rt: HostRuntime) -> Result<(), Fail> {
     question.emitted = Some(ByteRange { offset: 0, size: 2 });
     question.tallies.extend_from_slice(&[Tally::Count])?;
     let mut wanted = Vec::new(alloc);
-    push(
-        &mut wanted,
-        Instruction::Load {
-            size: Size::Word,
-            dst: Register::from_number(8),
-            src: Register::from_number(1),
-            offset: 20,
-        },
-    )?;
+    push(&mut wanted, load(Size::Word, 8, 1, 20))?;
     let block = Source::Register(Register::from_number(2));
     let scratch = Source::Register(Register::from_number(3));
     push(&mut wanted, arithmetic(Operation::Move, 6, block))?;
